@@ -36,8 +36,12 @@ is_table d name = is_some (table_named d name)
 abbrev pub has_secret : {A : Type 0} → Directory A → Text → List ℕ → Bool
 has_secret d name secret = option_map_or (λ user. same user.digest (sha256 secret)) (user_named d name) false
 
+-- the user's authorizations; none, where there is no such user
+abbrev pub auths_of : {A : Type 0} → Directory A → Text → List Text
+auths_of d user = option_map_or (λ u. u.auths) (user_named d user) []
+
 abbrev pub has_auth : {A : Type 0} → Directory A → Text → Text → Bool
-has_auth d user auth = option_map_or (λ u. is_among u.auths auth) (user_named d user) false
+has_auth d user auth = is_among (auths_of d user) auth
 
 abbrev pub has_system : {A : Type 0} → Directory A → Text → Permission → Bool
 has_system d user p = option_map_or (λ u. list_any (same_permission p) u.permissions) (user_named d user) false

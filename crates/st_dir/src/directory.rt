@@ -1,6 +1,11 @@
 //! The directory.
-ghost use Rattle.std.specs.Prelude.{◌≡◌, ◌||◌, IfOk, option_map};
-ghost use Rattle.st_dir.specs.Directory.{user_named, table_named, has_secret, has_system, has_table, is_granted, constraint_of, first_directory};
+ghost use Rattle.std.specs.Prelude.{◌≡◌, ◌∷◌, [], IfOk, false, codes, option_map};
+ghost use Rattle.std.specs.List.{list_any};
+ghost use Rattle.st_dir.specs.Permissions.{same_permission, system_permissions};
+ghost use Rattle.st_dir.specs.Grants.{all_on};
+ghost use Rattle.st_dir.specs.declared.grant.Scope.TheVariants.{OnTable};
+ghost use Rattle.st_key.specs.declared.period.Period as Period;
+ghost use Rattle.st_dir.specs.Directory.{user_named, table_named, auths_of, has_secret, has_system, has_table, is_granted, constraint_of, first_directory};
 
 use crate::grant::{Grant, Scope};
 use crate::name::Name;
@@ -21,14 +26,19 @@ pub struct Directory<A: Allocator = Global> {
     users: Items<User<A>, A>,
     tables: Items<TableInfo, A>,
     grants: Items<Grant, A>,
+    // The authorizations of who is no user.
+    nobody: Auths<A>,
 }
 
 impl<A: Allocator> Model for Directory<A> {
+    ghost use Rattle.std.specs.Prelude.{◌≡◌, []};
     ghost use Rattle.st_dir.specs.Directory.{Directory as Lists};
 
     ghost Value = { Lists A };
 
     ghost view = { λ d. record { users = d.users; tables = d.tables; grants = d.grants } };
+
+    ghost invariant = { λ d. d.nobody ≡ [] };
 }
 
 // The permissions on the system, in listing order.
@@ -51,6 +61,102 @@ const TABLE_PERMISSIONS: [Permission; 5] = [
     Permission::Grant,
     Permission::DropTable,
 ];
+
+// Whether a permission is among these.
+fn has_permission(permissions: &[Permission], permission: Permission) -> bool
+    ensures { result ≡ list_any (same_permission permission) permissions.now }
+{
+    for held in permissions {
+        if permission.is_same(*held) {
+            return true;
+        }
+    }
+    false
+}
+
+// The name of the user that a server begins with.
+fn root() -> Name
+    ensures { result ≡ codes "root" }
+{
+    match Name::new("root") {
+        Ok(name) => name,
+        Err(_) => unreachable!(),
+    }
+}
+
+// The name of the table that a server begins with.
+fn points() -> TableName
+    ensures { result ≡ codes "points" }
+{
+    match TableName::new("points") {
+        Ok(name) => name,
+        Err(_) => unreachable!(),
+    }
+}
+
+// The user root, who has each permission on the system.
+fn first_users<A: Allocator + Copy>(
+    alloc: A,
+    digest: [u8; 32],
+    auths: Auths<A>,
+) -> Result<Items<User<A>, A>, AllocError>
+    ensures { IfOk result (λ users. users ≡ record { name = codes "root"; digest = digest; auths = auths; permissions = system_permissions } ∷ []) }
+{
+    let mut permissions = Items::new(alloc);
+    permissions.extend(&SYSTEM_PERMISSIONS)?;
+    let mut users = Items::new(alloc);
+    users.push(User {
+        name: root(),
+        digest,
+        auths,
+        permissions,
+    })?;
+    Ok(users)
+}
+
+// The table points, with weeks for bins.
+fn first_tables<A: Allocator + Copy>(alloc: A) -> Result<Items<TableInfo, A>, AllocError>
+    ensures { IfOk result (λ tables. tables ≡ record { table = codes "points"; constraint = false; period = Period.Week } ∷ []) }
+{
+    let mut tables = Items::new(alloc);
+    tables.push(TableInfo {
+        table: points(),
+        constraint: false,
+        period: Period::Week,
+    })?;
+    Ok(tables)
+}
+
+// Each table permission for the user root on the table points.
+fn first_grants<A: Allocator + Copy>(alloc: A) -> Result<Items<Grant, A>, AllocError>
+    ensures { IfOk result (λ grants. grants ≡ all_on (codes "root") (OnTable (codes "points"))) }
+{
+    let mut grants = Items::new(alloc);
+    for permission in TABLE_PERMISSIONS {
+        grants.push(Grant {
+            user: root(),
+            scope: Scope::OnTable(points()),
+            permission,
+        })?;
+    }
+    Ok(grants)
+}
+
+impl<A: Allocator + Copy> Directory<A> {
+    /// The directory that a server begins with: the user root with this digest of its secret, these
+    /// authorizations and each permission on the system, and the table points, made by root. An
+    /// error where there is no memory for it.
+    pub fn new(alloc: A, digest: [u8; 32], auths: Auths<A>) -> Result<Directory<A>, AllocError>
+        ensures { IfOk result (λ directory. directory ≡ first_directory digest auths) }
+    {
+        Ok(Directory {
+            users: first_users(alloc, digest, auths)?,
+            tables: first_tables(alloc)?,
+            grants: first_grants(alloc)?,
+            nobody: Auths::none(alloc),
+        })
+    }
+}
 
 impl<A: Allocator> Directory<A> {
     // The user of this name.
@@ -81,13 +187,13 @@ impl<A: Allocator> Directory<A> {
         }
     }
 
-    /// The authorizations of the user of this name.
-    pub fn auths_of(&self, name: &str) -> Option<&Auths<A>>
-        ensures { option_map (λ auths. auths.now) result ≡ option_map (λ user. user.auths) (user_named self.now name.now) }
+    /// The authorizations of the user of this name; none, where there is no such user.
+    pub fn auths_of(&self, name: &str) -> &Auths<A>
+        ensures { result.now ≡ auths_of self.now name.now }
     {
         match self.user(name) {
-            Some(user) => Some(&user.auths),
-            None => None,
+            Some(user) => &user.auths,
+            None => &self.nobody,
         }
     }
 
@@ -98,6 +204,16 @@ impl<A: Allocator> Directory<A> {
         match self.table(table.as_str()) {
             Some(info) => Some(info.constraint),
             None => None,
+        }
+    }
+
+    /// Whether the user has the permission on the system.
+    pub fn holds_system(&self, user: &str, permission: Permission) -> bool
+        ensures { result ≡ has_system self.now user.now permission }
+    {
+        match self.user(user) {
+            Some(user) => has_permission(user.permissions.as_slice(), permission),
+            None => false,
         }
     }
 
