@@ -1,5 +1,5 @@
 //! Sets of authorizations.
-ghost use Rattle.std.specs.Prelude.{◌≡◌, ◌<◌, None, IfOk, IfErr, length, map, not, slice_index_or};
+ghost use Rattle.std.specs.Prelude.{◌≡◌, ◌<◌, ◌≤◌, [], None, option_map, find, IfSome, IfOk, IfErr, length, map, not, slice_index_or};
 ghost use Rattle.std.specs.List.{position};
 ghost use Rattle.st_text.specs.Texts.{is_among};
 ghost use Rattle.st_auth.specs.Names.{is_name, first_bad, first_missing, Refuses};
@@ -50,6 +50,11 @@ impl<A: Allocator> Model for Auths<A> {
     ghost Value = { List (List ℕ) };
 
     ghost view = { λ a. a.names.items };
+
+    ghost use Rattle.std.specs.Prelude.{◌≡◌, None};
+    ghost use Rattle.st_auth.specs.Names.{first_bad};
+
+    ghost invariant = { λ a. first_bad a.names.items ≡ None };
 }
 
 impl<A: Allocator + Copy> Auths<A> {
@@ -113,6 +118,41 @@ impl<A: Allocator> Auths<A> {
     {
         self.names[index].as_str()
     }
+}
+
+impl<A: Allocator + Copy> Auths<A> {
+    /// The set of no names, which takes no memory.
+    pub fn none(alloc: A) -> Auths<A>
+        ensures { result ≡ [] }
+    {
+        Auths {
+            alloc,
+            names: Vec::new(alloc),
+        }
+    }
+}
+
+impl<A: Allocator> Auths<A> {
+    /// The first of the other's names, in the order given, that this set lacks.
+    pub fn missing_from<'b, B: Allocator>(&self, names: &'b Auths<B>) -> Option<&'b str>
+        ensures name { option_map (λ name. name.now) result ≡ find (λ name. not (is_among self.now name)) names.now }
+        ensures sized { IfSome result (λ name. length name.now ≤ MAX_NAME) }
+    {
+        match first_outside(self, names.names.as_slice()) {
+            Some(name) => Some(name.as_str()),
+            None => None,
+        }
+    }
+}
+
+// The first of the names that is not in the set.
+fn first_outside<'b, A: Allocator, B: Allocator>(
+    set: &Auths<A>,
+    names: &'b [Words<B>],
+) -> Option<&'b Words<B>>
+    ensures { option_map (λ name. name.now) result ≡ find (λ name. not (is_among set.now name)) names.now }
+{
+    names.iter().find(|name| !set.has(name.as_str()))
 }
 
 fn is_name_here(name: &str) -> bool

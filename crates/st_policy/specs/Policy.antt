@@ -1,5 +1,5 @@
 -- Whether a request is allowed. The directory alone decides.
-use Rattle.std.specs.Prelude.{List, [], ◌∷◌, Bool, ◌||◌, not, if◌then◌else◌, Option, Some, None, find, option_map, Result, Ok, Err, tt, Unit}
+use Rattle.std.specs.Prelude.{List, [], ◌∷◌, Bool, ◌||◌, not, if◌then◌else◌, Option, Some, None, find, option_map, Result, Ok, Err}
 use Rattle.st_text.specs.Texts.{Text}
 use Rattle.st_label.specs.Reading.{is_true}
 use Rattle.st_dir.specs.Directory.{Directory, is_table, has_auth, has_table, is_constrained}
@@ -60,6 +60,6 @@ refusal_of d asker request = first_of (
     ∷ [])
 
 -- the policy as the code answers it
-abbrev pub decision : Option Refusal → Result Unit Refusal
+abbrev pub decision : Option Refusal → Result (Unit {0}) Refusal
 decision None = Ok tt
 decision (Some refusal) = Err refusal
