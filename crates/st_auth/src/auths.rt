@@ -1,8 +1,9 @@
 //! Sets of authorizations.
 ghost use Rattle.std.specs.Prelude.{◌≡◌, ◌<◌, ◌≤◌, [], None, option_map, find, IfSome, IfOk, IfErr, length, map, not, slice_index_or};
-ghost use Rattle.std.specs.List.{position};
+ghost use Rattle.std.specs.List.{position, range_with_len};
 ghost use Rattle.st_text.specs.Texts.{is_among};
 ghost use Rattle.st_auth.specs.Names.{is_name, first_bad, first_missing, Refuses};
+ghost use Rattle.st_auth.specs.Order.{IsOrder, name_at as name_of};
 ghost use Rattle.st_auth.specs.declared.auths.AuthsFault.TheVariants.{NoMemory};
 
 use st_text::Words;
@@ -42,6 +43,8 @@ impl<T: Drop> From<AllocFailed<T>> for AuthsFault {
 pub struct Auths<A: Allocator = Global> {
     alloc: A,
     names: Vec<Words<A>, A>,
+    // The places of the names, lesser names first.
+    order: Vec<usize, A>,
 }
 
 impl<A: Allocator> Model for Auths<A> {
@@ -53,8 +56,9 @@ impl<A: Allocator> Model for Auths<A> {
 
     ghost use Rattle.std.specs.Prelude.{◌≡◌, None};
     ghost use Rattle.st_auth.specs.Names.{first_bad};
+    ghost use Rattle.st_auth.specs.Order.{IsOrder};
 
-    ghost invariant = { λ a. first_bad a.names.items ≡ None };
+    ghost invariant = { λ a. IsOrder a.names.items a.order.items × (first_bad a.names.items ≡ None) };
 }
 
 impl<A: Allocator + Copy> Auths<A> {
@@ -68,9 +72,12 @@ impl<A: Allocator + Copy> Auths<A> {
         if let Some(index) = bad_place(names) {
             return Err(AuthsFault::BadName { index });
         }
+        let names = copies(alloc, names)?;
+        let order = places_in_order(alloc, &names)?;
         Ok(Auths {
             alloc,
-            names: copies(alloc, names)?,
+            names,
+            order,
         })
     }
 
@@ -85,6 +92,7 @@ impl<A: Allocator + Copy> Auths<A> {
         Ok(Auths {
             alloc: self.alloc,
             names,
+            order: Vec::from_slice(self.alloc, &self.order)?,
         })
     }
 }
@@ -94,7 +102,9 @@ impl<A: Allocator> Auths<A> {
     pub fn has(&self, name: &str) -> bool
         ensures { result ≡ is_among self.now name.now }
     {
-        self.names.iter().any(|other| name == other.as_str())
+        self.order
+            .binary_search_by(|place| name_at(&self.names, *place).cmp(name))
+            .is_ok()
     }
 
     /// The place of the first of the other's names, in the order given, that this set lacks.
@@ -128,6 +138,7 @@ impl<A: Allocator + Copy> Auths<A> {
         Auths {
             alloc,
             names: Vec::new(alloc),
+            order: Vec::new(alloc),
         }
     }
 }
@@ -175,4 +186,35 @@ fn copies<A: Allocator + Copy>(alloc: A, names: &[&str]) -> Result<Vec<Words<A>,
         list.push(Words::new(alloc, *name)?)?;
     }
     Ok(list)
+}
+
+// The name at a place, or the empty text past the end.
+fn name_at<A: Allocator>(names: &[Words<A>], place: usize) -> &str
+    ensures { result.now ≡ name_of names.now place }
+{
+    match names.get(place) {
+        Some(name) => name.as_str(),
+        None => "",
+    }
+}
+
+fn places<A: Allocator>(alloc: A, count: usize) -> Result<Vec<usize, A>, AllocError>
+    ensures { IfOk result (λ list. list.items ≡ range_with_len 0 count) }
+{
+    let mut list = Vec::with_capacity(alloc, count)?;
+    for place in 0..count {
+        list.push(place)?;
+    }
+    Ok(list)
+}
+
+fn places_in_order<A: Allocator + Copy>(
+    alloc: A,
+    names: &[Words<A>],
+) -> Result<Vec<usize, A>, AllocError>
+    ensures { IfOk result (λ order. IsOrder names.now order.items) }
+{
+    let mut order = places(alloc, names.len())?;
+    order.sort_unstable_by(|one, other| name_at(names, *one).cmp(name_at(names, *other)));
+    Ok(order)
 }
