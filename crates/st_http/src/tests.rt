@@ -233,13 +233,14 @@ fn counts_fields(rt: HostRuntime) {
     }
 }
 
-// A head of so many bytes with a body of this length.
-fn sized(alloc: Global, head: usize, body: usize) -> Result<Vec<u8>, AllocError> {
+// A head whose fields end after so many bytes, two line ends, and a body of this length.
+fn sized(alloc: Global, fields: usize, body: usize) -> Result<Vec<u8>, AllocError> {
     let front = format!(in alloc; "GET / HTTP/1.1\nhost: a\nContent-Length: {body}\na: ")?;
     let mut text = front.into_bytes();
-    text.resize(head - 2, b'b')?;
+    text.resize(fields, b'b')?;
     text.extend_from_slice(b"\n\n")?;
-    text.resize(head + body, b' ')?;
+    let end = text.len().saturating_add(body);
+    text.resize(end, b' ')?;
     Ok(text)
 }
 
@@ -248,15 +249,15 @@ fn counts_bytes(rt: HostRuntime) {
     let Ok(routes) = Routes::new(rt.alloc()) else {
         panic!(rt; "no memory");
     };
-    for (head, body, want) in [
-        (8192, 65536, "message"),
-        (8193, 0, "headers"),
-        (8192, 65537, "size"),
+    for (fields, body, want) in [
+        (8190, 65536, "message"),
+        (8191, 0, "headers"),
+        (8190, 65537, "size"),
     ] {
-        let Ok(text) = sized(rt.alloc(), head, body) else {
+        let Ok(text) = sized(rt.alloc(), fields, body) else {
             panic!(rt; "no memory");
         };
-        assert_eq!(rt; item_name(&routes, &text), want, "at {head}");
+        assert_eq!(rt; item_name(&routes, &text), want, "at {fields}");
     }
 }
 
