@@ -1,0 +1,32 @@
+use crate::Refusing;
+use std::alloc::{AllocError, Allocator};
+use std::test::Fail;
+
+// Two allocations, of which either may be refused.
+fn two_vectors<A: Allocator>(first: A, second: A) -> Result<(), AllocError> {
+    let _first = Vec::<u8, A>::with_capacity(first, 10)?;
+    let _second = Vec::<u8, A>::with_capacity(second, 20)?;
+    Ok(())
+}
+
+#[test]
+fn refuses_the_chosen_one(rt: HostRuntime) -> Result<(), Fail> {
+    let heap = Refusing::new(rt.alloc());
+    let outcomes = [(0, true), (1, false), (2, false), (3, true)];
+    for (n, is_ample) in outcomes {
+        heap.arm(n);
+        assert_eq!(rt; two_vectors(&heap, &heap).is_ok(), is_ample, "with {n}");
+        assert_eq!(rt; heap.is_armed(), n == 3, "with {n}");
+    }
+    Ok(())
+}
+
+// A refusal is the only one: the same call then succeeds.
+#[test]
+fn refuses_once(rt: HostRuntime) -> Result<(), Fail> {
+    let heap = Refusing::new(rt.alloc());
+    heap.arm(2);
+    assert!(rt; two_vectors(&heap, &heap).is_err());
+    assert!(rt; two_vectors(&heap, &heap).is_ok());
+    Ok(())
+}
