@@ -3,6 +3,7 @@ use crate::reply::{head, push_head};
 use crate::routes::{Line, Route, Routes};
 use crate::take::Take;
 use http::StatusCode;
+use refusing_alloc::Refusing;
 use std::alloc::{AllocError, Global};
 
 // A text, the reason of its fault if it has one, and whether it is a HEAD request.
@@ -332,4 +333,25 @@ fn writes_heads(rt: HostRuntime) {
             == b"HTTP/1.1 405 Method Not Allowed\r\nAllow: GET\r\nContent-Type: application/json\r\nConnection: close\r\n\r\n".as_slice()
     );
     assert_eq!(rt; Reason::Headers.status().as_u16(), 431);
+}
+
+#[test]
+fn refused_growth_leaves_the_buffer(rt: HostRuntime) {
+    let heap = Refusing::new(rt.alloc());
+    let mut refused = 0u64;
+    for n in 1..100 {
+        let mut out = Vec::new(&heap);
+        let Ok(()) = out.push(b'x') else {
+            panic!(rt; "no memory");
+        };
+        heap.arm(n);
+        let written = push_head(&mut out, StatusCode::OK, None, Some(17), true);
+        assert_eq!(rt; written.is_ok(), heap.is_armed(), "with {n}");
+        if written.is_ok() {
+            break;
+        }
+        refused = n;
+        assert!(rt; &out[..] == b"x".as_slice());
+    }
+    assert!(rt; refused > 0);
 }
