@@ -75,3 +75,35 @@ fn limits(rt: HostRuntime) -> Result<(), Fail> {
     );
     Ok(())
 }
+
+fn normal_of<A: Allocator + Copy>(alloc: A, text: &str) -> Result<Label<A>, Fail> {
+    Ok(Label::parse(alloc, text)?.normal()?)
+}
+
+#[test]
+fn normal_forms(rt: HostRuntime) -> Result<(), Fail> {
+    let rows = [
+        ("(C|B)&A&A", "(B|C)&A"),
+        ("\"A\"|A", "A"),
+        ("((A|B)|(C&C))", "A|B|C"),
+        ("", ""),
+        ("A&(B&A)", "A&B"),
+        ("\"a b\"|a", "\"a b\"|a"),
+        ("\"é\"", "\"é\""),
+        ("(A)", "A"),
+        ("((B|A)&(A|B))|C", "A|B|C"),
+    ];
+    for (text, normal) in rows {
+        let label = normal_of(rt.alloc(), text)?;
+        assert_eq!(rt; label.text(), normal, "{text}");
+        assert!(rt; label.is_normal()?, "{text}");
+        assert_eq!(rt;
+            Label::parse(rt.alloc(), text)?.is_normal()?,
+            text == normal,
+            "{text}"
+        );
+    }
+    let label = normal_of(rt.alloc(), "B|A")?.copy()?;
+    assert_eq!(rt; label.text(), "A|B");
+    Ok(())
+}
