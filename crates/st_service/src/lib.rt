@@ -1,0 +1,4 @@
+//! Serves the requests of one connection, from the bytes that were read to the bytes that are written.
+#![tactic(auto)]
+
+pub mod streams;
