@@ -1,4 +1,7 @@
 //! Serves the requests of one connection, from the bytes that were read to the bytes that are written.
 #![tactic(auto)]
 
+pub mod connection;
+pub mod constant;
+pub mod replies;
 pub mod streams;
