@@ -1,0 +1,31 @@
+-- Boxes of space and time, both ends included.
+use Rattle.std.specs.Prelude.{ℕ, ◌≡◌, ◌^◌, Bool, ◌&&◌, nat_le, nat_lt, IsTrue}
+use Rattle.std.proofs.lemmas.Bool.{ltb-true, leb-true}
+use Rattle.st_key.specs.declared.point.Point.{Point}
+use Rattle.st_box.specs.declared.query.Query.{Query}
+
+-- these are the bounds of the query
+abbrev pub Makes : (x0 x1 y0 y1 t0 t1 : ℕ) → Query → Type 0
+Makes x0 x1 y0 y1 t0 t1 q = (q.x0 ≡ x0) × (q.x1 ≡ x1) × (q.y0 ≡ y0) × (q.y1 ≡ y1) × (q.t0 ≡ t0) × (q.t1 ≡ t1)
+
+-- whether each coordinate is between its bounds
+abbrev pub is_inside : Query → Point → Bool
+is_inside q p = nat_le q.x0 p.x && nat_le p.x q.x1 && nat_le q.y0 p.y && nat_le p.y q.y1 && nat_le q.t0 p.t && nat_le p.t q.t1
+
+-- the query with these bounds, for examples: `query_of 1 2 1 2 0 0 refl refl refl refl refl refl`
+abbrev pub query_of : (x0 x1 y0 y1 t0 t1 : ℕ) → IsTrue (nat_le x0 x1) → IsTrue (nat_le y0 y1) → IsTrue (nat_le t0 t1) →
+    IsTrue (nat_lt x1 (2 ^ 21)) → IsTrue (nat_lt y1 (2 ^ 21)) → IsTrue (nat_lt t1 19818086400) → Query
+query_of x0 x1 y0 y1 t0 t1 fx fy ft rx ry rt = record {
+  x0 = x0;
+  x1 = x1;
+  y0 = y0;
+  y1 = y1;
+  t0 = t0;
+  t1 = t1;
+  x_ordered = leb-true x0 x1 fx;
+  y_ordered = leb-true y0 y1 fy;
+  t_ordered = leb-true t0 t1 ft;
+  x_in_range = ltb-true x1 (2 ^ 21) rx;
+  y_in_range = ltb-true y1 (2 ^ 21) ry;
+  t_in_range = ltb-true t1 19818086400 rt;
+}

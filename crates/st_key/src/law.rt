@@ -1,0 +1,18 @@
+//! Laws of the definitions, each the contract of a function that does nothing.
+ghost use Rattle.std.specs.Prelude.{◌≡◌, ◌↔◌, IsTrue};
+ghost use Rattle.std.specs.Cmp.Lexicographic.{slice_cmp};
+ghost use Rattle.std.specs.Ordering.{nat_cmp, is_lt};
+ghost use Rattle.st_key.specs.Order.{ComesBefore, digits_of};
+ghost use Rattle.st_key.specs.declared.period.Period.{Period};
+ghost use Rattle.st_key.specs.declared.point.Point.{Point};
+
+/// Digits come in the order of the bin, and in one bin of the bits at the highest level at which the
+/// points differ.
+pub fn scan_order()
+    ensures { (period : Period) (p q : Point) → IsTrue (is_lt (slice_cmp nat_cmp (digits_of period p) (digits_of period q))) ↔ ComesBefore period p q }
+{}
+
+/// Points with the same coordinates are the same point.
+pub fn equal_points()
+    ensures { (p q : Point) → p.x ≡ q.x → p.y ≡ q.y → p.t ≡ q.t → p ≡ q }
+{}

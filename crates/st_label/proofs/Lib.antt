@@ -1,0 +1,14 @@
+pub mod Complete
+pub mod Sound
+pub mod Places
+pub mod Seen
+pub mod Steps
+pub mod Chars
+pub mod Refused
+pub mod WorkedLabels
+pub mod Normals
+pub mod Printing
+pub mod Escapes
+pub mod Limits
+pub mod Shrinks
+pub mod Settled

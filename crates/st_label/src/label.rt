@@ -1,0 +1,129 @@
+//! A label: its written text, and what it says.
+ghost use Rattle.std.specs.Prelude.{◌≡◌, ◌<◌, ◌≤◌, IfOk, IfErr, length};
+ghost use Rattle.st_label.specs.Grammar.{Reads};
+ghost use Rattle.st_label.specs.Refusals.{max_len, max_depth};
+ghost use Rattle.st_label.specs.Reading.{reading, IsLabel};
+ghost use Rattle.st_label.specs.Views.{tree_view};
+ghost use Rattle.st_label.specs.declared.label.LabelFault.TheVariants.{NoMemory};
+ghost use Rattle.st_label.specs.Faults.{Refuses};
+
+use crate::reader::{ReadFault, Reader};
+use crate::tree::Tree;
+use std::alloc::{AllocError, Allocator, Global};
+use std::marker::Model;
+
+/// The greatest length of a label's text, in bytes.
+pub const MAX_LEN: usize = 256;
+
+/// Why a text is no label. Places count the bytes of the text, from 0.
+#[derive(Clone, Copy, PartialEq, Eq, Debug)]
+pub enum LabelFault {
+    /// The first byte up to which the text begins no label of any depth, or the text's length where it
+    /// begins one but is none.
+    BadLabel { at: usize },
+    /// The text is longer than [`MAX_LEN`] bytes.
+    TooLong,
+    /// The place of a parenthesis that would be one more than may be open at once.
+    TooDeep { at: usize },
+    NoMemory,
+}
+
+impl From<AllocError> for LabelFault {
+    ghost from_gives = { λ _ e. e ≡ NoMemory };
+
+    fn from(_e: AllocError) -> LabelFault {
+        LabelFault::NoMemory
+    }
+}
+
+/// A visibility label: a text of Accumulo's grammar of column visibilities, of at most [`MAX_LEN`]
+/// bytes. Labels are equal where their texts are: `A&B` and `B&A` are two labels.
+#[derive(Drop)]
+pub struct Label<A: Allocator = Global> {
+    alloc: A,
+    text: String<A>,
+    tree: Tree<A>,
+}
+
+impl<A: Allocator> Model for Label<A> {
+    ghost use Rattle.std.specs.Prelude.{◌≡◌, ℕ, List, string_bytes};
+
+    ghost Value = { List ℕ };
+
+    ghost use Rattle.st_label.specs.Reading.{reading, IsLabel};
+    ghost use Rattle.st_label.specs.Views.{tree_view};
+
+    ghost view = { λ l. string_bytes l.text };
+
+    ghost invariant = { λ l. IsLabel (string_bytes l.text) × (tree_view l.tree ≡ reading (string_bytes l.text)) };
+}
+
+impl<A: Allocator + Copy> Label<A> {
+    /// Reads a label. The grammar is that of Accumulo's column visibilities; between quotes may stand
+    /// any characters, with a backslash before a quote and before a backslash.
+    pub fn parse(alloc: A, text: &str) -> Result<Label<A>, LabelFault>
+        ensures text { IfOk result (λ label. label ≡ text.now) }
+        ensures label { IfOk result (λ _. IsLabel text.now) }
+        ensures fault { IfErr result (λ fault. Refuses text.now fault) }
+    {
+        if text.len() > MAX_LEN {
+            return Err(LabelFault::TooLong);
+        }
+        let tree = read(alloc, text)?;
+        let text = String::from_str(alloc, text)?;
+        Ok(Label { alloc, text, tree })
+    }
+
+    /// An equal label.
+    pub fn copy(&self) -> Result<Label<A>, AllocError>
+        ensures { IfOk result (λ other. other ≡ self.now) }
+    {
+        Ok(Label {
+            alloc: self.alloc,
+            text: String::from_str(self.alloc, self.text.as_str())?,
+            tree: self.tree.copy(self.alloc)?,
+        })
+    }
+}
+
+impl<A: Allocator> Label<A> {
+    /// The written text.
+    pub fn text(&self) -> &str
+        ensures value { result.now ≡ self.now }
+        ensures label { IsLabel self.now }
+    {
+        self.text.as_str()
+    }
+
+    /// What the label says.
+    pub fn tree(&self) -> &Tree<A>
+        ensures value { tree_view result.now ≡ reading self.now }
+        ensures label { IsLabel self.now }
+    {
+        &self.tree
+    }
+}
+
+// The tree of a text within the length.
+fn read<A: Allocator + Copy>(alloc: A, text: &str) -> Result<Tree<A>, LabelFault>
+    requires { length text.now ≤ max_len }
+    ensures label { IfOk result (λ _. IsLabel text.now) }
+    ensures tree { IfOk result (λ tree. tree_view tree ≡ reading text.now) }
+    ensures fault { IfErr result (λ fault. Refuses text.now fault) }
+{
+    let mut reader = Reader::new(alloc)?;
+    for (at, c) in text.char_indices() {
+        reader = match reader.step(c) {
+            Ok(next) => next,
+            Err(ReadFault::NotViable) => return Err(LabelFault::BadLabel { at }),
+            Err(ReadFault::TooDeep) => return Err(LabelFault::TooDeep { at }),
+            Err(ReadFault::NoMemory) => return Err(LabelFault::NoMemory),
+        };
+    }
+    match reader.finish() {
+        Ok(tree) => Ok(tree),
+        Err(ReadFault::NotViable) => Err(LabelFault::BadLabel { at: text.len() }),
+        Err(ReadFault::TooDeep) => unreachable!(),
+        Err(ReadFault::NoMemory) => Err(LabelFault::NoMemory),
+    }
+}

@@ -1,0 +1,71 @@
+//! Lists.
+ghost use Rattle.std.specs.Prelude.{◌≡◌, ◌++◌, ◌∷◌, [], OnOk, OnErr, length};
+
+use std::alloc::{AllocError, Allocator, Global};
+use std::marker::Model;
+
+/// A list, in memory of its own.
+#[derive(Drop)]
+pub struct Items<T: Drop, A: Allocator = Global> {
+    items: Vec<T, A>,
+}
+
+impl<T: Drop, A: Allocator> Model for Items<T, A> {
+    ghost use Rattle.std.specs.Prelude.{List};
+
+    ghost Value = { List T };
+
+    ghost view = { λ v. v.items.items };
+}
+
+impl<T: Drop, A: Allocator> Items<T, A> {
+    /// The empty list, which takes no memory.
+    pub fn new(alloc: A) -> Items<T, A>
+        ensures { result ≡ [] }
+    {
+        Items {
+            items: Vec::new(alloc),
+        }
+    }
+
+    /// The list of these items.
+    pub fn from_vec(items: Vec<T, A>) -> Items<T, A>
+        ensures { result ≡ items.items }
+    {
+        Items { items }
+    }
+
+    /// The items, in order.
+    pub fn as_slice(&self) -> &[T]
+        ensures { result.now ≡ self.now }
+    {
+        self.items.as_slice()
+    }
+
+    /// How many items there are.
+    pub fn len(&self) -> usize
+        ensures { result ≡ length self.now }
+    {
+        self.items.len()
+    }
+
+    /// Puts an item at the end, or leaves the list as it was where there is no memory for it.
+    pub fn push(&mut self, item: T) -> Result<(), AllocError>
+        ensures ok { OnOk result (self.new ≡ self.old ++ item ∷ []) }
+        ensures err { OnErr result (self.new ≡ self.old) }
+    {
+        self.items.push(item)?;
+        Ok(())
+    }
+}
+
+impl<T: Copy + Drop, A: Allocator> Items<T, A> {
+    /// Puts copies of the items at the end, or leaves the list as it was where there is no memory
+    /// for them.
+    pub fn extend(&mut self, items: &[T]) -> Result<(), AllocError>
+        ensures ok { OnOk result (self.new ≡ self.old ++ items.now) }
+        ensures err { OnErr result (self.new ≡ self.old) }
+    {
+        self.items.extend_from_slice(items)
+    }
+}
