@@ -107,3 +107,28 @@ items_whole text (message h body bare ∷ items) rest (is, some, ends, later) wa
     (λ stays. items_whole (after_message text h body) items rest later (λ o. waits (open_after (message h body bare) items stays o)))
 items_whole text (fault reason bare ∷ items) rest (is, some, ends, later) waits = fault_whole text reason bare items rest is (ends refl) later
 items_whole text (more ∷ items) rest (is, some, ends, later) waits = absurd (some refl)
+
+-- an item that closes is the last
+ends_there : (item only : First) (items : List First) → item ≡ only → closes only ≡ true → (closes item ≡ true → items ≡ [])
+    → (others : List First) × (only ∷ [] ≡ (item ∷ items) ++ others)
+ends_there item only items e closing ends =
+    let n : items ≡ [] = ends (ap closes e ∙ closing) in ([], ap (λ (i : First). i ∷ []) (sym e) ∙ ap (λ (l : List First). item ∷ (l ++ [])) (sym n))
+
+front_of : {text : List ℕ} {all : List First} {end : List ℕ} → Items text all end → (items : List First) (rest : List ℕ) → Begins text items rest
+    → (others : List First) × (all ≡ items ++ others)
+unfolding Begins
+front_of {text} {all} {end} q [] rest b = (all, refl)
+front_of (none {text} f) (item ∷ items) rest (is, some, ends, later) = absurd (some (first_unique text item more is f))
+front_of (faulty {text} {reason} {bare} f) (item ∷ items) rest (is, some, ends, later) =
+    ends_there item (fault reason bare) items (first_unique text item (fault reason bare) is f) refl ends
+front_of (last {text} {h} {body} {bare} f closing) (item ∷ items) rest (is, some, ends, later) =
+    ends_there item (message h body bare) items (first_unique text item (message h body bare) is f) closing ends
+front_of (next {text} {h} {body} {bare} {items = tail_items} f stays tail) (item ∷ items) rest (is, some, ends, later) =
+    let e : item ≡ message h body bare = first_unique text item (message h body bare) is f in
+    let tail_begins : Begins (after_message text h body) items rest = subst (λ (i : First). Begins (after_item text i) items rest) e later in
+    let r = front_of {text = after_message text h body} tail items rest tail_begins in
+    (r.0, ap (λ (i : First). i ∷ tail_items) (sym e) ∙ ap (λ (l : List First). item ∷ l) r.1)
+
+pub begins_front : (text : List ℕ) (items all : List First) (rest end : List ℕ) → Begins text items rest → Items text all end
+    → (others : List First) × (all ≡ items ++ others)
+begins_front text items all rest end b q = front_of q items rest b

@@ -3,5 +3,8 @@
 
 pub mod connection;
 pub mod constant;
+pub mod law;
 pub mod replies;
 pub mod streams;
+#[cfg(test)]
+mod tests;
