@@ -1,0 +1,220 @@
+//! Sets of authorizations.
+ghost use Rattle.std.specs.Prelude.{◌≡◌, ◌<◌, ◌≤◌, [], None, option_map, find, IfSome, IfOk, IfErr, length, map, not, slice_index_or};
+ghost use Rattle.std.specs.List.{position, range_with_len};
+ghost use Rattle.st_text.specs.Texts.{is_among};
+ghost use Rattle.st_auth.specs.Names.{is_name, first_bad, first_missing, Refuses};
+ghost use Rattle.st_auth.specs.Order.{IsOrder, name_at as name_of};
+ghost use Rattle.st_auth.specs.declared.auths.AuthsFault.TheVariants.{NoMemory};
+
+use st_text::Words;
+use std::alloc::{AllocError, AllocFailed, Allocator, Global};
+use std::marker::Model;
+
+/// The greatest length of an authorization's name, in bytes.
+pub const MAX_NAME: usize = 256;
+
+/// Why a list of texts is no set of authorizations.
+#[derive(Clone, Copy, PartialEq, Eq, Debug)]
+pub enum AuthsFault {
+    /// The place of the first text that is empty or longer than [`MAX_NAME`] bytes.
+    BadName { index: usize },
+    NoMemory,
+}
+
+impl From<AllocError> for AuthsFault {
+    ghost from_gives = { λ _ e. e ≡ NoMemory };
+
+    fn from(_e: AllocError) -> AuthsFault {
+        AuthsFault::NoMemory
+    }
+}
+
+impl<T: Drop> From<AllocFailed<T>> for AuthsFault {
+    ghost from_gives = { λ _ e. e ≡ NoMemory };
+
+    fn from(_e: AllocFailed<T>) -> AuthsFault {
+        AuthsFault::NoMemory
+    }
+}
+
+/// A set of authorizations: names of 1 to 256 bytes, as Accumulo gives them to users. The order in
+/// which they were given and their repeats are kept, and count for nothing where a label is tested.
+#[derive(Drop)]
+pub struct Auths<A: Allocator = Global> {
+    alloc: A,
+    names: Vec<Words<A>, A>,
+    // The places of the names, lesser names first.
+    order: Vec<usize, A>,
+}
+
+impl<A: Allocator> Model for Auths<A> {
+    ghost use Rattle.std.specs.Prelude.{ℕ, List};
+
+    ghost Value = { List (List ℕ) };
+
+    ghost view = { λ a. a.names.items };
+
+    ghost use Rattle.std.specs.Prelude.{◌≡◌, None};
+    ghost use Rattle.st_auth.specs.Names.{first_bad};
+    ghost use Rattle.st_auth.specs.Order.{IsOrder};
+
+    ghost invariant = { λ a. IsOrder a.names.items a.order.items × (first_bad a.names.items ≡ None) };
+}
+
+impl<A: Allocator + Copy> Auths<A> {
+    #[tactic(auto, using(crate::proofs::Places::position_map))]
+    /// The set of these names. `BadName` comes before `NoMemory`.
+    pub fn from_list(alloc: A, names: &[&str]) -> Result<Auths<A>, AuthsFault>
+        ensures names { IfOk result (λ auths. auths ≡ map (λ name. name.now) names.now) }
+        ensures good { IfOk result (λ auths. first_bad auths ≡ None) }
+        ensures fault { IfErr result (λ fault. Refuses (map (λ name. name.now) names.now) fault) }
+    {
+        if let Some(index) = bad_place(names) {
+            return Err(AuthsFault::BadName { index });
+        }
+        let names = copies(alloc, names)?;
+        let order = places_in_order(alloc, &names)?;
+        Ok(Auths {
+            alloc,
+            names,
+            order,
+        })
+    }
+
+    /// An equal set.
+    pub fn copy(&self) -> Result<Auths<A>, AllocError>
+        ensures { IfOk result (λ other. other ≡ self.now) }
+    {
+        let mut names = Vec::new(self.alloc);
+        for name in &self.names {
+            names.push(Words::new(self.alloc, name.as_str())?)?;
+        }
+        Ok(Auths {
+            alloc: self.alloc,
+            names,
+            order: Vec::from_slice(self.alloc, &self.order)?,
+        })
+    }
+}
+
+impl<A: Allocator> Auths<A> {
+    /// Whether this is one of the names.
+    pub fn has(&self, name: &str) -> bool
+        ensures { result ≡ is_among self.now name.now }
+    {
+        self.order
+            .binary_search_by(|place| name_at(&self.names, *place).cmp(name))
+            .is_ok()
+    }
+
+    /// The place of the first of the other's names, in the order given, that this set lacks.
+    pub fn first_missing<B: Allocator>(&self, names: &Auths<B>) -> Option<usize>
+        ensures { result ≡ first_missing self.now names.now }
+    {
+        names.names.iter().position(|name| !self.has(name.as_str()))
+    }
+
+    /// How many names were given, repeats counted.
+    pub fn len(&self) -> usize
+        ensures { result ≡ length self.now }
+    {
+        self.names.len()
+    }
+
+    /// The name at a place, in the order given.
+    pub fn get(&self, index: usize) -> &str
+        requires { index < length self.now }
+        ensures { result.now ≡ slice_index_or self.now index result.now }
+    {
+        self.names[index].as_str()
+    }
+}
+
+impl<A: Allocator + Copy> Auths<A> {
+    /// The set of no names, which takes no memory.
+    pub fn none(alloc: A) -> Auths<A>
+        ensures { result ≡ [] }
+    {
+        Auths {
+            alloc,
+            names: Vec::new(alloc),
+            order: Vec::new(alloc),
+        }
+    }
+}
+
+impl<A: Allocator> Auths<A> {
+    /// The first of the other's names, in the order given, that this set lacks.
+    pub fn missing_from<'b, B: Allocator>(&self, names: &'b Auths<B>) -> Option<&'b str>
+        ensures name { option_map (λ name. name.now) result ≡ find (λ name. not (is_among self.now name)) names.now }
+        ensures sized { IfSome result (λ name. length name.now ≤ MAX_NAME) }
+    {
+        match first_outside(self, names.names.as_slice()) {
+            Some(name) => Some(name.as_str()),
+            None => None,
+        }
+    }
+}
+
+// The first of the names that is not in the set.
+fn first_outside<'b, A: Allocator, B: Allocator>(
+    set: &Auths<A>,
+    names: &'b [Words<B>],
+) -> Option<&'b Words<B>>
+    ensures { option_map (λ name. name.now) result ≡ find (λ name. not (is_among set.now name)) names.now }
+{
+    names.iter().find(|name| !set.has(name.as_str()))
+}
+
+fn is_name_here(name: &str) -> bool
+    ensures { result ≡ is_name name.now }
+{
+    1 <= name.len() && name.len() <= MAX_NAME
+}
+
+fn bad_place(names: &[&str]) -> Option<usize>
+    ensures { result ≡ position (λ name. not (is_name name.now)) names.now }
+{
+    names.iter().position(|name| !is_name_here(*name))
+}
+
+fn copies<A: Allocator + Copy>(alloc: A, names: &[&str]) -> Result<Vec<Words<A>, A>, AllocError>
+    ensures { IfOk result (λ list. list.items ≡ map (λ name. name.now) names.now) }
+{
+    let mut list = Vec::new(alloc);
+    for name in names {
+        list.push(Words::new(alloc, *name)?)?;
+    }
+    Ok(list)
+}
+
+// The name at a place, or the empty text past the end.
+fn name_at<A: Allocator>(names: &[Words<A>], place: usize) -> &str
+    ensures { result.now ≡ name_of names.now place }
+{
+    match names.get(place) {
+        Some(name) => name.as_str(),
+        None => "",
+    }
+}
+
+fn places<A: Allocator>(alloc: A, count: usize) -> Result<Vec<usize, A>, AllocError>
+    ensures { IfOk result (λ list. list.items ≡ range_with_len 0 count) }
+{
+    let mut list = Vec::with_capacity(alloc, count)?;
+    for place in 0..count {
+        list.push(place)?;
+    }
+    Ok(list)
+}
+
+fn places_in_order<A: Allocator + Copy>(
+    alloc: A,
+    names: &[Words<A>],
+) -> Result<Vec<usize, A>, AllocError>
+    ensures { IfOk result (λ order. IsOrder names.now order.items) }
+{
+    let mut order = places(alloc, names.len())?;
+    order.sort_unstable_by(|one, other| name_at(names, *one).cmp(name_at(names, *other)));
+    Ok(order)
+}

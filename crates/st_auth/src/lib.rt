@@ -1,0 +1,10 @@
+//! Sets of authorizations, and whether a label is true for one.
+#![tactic(auto)]
+
+mod auths;
+#[cfg(test)]
+mod tests;
+mod truth;
+
+pub use auths::{Auths, AuthsFault, MAX_NAME};
+pub use truth::satisfies;
