@@ -4,4 +4,5 @@ pub mod Cells
 pub mod Lanes
 pub mod Parts
 pub mod Queries
+pub mod SameBoxes
 pub mod Spans
