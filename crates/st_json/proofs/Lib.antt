@@ -1,0 +1,5 @@
+pub mod Listed
+pub mod Chosen
+pub mod Added
+pub mod Same
+pub mod OneAnswer

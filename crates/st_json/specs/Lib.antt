@@ -1,0 +1,6 @@
+pub mod Fields
+pub mod Needs
+pub mod Bodies
+pub mod Adds
+pub mod Refusals
+pub mod Order

@@ -1,0 +1,12 @@
+//! Bodies of requests and replies as JSON (RFC 8259).
+#![tactic(auto)]
+
+mod body;
+mod fault;
+mod field;
+pub mod law;
+mod refusal;
+
+pub use body::decode;
+pub use fault::DecodeFault;
+pub use refusal::status;
