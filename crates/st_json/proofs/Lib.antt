@@ -3,3 +3,4 @@ pub mod Chosen
 pub mod Added
 pub mod Same
 pub mod OneAnswer
+pub mod Ordered

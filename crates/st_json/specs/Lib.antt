@@ -3,4 +3,5 @@ pub mod Needs
 pub mod Bodies
 pub mod Adds
 pub mod Refusals
+pub mod Replies
 pub mod Order

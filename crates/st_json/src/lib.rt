@@ -6,7 +6,12 @@ mod fault;
 mod field;
 pub mod law;
 mod refusal;
+mod reply;
+#[cfg(test)]
+mod tests;
+mod told;
 
 pub use body::decode;
 pub use fault::DecodeFault;
 pub use refusal::status;
+pub use reply::{encode, encode_into};
