@@ -16,10 +16,12 @@ fn written<A: Allocator + Copy>(alloc: A, reply: &Reply) -> Result<String<A>, Fa
 
 // The reply to a body: its refusal, or that it was accepted.
 fn reply_to(alloc: Global, line: Line, name: &str, body: &[u8]) -> Option<Reply> {
-    match decode(alloc, alloc, line, name, body) {
-        Ok(_) => Some(Reply::Accepted),
-        Err(DecodeFault::Refused(refusal)) => Some(Reply::Refused(refusal)),
-        Err(DecodeFault::NoMemory) => None,
+    let Err(fault) = decode(alloc, alloc, line, name, body) else {
+        return Some(Reply::Accepted);
+    };
+    match fault {
+        DecodeFault::Refused(refusal) => Some(Reply::Refused(refusal)),
+        DecodeFault::NoMemory => None,
     }
 }
 
@@ -233,65 +235,70 @@ fn a_row_as_it_was_put(rt: HostRuntime) -> Result<(), Fail> {
     Ok(())
 }
 
-// A reply that tells a denial.
-fn denied(denial: Denial) -> Refusal {
-    Refusal::Denied(denial)
+// A refusal, the status of its reply and its text.
+type Told = (Refusal, StatusCode, &'static str);
+
+// A denial, which is forbidden, and its text.
+fn denied(denial: Denial, text: &'static str) -> Told {
+    (Refusal::Denied(denial), StatusCode::FORBIDDEN, text)
 }
 
-// Each refusal that no body gives, its status and its text.
-fn others() -> Result<[(Refusal, StatusCode, &'static str); 10], Fail> {
-    let table = TableName::new("t").ok().ok_or("a table")?;
-    let user = Name::new("zoe").ok().ok_or("a user")?;
-    let read = Permission::Read;
+// Permissions that a user lacks.
+fn lacking() -> Result<[Told; 3], Fail> {
+    Ok([
+        denied(
+            Denial::Permission {
+                name: Permission::Read,
+                table: TableName::new("t").ok(),
+            },
+            "{\"error\":\"permission\",\"permission\":\"READ\",\"table\":\"t\"}",
+        ),
+        denied(
+            Denial::Permission {
+                name: Permission::System,
+                table: None,
+            },
+            "{\"error\":\"permission\",\"permission\":\"SYSTEM\"}",
+        ),
+        denied(
+            Denial::NamespacePermission {
+                name: Permission::Grant,
+                namespace: Name::new("geo").ok().ok_or("a namespace")?,
+            },
+            "{\"error\":\"permission\",\"namespace\":\"geo\",\"permission\":\"GRANT\"}",
+        ),
+    ])
+}
+
+// Other denials.
+fn denials() -> Result<[Told; 4], Fail> {
     Ok([
         (
-            denied(Denial::Token),
+            Refusal::Denied(Denial::Token),
             StatusCode::UNAUTHORIZED,
             "{\"error\":\"token\"}",
         ),
-        (
-            denied(Denial::Permission {
-                name: read,
-                table: Some(table.copy()),
-            }),
-            StatusCode::FORBIDDEN,
-            "{\"error\":\"permission\",\"permission\":\"READ\",\"table\":\"t\"}",
-        ),
-        (
-            denied(Denial::Permission {
-                name: Permission::System,
-                table: None,
-            }),
-            StatusCode::FORBIDDEN,
-            "{\"error\":\"permission\",\"permission\":\"SYSTEM\"}",
-        ),
-        (
-            denied(Denial::NamespacePermission {
-                name: Permission::Grant,
-                namespace: Name::new("geo").ok().ok_or("a namespace")?,
-            }),
-            StatusCode::FORBIDDEN,
-            "{\"error\":\"permission\",\"namespace\":\"geo\",\"permission\":\"GRANT\"}",
-        ),
-        (
-            denied(Denial::Authorization {
+        denied(
+            Denial::Authorization {
                 name: Text::new("X").ok_or("an authorization")?,
-            }),
-            StatusCode::FORBIDDEN,
+            },
             "{\"authorization\":\"X\",\"error\":\"authorization\"}",
         ),
-        (
-            denied(Denial::Constraint {
+        denied(
+            Denial::Constraint {
                 label: Text::new("\"a\\\\b\"").ok_or("a label")?,
-            }),
-            StatusCode::FORBIDDEN,
+            },
             "{\"error\":\"constraint\",\"label\":\"\\\"a\\\\\\\\b\\\"\"}",
         ),
-        (
-            denied(Denial::OwnSelf),
-            StatusCode::FORBIDDEN,
-            "{\"error\":\"self\"}",
-        ),
+        denied(Denial::OwnSelf, "{\"error\":\"self\"}"),
+    ])
+}
+
+// Names that are held, or are not.
+fn names() -> Result<[Told; 4], Fail> {
+    let table = TableName::new("t").ok().ok_or("a table")?;
+    let user = Name::new("zoe").ok().ok_or("a user")?;
+    Ok([
         (
             Refusal::NoTable {
                 table: table.copy(),
@@ -309,23 +316,38 @@ fn others() -> Result<[(Refusal, StatusCode, &'static str); 10], Fail> {
             StatusCode::CONFLICT,
             "{\"error\":\"table-exists\",\"table\":\"t\"}",
         ),
+        (
+            Refusal::UserExists { user },
+            StatusCode::CONFLICT,
+            "{\"error\":\"user-exists\",\"user\":\"zoe\"}",
+        ),
     ])
+}
+
+// Whether a refusal has its status and its text.
+fn is_told(alloc: Global, told: Told) -> Result<bool, Fail> {
+    let (refusal, code, text) = told;
+    let has_status = status(&refusal) == code;
+    let reply = Reply::Refused(refusal);
+    Ok(has_status && written(alloc, &reply)?.as_str() == text)
 }
 
 #[test]
 fn replies(rt: HostRuntime) -> Result<(), Fail> {
     let alloc = rt.alloc();
-    for (refusal, code, told) in others()? {
-        assert!(rt; status(&refusal) == code, "{told}");
-        let reply = Reply::Refused(refusal);
-        assert!(rt; written(alloc, &reply)?.as_str() == told, "{told}");
+    for told in lacking()? {
+        assert!(rt; is_told(alloc, told)?);
+    }
+    for told in denials()? {
+        assert!(rt; is_told(alloc, told)?);
+    }
+    for told in names()? {
+        assert!(rt; is_told(alloc, told)?);
     }
     assert!(rt; status(&Refusal::Json) == StatusCode::BAD_REQUEST);
     let count = Reply::Count(18446744073709551615);
     let text = encode_into(Vec::from_slice(alloc, b"-- ")?, &count)?;
-    assert!(rt;
-        String::from_utf8(text).ok().ok_or("a text")?.as_str()
-            == "-- {\"count\":18446744073709551615}"
-    );
+    let text = String::from_utf8(text).ok().ok_or("a text")?;
+    assert!(rt; text.as_str() == "-- {\"count\":18446744073709551615}");
     Ok(())
 }
