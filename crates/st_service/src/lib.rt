@@ -1,6 +1,7 @@
 //! Serves the requests of one connection, from the bytes that were read to the bytes that are written.
 #![tactic(auto)]
 
+pub mod answer;
 pub mod connection;
 pub mod constant;
 pub mod law;
