@@ -75,6 +75,13 @@ impl TableName {
         self.text.as_str()
     }
 
+    /// A copy of the text.
+    pub fn to_text(&self) -> Text<65>
+        ensures { result ≡ self.now }
+    {
+        self.text.copy()
+    }
+
     /// Whether this is the name's text, byte by byte.
     pub fn is(&self, text: &str) -> bool
         ensures { result ≡ same self.now text.now }

@@ -9,7 +9,7 @@ use Rattle.httparse.specs.Grammar.{RequestHead, print_request, ReadsRequest}
 use Rattle.httparse.proofs.GrammarLemmas.{request_unique, ReadsRequest-append}
 use Rattle.st_http.specs.declared.fields.Reason.{Reason}
 use Rattle.st_http.specs.declared.fields.Reason.TheVariants as reasons
-use Rattle.st_http.specs.Head.{window, TellsBare, Reading, whole, begun, hopeless, Reads}
+use Rattle.st_http.specs.Head.{window, Reading, whole, begun, hopeless, Reads}
 use Rattle.st_http.specs.Fields.{Fields, body_length_of, length_by, is_number, breaks_host, has_coding, values_of}
 use Rattle.st_http.specs.First.{First, message, fault, more, with_body, fields_of, first_of, IsFirst}
 use Rattle.st_http.proofs.WindowLemmas.{window_grows, window_full, window-length, window_short, hopeless_stays}

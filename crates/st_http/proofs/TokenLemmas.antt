@@ -9,7 +9,8 @@ use Rattle.std.proofs.lemmas.Str.Ascii.{IsAscii-cons, IsAscii-nil}
 use Rattle.hex.specs.Hex.{decode_sized}
 use Rattle.hex.specs.declared.FromHexError.{FromHexError}
 use Rattle.st_http.specs.Fields.{Fields, values_of}
-use Rattle.st_http.specs.Token.{UserAndSecret, is_dot, is_name, is_name_byte, with_secret, credentials_of, skip_spaces, is_bearer, credentials_in, credentials_by, token_of}
+use Rattle.st_text.specs.Names.{is_dot, is_name, is_name_byte}
+use Rattle.st_http.specs.Token.{UserAndSecret, with_secret, credentials_of, skip_spaces, is_bearer, credentials_in, credentials_by, token_of}
 use Rattle.st_http.proofs.FieldLemmas.{and_true}
 
 and_first : (a b : Bool) → (a && b) ≡ true → a ≡ true

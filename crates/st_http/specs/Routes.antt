@@ -100,12 +100,12 @@ pub data Routed : Type 0 where
   -- a line of the table, and the name in the path
   found : Line → List ℕ → Routed
   no_route : Routed
-  -- the path has other methods
-  bad_method : Path → Routed
+  -- the path has other methods, those of this text
+  bad_method : List ℕ → Routed
 
 abbrev pub with_line : Path → List ℕ → Option Line → Routed
 with_line path name (Some line) = found line name
-with_line path name None = bad_method path
+with_line path name None = bad_method (allow_of (lines_of path))
 
 abbrev pub at_path : Option Path → List ℕ → List ℕ → Routed
 at_path None method name = no_route
@@ -118,4 +118,4 @@ routed method target = at_path (path_at (path_of target)) method (name_in (path_
 abbrev pub Tells : Route → Routed → Type 0
 Tells (answers.Found line name) r = r ≡ found line name.now
 Tells answers.NoRoute r = r ≡ no_route
-Tells (answers.BadMethod allow) r = (path : Path) × (r ≡ bad_method path) × (allow.now ≡ allow_of (lines_of path))
+Tells (answers.BadMethod allow) r = r ≡ bad_method allow.now

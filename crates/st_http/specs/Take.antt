@@ -1,5 +1,5 @@
 -- How the answer of `take` shows the first item of a text.
-use Rattle.std.specs.Prelude.{◌≡◌, ℕ, ◌<◌, ◌≤◌, Bool, List, length, option_map, ⊤}
+use Rattle.std.specs.Prelude.{◌≡◌, ℕ, ◌<◌, ◌≤◌, Bool, List, option_map, ⊤}
 use Rattle.httparse.specs.Grammar.{RequestHead}
 use Rattle.st_http.specs.declared.take.Take.{Take}
 use Rattle.st_http.specs.declared.take.Take.TheVariants as takes

@@ -1,28 +1,16 @@
 -- The user and the secret that a head's Authorization field names (RFC 6750, "Authorization Request Header Field").
-use Rattle.std.specs.Prelude.{ℕ, Bool, ◌&&◌, ◌||◌, ◌==◌, nat_lt, nat_le, if◌then◌else◌, List, [], ◌∷◌, length, take, drop, codes, slice_index, Option, Some, None, Result, Ok, Err}
-use Rattle.std.specs.List.{list_all, before_first, after_first}
-use Rattle.std.specs.Char.{is_ascii_alphanumeric}
+use Rattle.std.specs.Prelude.{ℕ, Bool, ◌&&◌, ◌==◌, if◌then◌else◌, List, [], ◌∷◌, take, drop, codes, slice_index, Option, Some, None, Result, Ok, Err}
+use Rattle.std.specs.List.{before_first, after_first}
 use Rattle.std.specs.Str.{str_eq_ignore_ascii_case}
 use Rattle.hex.specs.Hex.{decode_sized}
 use Rattle.hex.specs.declared.FromHexError.{FromHexError}
 use Rattle.httparse.specs.Ascii.{space}
+use Rattle.st_text.specs.Names.{is_dot, is_name}
 use Rattle.st_http.specs.Fields.{Fields, values_of}
 
 -- a user name and the bytes of a secret
 abbrev pub UserAndSecret : Type 0
 UserAndSecret = List ℕ × List ℕ
-
--- `.`
-abbrev pub is_dot : ℕ → Bool
-is_dot b = b == 46
-
--- A to Z, a to z, 0 to 9 and _
-abbrev pub is_name_byte : ℕ → Bool
-is_name_byte b = is_ascii_alphanumeric b || b == 95
-
--- 1 to 32 of these
-abbrev pub is_name : List ℕ → Bool
-is_name text = nat_lt 0 (length text) && nat_le (length text) 32 && list_all is_name_byte text
 
 -- the user with the secret that its digits write
 abbrev pub with_secret : List ℕ → Result (List ℕ) FromHexError → Option UserAndSecret

@@ -3,7 +3,8 @@ ghost use Rattle.std.specs.Prelude.{◌≡◌, ◌≢◌, ◌<◌, ◌≤◌, �
 ghost use Rattle.st_http.specs.First.{First, message, more, IsFirst, fields_of, size_of};
 ghost use Rattle.st_http.specs.Items.{IsMessage, Items, after_message};
 ghost use Rattle.st_http.specs.Fields.{Fields, closes_after};
-ghost use Rattle.st_http.specs.Token.{is_name, token_of};
+ghost use Rattle.st_http.specs.Token.{token_of};
+ghost use Rattle.st_text.specs.Names.{is_name};
 ghost use Rattle.httparse.specs.Grammar.{RequestHead};
 
 /// A text has one first item.

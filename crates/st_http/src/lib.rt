@@ -1,7 +1,7 @@
 //! The framing of HTTP/1.1 requests: heads, bodies, routes, tokens, and the heads of replies.
 #![tactic(auto)]
 
-pub mod close;
+mod close;
 pub mod fields;
 pub mod head;
 pub mod law;

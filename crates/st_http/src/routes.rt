@@ -1,5 +1,5 @@
 //! The line of the table of requests that a method and a target name.
-ghost use Rattle.std.specs.Prelude.{◌≡◌, ◌==◌, ◌<◌, codes, take, drop, OnOk};
+ghost use Rattle.std.specs.Prelude.{◌≡◌, ◌==◌, ◌<◌, codes, take, drop, IfOk, OnOk};
 ghost use Rattle.std.specs.List.{before_first, after_first, position_or_len};
 ghost use Rattle.st_http.specs.Routes.{slash, from_slash, path_of, is_absolute, name_in, routes, path_at, pattern_of, with_path, lines_of, line_of, allow_of, routed, Tells};
 
@@ -87,7 +87,9 @@ pub struct Routes {
 
 impl Routes {
     /// The routes of the table of requests. It fails only where memory is wanting.
-    pub fn new(global: Global) -> Result<Routes, AllocError> {
+    pub fn new(global: Global) -> Result<Routes, AllocError>
+        ensures { IfOk result (λ made. made.router ≡ routes) }
+    {
         let mut router = Router::new(global);
         for path in ALL {
             add(&mut router, path)?;

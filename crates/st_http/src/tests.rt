@@ -3,6 +3,7 @@ use crate::reply::{head, push_head};
 use crate::routes::{Line, Route, Routes};
 use crate::take::Take;
 use http::StatusCode;
+use refusing_alloc::Refusing;
 use std::alloc::{AllocError, Global};
 
 // A text, the reason of its fault if it has one, and whether it is a HEAD request.
@@ -233,13 +234,14 @@ fn counts_fields(rt: HostRuntime) {
     }
 }
 
-// A head of so many bytes with a body of this length.
-fn sized(alloc: Global, head: usize, body: usize) -> Result<Vec<u8>, AllocError> {
+// A head whose fields end after so many bytes, two line ends, and a body of this length.
+fn sized(alloc: Global, fields: usize, body: usize) -> Result<Vec<u8>, AllocError> {
     let front = format!(in alloc; "GET / HTTP/1.1\nhost: a\nContent-Length: {body}\na: ")?;
     let mut text = front.into_bytes();
-    text.resize(head - 2, b'b')?;
+    text.resize(fields, b'b')?;
     text.extend_from_slice(b"\n\n")?;
-    text.resize(head + body, b' ')?;
+    let end = text.len().saturating_add(body);
+    text.resize(end, b' ')?;
     Ok(text)
 }
 
@@ -248,15 +250,15 @@ fn counts_bytes(rt: HostRuntime) {
     let Ok(routes) = Routes::new(rt.alloc()) else {
         panic!(rt; "no memory");
     };
-    for (head, body, want) in [
-        (8192, 65536, "message"),
-        (8193, 0, "headers"),
-        (8192, 65537, "size"),
+    for (fields, body, want) in [
+        (8190, 65536, "message"),
+        (8191, 0, "headers"),
+        (8190, 65537, "size"),
     ] {
-        let Ok(text) = sized(rt.alloc(), head, body) else {
+        let Ok(text) = sized(rt.alloc(), fields, body) else {
             panic!(rt; "no memory");
         };
-        assert_eq!(rt; item_name(&routes, &text), want, "at {head}");
+        assert_eq!(rt; item_name(&routes, &text), want, "at {fields}");
     }
 }
 
@@ -331,4 +333,25 @@ fn writes_heads(rt: HostRuntime) {
             == b"HTTP/1.1 405 Method Not Allowed\r\nAllow: GET\r\nContent-Type: application/json\r\nConnection: close\r\n\r\n".as_slice()
     );
     assert_eq!(rt; Reason::Headers.status().as_u16(), 431);
+}
+
+#[test]
+fn refused_growth_leaves_the_buffer(rt: HostRuntime) {
+    let heap = Refusing::new(rt.alloc());
+    let mut refused = 0u64;
+    for n in 1..100 {
+        let mut out = Vec::new(&heap);
+        let Ok(()) = out.push(b'x') else {
+            panic!(rt; "no memory");
+        };
+        heap.arm(n);
+        let written = push_head(&mut out, StatusCode::OK, None, Some(17), true);
+        assert_eq!(rt; written.is_ok(), heap.is_armed(), "with {n}");
+        if written.is_ok() {
+            break;
+        }
+        refused = n;
+        assert!(rt; &out[..] == b"x".as_slice());
+    }
+    assert!(rt; refused > 0);
 }

@@ -3,7 +3,8 @@ ghost use Rattle.std.specs.Prelude.{◌≡◌, length, map, All, position, true}
 ghost use Rattle.std.specs.List.{list_all, before_first, after_first};
 ghost use Rattle.std.specs.Option.{option_map};
 ghost use Rattle.httparse.specs.Spans.{IsHeaderWithin, header_bytes};
-ghost use Rattle.st_http.specs.Token.{is_dot, is_name_byte, is_name, credentials_of, skip_spaces, is_bearer, credentials_in, token_of};
+ghost use Rattle.st_text.specs.Names.{is_dot, is_name_byte, is_name};
+ghost use Rattle.st_http.specs.Token.{credentials_of, skip_spaces, is_bearer, credentials_in, token_of};
 
 use crate::fields::{Named, find};
 use hex::FromHex;

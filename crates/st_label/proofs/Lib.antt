@@ -12,3 +12,5 @@ pub mod Escapes
 pub mod Limits
 pub mod Shrinks
 pub mod Settled
+pub mod Gather
+pub mod NormalLabels

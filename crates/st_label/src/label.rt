@@ -1,12 +1,15 @@
 //! A label: its written text, and what it says.
-ghost use Rattle.std.specs.Prelude.{◌≡◌, ◌<◌, ◌≤◌, IfOk, IfErr, length};
+ghost use Rattle.std.specs.Prelude.{◌≡◌, ◌↔◌, ◌<◌, ◌≤◌, IfOk, IfErr, IsTrue, length};
 ghost use Rattle.st_label.specs.Grammar.{Reads};
 ghost use Rattle.st_label.specs.Refusals.{max_len, max_depth};
 ghost use Rattle.st_label.specs.Reading.{reading, IsLabel};
 ghost use Rattle.st_label.specs.Views.{tree_view};
 ghost use Rattle.st_label.specs.declared.label.LabelFault.TheVariants.{NoMemory};
+ghost use Rattle.st_label.specs.Normal.{normal_text};
 ghost use Rattle.st_label.specs.Faults.{Refuses};
 
+use crate::normal::normal;
+use crate::print::push_tree;
 use crate::reader::{ReadFault, Reader};
 use crate::tree::Tree;
 use std::alloc::{AllocError, Allocator, Global};
@@ -83,6 +86,32 @@ impl<A: Allocator + Copy> Label<A> {
             text: String::from_str(self.alloc, self.text.as_str())?,
             tree: self.tree.copy(self.alloc)?,
         })
+    }
+
+    /// The label's normal form, which is true for the same names. Operands of an operand with the same
+    /// operator stand in its place; they are sorted by the bytes that they print as, and each stands once; a
+    /// single one stands for the whole. A name is in quotes only where it must be.
+    pub fn normal(&self) -> Result<Label<A>, AllocError>
+        ensures { IfOk result (λ label. label ≡ normal_text self.now) }
+    {
+        let tree = normal(self.alloc, &self.tree)?;
+        let mut text = String::new(self.alloc);
+        push_tree(&mut text, &tree)?;
+        Ok(Label {
+            alloc: self.alloc,
+            text,
+            tree,
+        })
+    }
+
+    /// Whether the written text is that of the normal form.
+    pub fn is_normal(&self) -> Result<bool, AllocError>
+        ensures { IfOk result (λ answer. IsTrue answer ↔ (normal_text self.now ≡ self.now)) }
+    {
+        let tree = normal(self.alloc, &self.tree)?;
+        let mut text = String::new(self.alloc);
+        push_tree(&mut text, &tree)?;
+        Ok(text.as_str() == self.text.as_str())
     }
 }
 

@@ -1,11 +1,11 @@
 //! Laws of the language, each the contract of a function that does nothing.
 ghost use Rattle.std.specs.Prelude.{◌≡◌, ◌≢◌, ◌≤◌, ◌⊎◌, ℕ, List, Bool, length};
-ghost use Rattle.st_label.specs.Tree.{Tree, Or, none, holds};
+ghost use Rattle.st_label.specs.Tree.{Tree, Or, none};
 ghost use Rattle.st_label.specs.Grammar.{Reads};
 ghost use Rattle.st_label.specs.Refusals.{max_depth};
-ghost use Rattle.st_label.specs.Reading.{reading, IsLabel};
+ghost use Rattle.st_label.specs.Reading.{reading, is_true, IsLabel};
 ghost use Rattle.st_label.specs.Faults.{Refuses};
-ghost use Rattle.st_label.specs.Normal.{normal, text_of};
+ghost use Rattle.st_label.specs.Normal.{normal, normal_text};
 ghost use Rattle.st_label.specs.declared.label.LabelFault.{LabelFault};
 ghost use Rattle.st_label.specs.declared.label.LabelFault.TheVariants.{NoMemory};
 
@@ -24,13 +24,13 @@ pub fn one_answer()
         → Refuses text fault → Refuses text other → fault ≡ other }
 {}
 
-/// The normal form is true for the same names, and its text is read again to it, within the same limits.
+/// The normal form of a label is a label, and true for the same names. Its text reads as the normal form of
+/// what the label reads as, and is its own normal form.
 pub fn normal_form()
-    ensures truth { (d : ℕ) (text : List ℕ) (r : Tree) (has : List ℕ → Bool) → Reads d text r
-        → holds has (normal r) ≡ holds has r }
-    ensures again { (d : ℕ) (text : List ℕ) (r : Tree) → Reads d text r
-        → Reads d (text_of (normal r)) (normal r) }
-    ensures short { (d : ℕ) (text : List ℕ) (r : Tree) → Reads d text r
-        → length (text_of (normal r)) ≤ length text }
-    ensures settled { (d : ℕ) (text : List ℕ) (r : Tree) → Reads d text r → normal (normal r) ≡ normal r }
+    ensures label { (label : List ℕ) → IsLabel label → IsLabel (normal_text label) }
+    ensures reading { (label : List ℕ) → IsLabel label → reading (normal_text label) ≡ normal (reading label) }
+    ensures truth { (label : List ℕ) (has : List ℕ → Bool) → IsLabel label
+        → is_true has (normal_text label) ≡ is_true has label }
+    ensures settled { (label : List ℕ) → IsLabel label → normal_text (normal_text label) ≡ normal_text label }
+    ensures short { (label : List ℕ) → IsLabel label → length (normal_text label) ≤ length label }
 {}

@@ -4,6 +4,7 @@
 mod class;
 mod label;
 pub mod law;
+mod normal;
 mod print;
 mod reader;
 mod tree;

@@ -75,3 +75,23 @@ fn limits(rt: HostRuntime) -> Result<(), Fail> {
     );
     Ok(())
 }
+
+// Whether the text is a label whose normal form is the other text.
+fn is_normal_form<A: Allocator + Copy>(alloc: A, text: &str, normal: &str) -> Result<bool, Fail> {
+    let label = Label::parse(alloc, text)?;
+    let other = label.normal()?.copy()?;
+    Ok(other.text() == normal && other.is_normal()? && label.is_normal()? == (text == normal))
+}
+
+#[test]
+fn normal_forms(rt: HostRuntime) -> Result<(), Fail> {
+    assert!(rt; is_normal_form(rt.alloc(), "(C|B)&A&A", "(B|C)&A")?);
+    assert!(rt; is_normal_form(rt.alloc(), "\"A\"|A", "A")?);
+    assert!(rt; is_normal_form(rt.alloc(), "((A|B)|(C&C))", "A|B|C")?);
+    assert!(rt; is_normal_form(rt.alloc(), "", "")?);
+    assert!(rt; is_normal_form(rt.alloc(), "A&(B&A)", "A&B")?);
+    assert!(rt; is_normal_form(rt.alloc(), "\"a b\"|a", "\"a b\"|a")?);
+    assert!(rt; is_normal_form(rt.alloc(), "\"é\"", "\"é\"")?);
+    assert!(rt; is_normal_form(rt.alloc(), "((B|A)&(A|B))|C", "A|B|C")?);
+    Ok(())
+}

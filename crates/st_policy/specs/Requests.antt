@@ -1,17 +1,12 @@
 -- What is in each line of the table of requests.
 use Rattle.std.specs.Prelude.{Bool, true, false, List, [], Option, Some, codes}
 use Rattle.st_text.specs.Texts.{Text}
-use Rattle.st_policy.specs.declared.request.Line.{Line}
 use Rattle.st_policy.specs.declared.request.Request.{Request}
 use Rattle.st_policy.specs.declared.request.Request.TheVariants.{Count, Put}
 
-abbrev pub line_text : Line → Text
-line_text Line.Count = codes "count"
-line_text Line.Put = codes "put"
-
-abbrev pub line_of : {A : Type 0} → Request A → Line
-line_of (Count table query auths) = Line.Count
-line_of (Put table row) = Line.Put
+abbrev pub name_of : {A : Type 0} → Request A → Text
+name_of (Count table query auths) = codes "count"
+name_of (Put table row) = codes "put"
 
 abbrev pub is_change : {A : Type 0} → Request A → Bool
 is_change (Count table query auths) = false

@@ -11,4 +11,4 @@ pub use denial::Denial;
 pub use field_name::FieldName;
 pub use policy::decide;
 pub use refusal::Refusal;
-pub use request::{Line, Request};
+pub use request::Request;

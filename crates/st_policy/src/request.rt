@@ -5,28 +5,6 @@ use st_dir::TableName;
 use st_index::Row;
 use std::alloc::{Allocator, Global};
 
-/// A line of the table of requests.
-#[derive(Clone, Copy, PartialEq, Eq, Debug)]
-pub enum Line {
-    Count,
-    Put,
-}
-
-impl Line {
-    ghost use Rattle.std.specs.Prelude.{◌≡◌};
-    ghost use Rattle.st_policy.specs.Requests.{line_text};
-
-    /// The name that the audit listing writes it by.
-    pub fn name(self) -> &'static str
-        ensures { result.now ≡ line_text self }
-    {
-        match self {
-            Line::Count => "count",
-            Line::Put => "put",
-        }
-    }
-}
-
 /// A request: one variant for each line that is served.
 #[derive(Drop)]
 pub enum Request<A: Allocator = Global> {
@@ -44,8 +22,8 @@ pub enum Request<A: Allocator = Global> {
 }
 
 impl<A: Allocator> Request<A> {
-    ghost use Rattle.std.specs.Prelude.{◌≡◌};
-    ghost use Rattle.st_policy.specs.Requests.{is_change, line_of, target_of};
+    ghost use Rattle.std.specs.Prelude.{◌≡◌, ◌≤◌, length};
+    ghost use Rattle.st_policy.specs.Requests.{is_change, name_of, target_of};
 
     /// Whether it changes anything, where it is allowed.
     pub fn is_change(&self) -> bool
@@ -57,13 +35,14 @@ impl<A: Allocator> Request<A> {
         }
     }
 
-    /// The line of the table of requests that it is.
-    pub fn line(&self) -> Line
-        ensures { result ≡ line_of self.now }
+    /// The name of its line in the table of requests, by which the audit listing writes it.
+    pub fn name(&self) -> &'static str
+        ensures value { result.now ≡ name_of self.now }
+        ensures short { length result.now ≤ 16 }
     {
         match self {
-            Request::Count { .. } => Line::Count,
-            Request::Put { .. } => Line::Put,
+            Request::Count { .. } => "count",
+            Request::Put { .. } => "put",
         }
     }
 
