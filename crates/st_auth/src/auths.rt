@@ -1,5 +1,5 @@
 //! Sets of authorizations.
-ghost use Rattle.std.specs.Prelude.{◌≡◌, ◌<◌, None, IfOk, IfErr, length, map, not, slice_index_or};
+ghost use Rattle.std.specs.Prelude.{◌≡◌, ◌↔◌, ◌<◌, [], None, IsTrue, IfOk, IfErr, length, map, not, slice_index_or};
 ghost use Rattle.std.specs.List.{position, range_with_len};
 ghost use Rattle.st_text.specs.Texts.{is_among};
 ghost use Rattle.st_auth.specs.Names.{is_name, first_bad, first_missing, Refuses};
@@ -83,14 +83,19 @@ impl<A: Allocator + Copy> Auths<A> {
     pub fn copy(&self) -> Result<Auths<A>, AllocError>
         ensures { IfOk result (λ other. other ≡ self.now) }
     {
-        let mut names = Vec::new(self.alloc);
-        for name in &self.names {
-            names.push(Words::new(self.alloc, name.as_str())?)?;
-        }
+        self.copy_in(self.alloc)
+    }
+
+    /// The empty set.
+    pub fn none(alloc: A) -> Result<Auths<A>, AllocError>
+        ensures { IfOk result (λ auths. auths ≡ []) }
+    {
+        let names = Vec::new(alloc);
+        let order = places_in_order(alloc, &names)?;
         Ok(Auths {
-            alloc: self.alloc,
+            alloc,
             names,
-            order: Vec::from_slice(self.alloc, &self.order)?,
+            order,
         })
     }
 }
@@ -110,6 +115,36 @@ impl<A: Allocator> Auths<A> {
         ensures { result ≡ first_missing self.now names.now }
     {
         names.names.iter().position(|name| !self.has(name.as_str()))
+    }
+
+    /// An equal set in memory of another allocator.
+    pub fn copy_in<B: Allocator + Copy>(&self, alloc: B) -> Result<Auths<B>, AllocError>
+        ensures { IfOk result (λ other. other ≡ self.now) }
+    {
+        let mut names = Vec::new(alloc);
+        for name in &self.names {
+            names.push(Words::new(alloc, name.as_str())?)?;
+        }
+        Ok(Auths {
+            alloc,
+            names,
+            order: Vec::from_slice(alloc, &self.order)?,
+        })
+    }
+
+    /// Whether the same names were given in the same order.
+    pub fn is_same<B: Allocator>(&self, other: &Auths<B>) -> bool
+        ensures { IsTrue result ↔ (self.now ≡ other.now) }
+    {
+        if self.names.len() != other.names.len() {
+            return false;
+        }
+        for place in 0..self.names.len() {
+            if self.names[place].as_str() != other.names[place].as_str() {
+                return false;
+            }
+        }
+        true
     }
 
     /// How many names were given, repeats counted.
