@@ -1,5 +1,5 @@
 //! Sets of authorizations.
-ghost use Rattle.std.specs.Prelude.{◌≡◌, ◌↔◌, ◌<◌, [], None, IsTrue, IfOk, IfErr, length, map, not, slice_index_or};
+ghost use Rattle.std.specs.Prelude.{◌≡◌, ◌↔◌, ◌<◌, ◌≤◌, [], None, option_map, find, IsTrue, IfSome, IfOk, IfErr, length, map, not, slice_index_or};
 ghost use Rattle.std.specs.List.{position, range_with_len};
 ghost use Rattle.st_text.specs.Texts.{is_among};
 ghost use Rattle.st_auth.specs.Names.{is_name, first_bad, first_missing, Refuses};
@@ -54,9 +54,11 @@ impl<A: Allocator> Model for Auths<A> {
 
     ghost view = { λ a. a.names.items };
 
+    ghost use Rattle.std.specs.Prelude.{◌≡◌, None};
+    ghost use Rattle.st_auth.specs.Names.{first_bad};
     ghost use Rattle.st_auth.specs.Order.{IsOrder};
 
-    ghost invariant = { λ a. IsOrder a.names.items a.order.items };
+    ghost invariant = { λ a. IsOrder a.names.items a.order.items × (first_bad a.names.items ≡ None) };
 }
 
 impl<A: Allocator + Copy> Auths<A> {
@@ -86,17 +88,15 @@ impl<A: Allocator + Copy> Auths<A> {
         self.copy_in(self.alloc)
     }
 
-    /// The empty set.
-    pub fn none(alloc: A) -> Result<Auths<A>, AllocError>
-        ensures { IfOk result (λ auths. auths ≡ []) }
+    /// The set of no names, which takes no memory.
+    pub fn none(alloc: A) -> Auths<A>
+        ensures { result ≡ [] }
     {
-        let names = Vec::new(alloc);
-        let order = places_in_order(alloc, &names)?;
-        Ok(Auths {
+        Auths {
             alloc,
-            names,
-            order,
-        })
+            names: Vec::new(alloc),
+            order: Vec::new(alloc),
+        }
     }
 }
 
@@ -115,6 +115,17 @@ impl<A: Allocator> Auths<A> {
         ensures { result ≡ first_missing self.now names.now }
     {
         names.names.iter().position(|name| !self.has(name.as_str()))
+    }
+
+    /// The first of the other's names, in the order given, that this set lacks.
+    pub fn missing_from<'b, B: Allocator>(&self, names: &'b Auths<B>) -> Option<&'b str>
+        ensures name { option_map (λ name. name.now) result ≡ find (λ name. not (is_among self.now name)) names.now }
+        ensures sized { IfSome result (λ name. length name.now ≤ MAX_NAME) }
+    {
+        match first_outside(self, names.names.as_slice()) {
+            Some(name) => Some(name.as_str()),
+            None => None,
+        }
     }
 
     /// An equal set in memory of another allocator.
@@ -161,6 +172,16 @@ impl<A: Allocator> Auths<A> {
     {
         self.names[index].as_str()
     }
+}
+
+// The first of the names that is not in the set.
+fn first_outside<'b, A: Allocator, B: Allocator>(
+    set: &Auths<A>,
+    names: &'b [Words<B>],
+) -> Option<&'b Words<B>>
+    ensures { option_map (λ name. name.now) result ≡ find (λ name. not (is_among set.now name)) names.now }
+{
+    names.iter().find(|name| !set.has(name.as_str()))
 }
 
 fn is_name_here(name: &str) -> bool

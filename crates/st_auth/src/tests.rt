@@ -39,7 +39,7 @@ fn verdicts(rt: HostRuntime) -> Result<(), Fail> {
     let label = Label::parse(rt.alloc(), "A")?;
     let other = Label::parse(rt.alloc(), "B")?;
     let set = Auths::from_list(rt.alloc(), &["A"])?;
-    let empty = Auths::none(rt.alloc())?;
+    let empty = Auths::none(rt.alloc());
     let others = Auths::from_list(rt.alloc(), &["B"])?;
     assert!(rt; verdicts.ask(&label, &set));
     assert!(rt; !verdicts.ask(&label, &empty));

@@ -43,7 +43,7 @@ impl<A: Allocator + Copy> Verdicts<A> {
     {
         Ok(Verdicts {
             alloc,
-            auths: Auths::none(alloc)?,
+            auths: Auths::none(alloc),
             cache: LruCache::new(alloc, capacity)?,
         })
     }

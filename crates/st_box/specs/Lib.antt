@@ -1,1 +1,4 @@
+pub mod Corner
+pub mod Part
 pub mod Query
+pub mod ZBox

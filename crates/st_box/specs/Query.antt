@@ -1,8 +1,14 @@
--- Boxes of space and time, both ends included.
-use Rattle.std.specs.Prelude.{ℕ, ◌≡◌, ◌^◌, Bool, ◌&&◌, nat_le, nat_lt, IsTrue}
+-- Queries: boxes of space and time, both ends included.
+use Rattle.std.specs.Prelude.{ℕ, ◌≡◌, ◌≤◌, ◌<◌, ◌+◌, ◌-◌, ◌*◌, ◌/◌, ◌%◌, ◌^◌, ◌↔◌, Bool, ◌&&◌, if◌then◌else◌, nat_eq, nat_le, nat_lt, IsTrue}
 use Rattle.std.proofs.lemmas.Bool.{ltb-true, leb-true}
+use Rattle.st_key.specs.declared.key.Key.{Key}
+use Rattle.st_key.specs.declared.period.Period.{Period}
 use Rattle.st_key.specs.declared.point.Point.{Point}
+use Rattle.st_key.specs.Key.{IsKeyOf}
+use Rattle.st_key.specs.Period.{seconds_of}
 use Rattle.st_box.specs.declared.query.Query.{Query}
+use Rattle.st_box.specs.declared.zbox.ZBox.{ZBox}
+use Rattle.st_box.specs.ZBox.{IsInside}
 
 -- these are the bounds of the query
 abbrev pub Makes : (x0 x1 y0 y1 t0 t1 : ℕ) → Query → Type 0
@@ -29,3 +35,28 @@ query_of x0 x1 y0 y1 t0 t1 fx fy ft rx ry rt = record {
   y_in_range = ltb-true y1 (2 ^ 21) ry;
   t_in_range = ltb-true t1 19818086400 rt;
 }
+
+-- the key is that of a point inside the query
+pub record HasKey (q : Query) (period : Period) (k : Key) : Type 0 where
+  pub point : Point
+  pub inside : IsTrue (is_inside q point)
+  pub key : IsKeyOf period point k
+
+-- the box has the query's addresses in this bin, and no other
+abbrev pub IsBoxIn : Query → Period → ℕ → ZBox → Type 0
+IsBoxIn q period bin b = (k : Key) → k.bin ≡ bin → (IsInside b k.address ↔ HasKey q period k)
+
+-- the seconds of the bin from this offset on are those from t on
+abbrev pub StartsAt : Period → ℕ → ℕ → ℕ → Type 0
+StartsAt period bin t offset = (o : ℕ) → o < seconds_of period → (offset ≤ o) ↔ (t ≤ bin * seconds_of period + o)
+
+-- the seconds of the bin up to this offset are those up to t
+abbrev pub EndsAt : Period → ℕ → ℕ → ℕ → Type 0
+EndsAt period bin t offset = (o : ℕ) → o < seconds_of period → (o ≤ offset) ↔ (bin * seconds_of period + o ≤ t)
+
+-- the first offset of a bin of the span, and the last
+abbrev pub first_offset_of : Period → (t0 bin : ℕ) → ℕ
+first_offset_of period t0 bin = if nat_eq bin (t0 / seconds_of period) then t0 % seconds_of period else 0
+
+abbrev pub last_offset_of : Period → (t1 bin : ℕ) → ℕ
+last_offset_of period t1 bin = if nat_eq bin (t1 / seconds_of period) then t1 % seconds_of period else seconds_of period - 1

@@ -1,7 +1,15 @@
-//! Queries: boxes of space and time.
+//! Queries: boxes of space and time, and their parts bin by bin.
 #![tactic(auto)]
 
+mod corner;
 pub mod law;
+mod part;
 mod query;
+#[cfg(test)]
+mod tests;
+mod zbox;
 
+pub use corner::Corner;
+pub use part::Part;
 pub use query::{BadBox, Query};
+pub use zbox::ZBox;

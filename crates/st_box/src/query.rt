@@ -1,7 +1,10 @@
 //! Queries.
-ghost use Rattle.std.specs.Prelude.{◌≡◌, ◌↔◌, ◌^◌, ◌<◌, ◌≤◌, IsOk, IfOk};
+ghost use Rattle.std.specs.Prelude.{◌≡◌, ◌↔◌, ℕ, ◌^◌, ◌<◌, ◌≤◌, ◌/◌, ◌+◌, IsOk, IfOk, IsTrue, map};
 
-use st_key::Point;
+use crate::part::Part;
+use crate::zbox::ZBox;
+use arrayvec::ArrayVec;
+use st_key::{Key, Period, Point};
 
 /// Six numbers that make no query: one is past its range, or a pair is reversed.
 #[derive(Clone, Copy, Debug, PartialEq, Eq)]
@@ -26,7 +29,11 @@ pub struct Query {
 }
 
 impl Query {
-    ghost use Rattle.st_box.specs.Query.{Makes, is_inside};
+    ghost use Rattle.st_key.specs.Period.{seconds_of};
+    ghost use Rattle.st_key.specs.declared.key.Key.{Key};
+    ghost use Rattle.st_box.specs.Part.{cut_of, cuts_of, HasPart, FollowBins, IsEdge, IsMiddle};
+    ghost use Rattle.st_box.specs.Query.{Makes, is_inside, HasKey, IsBoxIn, StartsAt, EndsAt, first_offset_of, last_offset_of};
+    ghost use Rattle.st_box.specs.ZBox.{HasBounds};
 
     /// The query with these bounds. `BadBox` where one is past its range or a pair is reversed.
     pub fn new(x0: u64, x1: u64, y0: u64, y1: u64, t0: u64, t1: u64) -> Result<Query, BadBox>
@@ -58,6 +65,115 @@ impl Query {
             && point.y() <= self.y1
             && self.t0 <= point.t()
             && point.t() <= self.t1
+    }
+
+    /// Whether the key is that of a point inside the query.
+    pub fn has_key(&self, key: Key, period: Period) -> bool
+        ensures { IsTrue result ↔ HasKey self.now period key }
+    {
+        match key.point(period) {
+            Some(point) => self.has(&point),
+            None => false,
+        }
+    }
+
+    /// The first offset of a bin that is in the span.
+    fn first_offset(&self, bin: u32, period: Period) -> u32
+        requires { self.now.t0 / seconds_of period ≤ bin }
+        ensures starts { StartsAt period bin self.now.t0 result }
+        ensures value { result ≡ first_offset_of period self.now.t0 bin }
+    {
+        if u64::from(bin) == self.t0 / period.seconds() {
+            (self.t0 % period.seconds()) as u32
+        } else {
+            0
+        }
+    }
+
+    /// The last offset of a bin that is in the span.
+    fn last_offset(&self, bin: u32, period: Period) -> u32
+        requires { bin ≤ self.now.t1 / seconds_of period }
+        ensures ends { EndsAt period bin self.now.t1 result }
+        ensures value { result ≡ last_offset_of period self.now.t1 bin }
+        ensures in_range { result < seconds_of period }
+    {
+        if u64::from(bin) == self.t1 / period.seconds() {
+            (self.t1 % period.seconds()) as u32
+        } else {
+            (period.seconds() - 1) as u32
+        }
+    }
+
+    /// What the query is in one bin of its span: the addresses of its keys there.
+    pub fn box_in(&self, bin: u32, period: Period) -> ZBox
+        requires from_first { self.now.t0 / seconds_of period ≤ bin }
+        requires to_last { bin ≤ self.now.t1 / seconds_of period }
+        ensures keys { IsBoxIn self.now period bin result }
+        ensures bounds { HasBounds self.now.x0 self.now.x1 self.now.y0 self.now.y1 (first_offset_of period self.now.t0 bin) (last_offset_of period self.now.t1 bin) result }
+    {
+        ZBox {
+            x_first: self.x0,
+            x_last: self.x1,
+            y_first: self.y0,
+            y_last: self.y1,
+            offset_first: self.first_offset(bin, period),
+            offset_last: self.last_offset(bin, period),
+        }
+    }
+
+    /// What the query is in one bin of its span, as a part.
+    fn edge(&self, bin: u32, period: Period) -> Part
+        requires from_first { self.now.t0 / seconds_of period ≤ bin }
+        requires to_last { bin ≤ self.now.t1 / seconds_of period }
+        ensures { IsEdge self.now period bin result }
+    {
+        Part {
+            bin_lo: bin,
+            bin_hi: bin,
+            zbox: self.box_in(bin, period),
+        }
+    }
+
+    /// What the query is in the bins between its first and its last.
+    fn middle(&self, first: u32, last: u32, period: Period) -> Part
+        requires first { first ≡ self.now.t0 / seconds_of period }
+        requires last { last ≡ self.now.t1 / seconds_of period }
+        requires some { first + 1 < last }
+        ensures { IsMiddle self.now period result }
+    {
+        Part {
+            bin_lo: first + 1,
+            bin_hi: last - 1,
+            zbox: ZBox {
+                x_first: self.x0,
+                x_last: self.x1,
+                y_first: self.y0,
+                y_last: self.y1,
+                offset_first: 0,
+                offset_last: (period.seconds() - 1) as u32,
+            },
+        }
+    }
+
+    /// The query cut at the edges of bins: its first bin, the whole bins between, and its last bin.
+    /// No two parts have a key in common, and together they have the query's keys.
+    pub fn parts(&self, period: Period) -> ArrayVec<Part, 3>
+        ensures cuts { map cut_of result.items ≡ cuts_of period self.now }
+        ensures whole { (k : Key) → HasPart result.items k ↔ HasKey self.now period k }
+        ensures apart { FollowBins (self.now.t0 / seconds_of period) result.items (self.now.t1 / seconds_of period) }
+    {
+        let first = (self.t0 / period.seconds()) as u32;
+        let last = (self.t1 / period.seconds()) as u32;
+        let mut parts = ArrayVec::new();
+        parts.push(self.edge(first, period));
+        if first == last {
+            return parts;
+        }
+        if first + 1 < last {
+            parts.push(self.middle(first, last, period));
+        }
+        parts.push(self.edge(last, period));
+        parts
     }
 
     /// The first of the first coordinates.

@@ -1,10 +1,14 @@
 //! Rows.
-ghost use Rattle.std.specs.Prelude.{◌≡◌, IfOk};
+ghost use Rattle.std.specs.Prelude.{◌≡◌, ◌<◌, IfOk};
+ghost use Rattle.st_index.specs.Rows.{key_end};
+ghost use Rattle.st_key.specs.Key.{rank};
+ghost use Rattle.st_index.specs.Rows.{name_cmp, name_of, place_of};
 
-use st_key::Point;
+use st_key::{Key, Period, Point};
 use st_label::Label;
 use st_text::{Text, Words};
 use std::alloc::{AllocError, Allocator, Global};
+use std::cmp::Ordering;
 
 /// A labelled point: what a table holds under one id and one label.
 #[derive(Drop)]
@@ -13,14 +17,14 @@ pub struct Row<A: Allocator = Global> {
     pub id: Text<64>,
     /// Where and when.
     pub point: Point,
-    /// Who may see the row.
+    /// Who may see it.
     pub label: Label<A>,
     /// A text of at most 4,096 bytes.
     pub note: Words<A>,
 }
 
 impl<A: Allocator + Copy> Row<A> {
-    /// An equal row, or an error where there is no memory for it.
+    /// An equal row.
     pub fn copy(&self) -> Result<Row<A>, AllocError>
         ensures { IfOk result (λ other. other ≡ self.now) }
     {
@@ -30,5 +34,23 @@ impl<A: Allocator + Copy> Row<A> {
             label: self.label.copy()?,
             note: self.note.copy()?,
         })
+    }
+
+    /// The key of the row's point.
+    pub fn key(&self, period: Period) -> Key
+        ensures value { rank result ≡ place_of period self.now }
+        ensures in_period { rank result < key_end period }
+    {
+        Key::of(&self.point, period)
+    }
+
+    /// The order of the row's name and that of an id and a label: by the id's bytes, then by the label's.
+    pub fn cmp_name(&self, id: &str, label: &str) -> Ordering
+        ensures { result ≡ name_cmp (name_of self.now) (record { id = id.now; label = label.now }) }
+    {
+        match self.id.as_str().cmp(id) {
+            Ordering::Equal => self.label.text().cmp(label),
+            order => order,
+        }
     }
 }

@@ -1,13 +1,17 @@
-//! Points and their keys in scan order.
+//! Points of space and time, and their keys in scan order.
 #![tactic(auto)]
 
 mod key;
 pub mod law;
 mod morton;
 mod period;
+mod place;
 mod point;
+#[cfg(test)]
+mod tests;
 
-pub use key::Key;
+pub use key::{Key, comes_before};
 pub use morton::{gather, interleave, spread};
 pub use period::Period;
+pub use place::Place;
 pub use point::{OutOfRange, Point};

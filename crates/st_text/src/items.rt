@@ -58,3 +58,14 @@ impl<T: Drop, A: Allocator> Items<T, A> {
         Ok(())
     }
 }
+
+impl<T: Copy + Drop, A: Allocator> Items<T, A> {
+    /// Puts copies of the items at the end, or leaves the list as it was where there is no memory
+    /// for them.
+    pub fn extend(&mut self, items: &[T]) -> Result<(), AllocError>
+        ensures ok { OnOk result (self.new ≡ self.old ++ items.now) }
+        ensures err { OnErr result (self.new ≡ self.old) }
+    {
+        self.items.extend_from_slice(items)
+    }
+}

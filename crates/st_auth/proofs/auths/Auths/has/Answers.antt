@@ -12,5 +12,5 @@ returns g c =
     let searched = c.binary_search_by.ensures.position (λ y. slice_cmp nat_cmp (name_at c.self.inside.names.items y) c.args.name.now) (always_returns_same _ _ _ (λ a r f' k. search rules)) in
     let value = c.deref.ensures.value in
     c.is_ok.ensures.value
-    ∙ found c.self.inside.names.items c.self.inside.order.items c.args.name.now c.binary_search_by.result c.self.invariant (rw value at c.binary_search_by.ensures.bound) (rw value at searched)
+    ∙ found c.self.inside.names.items c.self.inside.order.items c.args.name.now c.binary_search_by.result c.self.invariant.0 (rw value at c.binary_search_by.ensures.bound) (rw value at searched)
     ∙ ap (λ (k : List Text). is_among k c.args.name.now) c.self.view_is

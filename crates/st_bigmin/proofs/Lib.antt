@@ -1,0 +1,4 @@
+pub mod Ends
+pub mod FirstKeys
+pub mod Jumps
+pub mod Runs

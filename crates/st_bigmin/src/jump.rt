@@ -1,0 +1,62 @@
+//! The neighbours of a number among the addresses of a box.
+ghost use Rattle.std.specs.Prelude.{◌≡◌, ℕ, ◌^◌, ◌<◌, ◌≤◌, ◌+◌, ◌-◌, ◌*◌, IfSome, IfNone};
+ghost use Rattle.st_box.specs.Corner.{spot_at};
+ghost use Rattle.st_bigmin.specs.Jump.{IsLeastAbove, IsGreatestBelow};
+ghost use Rattle.st_box.specs.ZBox.{IsInside};
+
+use st_box::{Corner, ZBox};
+
+/// The first and the last place of the addresses that are `prefix` above their lowest `level`
+/// bits. They are all the places between these two.
+pub(crate) fn cell(prefix: u64, level: u32) -> (Corner, Corner)
+    requires level_in_range { level < 64 }
+    requires fits { (prefix + 1) * 2 ^ level ≤ 2 ^ 63 }
+    ensures first { result.0 ≡ spot_at (prefix * 2 ^ level) }
+    ensures last { result.1 ≡ spot_at (prefix * 2 ^ level + (2 ^ level - 1)) }
+{
+    let first = prefix << level;
+    let last = first + ((1 << level) - 1);
+    (Corner::at(first), Corner::at(last))
+}
+
+/// The least address of the box that is greater than `z`.
+pub fn bigmin(z: u64, zbox: &ZBox) -> Option<u64>
+    ensures some { IfSome result (IsLeastAbove zbox.now z) }
+    ensures none { IfNone result ((a : ℕ) → IsInside zbox.now a → a ≤ z) }
+{
+    if z >= 1 << 63 {
+        return None;
+    }
+    let first = zbox.first();
+    let last = zbox.last();
+    for level in 0..63u32 {
+        let prefix = z >> level;
+        if prefix % 2 == 0 {
+            let (cell_first, cell_last) = cell(prefix + 1, level);
+            if cell_first.is_within(&last) && first.is_within(&cell_last) {
+                return Some(first.later_address(&cell_first));
+            }
+        }
+    }
+    None
+}
+
+/// The greatest address of the box that is less than `z`.
+pub fn litmax(z: u64, zbox: &ZBox) -> Option<u64>
+    ensures some { IfSome result (IsGreatestBelow zbox.now z) }
+    ensures none { IfNone result ((a : ℕ) → IsInside zbox.now a → z ≤ a) }
+{
+    let end = z.min(1 << 63);
+    let first = zbox.first();
+    let last = zbox.last();
+    for level in 0..64u32 {
+        let prefix = end >> level;
+        if prefix % 2 == 1 {
+            let (cell_first, cell_last) = cell(prefix - 1, level);
+            if cell_first.is_within(&last) && first.is_within(&cell_last) {
+                return Some(last.earlier_address(&cell_last));
+            }
+        }
+    }
+    None
+}

@@ -1,0 +1,50 @@
+//! The audit listing.
+ghost use Rattle.std.specs.Prelude.{◌≡◌};
+ghost use Rattle.st_policy.specs.Requests.{name_of};
+
+use st_dir::Name;
+use st_policy::Request;
+use st_text::Text;
+use std::alloc::Allocator;
+
+/// How many entries the listing keeps.
+pub const AUDIT_LEN: usize = 1024;
+
+/// One change that was asked for by a user whose token held.
+#[derive(Drop)]
+pub struct Entry {
+    /// The name of its line in the table of requests.
+    pub request: Text<16>,
+    /// The number of its refusal, or 0.
+    pub result: u8,
+    /// The table that it was about.
+    pub target: Text<65>,
+    /// Who asked.
+    pub user: Name,
+}
+
+impl Entry {
+    ghost use Rattle.st_policy.specs.Requests.{target_of};
+
+    /// The entry of a request, with the number of its refusal, or 0.
+    pub fn of<A: Allocator>(asker: &Name, request: &Request<A>, number: u8) -> Entry
+        ensures { result ≡ record { request = name_of request.now; result = number; target = target_of request.now; user = asker.now } }
+    {
+        Entry {
+            request: text_of_name(request),
+            result: number,
+            target: request.table().to_text(),
+            user: asker.copy(),
+        }
+    }
+}
+
+// The name of a request's line.
+fn text_of_name<A: Allocator>(request: &Request<A>) -> Text<16>
+    ensures { result ≡ name_of request.now }
+{
+    match Text::new(request.name()) {
+        Some(text) => text,
+        None => unreachable!(),
+    }
+}

@@ -1,0 +1,15 @@
+//! The server's state, and what each request does to it and is told.
+#![tactic(auto)]
+
+mod asked;
+mod audit;
+mod held;
+pub mod law;
+mod reply;
+mod store;
+
+pub use asked::{Asked, Call, Token};
+pub use audit::Entry;
+pub use held::Held;
+pub use reply::Reply;
+pub use store::Store;

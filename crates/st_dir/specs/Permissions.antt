@@ -1,0 +1,42 @@
+-- Permissions, by the names of Apache Accumulo.
+use Rattle.std.specs.Prelude.{ℕ, Bool, nat_eq, List, [], ◌∷◌, codes}
+use Rattle.st_dir.specs.declared.permission.Permission.{Permission}
+
+-- the table permissions, in listing order
+abbrev pub table_permissions : List Permission
+table_permissions = Permission.Read ∷ Permission.Write ∷ Permission.AlterTable ∷ Permission.Grant ∷ Permission.DropTable ∷ []
+
+-- the system permissions, in listing order
+abbrev pub system_permissions : List Permission
+system_permissions =
+    Permission.CreateTable ∷ Permission.DropTable ∷ Permission.AlterTable ∷ Permission.CreateUser
+    ∷ Permission.DropUser ∷ Permission.AlterUser ∷ Permission.Grant ∷ Permission.System ∷ []
+
+-- each permission has a place of its own
+abbrev pub place_of : Permission → ℕ
+place_of Permission.Read = 0
+place_of Permission.Write = 1
+place_of Permission.AlterTable = 2
+place_of Permission.Grant = 3
+place_of Permission.DropTable = 4
+place_of Permission.CreateTable = 5
+place_of Permission.CreateUser = 6
+place_of Permission.DropUser = 7
+place_of Permission.AlterUser = 8
+place_of Permission.System = 9
+
+abbrev pub same_permission : Permission → Permission → Bool
+same_permission p q = nat_eq (place_of p) (place_of q)
+
+-- how requests and replies write it
+abbrev pub name_of : Permission → List ℕ
+name_of Permission.Read = codes "READ"
+name_of Permission.Write = codes "WRITE"
+name_of Permission.AlterTable = codes "ALTER_TABLE"
+name_of Permission.Grant = codes "GRANT"
+name_of Permission.DropTable = codes "DROP_TABLE"
+name_of Permission.CreateTable = codes "CREATE_TABLE"
+name_of Permission.CreateUser = codes "CREATE_USER"
+name_of Permission.DropUser = codes "DROP_USER"
+name_of Permission.AlterUser = codes "ALTER_USER"
+name_of Permission.System = codes "SYSTEM"

@@ -1,0 +1,244 @@
+//! The directory.
+ghost use Rattle.std.specs.Prelude.{◌≡◌, ◌∷◌, [], IfOk, false, codes, option_map};
+ghost use Rattle.std.specs.List.{list_any};
+ghost use Rattle.st_dir.specs.Permissions.{same_permission, system_permissions};
+ghost use Rattle.st_dir.specs.Grants.{all_on};
+ghost use Rattle.st_dir.specs.declared.grant.Scope.TheVariants.{OnTable};
+ghost use Rattle.st_key.specs.declared.period.Period as Period;
+ghost use Rattle.st_dir.specs.Directory.{user_named, table_named, auths_of, has_secret, has_system, has_table, is_granted, constraint_of, first_directory};
+
+use crate::grant::{Grant, Scope};
+use crate::name::Name;
+use crate::permission::Permission;
+use crate::table::TableInfo;
+use crate::table_name::TableName;
+use crate::user::User;
+use sha2::{Digest, Sha256};
+use st_auth::Auths;
+use st_key::Period;
+use st_text::Items;
+use std::alloc::{AllocError, Allocator, Global};
+use std::marker::Model;
+
+/// The users, the tables and the grants.
+#[derive(Drop)]
+pub struct Directory<A: Allocator = Global> {
+    users: Items<User<A>, A>,
+    tables: Items<TableInfo, A>,
+    grants: Items<Grant, A>,
+    // The authorizations of who is no user.
+    nobody: Auths<A>,
+}
+
+impl<A: Allocator> Model for Directory<A> {
+    ghost use Rattle.std.specs.Prelude.{◌≡◌, []};
+    ghost use Rattle.st_dir.specs.Directory.{Directory as Lists};
+
+    ghost Value = { Lists A };
+
+    ghost view = { λ d. record { users = d.users; tables = d.tables; grants = d.grants } };
+
+    ghost invariant = { λ d. d.nobody ≡ [] };
+}
+
+// The permissions on the system, in listing order.
+const SYSTEM_PERMISSIONS: [Permission; 8] = [
+    Permission::CreateTable,
+    Permission::DropTable,
+    Permission::AlterTable,
+    Permission::CreateUser,
+    Permission::DropUser,
+    Permission::AlterUser,
+    Permission::Grant,
+    Permission::System,
+];
+
+// The permissions on a table, in listing order.
+const TABLE_PERMISSIONS: [Permission; 5] = [
+    Permission::Read,
+    Permission::Write,
+    Permission::AlterTable,
+    Permission::Grant,
+    Permission::DropTable,
+];
+
+// Whether a permission is among these.
+fn has_permission(permissions: &[Permission], permission: Permission) -> bool
+    ensures { result ≡ list_any (same_permission permission) permissions.now }
+{
+    for held in permissions {
+        if permission.is_same(*held) {
+            return true;
+        }
+    }
+    false
+}
+
+// The name of the user that a server begins with.
+fn root() -> Name
+    ensures { result ≡ codes "root" }
+{
+    match Name::new("root") {
+        Ok(name) => name,
+        Err(_) => unreachable!(),
+    }
+}
+
+// The name of the table that a server begins with.
+fn points() -> TableName
+    ensures { result ≡ codes "points" }
+{
+    match TableName::new("points") {
+        Ok(name) => name,
+        Err(_) => unreachable!(),
+    }
+}
+
+// The user root, who has each permission on the system.
+fn first_users<A: Allocator + Copy>(
+    alloc: A,
+    digest: [u8; 32],
+    auths: Auths<A>,
+) -> Result<Items<User<A>, A>, AllocError>
+    ensures { IfOk result (λ users. users ≡ record { name = codes "root"; digest = digest; auths = auths; permissions = system_permissions } ∷ []) }
+{
+    let mut permissions = Items::new(alloc);
+    permissions.extend(&SYSTEM_PERMISSIONS)?;
+    let mut users = Items::new(alloc);
+    users.push(User {
+        name: root(),
+        digest,
+        auths,
+        permissions,
+    })?;
+    Ok(users)
+}
+
+// The table points, with weeks for bins.
+fn first_tables<A: Allocator + Copy>(alloc: A) -> Result<Items<TableInfo, A>, AllocError>
+    ensures { IfOk result (λ tables. tables ≡ record { table = codes "points"; constraint = false; period = Period.Week } ∷ []) }
+{
+    let mut tables = Items::new(alloc);
+    tables.push(TableInfo {
+        table: points(),
+        constraint: false,
+        period: Period::Week,
+    })?;
+    Ok(tables)
+}
+
+// Each table permission for the user root on the table points.
+fn first_grants<A: Allocator + Copy>(alloc: A) -> Result<Items<Grant, A>, AllocError>
+    ensures { IfOk result (λ grants. grants ≡ all_on (codes "root") (OnTable (codes "points"))) }
+{
+    let mut grants = Items::new(alloc);
+    for permission in TABLE_PERMISSIONS {
+        grants.push(Grant {
+            user: root(),
+            scope: Scope::OnTable(points()),
+            permission,
+        })?;
+    }
+    Ok(grants)
+}
+
+impl<A: Allocator + Copy> Directory<A> {
+    /// The directory that a server begins with: the user root with this digest of its secret, these
+    /// authorizations and each permission on the system, and the table points, made by root. An
+    /// error where there is no memory for it.
+    pub fn new(alloc: A, digest: [u8; 32], auths: Auths<A>) -> Result<Directory<A>, AllocError>
+        ensures { IfOk result (λ directory. directory ≡ first_directory digest auths) }
+    {
+        Ok(Directory {
+            users: first_users(alloc, digest, auths)?,
+            tables: first_tables(alloc)?,
+            grants: first_grants(alloc)?,
+            nobody: Auths::none(alloc),
+        })
+    }
+}
+
+impl<A: Allocator> Directory<A> {
+    // The user of this name.
+    fn user(&self, name: &str) -> Option<&User<A>>
+        ensures { option_map (λ user. user.now) result ≡ user_named self.now name.now }
+    {
+        self.users.as_slice().iter().find(|user| user.name.is(name))
+    }
+
+    // The table of this name.
+    fn table(&self, name: &str) -> Option<&TableInfo>
+        ensures { option_map (λ info. info.now) result ≡ table_named self.now name.now }
+    {
+        self.tables
+            .as_slice()
+            .iter()
+            .find(|info| info.table.is(name))
+    }
+
+    /// Whether there is a user of this name whose secret this is: the record keeps its SHA-256
+    /// (FIPS 180-4).
+    pub fn authenticate(&self, name: &str, secret: &[u8; 32]) -> bool
+        ensures { result ≡ has_secret self.now name.now secret.now }
+    {
+        match self.user(name) {
+            Some(user) => user.digest == Sha256::digest(secret.as_slice()),
+            None => false,
+        }
+    }
+
+    /// The authorizations of the user of this name; none, where there is no such user.
+    pub fn auths_of(&self, name: &str) -> &Auths<A>
+        ensures { result.now ≡ auths_of self.now name.now }
+    {
+        match self.user(name) {
+            Some(user) => &user.auths,
+            None => &self.nobody,
+        }
+    }
+
+    /// Whether the table's visibility constraint is on; `None` where there is no such table.
+    pub fn constraint_of(&self, table: &TableName) -> Option<bool>
+        ensures { result ≡ constraint_of self.now table.now }
+    {
+        match self.table(table.as_str()) {
+            Some(info) => Some(info.constraint),
+            None => None,
+        }
+    }
+
+    /// Whether the user has the permission on the system.
+    pub fn holds_system(&self, user: &str, permission: Permission) -> bool
+        ensures { result ≡ has_system self.now user.now permission }
+    {
+        match self.user(user) {
+            Some(user) => has_permission(user.permissions.as_slice(), permission),
+            None => false,
+        }
+    }
+
+    // Whether the user has been granted the permission on the scope itself.
+    fn has_grant(&self, user: &str, scope: &Scope, permission: Permission) -> bool
+        ensures { result ≡ is_granted self.now user.now scope.now permission }
+    {
+        for grant in self.grants.as_slice() {
+            if grant.gives(user, scope, permission) {
+                return true;
+            }
+        }
+        false
+    }
+
+    /// Whether the user has the permission on the table, by a grant on the table or on its namespace.
+    pub fn holds_table(&self, user: &str, table: &TableName, permission: Permission) -> bool
+        ensures { result ≡ has_table self.now user.now table.now permission }
+    {
+        if self.has_grant(user, &Scope::OnTable(table.copy()), permission) {
+            return true;
+        }
+        match table.namespace() {
+            Some(namespace) => self.has_grant(user, &Scope::OnNamespace(namespace), permission),
+            None => false,
+        }
+    }
+}

@@ -1,0 +1,11 @@
+//! Tables.
+use crate::table_name::TableName;
+use st_key::Period;
+
+/// A table: its name, whether its visibility constraint is on, and the length of its time bins.
+#[derive(Drop)]
+pub struct TableInfo {
+    pub table: TableName,
+    pub constraint: bool,
+    pub period: Period,
+}

@@ -1,0 +1,12 @@
+pub mod TargetLemmas
+pub mod LengthLemmas
+pub mod FieldLemmas
+pub mod CloseLemmas
+pub mod WindowLemmas
+pub mod BareLemmas
+pub mod FirstLemmas
+pub mod ItemLemmas
+pub mod TakeLemmas
+pub mod RouteLemmas
+pub mod TokenLemmas
+pub mod ReplyLemmas

@@ -1,0 +1,44 @@
+-- From what the window holds to the first item of the text.
+use Rattle.std.proofs.Common.{◌≡◌, ℕ, ◌<◌, ◌≤◌, Bool, true, false, List, length, drop, refl, subst}
+use Rattle.std.proofs.lemmas.Bool.{lt-ltb, le-ltb}
+use Rattle.std.specs.Prelude.{nat_lt, ◌↔◌, IsTrue}
+use Rattle.httparse.specs.Grammar.{RequestHead, print_request, ReadsRequest}
+use Rattle.st_http.specs.declared.fields.Reason.TheVariants as reasons
+use Rattle.st_http.specs.declared.take.Take.{Take}
+use Rattle.st_http.specs.declared.take.Take.TheVariants as takes
+use Rattle.st_http.specs.Head.{window, IsBare, TellsBare, whole, begun, hopeless, Reads}
+use Rattle.st_http.specs.Fields.{body_length_of}
+use Rattle.st_http.specs.First.{fault, more, with_body, fields_of}
+use Rattle.st_http.specs.Take.{Shows, Takes}
+
+-- the window's flag is the text's
+tells_text : (text p : List ℕ) (bare : Bool) → p ≡ window text → IsTrue bare ↔ IsBare p → TellsBare text bare
+unfolding TellsBare
+tells_text text p bare e is_bare = subst (λ (t : List ℕ). IsTrue bare ↔ IsBare t) e is_bare
+
+module _ (text p : List ℕ) (bare : Bool) (e : p ≡ window text) (is_bare : IsTrue bare ↔ IsBare p) where
+  pub takes_whole : (rest : List ℕ) (h : RequestHead) (taken : Take) → ReadsRequest p h rest → length h.fields ≤ 64
+      → Shows (with_body h (drop (length (print_request h)) text) bare (body_length_of h.minor (fields_of h))) taken → Takes text taken
+  takes_whole rest h taken reads few shows =
+      let room : nat_lt 64 (length h.fields) ≡ false = le-ltb _ _ few in
+      (_, (whole h, bare, (rest, subst (λ (t : List ℕ). ReadsRequest t h rest) e reads), tells_text text p bare e is_bare, rw room refl), shows)
+
+  pub takes_begun : Reads p begun → length text < 8192 → Takes text takes.More
+  takes_begun reads short =
+      let test : nat_lt (length text) 8192 ≡ true = lt-ltb _ _ short in
+      (more, (begun, bare, subst (λ (t : List ℕ). Reads t begun) e reads, tells_text text p bare e is_bare, rw test refl), tt)
+
+  pub faults_begun : Reads p begun → 8192 ≤ length text → Takes text (takes.Fault (record { reason = reasons.Headers; bare = bare }))
+  faults_begun reads long =
+      let test : nat_lt (length text) 8192 ≡ false = le-ltb _ _ long in
+      (fault reasons.Headers bare, (begun, bare, subst (λ (t : List ℕ). Reads t begun) e reads, tells_text text p bare e is_bare, rw test refl), (refl, refl))
+
+  pub faults_crowded : (h : RequestHead) (rest : List ℕ) → ReadsRequest p h rest → 64 < length h.fields
+      → Takes text (takes.Fault (record { reason = reasons.Headers; bare = bare }))
+  faults_crowded h rest reads many =
+      let test : nat_lt 64 (length h.fields) ≡ true = lt-ltb _ _ many in
+      (fault reasons.Headers bare, (whole h, bare, (rest, subst (λ (t : List ℕ). ReadsRequest t h rest) e reads), tells_text text p bare e is_bare, rw test refl), (refl, refl))
+
+  pub faults_hopeless : Reads p hopeless → Takes text (takes.Fault (record { reason = reasons.Head; bare = bare }))
+  faults_hopeless reads =
+      (fault reasons.Head bare, (hopeless, bare, subst (λ (t : List ℕ). Reads t hopeless) e reads, tells_text text p bare e is_bare, refl), (refl, refl))

@@ -1,0 +1,41 @@
+-- The first item of a text: a message, a fault, or none yet.
+use Rattle.std.specs.Prelude.{◌≡◌, ℕ, ◌+◌, Bool, List, take, drop, map, length, if◌then◌else◌, nat_lt, nat_le, Result, Ok, Err}
+use Rattle.httparse.specs.Grammar.{RequestHead, print_request}
+use Rattle.httparse.specs.Spans.{name_and_value}
+use Rattle.st_http.specs.declared.fields.Reason.{Reason}
+use Rattle.st_http.specs.declared.fields.Reason.TheVariants as reasons
+use Rattle.st_http.specs.Head.{window, TellsBare, Reading, whole, begun, hopeless, Reads}
+use Rattle.st_http.specs.Fields.{Fields, body_length_of}
+
+pub data First : Type 0 where
+  -- a head and the body after it, and whether it is a HEAD request
+  message : RequestHead → List ℕ → Bool → First
+  -- the rule that the text breaks, and whether it is a HEAD request
+  fault : Reason → Bool → First
+  -- the text is too short for either
+  more : First
+
+-- the fields of a head, each a name and a value
+abbrev pub fields_of : RequestHead → Fields
+fields_of h = map name_and_value h.fields
+
+-- the message of a head, by the length of its body and the text after it
+abbrev pub with_body : RequestHead → List ℕ → Bool → Result ℕ Reason → First
+with_body h after bare (Ok n) = if nat_le n (length after) then message h (take n after) bare else more
+with_body h after bare (Err reason) = fault reason bare
+
+-- the first item of a text whose window reads so
+abbrev pub first_of : List ℕ → Bool → Reading → First
+first_of text bare (whole h) =
+    if nat_lt 64 (length h.fields) then fault reasons.Headers bare else
+    with_body h (drop (length (print_request h)) text) bare (body_length_of h.minor (fields_of h))
+first_of text bare begun = if nat_lt (length text) 8192 then more else fault reasons.Headers bare
+first_of text bare hopeless = fault reasons.Head bare
+
+abbrev pub IsFirst : List ℕ → First → Type 0
+IsFirst text first =
+    (reading : Reading) × (bare : Bool) × Reads (window text) reading × TellsBare text bare × (first ≡ first_of text bare reading)
+
+-- how many bytes a message has
+abbrev pub size_of : RequestHead → List ℕ → ℕ
+size_of h body = length (print_request h) + length body

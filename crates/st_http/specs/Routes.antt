@@ -1,0 +1,121 @@
+-- The line of the table of requests that a method and a target name.
+use Rattle.std.specs.Prelude.{◌≡◌, ℕ, Bool, ◌==◌, if◌then◌else◌, List, [], ◌∷◌, ◌++◌, find, length, take, drop, fold, codes, nat_lt, option_map, Option, Some, None, Result, Ok, Err}
+use Rattle.std.specs.List.{before_first, after_first, position_or_len}
+use Rattle.std.specs.Str.{str_eq_ignore_ascii_case, bytes_eq}
+use Rattle.matchit.specs.Rows.{RowsOf}
+use Rattle.matchit.specs.Seek.{first}
+use Rattle.matchit.specs.Route.{Scan, parse_route}
+use Rattle.matchit.specs.Router.{RouteOf, route_from}
+use Rattle.matchit.specs.Order.{placed}
+use Rattle.matchit.specs.declared.error.InsertError.{InsertError}
+use Rattle.st_http.specs.declared.routes.Path.{Path}
+use Rattle.st_http.specs.declared.routes.Path.TheVariants as paths
+use Rattle.st_http.specs.declared.routes.Line.{Line}
+use Rattle.st_http.specs.declared.routes.Line.TheVariants as lines
+use Rattle.st_http.specs.declared.routes.Route.{Route}
+use Rattle.st_http.specs.declared.routes.Route.TheVariants as answers
+
+-- `/`
+abbrev pub slash : ℕ
+slash = 47
+
+-- `?`
+abbrev pub question : ℕ
+question = 63
+
+-- the text from its first slash on, or a slash where it has none
+abbrev pub from_slash : List ℕ → List ℕ
+from_slash text =
+    if nat_lt (position_or_len (λ b. b == slash) text) (length text)
+    then drop (position_or_len (λ b. b == slash) text) text else codes "/"
+
+-- the text begins with `http://`, in any case
+abbrev pub is_absolute : List ℕ → Bool
+is_absolute text = str_eq_ignore_ascii_case (take 7 text) (codes "http://")
+
+-- what stands behind the two slashes of a scheme
+abbrev pub after_scheme : List ℕ → List ℕ
+after_scheme text = after_first (λ b. b == slash) (after_first (λ b. b == slash) text)
+
+-- the path of a target: what stands before its query, and in the absolute form after its authority
+-- (RFC 9112, "Request Target"; RFC 3986, "Syntax Components")
+unfoldable pub path_of : List ℕ → List ℕ
+path_of target =
+    let front = before_first (λ b. b == question) target in
+    if is_absolute front then from_slash (after_scheme front) else front
+
+-- the name in a path: what stands between its second slash and its third
+abbrev pub name_in : List ℕ → List ℕ
+name_in path = before_first (λ b. b == slash) (after_first (λ b. b == slash) (after_first (λ b. b == slash) path))
+
+-- how a path of the table is written
+abbrev pub pattern_of : Path → List ℕ
+pattern_of paths.Count = codes "/tables/{table}/count"
+pattern_of paths.Put = codes "/tables/{table}/put"
+
+-- the paths of the table of requests, in its order, each once
+unfoldable pub all_paths : List Path
+all_paths = paths.Count ∷ paths.Put ∷ []
+
+-- the methods (RFC 9110, "Methods")
+abbrev pub post : List ℕ
+post = codes "POST"
+
+-- the lines of a path, each with its method, in the order DELETE, GET, POST
+abbrev pub lines_of : Path → List (List ℕ × Line)
+lines_of paths.Count = (post, lines.Count) ∷ []
+lines_of paths.Put = (post, lines.Put) ∷ []
+
+abbrev pub Rows : Type 0
+Rows = RowsOf (RouteOf Path)
+
+-- the rows with a path more, where its text is a route
+abbrev pub with_read : Result Scan InsertError → Path → Rows → Rows
+with_read (Ok scan) path rows = placed (scan.pattern, route_from scan path) rows
+with_read (Err e) path rows = rows
+
+abbrev pub with_path : Rows → Path → Rows
+with_path rows path = with_read (parse_route (pattern_of path)) path rows
+
+-- what a router holds after these paths were inserted in order
+unfoldable pub routes : Rows
+routes = fold with_path [] all_paths
+
+-- the path of the table that a path is
+abbrev pub path_at : List ℕ → Option Path
+path_at path = option_map (λ route. route.value) (first routes path)
+
+-- the methods of these lines, joined by a comma and a space (RFC 9110, "Allow")
+abbrev pub allow_of : List (List ℕ × Line) → List ℕ
+allow_of [] = []
+allow_of (line ∷ []) = line.0
+allow_of (line ∷ other ∷ rest) = line.0 ++ (codes ", " ++ allow_of (other ∷ rest))
+
+-- which of the lines has this method
+abbrev pub line_of : List ℕ → List (List ℕ × Line) → Option Line
+line_of method rows = option_map (λ line. line.1) (find (λ line. bytes_eq line.0 method) rows)
+
+-- what a method and a target name
+pub data Routed : Type 0 where
+  -- a line of the table, and the name in the path
+  found : Line → List ℕ → Routed
+  no_route : Routed
+  -- the path has other methods, those of this text
+  bad_method : List ℕ → Routed
+
+abbrev pub with_line : Path → List ℕ → Option Line → Routed
+with_line path name (Some line) = found line name
+with_line path name None = bad_method (allow_of (lines_of path))
+
+abbrev pub at_path : Option Path → List ℕ → List ℕ → Routed
+at_path None method name = no_route
+at_path (Some path) method name = with_line path name (line_of method (lines_of path))
+
+unfoldable pub routed : List ℕ → List ℕ → Routed
+routed method target = at_path (path_at (path_of target)) method (name_in (path_of target))
+
+-- how a `Route` tells it
+abbrev pub Tells : Route → Routed → Type 0
+Tells (answers.Found line name) r = r ≡ found line name.now
+Tells answers.NoRoute r = r ≡ no_route
+Tells (answers.BadMethod allow) r = r ≡ bad_method allow.now

@@ -1,0 +1,39 @@
+-- How the answer of `take` shows the first item of a text.
+use Rattle.std.specs.Prelude.{◌≡◌, ℕ, ◌<◌, ◌≤◌, Bool, List, option_map, ⊤}
+use Rattle.httparse.specs.Grammar.{RequestHead}
+use Rattle.st_http.specs.declared.take.Take.{Take}
+use Rattle.st_http.specs.declared.take.Take.TheVariants as takes
+use Rattle.st_http.specs.declared.take.Message.{Message}
+use Rattle.st_http.specs.Routes.{Tells, routed}
+use Rattle.st_http.specs.Token.{token_of}
+use Rattle.st_http.specs.Fields.{closes_after}
+use Rattle.st_http.specs.First.{First, message, fault, more, IsFirst, fields_of, size_of}
+
+-- the message of this head and this body
+pub record ShowsMessage (h : RequestHead) (body : List ℕ) (bare : Bool) (m : Message) : Type 0 where
+  pub route : Tells m.route (routed h.method h.target)
+  pub token : option_map (λ found. (found.user.now, found.secret)) m.token ≡ token_of (fields_of h)
+  pub body_is : m.body.now ≡ body
+  pub close : m.close ≡ closes_after h.minor (fields_of h)
+  pub bare_is : m.bare ≡ bare
+
+abbrev pub Shows : First → Take → Type 0
+Shows (message h body bare) (takes.Message m used) = ShowsMessage h body bare m × (used ≡ size_of h body)
+Shows (message h body bare) takes.More = ⊥
+Shows (message h body bare) (takes.Fault f) = ⊥
+Shows (fault reason bare) (takes.Message m used) = ⊥
+Shows (fault reason bare) takes.More = ⊥
+Shows (fault reason bare) (takes.Fault f) = (f.reason ≡ reason) × (f.bare ≡ bare)
+Shows more (takes.Message m used) = ⊥
+Shows more takes.More = ⊤
+Shows more (takes.Fault f) = ⊥
+
+-- the answer is the first item of the text
+abbrev pub Takes : List ℕ → Take → Type 0
+Takes text taken = (first : First) × IsFirst text first × Shows first taken
+
+-- a message has a byte at least, and no more than the text has
+abbrev pub IsWithin : ℕ → Take → Type 0
+IsWithin n (takes.Message m used) = (0 < used) × (used ≤ n)
+IsWithin n takes.More = ⊤
+IsWithin n (takes.Fault f) = ⊤

@@ -1,0 +1,52 @@
+//! What the definitions say of each text, whatever the program does.
+ghost use Rattle.std.specs.Prelude.{◌≡◌, ◌≢◌, ◌<◌, ◌≤◌, ◌+◌, ◌∷◌, false, true, Bool, ◌↔◌, ◌++◌, List, ℕ, length, Some};
+ghost use Rattle.st_http.specs.First.{First, message, more, IsFirst, fields_of, size_of};
+ghost use Rattle.st_http.specs.Items.{IsMessage, Items, after_message};
+ghost use Rattle.st_http.specs.Fields.{Fields, closes_after};
+ghost use Rattle.st_http.specs.Token.{token_of};
+ghost use Rattle.st_text.specs.Names.{is_name};
+ghost use Rattle.httparse.specs.Grammar.{RequestHead};
+
+/// A text has one first item.
+pub fn one_first()
+    ensures { (text : List ℕ) (a b : First) → IsFirst text a → IsFirst text b → a ≡ b }
+{}
+
+/// A text keeps its first item, whatever follows.
+pub fn first_stays()
+    ensures { (text after : List ℕ) (first : First) → first ≢ more → IsFirst text first → IsFirst (text ++ after) first }
+{}
+
+/// A text without a first item is shorter than the longest head and the longest body together.
+pub fn more_is_short()
+    ensures { (text : List ℕ) → IsFirst text more → length text < 8192 + 65536 }
+{}
+
+/// A message is first where the text begins with its head and its body.
+pub fn message_is()
+    ensures { (text : List ℕ) (h : RequestHead) (body : List ℕ) (bare : Bool)
+        → IsFirst text (message h body bare) ↔ IsMessage text h body bare }
+{}
+
+/// A message has a byte at least, and no more than its text.
+pub fn message_fits()
+    ensures { (text : List ℕ) (h : RequestHead) (body : List ℕ) (bare : Bool) → IsFirst text (message h body bare)
+        → (0 < size_of h body) × (size_of h body ≤ length text) }
+{}
+
+/// A text has one list of items, and one rest.
+pub fn one_list()
+    ensures { (text : List ℕ) (a b : List First) (x y : List ℕ) → Items text a x → Items text b y → (a ≡ b) × (x ≡ y) }
+{}
+
+/// The items of what follows a message are those after it, though more came meanwhile.
+pub fn next_items()
+    ensures { (text after : List ℕ) (h : RequestHead) (body : List ℕ) (bare : Bool) (items : List First) (rest : List ℕ)
+        → IsFirst text (message h body bare) → closes_after h.minor (fields_of h) ≡ false
+        → Items (after_message text h body ++ after) items rest → Items (text ++ after) (message h body bare ∷ items) rest }
+{}
+
+/// The user of a token has the form of a name.
+pub fn user_is_name()
+    ensures { (fields : Fields) (user secret : List ℕ) → token_of fields ≡ Some (user, secret) → is_name user ≡ true }
+{}

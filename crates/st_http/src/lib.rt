@@ -1,0 +1,13 @@
+//! The framing of HTTP/1.1 requests: heads, bodies, routes, tokens, and the heads of replies.
+#![tactic(auto)]
+
+mod close;
+pub mod fields;
+pub mod head;
+pub mod law;
+pub mod reply;
+pub mod routes;
+pub mod take;
+#[cfg(test)]
+mod tests;
+pub mod token;

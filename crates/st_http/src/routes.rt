@@ -1,0 +1,188 @@
+//! The line of the table of requests that a method and a target name.
+ghost use Rattle.std.specs.Prelude.{◌≡◌, ◌==◌, ◌<◌, codes, take, drop, IfOk, OnOk};
+ghost use Rattle.std.specs.List.{before_first, after_first, position_or_len};
+ghost use Rattle.st_http.specs.Routes.{slash, from_slash, path_of, is_absolute, name_in, routes, path_at, pattern_of, with_path, lines_of, line_of, allow_of, routed, Tells};
+
+use matchit::Router;
+use std::alloc::{AllocError, Global};
+
+/// A line of the table of requests.
+#[derive(Clone, Copy, Debug, PartialEq, Eq)]
+pub enum Line {
+    /// `POST /tables/{table}/count`
+    Count,
+    /// `POST /tables/{table}/put`
+    Put,
+}
+
+/// What a method and a target name.
+#[derive(Clone, Copy, Debug)]
+pub enum Route<'a> {
+    /// A line, and the name in the path, of any form.
+    Found(Line, &'a str),
+    /// No line has the path: the reply's status is 404.
+    NoRoute,
+    /// The path's lines have other methods, those that `allow` lists: the reply's status is 405.
+    BadMethod { allow: &'static str },
+}
+
+// A path of the table of requests.
+#[derive(Clone, Copy, Debug, PartialEq, Eq)]
+enum Path {
+    Count,
+    Put,
+}
+
+// The paths of the table of requests, in its order.
+const ALL: [Path; 2] = [Path::Count, Path::Put];
+
+impl Path {
+    // The line of the path that has this method.
+    fn line(self, method: &[u8]) -> Option<Line>
+        ensures { result ≡ line_of method.now (lines_of self) }
+    {
+        match (self, method) {
+            (Path::Count, b"POST") => Some(Line::Count),
+            (Path::Put, b"POST") => Some(Line::Put),
+            _ => None,
+        }
+    }
+
+    // The methods of its lines.
+    fn allow(self) -> &'static str
+        ensures { result.now ≡ allow_of (lines_of self) }
+    {
+        match self {
+            Path::Count | Path::Put => "POST",
+        }
+    }
+
+    // How the path is written.
+    fn pattern(self) -> &'static str
+        ensures { result.now ≡ pattern_of self }
+    {
+        match self {
+            Path::Count => "/tables/{table}/count",
+            Path::Put => "/tables/{table}/put",
+        }
+    }
+}
+
+// Adds a path of the table.
+fn add(router: &mut Router<Path>, path: Path) -> Result<(), AllocError>
+    ensures { OnOk result (router.new ≡ with_path router.old path) }
+{
+    match router.insert(path.pattern(), path) {
+        Ok(()) => Ok(()),
+        Err(_) => Err(AllocError),
+    }
+}
+
+/// The paths that the server knows.
+#[derive(Drop)]
+pub struct Routes {
+    router: Router<Path>,
+    ghost holds: { router ≡ routes },
+}
+
+impl Routes {
+    /// The routes of the table of requests. It fails only where memory is wanting.
+    pub fn new(global: Global) -> Result<Routes, AllocError>
+        ensures { IfOk result (λ made. made.router ≡ routes) }
+    {
+        let mut router = Router::new(global);
+        for path in ALL {
+            add(&mut router, path)?;
+        }
+        Ok(Routes { router })
+    }
+
+    // The path of the table that a path is.
+    fn at(&self, path: &str) -> Option<Path>
+        ensures { result ≡ path_at path.now }
+    {
+        match self.router.at(path) {
+            Ok(found) => Some(*found.value),
+            Err(_) => None,
+        }
+    }
+
+    #[tactic(auto, unfolding(crate::specs::Routes::routed))]
+    // What a method and a target name.
+    pub(crate) fn find<'a>(&self, method: &[u8], target: &'a str) -> Route<'a>
+        ensures { Tells result (routed method.now target.now) }
+    {
+        let path = target_path(target);
+        let Some(found) = self.at(path) else {
+            return Route::NoRoute;
+        };
+        match found.line(method) {
+            Some(line) => Route::Found(line, name(path)),
+            None => Route::BadMethod {
+                allow: found.allow(),
+            },
+        }
+    }
+}
+
+// The text up to a mark, or all of it.
+fn before(text: &str, mark: char) -> &str
+    requires { mark < 128 }
+    ensures { result.now ≡ before_first (λ b. b == mark) text.now }
+{
+    match text.split_once(mark) {
+        Some((front, _)) => front,
+        None => text,
+    }
+}
+
+// The text after a mark.
+fn after(text: &str, mark: char) -> &str
+    requires { mark < 128 }
+    ensures { result.now ≡ after_first (λ b. b == mark) text.now }
+{
+    match text.split_once(mark) {
+        Some((_, rest)) => rest,
+        None => "",
+    }
+}
+
+// The name in a path.
+fn name(path: &str) -> &str
+    ensures { result.now ≡ name_in path.now }
+{
+    before(after(after(path, '/'), '/'), '/')
+}
+
+// The text from its first slash on, or a slash.
+fn from_slash(text: &str) -> &str
+    ensures { result.now ≡ from_slash text.now }
+{
+    match text.find('/') {
+        Some(at) => &text[at..],
+        None => "/",
+    }
+}
+
+// Whether the text begins with `http://`, in any case.
+fn is_absolute(text: &str) -> bool
+    ensures { result ≡ is_absolute text.now }
+{
+    match text.as_bytes().get(..7) {
+        Some(scheme) => scheme.eq_ignore_ascii_case(b"http://"),
+        None => false,
+    }
+}
+
+#[tactic(auto, unfolding(crate::specs::Routes::path_of))]
+// The path of a target (RFC 9112, "Request Target").
+fn target_path(target: &str) -> &str
+    ensures { result.now ≡ path_of target.now }
+{
+    let front = before(target, '?');
+    if is_absolute(front) {
+        from_slash(after(after(front, '/'), '/'))
+    } else {
+        front
+    }
+}

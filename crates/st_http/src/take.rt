@@ -1,0 +1,131 @@
+//! The first item of a text.
+ghost use Rattle.std.specs.Prelude.{◌≡◌, ◌≤◌, length, take, drop};
+ghost use Rattle.httparse.specs.Grammar.{RequestHead, print_request};
+ghost use Rattle.httparse.specs.Spans.{IsRequestWithin, IsRequestOf, IsRequestAt};
+ghost use Rattle.st_http.specs.Head.{window as window_of};
+ghost use Rattle.st_http.specs.Fields.{body_length_of};
+ghost use Rattle.st_http.specs.First.{with_body, fields_of};
+ghost use Rattle.st_http.specs.Take.{Shows, Takes, IsWithin};
+
+use crate::close::closes;
+use crate::fields::{Reason, body_length};
+use crate::head::{FIELD_LIMIT, HEAD_LIMIT, HeadRead, is_bare, read_head};
+use crate::routes::{Route, Routes};
+use crate::token::{Credentials, token};
+use httparse::spans::{EMPTY_HEADER_SPAN, HeaderSpan, RequestSpans};
+use std::str::from_utf8;
+
+/// A request.
+#[derive(Clone, Copy, Debug)]
+pub struct Message<'a> {
+    /// What its method and its target name.
+    pub route: Route<'a>,
+    /// What its token names; none where it has no token of the one form that is read.
+    pub token: Option<Credentials<'a>>,
+    /// At most `BODY_LIMIT` bytes.
+    pub body: &'a [u8],
+    /// Whether the connection is closed after it.
+    pub close: bool,
+    /// Whether it is a HEAD request, whose reply has no body (RFC 9110, "HEAD").
+    pub bare: bool,
+}
+
+/// What stands in a message's place. The connection is closed after it.
+#[derive(Clone, Copy, Debug)]
+pub struct Fault {
+    /// The rule that is broken.
+    pub reason: Reason,
+    /// Whether it is a HEAD request, whose reply has no body (RFC 9110, "HEAD").
+    pub bare: bool,
+}
+
+/// The first item of a text.
+#[derive(Clone, Copy, Debug)]
+pub enum Take<'a> {
+    /// A message, and how many bytes it has.
+    Message(Message<'a>, usize),
+    /// The text holds no item yet; it is shorter than `HEAD_LIMIT + BODY_LIMIT` bytes.
+    More,
+    /// No message can be read, whatever follows.
+    Fault(Fault),
+}
+
+// The text up to a limit.
+fn front(text: &[u8], limit: usize) -> &[u8]
+    ensures bytes { result.now ≡ take limit text.now }
+    ensures few { length result.now ≤ limit }
+    ensures within { length result.now ≤ length text.now }
+{
+    if text.len() > limit {
+        &text[..limit]
+    } else {
+        text
+    }
+}
+
+#[tactic(auto, unfolding(crate::specs::Head::window))]
+// The next bytes, of which a head may have all.
+fn window(text: &[u8]) -> &[u8]
+    ensures bytes { result.now ≡ window_of text.now }
+    ensures few { length result.now ≤ HEAD_LIMIT }
+    ensures within { length result.now ≤ length text.now }
+{
+    front(text, HEAD_LIMIT)
+}
+
+// The item of a head.
+fn item<'a>(
+    routes: &'a Routes,
+    text: &'a [u8],
+    window: &'a [u8],
+    head: RequestSpans,
+    headers: &[HeaderSpan],
+    bare: bool,
+) -> Take<'a>
+    requires within { IsRequestWithin window.now headers.now head }
+    requires whole { IsRequestOf window.now headers.now head }
+    requires text { head.len ≤ length text.now }
+    ensures { (h : RequestHead) → IsRequestAt window.now headers.now head h
+        → Shows (with_body h (drop (length (print_request h)) text.now) bare (body_length_of h.minor (fields_of h))) result }
+{
+    let fields = &headers[..head.headers];
+    let length = match body_length(head.version, window, fields) {
+        Ok(length) => length,
+        Err(reason) => return Take::Fault(Fault { reason, bare }),
+    };
+    let after = &text[head.len..];
+    if after.len() < length {
+        return Take::More;
+    }
+    let Ok(target) = from_utf8(head.path.of(window)) else {
+        unreachable!();
+    };
+    let message = Message {
+        route: routes.find(head.method.of(window), target),
+        token: token(window, fields),
+        body: &after[..length],
+        close: closes(head.version, window, fields),
+        bare,
+    };
+    Take::Message(message, head.len + length)
+}
+
+impl Routes {
+    /// The first item of a text, which more text behind it does not change. It takes no memory.
+    pub fn take<'a>(&'a self, text: &'a [u8]) -> Take<'a>
+        ensures first { Takes text.now result }
+        ensures within { IsWithin (length text.now) result }
+    {
+        let window = window(text);
+        let bare = is_bare(window);
+        let mut headers = [EMPTY_HEADER_SPAN; FIELD_LIMIT];
+        let reason = match read_head(window, &mut headers) {
+            HeadRead::Whole(head) => return item(self, text, window, head, &headers, bare),
+            HeadRead::Begun if text.len() < HEAD_LIMIT => return Take::More,
+            HeadRead::Begun => Reason::Headers,
+            HeadRead::Crowded => Reason::Headers,
+            HeadRead::Hopeless => Reason::Head,
+        };
+        Take::Fault(Fault { reason, bare })
+    }
+}

@@ -1,0 +1,39 @@
+use Rattle.std.proofs.Common.{◌≡◌, ℕ, ◌<◌, ◌∷◌, [], length, subst, sym, ap, ◌∙◌, get_or}
+use Rattle.st_index.specs.Rows.{EntryValue, name_of, Rises, rows_of, place_of}
+use Rattle.std.specs.Prelude.{vec_capacity}
+use Rattle.st_key.specs.Key.{rank}
+use Rattle.st_index.specs.Index.{Adds, IsAbsent}
+use Rattle.st_index.proofs.Names.{nat_equal}
+use Rattle.st_index.specs.declared.row.Row.{Row}
+use Rattle.st_index.proofs.Putting.{held_added, held_rising, missing_added, missing_rising}
+use Rattle.st_index.proofs.entries.put.Goals as goal
+
+pub put-requires-clause-room : goal.put-requires-clause-room
+put-requires-clause-room g c =
+    let bound = rw c.deref.ensures.value at c.in-Ok.ensures.bound in
+    let same = rw c.deref.ensures.value at (c.in-Ok.ensures.place c.index_mut-entry.result.now) in
+    let at : c.index_mut-entry.result.now.at ≡ rank c.args.key = ap (λ (e : EntryValue g.row.A.Denot). e.at) c.index_mut-entry.ensures.value ∙ nat_equal _ _ same in
+    let enough = c.requires.rows_room c.in-Ok.i c.index_mut-entry.result.now bound in
+    subst (λ (e : EntryValue g.row.A.Denot). e.at ≡ rank c.args.key → length e.rows < vec_capacity c.args.rows) (sym c.index_mut-entry.ensures.value) enough at
+
+pub returns-in-Ok-clause-added : goal.returns-in-Ok-clause-added
+returns-in-Ok-clause-added g c =
+    held_added c.args.row c.args.entries.now.items c.in-Ok.i c.index_mut-entry.result.now c.put.new.self
+    (rw c.deref.ensures.value at c.in-Ok.ensures.bound) c.index_mut-entry.ensures.value c.put.ensures.added
+
+pub returns-in-Ok-clause-rising : goal.returns-in-Ok-clause-rising
+returns-in-Ok-clause-rising g c = λ period lo hi key h a b absent.
+    let same = rw c.deref.ensures.value at (c.in-Ok.ensures.place c.index_mut-entry.result.now) in
+    let at : c.index_mut-entry.result.now.at ≡ place_of period c.args.row = ap (λ (e : EntryValue g.row.A.Denot). e.at) c.index_mut-entry.ensures.value ∙ nat_equal _ _ same ∙ key in
+    held_rising period c.args.row c.args.entries.now.items c.in-Ok.i c.index_mut-entry.result.now c.put.new.self
+    (rw c.deref.ensures.value at c.in-Ok.ensures.bound) c.index_mut-entry.ensures.value c.put.ensures.added
+    c.put.ensures.at at (c.put.ensures.named period) lo hi h (subst (λ n. IsAbsent period n (name_of c.args.row) (rows_of c.args.entries.now.items)) key absent)
+
+pub returns-in-Ok-insert-clause-added : goal.returns-in-Ok-insert-clause-added
+returns-in-Ok-insert-clause-added g c =
+    rw (c.in-Ok-insert.ensures.items, c.new.ensures) (missing_added c.args.row c.args.entries.now.items c.in-Err.i _)
+
+pub returns-in-Ok-insert-clause-rising : goal.returns-in-Ok-insert-clause-rising
+returns-in-Ok-insert-clause-rising g c = λ period lo hi key h a b absent.
+    let found = rw (c.deref.ensures.value, key) at c.in-Err.ensures.place in
+    rw (c.in-Ok-insert.ensures.items, c.new.ensures, key) (missing_rising period c.args.row c.args.entries.now.items c.in-Err.i lo hi found h (rw key at a) (rw key at b))

@@ -1,0 +1,46 @@
+use Rattle.std.proofs.Common.{◌≡◌, ℕ, ◌<◌, ◌∷◌, [], ◌++◌, length, subst, sym, ap, ◌∙◌, get_or, set, refl, arith, rules}
+use Rattle.st_key.specs.Key.{rank}
+use Rattle.st_index.specs.Rows.{Name, name_of, EntryValue, Rises, rows_of, place_of}
+use Rattle.st_index.specs.Index.{Swaps, IsAbsent}
+use Rattle.st_index.proofs.Names.{nat_equal}
+use Rattle.st_index.specs.declared.row.Row.{Row}
+use Rattle.st_index.proofs.Taking.{missing_absent, absent_around, swapped_inside, swapped_placed, swapped_entry, changed_rising, around}
+use Rattle.st_index.proofs.entries.swap.Goals as goal
+
+pub returns-in-Ok-swap-clause-ok : goal.returns-in-Ok-swap-clause-ok
+returns-in-Ok-swap-clause-ok g c =
+    let bound = rw c.deref.ensures.value at c.in-Ok.ensures.bound in
+    let e = c.index_mut-entry.result.now in
+    (swapped_inside c.args.entries.now.items c.in-Ok.i e c.swap.new.self bound c.index_mut-entry.ensures.value c.in-Ok-swap.out c.args.row c.in-Ok-swap.ensures.ok.0, c.in-Ok-swap.ensures.ok.1)
+
+pub returns-in-Ok-swap-clause-placed : goal.returns-in-Ok-swap-clause-placed
+returns-in-Ok-swap-clause-placed g c = λ period lo hi h.
+    let bound = rw c.deref.ensures.value at c.in-Ok.ensures.bound in
+    let e = c.index_mut-entry.result.now in
+    let same = rw c.deref.ensures.value at (c.in-Ok.ensures.place e) in
+    let at : e.at ≡ rank c.args.key = ap (λ (f : EntryValue g.row.A.Denot). f.at) c.index_mut-entry.ensures.value ∙ nat_equal _ _ same in
+    let a = around period c.args.entries.now.items c.in-Ok.i e e bound c.index_mut-entry.ensures.value lo hi h in
+    swapped_placed period e c.swap.new.self.rows c.in-Ok-swap.out c.args.row c.in-Ok-swap.ensures.ok.0 a.entry ∙ at
+
+pub returns-in-Ok-swap-clause-rising : goal.returns-in-Ok-swap-clause-rising
+returns-in-Ok-swap-clause-rising g c = λ period lo hi key h.
+    let bound = rw c.deref.ensures.value at c.in-Ok.ensures.bound in
+    let e = c.index_mut-entry.result.now in
+    let same = rw c.deref.ensures.value at (c.in-Ok.ensures.place e) in
+    let at : e.at ≡ rank c.args.key = ap (λ (f : EntryValue g.row.A.Denot). f.at) c.index_mut-entry.ensures.value ∙ nat_equal _ _ same in
+    changed_rising period c.args.entries.now.items c.in-Ok.i e c.swap.new.self bound c.index_mut-entry.ensures.value lo hi c.in-Ok-swap.ensures.at
+    (swapped_entry period e c.swap.new.self c.in-Ok-swap.out c.args.row c.in-Ok-swap.ensures.ok.0 c.in-Ok-swap.ensures.at (sym (at ∙ key)) c.in-Ok-swap.ensures.named) h
+
+pub returns-in-Err-swap-clause-absent : goal.returns-in-Err-swap-clause-absent
+returns-in-Err-swap-clause-absent g c = λ period lo hi h.
+    let bound = rw c.deref.ensures.value at c.in-Ok.ensures.bound in
+    let e = c.index_mut-entry.result.now in
+    let same = rw c.deref.ensures.value at (c.in-Ok.ensures.place e) in
+    let at : e.at ≡ rank c.args.key = ap (λ (f : EntryValue g.row.A.Denot). f.at) c.index_mut-entry.ensures.value ∙ nat_equal _ _ same in
+    let a = around period c.args.entries.now.items c.in-Ok.i e e bound c.index_mut-entry.ensures.value lo hi h in
+    subst (λ n. IsAbsent period n (name_of c.args.row) (rows_of c.args.entries.now.items)) at
+    (absent_around period c.args.entries.now.items c.in-Ok.i e e bound c.index_mut-entry.ensures.value lo hi _ h (c.in-Err-swap.ensures.absent a.entry.named))
+
+pub returns-in-Err-clause-absent : goal.returns-in-Err-clause-absent
+returns-in-Err-clause-absent g c = λ period lo hi h.
+    missing_absent period _ _ c.args.entries.now.items c.in-Err.field-0 lo hi h (rw c.deref.ensures.value at c.in-Err.ensures.place)

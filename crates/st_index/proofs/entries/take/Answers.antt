@@ -1,0 +1,69 @@
+use Rattle.std.proofs.Common.{◌≡◌, ℕ, ◌<◌, ◌∷◌, [], ◌++◌, length, subst, sym, ap, ◌∙◌, get_or, set, refl, arith, rules}
+use Rattle.std.proofs.lemmas.List.{nil_from_length}
+use Rattle.std.proofs.lemmas.Bool.{eqb-true, eqb-false}
+use Rattle.std.specs.List.{remove}
+use Rattle.st_key.specs.Key.{rank}
+use Rattle.st_index.specs.Rows.{Name, name_of, EntryValue, Rises, rows_of, place_of}
+use Rattle.st_index.specs.Index.{Adds, IsAbsent}
+use Rattle.st_index.proofs.Names.{nat_equal}
+use Rattle.st_index.proofs.Taking.{missing_absent, absent_around, taken_adds, emptied, emptied_rows, emptied_rising, changed_rising, taken_entry, taken_placed, around}
+use Rattle.st_index.proofs.entries.take.Goals as goal
+use Rattle.st_index.specs.declared.row.Row.{Row}
+use Rattle.st_index.proofs.entries.take.Goals.{then-is_empty, else-is_empty}
+
+pub returns-in_default-clause-absent : goal.returns-in_default-clause-absent
+returns-in_default-clause-absent g c = λ period lo hi h.
+    missing_absent period _ _ c.args.entries.now.items c.in_default.field-0 lo hi h (rw c.deref.ensures.value at c.in_default.ensures.place)
+
+pub returns-in_err-row-clause-absent : goal.returns-in_err-row-clause-absent
+returns-in_err-row-clause-absent g c =
+    rw c.from_residual.ensures (λ period lo hi h.
+    let bound = rw c.deref.ensures.value at c.in-Ok.ensures.bound in
+    let same = rw c.deref.ensures.value at (c.in-Ok.ensures.place c.index_mut-entry.result.now) in
+    let e = c.index_mut-entry.result.now in
+    let at : e.at ≡ rank c.args.key = ap (λ (f : EntryValue g.row.A.Denot). f.at) c.index_mut-entry.ensures.value ∙ nat_equal _ _ same in
+    let a = around period c.args.entries.now.items c.in-Ok.i e e bound c.index_mut-entry.ensures.value lo hi h in
+    subst (λ n. IsAbsent period n (record { id = c.args.id.now; label = c.args.label.now }) (rows_of c.args.entries.now.items)) at
+    (absent_around period c.args.entries.now.items c.in-Ok.i e e bound c.index_mut-entry.ensures.value lo hi _ h (c.in_err-row.ensures.absent a.entry.named)))
+
+pub returns-clause-some : goal.returns-clause-some
+returns-clause-some g c =
+    let bound = rw c.deref.ensures.value at c.in-Ok.ensures.bound in
+    let es = c.args.entries.now.items in
+    let e = c.index_mut-entry.result.now in
+    let f = c.take.new.self in
+    let adds = taken_adds es c.in-Ok.i e f bound c.index_mut-entry.ensures.value c.in_ok-row.row c.in_ok-row.ensures.some.0 in
+    let named = c.in_ok-row.ensures.some.1 in
+    elim c.if-is_empty.branch [
+      | then-is_empty w ↦
+          let none : f.rows ≡ [] = nil_from_length f.rows (eqb-true _ _ (sym c.is_empty.ensures ∙ w.if-is_empty.true)) in
+          let is : c.if-is_empty.entries.items ≡ remove es c.in-Ok.i = ap (λ v. v.items) w.entries-is ∙ w.remove.ensures.items ∙ emptied es c.in-Ok.i e f bound c.index_mut-entry.ensures.value in
+          rw (is, emptied_rows es c.in-Ok.i e f bound c.index_mut-entry.ensures.value none) (adds, named)
+      | else-is_empty w ↦ rw w.entries-is (adds, named)
+    ]
+
+pub returns-clause-placed : goal.returns-clause-placed
+returns-clause-placed g c = λ period lo hi h.
+    let bound = rw c.deref.ensures.value at c.in-Ok.ensures.bound in
+    let same = rw c.deref.ensures.value at (c.in-Ok.ensures.place c.index_mut-entry.result.now) in
+    let e = c.index_mut-entry.result.now in
+    let at : e.at ≡ rank c.args.key = ap (λ (f : EntryValue g.row.A.Denot). f.at) c.index_mut-entry.ensures.value ∙ nat_equal _ _ same in
+    let a = around period c.args.entries.now.items c.in-Ok.i e e bound c.index_mut-entry.ensures.value lo hi h in
+    taken_placed period e c.take.new.self.rows c.in_ok-row.row c.in_ok-row.ensures.some.0 a.entry ∙ at
+
+pub returns-clause-rising : goal.returns-clause-rising
+returns-clause-rising g c = λ period lo hi h.
+    let bound = rw c.deref.ensures.value at c.in-Ok.ensures.bound in
+    let es = c.args.entries.now.items in
+    let e = c.index_mut-entry.result.now in
+    let f = c.take.new.self in
+    elim c.if-is_empty.branch [
+      | then-is_empty w ↦
+          let is : c.if-is_empty.entries.items ≡ remove es c.in-Ok.i = ap (λ v. v.items) w.entries-is ∙ w.remove.ensures.items ∙ emptied es c.in-Ok.i e f bound c.index_mut-entry.ensures.value in
+          rw is (emptied_rising period es c.in-Ok.i e f bound c.index_mut-entry.ensures.value lo hi h)
+      | else-is_empty w ↦
+          let some : f.rows ≡ [] → ⊥ = λ none. let n = eqb-false _ _ (sym c.is_empty.ensures ∙ w.if-is_empty.false) in n (ap length none) in
+          rw w.entries-is
+          (changed_rising period es c.in-Ok.i e f bound c.index_mut-entry.ensures.value lo hi c.in_ok-row.ensures.at
+          (taken_entry period e f c.in_ok-row.row c.in_ok-row.ensures.some.0 c.in_ok-row.ensures.at some c.in_ok-row.ensures.named) h)
+    ]

@@ -1,0 +1,28 @@
+use Rattle.std.proofs.Common.{◌≡◌, ℕ, ◌+◌, ◌-◌, ◌<◌, ◌≤◌, ◌^◌, length, subst, sym, ap, ◌∙◌, arith, rules, vec_len, vec_capacity}
+use Rattle.std.specs.List.{All}
+use Rattle.std.proofs.lemmas.List.Elements.{All-weaker}
+use Rattle.st_key.specs.Key.{rank}
+use Rattle.st_index.specs.Rows.{EntryValue, key_end, place_of, rows_of}
+use Rattle.st_index.proofs.list_index.ListIndexRowIndex.prepare.Goals as goal
+
+pub returns : goal.returns
+returns g c =
+    let p = c.self.inside.period in
+    let es = c.self.inside.entries.items in
+    let len : c.self.inside.len ≡ length (rows_of es) = c.self.invariant.1 in
+    let full = c.if-self.false in
+    let held : All (λ (e : EntryValue g.row.A.Denot). e.at ≡ rank c.key.result → length e.rows ≡ c.count_at-held.result) es =
+      rw c.deref.ensures.value at (c.count_at-held.ensures.value p 0 (key_end p) (rw c.deref.ensures.value c.self.invariant.0)) in
+    let room : c.count_at-held.result + 1 ≤ vec_capacity c.in_ok-rows.rows = c.in_ok-rows.ensures.capacity in
+    let enough : All (λ (e : EntryValue g.row.A.Denot). e.at ≡ rank c.key.result → length e.rows < vec_capacity c.in_ok-rows.rows) es =
+      λ k d l at. let n = held k d l at in omega (arith, n, room) in
+    let count : length es ≡ vec_len c.self.inside.entries = search rules in
+    let wide : c.len.result + 1 ≤ vec_capacity c.in_ok-entries.entries = c.in_ok-entries.ensures.capacity in
+    rw (← c.self.view_is) (record {
+      no_entries = c.in_ok-entries.ensures.items;
+      room = omega (arith, count, wide, c.len.ensures);
+      no_rows = c.in_ok-rows.ensures.items;
+      row_room = omega (arith, room);
+      rows_room = rw (← c.key.ensures.value) enough;
+      count = let bound = c.self.invariant.2 in omega (arith, len, bound, full);
+    })

@@ -1,0 +1,26 @@
+use Rattle.std.proofs.Common.{◌≡◌, ℕ, ◌+◌, ◌-◌, ◌<◌, ◌^◌, ◌∷◌, [], ◌++◌, length, subst, sym, ap, ◌∙◌, get_or, refl, arith, rules}
+use Rattle.std.proofs.lemmas.List.{append-nil}
+use Rattle.st_key.specs.Key.{rank}
+use Rattle.st_index.specs.ListValue.{ListValue}
+use Rattle.st_index.specs.Rows.{EntryValue, Rises, key_end, name_of, place_of, rows_of}
+use Rattle.st_index.specs.Index.{Adds, Holds, IsAbsent, IsLeafAt, Region, Swaps, region}
+use Rattle.st_index.proofs.Listing.{adds_length, lawful, swaps_length}
+use Rattle.st_index.proofs.Taking.{absent_held}
+use Rattle.st_index.proofs.list_index.ListIndexRowIndex.replace.Goals as goal
+
+pub unreachable-requires : goal.unreachable-requires
+unreachable-requires g c =
+    let p = c.self.inside.period in
+    let absent = c.in_default.ensures.absent p 0 (key_end p) c.self.invariant.0 in
+    let held : Holds p (place_of p c.args.row) (name_of c.args.row) (rows_of c.self.inside.entries.items) = rw (← c.self.view_is) at c.requires in
+    absent_held p _ _ _ held (rw c.key-key.ensures.value at absent)
+
+pub returns-clause-placed : goal.returns-clause-placed
+returns-clause-placed g c =
+    rw (← c.self.view_is) (c.in-Ok.ensures.placed c.self.inside.period 0 (key_end c.self.inside.period) c.self.invariant.0 ∙ c.key-key.ensures.value)
+
+pub returns-clause-lawful : goal.returns-clause-lawful
+returns-clause-lawful g c =
+    let n : c.self.inside.len < 2 ^ 64 = c.self.invariant.2 in
+    let same = swaps_length c.in-Ok.out c.args.row _ _ c.in-Ok.ensures.ok.0 in
+    lawful c.self.inside.period c.swap.new.entries.items (c.swap.ensures.rising c.self.inside.period 0 (key_end c.self.inside.period) c.key-key.ensures.value c.self.invariant.0) (omega (arith, n, c.self.invariant.1, same))

@@ -1,0 +1,5 @@
+pub mod Rows
+pub mod Order
+pub mod Index
+pub mod ListValue
+pub mod Lists

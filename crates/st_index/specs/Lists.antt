@@ -1,0 +1,15 @@
+-- The memory that one more row takes in an index of one list.
+use Rattle.std.specs.Prelude.{◌≡◌, ℕ, ◌+◌, ◌^◌, ◌<◌, List, [], length, vec_capacity}
+use Rattle.std.specs.List.{All}
+use Rattle.st_index.specs.declared.row.Row.{Row}
+use Rattle.st_index.specs.declared.list_index.ListSpare.{ListSpare}
+use Rattle.st_index.specs.ListValue.{ListValue}
+use Rattle.st_index.specs.Rows.{EntryValue, place_of, rows_of}
+
+pub record HasListRoom {A : Type 0} (s : ListValue A) (row : Row A) (spare : ListSpare A) : Type 0 where
+  pub no_entries : spare.entries.items ≡ []
+  pub room : length s.entries < vec_capacity spare.entries
+  pub no_rows : spare.rows.items ≡ []
+  pub row_room : 0 < vec_capacity spare.rows
+  pub rows_room : All (λ (e : EntryValue A). e.at ≡ place_of s.period row → length e.rows < vec_capacity spare.rows) s.entries
+  pub count : length (rows_of s.entries) + 1 < 2 ^ 64

@@ -1,0 +1,125 @@
+//! Lists of entries, in the order of their keys.
+ghost use Rattle.std.specs.Prelude.{◌≡◌, ◌+◌, ◌<◌, ◌≤◌, ◌^◌, [], length, vec_len, vec_capacity, IfSome, IfNone, IfOk, OnErr};
+ghost use Rattle.std.specs.List.{All};
+ghost use Rattle.std.specs.List.Sorted.{IsSearchInRange, IsBinarySearchResult};
+ghost use Rattle.std.specs.Ordering.{nat_cmp};
+ghost use Rattle.st_key.specs.declared.period.Period.{Period};
+ghost use Rattle.st_index.specs.declared.row.Row.{Row};
+ghost use Rattle.st_key.specs.Key.{rank};
+ghost use Rattle.st_index.specs.Rows.{EntryValue, name_of, Rises, rows_of, place_of};
+ghost use Rattle.st_index.specs.Index.{Adds, Swaps, IsAbsent};
+
+use crate::entry::Entry;
+use crate::order;
+use crate::row::Row;
+use st_key::Key;
+use std::alloc::Allocator;
+use std::cmp::Ordering;
+
+/// The index of the key's entry, or the index where it would stand.
+pub fn find<A: Allocator + Copy>(entries: &[Entry<A>], key: Key) -> Result<usize, usize>
+    ensures bound { IsSearchInRange result (length entries.now) }
+    ensures place { IsBinarySearchResult (λ (e : EntryValue A). nat_cmp e.at (rank key)) entries.now result }
+{
+    entries.binary_search_by(
+        |entry: &Entry<A>| -> Ordering
+            ensures { result ≡ nat_cmp entry.now.at (rank key) }
+        { order::compare(entry.key, key) },
+    )
+}
+
+/// Puts a row into a list of entries, at its key. The lists take it without more memory.
+pub fn put<A: Allocator + Copy>(
+    entries: &mut Vec<Entry<A>, A>,
+    key: Key,
+    row: Row<A>,
+    rows: Vec<Row<A>, A>,
+)
+    requires empty { rows.items ≡ [] }
+    requires room { vec_len entries.old < vec_capacity entries.old }
+    requires row_room { 0 < vec_capacity rows }
+    requires rows_room { All (λ (e : EntryValue A). e.at ≡ rank key → length e.rows < vec_capacity rows) entries.old.items }
+    ensures added { Adds row (rows_of entries.old.items) (rows_of entries.new.items) }
+    ensures rising { (period : Period) (lo hi : _) → rank key ≡ place_of period row → Rises period lo hi entries.old.items → lo ≤ rank key → rank key < hi → IsAbsent period (rank key) (name_of row) (rows_of entries.old.items) → Rises period lo hi entries.new.items }
+    ensures longer { vec_len entries.old ≤ vec_len entries.new }
+    ensures at_most_one { vec_len entries.new ≤ vec_len entries.old + 1 }
+    ensures capacity { vec_capacity entries.old ≤ vec_capacity entries.new }
+{
+    match find(entries, key) {
+        Ok(i) => {
+            let entry = &mut entries[i];
+            entry.put(row, rows);
+        }
+        Err(i) => {
+            let Ok(()) = entries.insert(i, Entry::new(key, row, rows)) else {
+                unreachable!()
+            };
+        }
+    }
+}
+
+/// Takes out the row of this key and this name.
+pub fn take<A: Allocator + Copy>(
+    entries: &mut Vec<Entry<A>, A>,
+    key: Key,
+    id: &str,
+    label: &str,
+) -> Option<Row<A>>
+    ensures some { IfSome result (λ row. Adds row (rows_of entries.new.items) (rows_of entries.old.items) × ((name_of row) ≡ record { id = id.now; label = label.now })) }
+    ensures placed { IfSome result (λ row. (period : Period) (lo hi : _) → Rises period lo hi entries.old.items → place_of period row ≡ rank key) }
+    ensures none { IfNone result (entries.new.items ≡ entries.old.items) }
+    ensures absent { IfNone result ((period : Period) (lo hi : _) → Rises period lo hi entries.old.items → IsAbsent period (rank key) (record { id = id.now; label = label.now }) (rows_of entries.old.items)) }
+    ensures rising { (period : Period) (lo hi : _) → Rises period lo hi entries.old.items → Rises period lo hi entries.new.items }
+    ensures shorter { vec_len entries.new ≤ vec_len entries.old }
+    ensures at_most_one { vec_len entries.old ≤ vec_len entries.new + 1 }
+    ensures capacity { vec_capacity entries.new ≡ vec_capacity entries.old }
+{
+    let Ok(i) = find(entries, key) else {
+        return None;
+    };
+    let entry = &mut entries[i];
+    let row = entry.take(id, label)?;
+    if entry.is_empty() {
+        let _ = entries.remove(i);
+    }
+    Some(row)
+}
+
+/// Puts a row in the place of the one of its key and name.
+pub fn swap<A: Allocator + Copy>(
+    entries: &mut Vec<Entry<A>, A>,
+    key: Key,
+    row: Row<A>,
+) -> Result<Row<A>, Row<A>>
+    ensures ok { IfOk result (λ out. Swaps out row (rows_of entries.old.items) (rows_of entries.new.items) × ((name_of out) ≡ (name_of row))) }
+    ensures placed { IfOk result (λ out. (period : Period) (lo hi : _) → Rises period lo hi entries.old.items → place_of period out ≡ rank key) }
+    ensures absent { OnErr result ((period : Period) (lo hi : _) → Rises period lo hi entries.old.items → IsAbsent period (rank key) (name_of row) (rows_of entries.old.items)) }
+    ensures rising { (period : Period) (lo hi : _) → rank key ≡ place_of period row → Rises period lo hi entries.old.items → Rises period lo hi entries.new.items }
+    ensures len { vec_len entries.new ≡ vec_len entries.old }
+    ensures capacity { vec_capacity entries.new ≡ vec_capacity entries.old }
+{
+    match find(entries, key) {
+        Ok(i) => {
+            let entry = &mut entries[i];
+            match entry.swap(row) {
+                Ok(out) => Ok(out),
+                Err(row) => Err(row),
+            }
+        }
+        Err(_) => Err(row),
+    }
+}
+
+/// How many rows the key has.
+pub fn count_at<A: Allocator + Copy>(entries: &[Entry<A>], key: Key) -> usize
+    ensures value { (period : Period) (lo hi : _) → Rises period lo hi entries.now → All (λ (e : EntryValue A). e.at ≡ rank key → length e.rows ≡ result) entries.now }
+    ensures in_range { result + 1 < 2 ^ 64 }
+{
+    match find(entries, key) {
+        Ok(i) => {
+            let entry = &entries[i];
+            entry.len()
+        }
+        Err(_) => 0,
+    }
+}

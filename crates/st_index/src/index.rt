@@ -1,0 +1,117 @@
+//! What an index of rows promises.
+ghost use Rattle.std.specs.Prelude.{◌≡◌, ◌<◌, List, IfOk, IfSome, IfNone};
+ghost use Rattle.std.specs.List.{Contains};
+ghost use Rattle.st_key.specs.declared.period.Period.{Period};
+ghost use Rattle.st_index.specs.declared.row.Row.{Row};
+ghost use Rattle.st_index.specs.Rows.{key_end};
+ghost use Rattle.st_key.specs.Key.{rank};
+ghost use Rattle.st_index.specs.Rows.{name_of, place_of};
+ghost use Rattle.st_index.specs.Index.{Adds, Swaps, IsAbsent, Holds, Region, region, IsLawful, IsLeafAt};
+
+use crate::entry::Entry;
+use crate::row::Row;
+use st_key::{Key, Period};
+use std::alloc::{AllocError, Allocator, Global};
+
+/// The entries of a region, in order, and the first and the last key of the region.
+#[derive(Drop)]
+pub struct Leaf<'a, A: Allocator = Global> {
+    pub entries: &'a [Entry<A>],
+    pub first: Key,
+    pub last: Key,
+}
+
+/// What an index takes as a row: a `Row`.
+pub trait AsRow<A: Allocator + Copy>: Drop {
+    ghost value: { Self → Row A };
+
+    /// The row.
+    fn as_row(&self) -> &Row<A>
+        ensures { result.now ≡ value self.now };
+
+    /// An equal row, or an error where there is no memory for it.
+    fn copy_of(row: &Row<A>) -> Result<Self, AllocError>
+        ensures { IfOk result (λ other. value other ≡ row.now) };
+}
+
+impl<A: Allocator + Copy> AsRow<A> for Row<A> {
+    ghost value = { λ row. row };
+
+    fn as_row(&self) -> &Row<A> {
+        self
+    }
+
+    fn copy_of(row: &Row<A>) -> Result<Row<A>, AllocError> {
+        row.copy()
+    }
+}
+
+/// Rows in scan order by the keys of a period, cut into regions of consecutive keys.
+///
+/// The content is a list of at most 2^64 - 1 rows. The regions, at most 2^64 - 1 of them, follow each
+/// other from the period's first key to its last.
+pub trait RowIndex {
+    /// The allocator of the rows.
+    type Alloc: Allocator + Copy;
+
+    /// The rows that are put in: `Row<Self::Alloc>`.
+    type Row: AsRow<Self::Alloc>;
+
+    /// The memory that one more row takes.
+    type Spare: Drop;
+
+    ghost period_of: { Self → Period };
+
+    ghost content: { Self → List (Row Self.Alloc) };
+
+    ghost regions: { Self → List Region };
+
+    ghost has_room: { Self → Row Self.Alloc → Self.Spare → Type 0 };
+
+    /// The period of the keys.
+    fn period(&self) -> Period
+        ensures value { result ≡ period_of self.now }
+        ensures lawful { IsLawful (period_of self.now) (content self.now) (regions self.now) };
+
+    /// The region that holds the key, with exactly the content's entries in it. It takes no memory.
+    fn leaf_at(&self, key: Key) -> Leaf<'_, Self::Alloc>
+        requires { rank key < key_end (period_of self.now) }
+        ensures leaf { IsLeafAt (period_of self.now) (rank key) (content self.now) (region (rank result.first) (rank result.last)) result.entries.now }
+        ensures of_regions { Contains (regions self.now) (region (rank result.first) (rank result.last)) };
+
+    /// All the memory that putting in this row now takes. An error where there is none, or where
+    /// 2^64 - 1 rows are held.
+    fn prepare(&self, row: &Row<Self::Alloc>) -> Result<Self::Spare, AllocError>
+        ensures { IfOk result (λ spare. has_room self.now row.now spare) };
+
+    /// Puts in a row, by the memory prepared for it at this content. No row of its key, its id and its
+    /// label's text may be held. It takes no further memory.
+    fn insert(&mut self, row: Self::Row, spare: Self::Spare)
+        requires room { has_room self.old (Self.Row.value row) spare }
+        requires absent { IsAbsent (period_of self.old) (place_of (period_of self.old) (Self.Row.value row)) (name_of (Self.Row.value row)) (content self.old) }
+        ensures adds { Adds (Self.Row.value row) (content self.old) (content self.new) }
+        ensures period { period_of self.new ≡ period_of self.old }
+        ensures lawful { IsLawful (period_of self.new) (content self.new) (regions self.new) };
+
+    /// Takes out the row of a key, an id and a label's text. `None`, and nothing changed, where no such row
+    /// is held. It takes no memory.
+    fn remove(&mut self, key: Key, id: &str, label: &str) -> Option<Row<Self::Alloc>>
+        requires { rank key < key_end (period_of self.old) }
+        ensures some { IfSome result (λ row. Adds row (content self.new) (content self.old)) }
+        ensures placed { IfSome result (λ row. place_of (period_of self.old) row ≡ rank key) }
+        ensures named { IfSome result (λ row. name_of row ≡ record { id = id.now; label = label.now }) }
+        ensures none { IfNone result (content self.new ≡ content self.old) }
+        ensures absent { IfNone result (IsAbsent (period_of self.old) (rank key) (record { id = id.now; label = label.now }) (content self.old)) }
+        ensures period { period_of self.new ≡ period_of self.old }
+        ensures lawful { IsLawful (period_of self.new) (content self.new) (regions self.new) };
+
+    /// Puts a row in the place of the held row of its key, its id and its label's text, which is handed
+    /// back. It takes no memory.
+    fn replace(&mut self, row: Self::Row) -> Row<Self::Alloc>
+        requires { Holds (period_of self.old) (place_of (period_of self.old) (Self.Row.value row)) (name_of (Self.Row.value row)) (content self.old) }
+        ensures swaps { Swaps result (Self.Row.value row) (content self.old) (content self.new) }
+        ensures placed { place_of (period_of self.old) result ≡ place_of (period_of self.old) (Self.Row.value row) }
+        ensures named { name_of result ≡ name_of (Self.Row.value row) }
+        ensures period { period_of self.new ≡ period_of self.old }
+        ensures lawful { IsLawful (period_of self.new) (content self.new) (regions self.new) };
+}

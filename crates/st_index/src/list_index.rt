@@ -1,0 +1,118 @@
+//! An index of one region, which keeps its entries in one list.
+ghost use Rattle.std.specs.Prelude.{◌≡◌, ◌-◌, [], ◌∷◌};
+ghost use Rattle.st_index.specs.Rows.{key_end, rows_of};
+ghost use Rattle.st_index.specs.Index.{region};
+
+use crate::entries;
+use crate::entry::Entry;
+use crate::index::{Leaf, RowIndex};
+use crate::row::Row;
+use st_key::{Key, Period};
+use std::alloc::{AllocError, Allocator, Global};
+use std::marker::Model;
+
+/// An index of one region. Looking up is logarithmic, putting in and taking out are linear.
+#[derive(Drop)]
+pub struct ListIndex<A: Allocator = Global> {
+    period: Period,
+    entries: Vec<Entry<A>, A>,
+    len: u64,
+}
+
+impl<A: Allocator> Model for ListIndex<A> {
+    ghost use Rattle.std.specs.Prelude.{◌≡◌, ◌<◌, ◌^◌, length};
+    ghost use Rattle.st_index.specs.Rows.{Rises, key_end, rows_of};
+    ghost use Rattle.st_index.specs.ListValue.{ListValue};
+
+    ghost Value = { ListValue A };
+
+    ghost view = { λ s. record { period = s.period; entries = s.entries.items } };
+
+    ghost invariant = { λ s. Rises s.period 0 (key_end s.period) s.entries.items × (s.len ≡ length (rows_of s.entries.items)) × (s.len < 2 ^ 64) };
+}
+
+impl<A: Allocator + Copy> ListIndex<A> {
+    /// An index of no rows, which takes no memory.
+    pub fn new(alloc: A, period: Period) -> Self
+        ensures { result ≡ record { period = period; entries = [] } }
+    {
+        ListIndex {
+            period,
+            entries: Vec::new(alloc),
+            len: 0,
+        }
+    }
+}
+
+/// The memory that one more row takes in a list.
+#[derive(Drop)]
+pub struct ListSpare<A: Allocator = Global> {
+    entries: Vec<Entry<A>, A>,
+    rows: Vec<Row<A>, A>,
+}
+
+impl<A: Allocator + Copy> RowIndex for ListIndex<A> {
+    type Alloc = A;
+
+    type Row = Row<A>;
+
+    type Spare = ListSpare<A>;
+
+    ghost use Rattle.st_index.specs.Lists.{HasListRoom};
+
+    ghost period_of = { λ s. s.period };
+
+    ghost content = { λ s. rows_of s.entries };
+
+    ghost regions = { λ s. region 0 (key_end s.period - 1) ∷ [] };
+
+    ghost has_room = { HasListRoom };
+
+    fn period(&self) -> Period {
+        self.period
+    }
+
+    fn leaf_at(&self, _key: Key) -> Leaf<'_, A> {
+        Leaf {
+            entries: self.entries.as_slice(),
+            first: Key::FIRST,
+            last: Key::last(self.period),
+        }
+    }
+
+    fn prepare(&self, row: &Row<A>) -> Result<ListSpare<A>, AllocError> {
+        if self.len == u64::MAX {
+            return Err(AllocError);
+        }
+        let alloc = *self.entries.allocator();
+        let held = entries::count_at(&self.entries, row.key(self.period));
+        let rows = Vec::with_capacity(alloc, held + 1)?;
+        let entries = Vec::with_capacity(alloc, self.entries.len() + 1)?;
+        Ok(ListSpare { entries, rows })
+    }
+
+    fn insert(&mut self, row: Row<A>, spare: ListSpare<A>) {
+        let ListSpare { mut entries, rows } = spare;
+        let Ok(()) = entries.append(&mut self.entries) else {
+            unreachable!()
+        };
+        let key = row.key(self.period);
+        entries::put(&mut entries, key, row, rows);
+        self.entries = entries;
+        self.len += 1;
+    }
+
+    fn remove(&mut self, key: Key, id: &str, label: &str) -> Option<Row<A>> {
+        let row = entries::take(&mut self.entries, key, id, label)?;
+        self.len -= 1;
+        Some(row)
+    }
+
+    fn replace(&mut self, row: Row<A>) -> Row<A> {
+        let key = row.key(self.period);
+        let Ok(out) = entries::swap(&mut self.entries, key, row) else {
+            unreachable!()
+        };
+        out
+    }
+}

@@ -1,0 +1,4 @@
+pub mod Coarse
+pub mod Plan
+pub mod QueryPlan
+pub mod Range

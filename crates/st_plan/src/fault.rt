@@ -1,0 +1,23 @@
+//! Why no plan is made.
+
+use std::alloc::AllocError;
+
+/// Why no plan is made.
+#[derive(Clone, Copy, PartialEq, Eq, Debug)]
+pub enum PlanFault {
+    /// The budget is not 1 to 64.
+    BadBudget,
+    /// There is no memory for the ranges.
+    NoMemory,
+}
+
+impl From<AllocError> for PlanFault {
+    ghost use Rattle.std.specs.Prelude.{◌≡◌};
+    ghost use Rattle.st_plan.specs.declared.fault.PlanFault.TheVariants.{NoMemory};
+
+    ghost from_gives = { λ _ e. e ≡ NoMemory };
+
+    fn from(_e: AllocError) -> PlanFault {
+        PlanFault::NoMemory
+    }
+}
