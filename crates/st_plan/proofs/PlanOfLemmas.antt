@@ -1,29 +1,26 @@
 -- The computed plan is the plan.
-use Rattle.std.proofs.Common.{◌≡◌, ◌↔◌, ℕ, zero, suc, ◌+◌, ◌-◌, ◌*◌, ◌/◌, ◌^◌, ◌<◌, ◌≤◌, IsTrue, List, [], ◌∷◌, map, length, Bool, true, false, ◌&&◌, not, nat_le, nat_lt, inl, inr, refl, sym, ap, ◌∙◌, subst, arith}
-use Rattle.std.proofs.lemmas.Bool.{cases_lt, cases_Bool, both_ways, leb-true, leb-false, le-leb, ltb-true, lt-ltb, and_parts, and_from, not-true, not-false}
+use Rattle.std.proofs.Common.{◌≡◌, ◌↔◌, ℕ, ◌+◌, ◌-◌, ◌*◌, ◌/◌, ◌^◌, ◌<◌, ◌≤◌, IsTrue, List, [], ◌∷◌, map, length, Bool, true, ◌&&◌, not, nat_le, nat_lt, inl, inr, refl, ap, ◌∙◌, subst, arith}
+use Rattle.std.proofs.lemmas.Bool.{cases_lt, both_ways, leb-true, leb-false, le-leb, ltb-true, lt-ltb, and_parts, and_from, not-true, not-false}
 use Rattle.std.proofs.lemmas.Nat.{pow_pos, div-add-mod', mod_below}
-use Rattle.std.proofs.Math.Nat.{div-mul-le_self, div-le_self, lt-div-mul-add}
-use Rattle.st_key.specs.Morton.{x_of, y_of, offset_of, address_of}
-use Rattle.st_key.specs.Order.{Spot}
-use Rattle.st_box.specs.Corner.{spot_at, address_at, IsWithin}
+use Rattle.std.proofs.Math.Nat.{div-mul-le_self, div-le_self}
+use Rattle.st_key.specs.Morton.{x_of, y_of, offset_of}
+use Rattle.st_box.specs.Corner.{spot_at, address_at}
 use Rattle.st_box.specs.declared.part.Part.{Part}
 use Rattle.st_box.specs.declared.zbox.ZBox.{ZBox}
 use Rattle.st_box.specs.Part.{Cut, cut_of, cuts_of}
 use Rattle.st_box.specs.declared.query.Query.{Query}
 use Rattle.st_key.specs.declared.period.Period.{Period}
 use Rattle.st_plan.specs.declared.part_plan.PartPlan.{PartPlan}
-use Rattle.st_plan.specs.QueryPlan.{IsPartPlan, PartPlans, IsQueryPlan}
-use Rattle.st_box.specs.ZBox.{IsInside, first_of, last_of}
-use Rattle.st_box.proofs.Boxes.{box_in_cube}
+use Rattle.st_plan.specs.QueryPlan.{PartPlans, IsQueryPlan}
+use Rattle.st_box.specs.ZBox.{IsInside, last_of}
 use Rattle.st_box.proofs.Cells.{InCube, address-mono, address-spot, address-lt}
 use Rattle.st_bigmin.specs.declared.run.Run.{Run}
-use Rattle.st_plan.specs.declared.range.Range.{Range}
 use Rattle.st_plan.specs.Coarse.{InCoarse, Runs, coarse_spot, IsTooFine}
 use Rattle.st_plan.specs.Plan.{IsRangeOf, Ranges, IsPlanOf}
-use Rattle.st_plan.specs.PlanOf.{first_not, last_below, has_address, coarse_cut, end_of, coarse_runs, level_of, range_of, ranges_of, runs_of, numbers, plan_of}
-use Rattle.st_plan.proofs.RangeLemmas.{base, base-back, under, over}
+use Rattle.st_plan.specs.PlanOf.{first_not, last_below, has_address, coarse_cut, end_of, coarse_runs, level_of, range_of, ranges_of, plan_of}
+use Rattle.st_plan.proofs.RangeLemmas.{base, base-back, under}
 use Rattle.st_plan.proofs.LevelLemmas.{same_length, few_at_top}
-use Rattle.st_plan.proofs.Sets.{Tests, runs_of-are, IsLast, last_below-is, IsFound, find-is, first_not-low, first_not-high, first_not-before, first_not-stop}
+use Rattle.st_plan.proofs.Sets.{Tests, runs_of-are, last_below-is, IsFound, find-is, first_not-low, first_not-before, first_not-stop}
 
 -- ---- the test of a coarse box
 

@@ -1,8 +1,7 @@
 -- Sets of numbers, and their runs.
-use Rattle.std.proofs.Common.{◌≡◌, ◌↔◌, ℕ, zero, suc, ◌+◌, ◌-◌, ◌<◌, ◌≤◌, List, [], ◌∷◌, map, length, Bool, true, false, ◌&&◌, ◌||◌, not, nat_eq, nat_le, nat_lt, inl, inr, refl, sym, ap, ◌∙◌, subst, arith}
-use Rattle.std.specs.Prelude.{filter, find, unwrap_or, Option, Some, None}
-use Rattle.std.proofs.Math.Bool.{true≢false}
-use Rattle.std.proofs.lemmas.Bool.{cases_lt, cases_Bool, ne_eqb, eq-eqb, both_ways}
+use Rattle.std.proofs.Common.{◌≡◌, ◌↔◌, ℕ, zero, suc, ◌+◌, ◌-◌, ◌<◌, ◌≤◌, List, [], ◌∷◌, map, Bool, true, false, ◌&&◌, ◌||◌, not, nat_eq, inl, inr, refl, sym, ap, ◌∙◌, subst, arith}
+use Rattle.std.specs.Prelude.{filter, find, unwrap_or, Some}
+use Rattle.std.proofs.lemmas.Bool.{cases_lt, cases_Bool, ne_eqb, both_ways}
 use Rattle.st_bigmin.specs.declared.run.Run.{Run}
 use Rattle.st_bigmin.specs.Run.{IsNextRun}
 use Rattle.st_plan.specs.Coarse.{Runs}

@@ -1,4 +1,4 @@
-use Rattle.std.proofs.Common.{sym, subst, arith}
+use Rattle.std.proofs.Common.{subst, arith}
 use Rattle.st_plan.specs.QueryPlan.{IsQueryPlan, PartPlans}
 use Rattle.st_plan.proofs.QueryPlans.{rising, in_budget, whole, exact, only_query_plan}
 use Rattle.st_plan.proofs.PlanOfLemmas.{is_query_plan_of}
