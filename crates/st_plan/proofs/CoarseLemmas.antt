@@ -1,5 +1,5 @@
 -- Addresses of a coarse box are those of the box without their lowest bits.
-use Rattle.std.proofs.Common.{◌≡◌, ℕ, zero, suc, ◌+◌, ◌-◌, ◌*◌, ◌/◌, ◌%◌, ◌^◌, ◌<◌, ◌≤◌, ◌↔◌, max, inl, inr, sym, ap, ◌∙◌, subst, arith}
+use Rattle.std.proofs.Common.{◌≡◌, ℕ, zero, suc, ◌+◌, ◌*◌, ◌/◌, ◌^◌, ◌<◌, ◌≤◌, max, inl, inr, sym, ap, ◌∙◌, subst, arith}
 use Rattle.std.proofs.lemmas.Bool.{cases_lt}
 use Rattle.std.proofs.Math.Nat.{pow-suc, div-mul-le_self, div-le_self}
 use Rattle.std.proofs.lemmas.Nat.{shr-shr, le-div, pow_pos, mul-le}
@@ -7,7 +7,7 @@ use Rattle.st_key.specs.Morton.{gather, x_of, y_of, offset_of}
 use Rattle.st_key.specs.Order.{Spot}
 use Rattle.st_box.specs.declared.zbox.ZBox.{ZBox}
 use Rattle.st_box.specs.Corner.{IsWithin, spot_at, address_at}
-use Rattle.st_box.specs.ZBox.{IsInside, first_of, last_of}
+use Rattle.st_box.specs.ZBox.{first_of, last_of}
 use Rattle.st_box.proofs.Cells.{InCube, spot-address, address-spot, address-lt, first_prefix}
 use Rattle.st_box.proofs.Lanes.{same_spot}
 use Rattle.st_bigmin.proofs.Runs.{below_prefix}

@@ -1,17 +1,17 @@
 -- Levels whose runs are few, or many.
-use Rattle.std.proofs.Common.{◌≡◌, ℕ, zero, suc, ◌+◌, ◌-◌, ◌*◌, ◌/◌, ◌%◌, ◌^◌, ◌<◌, ◌≤◌, ◌↔◌, List, [], ◌∷◌, ◌++◌, length, length-append, inl, inr, sym, ap, ◌∙◌, subst, arith}
+use Rattle.std.proofs.Common.{◌≡◌, ℕ, zero, suc, ◌+◌, ◌-◌, ◌*◌, ◌/◌, ◌^◌, ◌<◌, ◌≤◌, ◌↔◌, List, [], ◌∷◌, ◌++◌, length, length-append, sym, ap, ◌∙◌, subst, arith}
 use Rattle.std.proofs.Math.Nat.{div-eq_of_lt}
 use Rattle.st_key.specs.Morton.{gather, spread, x_of, y_of, offset_of}
 use Rattle.st_box.specs.declared.zbox.ZBox.{ZBox}
 use Rattle.st_bigmin.specs.declared.run.Run.{Run}
-use Rattle.st_box.specs.Corner.{spot_at, address_at}
-use Rattle.st_box.specs.ZBox.{IsInside, first_of, last_of}
+use Rattle.st_box.specs.Corner.{address_at}
+use Rattle.st_box.specs.ZBox.{IsInside}
 use Rattle.st_bigmin.specs.Run.{IsNextRun}
 use Rattle.st_box.proofs.Cells.{address-spot}
 use Rattle.st_box.proofs.Lanes.{same_spot}
 use Rattle.st_plan.specs.Coarse.{InCoarse, Runs, Begins, HasFewRuns, HasManyRuns, IsTooFine}
 use Rattle.st_plan.proofs.CoarseLemmas.{up, down}
-use Rattle.st_plan.proofs.RunLists.{Begun, begins-append, begins-runs, runs-begins, no_fewer}
+use Rattle.st_plan.proofs.RunLists.{begins-append, begins-runs, runs-begins, no_fewer}
 
 pub next_along : (P Q : ℕ → Type 0) (from : ℕ) (r : Run) → ((a : ℕ) → P a ↔ Q a) → IsNextRun P from r → IsNextRun Q from r
 next_along P Q from r same n = record {

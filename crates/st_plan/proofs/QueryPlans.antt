@@ -1,5 +1,5 @@
 -- The plan of a query, part by part.
-use Rattle.std.proofs.Common.{◌≡◌, ℕ, zero, suc, ◌+◌, ◌≤◌, ◌⊎◌, inl, inr, List, [], ◌∷◌, ◌++◌, length, map, take, get_or, add-one, ◌<◌, Bool, true, false, ◌&&◌, ◌||◌, nat_le, refl, sym, ap, ◌∙◌, subst, arith}
+use Rattle.std.proofs.Common.{◌≡◌, ℕ, ◌+◌, inl, inr, List, [], ◌∷◌, ◌++◌, length, map, take, get_or, add-one, ◌<◌, true, ◌&&◌, nat_le, refl, sym, ap, ◌∙◌, subst, arith}
 use Rattle.std.specs.List.{list_any}
 use Rattle.std.proofs.Math.Bool.{true≢false}
 use Rattle.std.proofs.Math.Seq.{take-suc}
@@ -8,12 +8,11 @@ use Rattle.st_key.specs.declared.key.Key.{Key}
 use Rattle.st_key.specs.declared.period.Period.{Period}
 use Rattle.st_box.specs.declared.part.Part.{Part}
 use Rattle.st_box.specs.declared.query.Query.{Query}
-use Rattle.st_box.specs.declared.zbox.ZBox.{ZBox}
-use Rattle.st_box.specs.Part.{Cut, cut_of, cuts_of, HasPart, IsInPart}
+use Rattle.st_box.specs.Part.{Cut, cut_of, HasPart}
 use Rattle.st_box.proofs.SameBoxes.{same_box}
 use Rattle.st_plan.specs.declared.part_plan.PartPlan.{PartPlan}
 use Rattle.st_plan.specs.declared.range.Range.{Range}
-use Rattle.st_plan.specs.Plan.{IsPlanOf, Rise, Hold, HoldExactly}
+use Rattle.st_plan.specs.Plan.{IsPlanOf, HoldExactly}
 use Rattle.st_plan.specs.Range.{is_exact_in}
 use Rattle.st_plan.specs.QueryPlan.{IsPartPlan, PartPlans, IsQueryPlan, HoldKey, is_exact, AreRising, AreInBudget}
 use Rattle.st_plan.proofs.OnlyPlan.{only_plan}

@@ -1,5 +1,5 @@
 -- The ranges of runs.
-use Rattle.std.proofs.Common.{◌≡◌, ℕ, zero, suc, ◌+◌, ◌-◌, ◌*◌, ◌/◌, ◌%◌, ◌^◌, ◌<◌, ◌≤◌, ◌↔◌, IsTrue, List, [], ◌∷◌, ◌++◌, length, length-append, inl, inr, sym, ap, ◌∙◌, subst, arith}
+use Rattle.std.proofs.Common.{◌≡◌, ℕ, ◌+◌, ◌*◌, ◌/◌, ◌^◌, ◌<◌, ◌≤◌, ◌↔◌, IsTrue, List, [], ◌∷◌, ◌++◌, length, inl, inr, sym, ap, subst, arith}
 use Rattle.std.proofs.lemmas.Bool.{cases_lt}
 use Rattle.std.proofs.Math.Nat.{div-mul-le_self, lt-div-mul-add, div-lt_iff_lt-mul}
 use Rattle.std.proofs.lemmas.Nat.{pow_pos, le-div, mul-le}
@@ -8,7 +8,6 @@ use Rattle.st_bigmin.specs.declared.run.Run.{Run}
 use Rattle.st_box.specs.ZBox.{IsInside}
 use Rattle.st_bigmin.specs.Run.{IsNextRun, IsRunTo, IsLeastInCell, IsGreatestInCell}
 use Rattle.st_box.proofs.Cells.{above_prefix}
-use Rattle.st_bigmin.proofs.Runs.{below_prefix}
 use Rattle.st_plan.specs.declared.range.Range.{Range}
 use Rattle.st_plan.specs.Coarse.{InCoarse, Runs, Begins, HasFewRuns}
 use Rattle.st_plan.specs.Plan.{IsRangeOf, Ranges, AreRangesAt, IsPlanOf, Rise, Hold, HoldExactly}

@@ -1,4 +1,5 @@
 pub mod Coarse
 pub mod Plan
+pub mod PlanOf
 pub mod QueryPlan
 pub mod Range

@@ -1,5 +1,5 @@
 -- The plan of a box.
-use Rattle.std.specs.Prelude.{ℕ, ◌≡◌, ◌<◌, ◌≤◌, ◌+◌, ◌*◌, ◌/◌, ◌^◌, ◌↔◌, ◌⊎◌, List, [], ◌∷◌, length, IsTrue}
+use Rattle.std.specs.Prelude.{ℕ, ◌<◌, ◌≤◌, ◌+◌, ◌*◌, ◌^◌, ◌↔◌, ◌⊎◌, List, [], ◌∷◌, length, IsTrue}
 use Rattle.st_box.specs.declared.zbox.ZBox.{ZBox}
 use Rattle.st_bigmin.specs.declared.run.Run.{Run}
 use Rattle.st_box.specs.ZBox.{IsInside}

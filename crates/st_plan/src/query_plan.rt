@@ -4,6 +4,7 @@ ghost use Rattle.st_key.specs.declared.key.Key.{Key};
 ghost use Rattle.st_box.specs.Query.{HasKey};
 ghost use Rattle.st_plan.specs.declared.fault.PlanFault.TheVariants.{BadBudget};
 ghost use Rattle.st_plan.specs.declared.part_plan.PartPlan.{PartPlan};
+ghost use Rattle.st_plan.specs.PlanOf.{plan_of};
 ghost use Rattle.st_plan.specs.QueryPlan.{AreInBudget, AreRising, IsPartPlan, IsQueryPlan, HoldKey, PartPlans, is_exact};
 
 use crate::box_plan::plan_box;
@@ -59,6 +60,7 @@ pub fn plan<A: Allocator + Copy>(
     budget: u32,
     period: Period,
 ) -> Result<Plan<A>, PlanFault>
+    ensures value { IfOk result (λ p. p ≡ plan_of period query.now budget) }
     ensures plan { IfOk result (IsQueryPlan period query.now budget) }
     ensures only { IfOk result (λ p. (xs : List (PartPlan A)) → IsQueryPlan period query.now budget xs → xs ≡ p) }
     ensures rising { IfOk result AreRising }

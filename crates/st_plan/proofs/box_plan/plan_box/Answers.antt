@@ -1,4 +1,3 @@
-use Rattle.std.proofs.Common.{◌≡◌, ◌≤◌, arith}
 use Rattle.st_plan.specs.Plan.{IsPlanOf}
 use Rattle.st_plan.proofs.RangeLemmas.{plan_of, rise, in_budget, hold, exactly}
 use Rattle.st_plan.proofs.OnlyPlan.{only_plan}

@@ -1,4 +1,4 @@
-use Rattle.std.proofs.Common.{◌≡◌, ◌≤◌, refl, arith}
+use Rattle.std.proofs.Common.{refl}
 use Rattle.std.proofs.lemmas.Bool.{leb-true, le-leb}
 use Rattle.st_plan.proofs.RangeLemmas.{under, range_is}
 use Rattle.st_plan.proofs.box_plan.range_of.Goals as goal

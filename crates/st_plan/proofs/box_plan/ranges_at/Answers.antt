@@ -1,5 +1,5 @@
-use Rattle.std.proofs.Common.{◌≡◌, ◌≤◌, ◌++◌, ◌∷◌, [], ◌+◌, sym, subst, arith, refl, ap, ◌∙◌, rules}
-use Rattle.st_plan.proofs.RangeLemmas.{SoFar, so_far-none, so_far-next, so_far-end}
+use Rattle.std.proofs.Common.{◌+◌, sym, subst, arith, rules}
+use Rattle.st_plan.proofs.RangeLemmas.{SoFar, so_far-next, so_far-end}
 use Rattle.st_plan.proofs.box_plan.ranges_at.Goals as goal
 
 pub range_of-requires-clause-first : goal.range_of-requires-clause-first

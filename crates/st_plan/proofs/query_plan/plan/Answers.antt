@@ -1,6 +1,7 @@
-use Rattle.std.proofs.Common.{subst}
+use Rattle.std.proofs.Common.{subst, arith}
 use Rattle.st_plan.specs.QueryPlan.{IsQueryPlan, PartPlans}
 use Rattle.st_plan.proofs.QueryPlans.{rising, in_budget, whole, exact, only_query_plan}
+use Rattle.st_plan.proofs.PlanOfLemmas.{is_query_plan_of}
 use Rattle.st_plan.proofs.query_plan.plan.Given.{Over}
 use Rattle.st_plan.proofs.query_plan.plan.Goals as goal
 
@@ -9,6 +10,11 @@ plans g c = subst (λ v. PartPlans c.args.budget v c.in_ok-parts.parts.items) c.
 
 is_plan : (g : Over) (c : goal.In_ok-parts g) → IsQueryPlan c.args.period c.args.query.now c.args.budget c.in_ok-parts.parts.items
 is_plan g c = record { parts = c.parts-parts.result.items; cuts = c.parts-parts.ensures.cuts; plans = plans g c }
+
+pub returns-clause-value : goal.returns-clause-value
+returns-clause-value g c =
+    only_query_plan c.args.period c.args.query.now c.args.budget c.in_ok-parts.parts.items _ (is_plan g c)
+    (is_query_plan_of _ c.args.period c.args.query.now c.args.budget (omega (arith, c.if-budget-eq0.false)) c.parts-parts.result.items c.parts-parts.ensures.cuts)
 
 pub returns-clause-plan : goal.returns-clause-plan
 returns-clause-plan g c = is_plan g c
