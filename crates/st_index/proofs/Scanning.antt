@@ -1,10 +1,11 @@
 -- Entries whose keys rise hold their rows in scan order.
 use Rattle.std.proofs.Common.{◌↔◌, ◌≡◌, ℕ, ◌+◌, ◌*◌, ◌/◌, ◌%◌, ◌^◌, ◌<◌, ◌≤◌, List, [], ◌∷◌, ◌++◌, length, get_or, refl, sym, ap, subst, ◌∙◌, arith, true}
-use Rattle.std.proofs.lemmas.List.Elements.{All-append, All-head, All-tail}
+use Rattle.std.proofs.lemmas.List.Elements.{All-append, All-cons, All-head, All-tail}
 use Rattle.std.specs.List.{All}
 use Rattle.std.specs.Prelude.{IsTrue}
 use Rattle.std.specs.Cmp.{tied_itself}
-use Rattle.std.specs.Cmp.Lexicographic.{slice_cmp, nat_list_cmp_total}
+use Rattle.std.specs.Cmp.Lexicographic.{slice_cmp, nat_list_cmp_total, lists_total}
+use Rattle.std.proofs.Math.Bool.{true≢false}
 use Rattle.std.specs.Ordering.{nat_cmp, is_lt, ordering_then}
 use Rattle.std.specs.declared.cmp.Ordering.{Ordering}
 use Rattle.std.specs.declared.cmp.Ordering.TheVariants.{Less, Equal, Greater}
@@ -23,6 +24,8 @@ use Rattle.st_key.proofs.PointLemmas.{before_by_rank, one_point, same_rank}
 use Rattle.st_text.specs.Texts.{Text, comes_before}
 use Rattle.st_index.specs.declared.row.Row.{Row}
 use Rattle.st_index.specs.Rows.{EntryValue, Name, NamesRise, Rises, name_cmp, name_of, place_of, rows_of}
+use Rattle.st_index.specs.Index.{IsAbsent}
+use Rattle.st_index.proofs.Climbing.{all_right}
 use Rattle.st_index.specs.Order.{InScanOrder, scan_key}
 use Rattle.st_index.proofs.Rising.{rises_bounds, rises_from}
 use Rattle.st_index.proofs.Taking.{rows_from}
@@ -108,3 +111,19 @@ module _ {A : Type 0} (period : Period) where
   pub scan_rises : (lo hi : ℕ) (es : List (EntryValue A)) → Rises period lo hi es → InScanOrder period (rows_of es)
   scan_rises lo hi [] h = tt
   scan_rises lo hi (e ∷ es) h = scan_rows e.at e.rows (rows_of es) h.1.named h.1.placed (rows_from period (e.at + 1) hi es h.2) (scan_rises (e.at + 1) hi es h.2)
+
+module _ {A : Type 0} (period : Period) where
+  same_scan : (r s : Row A) → place_of period r ≡ place_of period s → name_of r ≡ name_of s → IsTrue (comes_before (scan_key period r) (scan_key period s)) → ⊥
+  same_scan r s p n h =
+      let d = digits_same period r s p in
+      let same : scan_key period r ≡ scan_key period s = λ i. d i ∷ (n i).id ∷ (n i).label ∷ [] in
+      let tied = tied_itself (lists_total nat_list_cmp_total) (scan_key period s) in
+      true≢false (sym h ∙ ap (λ k. comes_before k (scan_key period s)) same ∙ ap is_lt tied)
+
+  -- no other row of a content in scan order has the key and the name of one of its rows
+  pub scan_apart : (front : List (Row A)) (row : Row A) (back : List (Row A)) → InScanOrder period (front ++ row ∷ back) → IsAbsent period (place_of period row) (name_of row) (front ++ back)
+  scan_apart [] row back h = λ k d l p n. same_scan row (get_or back k d) (sym p) (sym n) (h.0 k d l)
+  scan_apart (r ∷ rs) row back h =
+      let P : Row A → Type 0 = λ s. IsTrue (comes_before (scan_key period r) (scan_key period s)) in
+      let first : P row = All-head P row back (all_right P rs (row ∷ back) h.0) in
+      All-cons (λ s. place_of period s ≡ place_of period row → name_of s ≡ name_of row → ⊥) r (rs ++ back) (λ p n. same_scan r row p n first) (scan_apart rs row back h.1)

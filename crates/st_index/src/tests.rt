@@ -21,14 +21,14 @@ fn put_new<I: RowIndex>(index: &mut I, row: I::Row) -> Result<(), AllocError>
     Ok(())
 }
 
-/// Puts a row into any index: in the place of the row of its key and name, or beside the others.
-fn put<I: RowIndex>(index: &mut I, row: I::Row) -> Result<(), AllocError> {
+/// Takes the row of this row's key and name out of any index, or puts this row in where none is held.
+fn toggle<I: RowIndex>(index: &mut I, row: I::Row) -> Result<(), AllocError> {
     let key = row.as_row().key(index.period());
-    let copy = <I::Row as AsRow<I::Alloc>>::copy_of(row.as_row())?;
-    match index.remove(key, row.as_row().id.as_str(), row.as_row().label.text()) {
-        Some(_) | None => {}
+    let held = row.as_row();
+    match index.remove(key, held.id.as_str(), held.label.text()) {
+        Some(_) => Ok(()),
+        None => put_new(index, row),
     }
-    put_new(index, copy)
 }
 
 fn row_at<A: Allocator + Copy>(alloc: A, id: &str, x: u64, label: &str) -> Result<Row<A>, Fail> {
@@ -44,10 +44,10 @@ fn row_at<A: Allocator + Copy>(alloc: A, id: &str, x: u64, label: &str) -> Resul
 fn rows(rt: HostRuntime) -> Result<(), Fail> {
     let alloc = rt.alloc();
     let mut index = ListIndex::new(alloc, Period::Week);
-    put(&mut index, row_at(alloc, "b", 1, "A")?)?;
-    put(&mut index, row_at(alloc, "a", 2, "A")?)?;
-    put(&mut index, row_at(alloc, "b", 1, "")?)?;
-    put(&mut index, row_at(alloc, "a", 1, "B")?)?;
+    toggle(&mut index, row_at(alloc, "b", 1, "A")?)?;
+    toggle(&mut index, row_at(alloc, "a", 2, "A")?)?;
+    toggle(&mut index, row_at(alloc, "b", 1, "")?)?;
+    toggle(&mut index, row_at(alloc, "a", 1, "B")?)?;
     let leaf = index.leaf_at(Key::FIRST);
     assert_eq!(rt; leaf.entries.len(), 2);
     assert!(rt; leaf.first == Key::FIRST);

@@ -12,10 +12,10 @@ returns g c =
     let len : c.self.inside.len ≡ length (rows_of es) = c.self.invariant.1 in
     let full = c.if-self.false in
     let held : All (λ (e : EntryValue g.row.A.Denot). e.at ≡ rank c.key.result → length e.rows ≡ c.count_at-held.result) es =
-      rw c.deref.ensures.value at (c.count_at-held.ensures.value p 0 (key_end p) (rw c.deref.ensures.value c.self.invariant.0)) in
+    rw c.deref.ensures.value at (c.count_at-held.ensures.value p 0 (key_end p) (rw c.deref.ensures.value c.self.invariant.0)) in
     let room : c.count_at-held.result + 1 ≤ vec_capacity c.in_ok-rows.rows = c.in_ok-rows.ensures.capacity in
     let enough : All (λ (e : EntryValue g.row.A.Denot). e.at ≡ rank c.key.result → length e.rows < vec_capacity c.in_ok-rows.rows) es =
-      λ k d l at. let n = held k d l at in omega (arith, n, room) in
+    λ k d l at. let n = held k d l at in omega (arith, n, room) in
     let count : length es ≡ vec_len c.self.inside.entries = search rules in
     let wide : c.len.result + 1 ≤ vec_capacity c.in_ok-entries.entries = c.in_ok-entries.ensures.capacity in
     rw (← c.self.view_is) (record {
