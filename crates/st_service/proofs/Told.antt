@@ -7,7 +7,7 @@ use Rattle.st_http.specs.declared.routes.Line.{Line}
 use Rattle.st_http.specs.declared.routes.Route.{Route}
 use Rattle.st_http.specs.declared.routes.Route.TheVariants as routes
 use Rattle.st_http.specs.declared.take.Message.{Message}
-use Rattle.st_http.specs.First.{First, message, fields_of}
+use Rattle.st_http.specs.First.{message, fields_of}
 use Rattle.st_http.specs.Routes.{Routed, found, no_route, bad_method, Tells, routed}
 use Rattle.st_http.specs.Take.{ShowsMessage}
 use Rattle.st_http.specs.Token.{UserAndSecret, token_of}
@@ -21,7 +21,7 @@ use Rattle.st_core.specs.Step.{Judged, Unheard, Heard, judge, settle, step}
 use Rattle.st_json.specs.Refusals.{status_of}
 use Rattle.st_json.specs.Replies.{text_of}
 use Rattle.st_service.specs.Render.{render, busy_text, accepted_text}
-use Rattle.st_service.specs.Answers.{Asks, AsksBy, IsFound, token_in, reply_status, reply_text, no_route_text, bad_method_text, close_of, Answers, told, busy, untold, unrouted, mismatched, Replied}
+use Rattle.st_service.specs.Answers.{Asks, AsksBy, IsFound, reply_status, reply_text, no_route_text, bad_method_text, close_of, Answers, told, busy, untold, unrouted, mismatched, Replied}
 
 apart : (n : ℕ) → eqb n 405 ≡ false → n ≢ 405
 apart n t e = absurd (let k : true ≡ false = sym (eq-eqb n 405 e) ∙ t in cc)
