@@ -22,7 +22,7 @@ pub record Running {A : Type 0} (first s : State A) (asked : List (Asked A)) (i 
   pub count : length told ≡ i
 
 pub at_start : {A : Type 0} (first : State A) (asked : List (Asked A)) (told : List Reply) → told ≡ [] → Running first first asked 0 told
-at_start first asked told none = record { so_far = refl; ahead = ap (λ xs. xs ++ replies first asked) none; rest = refl; count = ap length none; }
+at_start first asked told none = record { so_far = refl; ahead = ap (λ xs. xs ++ replies first asked) none; rest = refl; count = ap length none }
 
 one_more : {A : Type 0} (first s : State A) (asked : List (Asked A)) (i : ℕ) (told : List Reply) (one : Asked A)
     → i < length asked → one ≡ slice_index_or asked i one → Running first s asked i told
@@ -45,8 +45,7 @@ one_more_told first s next asked i told more one reply below is is_next is_reply
 pub done : {A : Type 0} (first s : State A) (asked : List (Asked A)) (i : ℕ) (told : List Reply) → length asked ≤ i
     → Running first s asked i told → (told ≡ replies first asked) × (s ≡ after first asked)
 done first s asked i told all running =
-    let end : drop i asked ≡ [] = drop_all i asked all in
-    (
+    let end : drop i asked ≡ [] = drop_all i asked all in (
       sym (append-nil told) ∙ subst (λ xs. told ++ replies s xs ≡ replies first asked) end running.ahead,
-      subst (λ xs. after s xs ≡ after first asked) end running.rest
+      subst (λ xs. after s xs ≡ after first asked) end running.rest,
     )

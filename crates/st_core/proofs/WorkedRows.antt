@@ -177,7 +177,7 @@ only_reads = refl
 
 abbrev constrained : Bool → State ℕ → State ℕ
 constrained constraint s = record s {
-  directory = record s.directory { tables = record { table = codes "points"; constraint = constraint; period = Period.Week } ∷ []; };
+  directory = record s.directory { tables = record { table = codes "points"; constraint = constraint; period = Period.Week } ∷ [] };
 }
 
 abbrev writer : State ℕ

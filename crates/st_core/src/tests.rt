@@ -108,7 +108,10 @@ fn strangers_are_told_nothing(rt: HostRuntime) -> Result<(), Fail> {
     for reply in &run(&mut store, &list)? {
         assert!(rt; matches!(reply, Reply::Refused(Refusal::Denied(Denial::Token))));
     }
-    assert_eq!(rt; shown(&store.take(&asked(Call::Bad(Refusal::Json))?)?), 2003);
+    assert_eq!(rt;
+        shown(&store.take(&asked(Call::Bad(Refusal::Json))?)?),
+        2003
+    );
     Ok(())
 }
 

@@ -28,7 +28,11 @@ fn names(rt: HostRuntime) -> Result<(), Fail> {
 
 #[test]
 fn table_names(rt: HostRuntime) -> Result<(), Fail> {
-    for (text, namespace) in [("points", None), ("geo.a", Some("geo")), ("a.b_1", Some("a"))] {
+    for (text, namespace) in [
+        ("points", None),
+        ("geo.a", Some("geo")),
+        ("a.b_1", Some("a")),
+    ] {
         let table = TableName::new(text)?;
         assert!(rt; table.copy().is(text), "{text}");
         assert_eq!(rt; table.to_text().as_str(), text);

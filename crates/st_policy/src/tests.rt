@@ -69,10 +69,14 @@ fn what_refused(rt: HostRuntime) -> Result<(), Fail> {
         _ => panic!(rt; "an authorization is lacking"),
     }
     match decide(&directory, &Name::new("zoe")?, &request) {
-        Err(Refusal::Denied(Denial::Permission {
-            name,
-            table: Some(table),
-        })) => {
+        Err(
+            Refusal::Denied(
+                Denial::Permission {
+                    name,
+                    table: Some(table),
+                },
+            ),
+        ) => {
             assert_eq!(rt; name, Permission::Read);
             assert_eq!(rt; table.as_str(), "points");
         }
@@ -92,10 +96,20 @@ fn requests_and_numbers(rt: HostRuntime) -> Result<(), Fail> {
     assert_eq!(rt; FieldName::Auths.name(), "auths");
     let refusals = [
         (Refusal::Json, 3),
-        (Refusal::Field { name: FieldName::Box }, 4),
+        (
+            Refusal::Field {
+                name: FieldName::Box,
+            },
+            4,
+        ),
         (Refusal::BadBox, 5),
         (Refusal::BadLabel { at: 3 }, 6),
-        (Refusal::BadName { field: FieldName::Table }, 7),
+        (
+            Refusal::BadName {
+                field: FieldName::Table,
+            },
+            7,
+        ),
         (Refusal::Denied(Denial::Token), 8),
         (Refusal::Denied(Denial::OwnSelf), 12),
     ];
