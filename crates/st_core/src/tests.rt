@@ -59,17 +59,16 @@ fn shown(reply: &Reply) -> u64 {
 
 // A count, a put, and the count again; then a row that not all of them see.
 fn requests<A: Allocator + Copy>(alloc: A) -> Result<Vec<Asked<A>, A>, Fail> {
-    let list = [
-        count(alloc, &[])?,
-        put(alloc, "p", "A")?,
-        count(alloc, &["A"])?,
-        put(alloc, "q", "A&(B|C)")?,
-        put(alloc, "p", "A")?,
-        count(alloc, &["A"])?,
-        count(alloc, &["A", "C"])?,
-        count(alloc, &["X"])?,
-    ];
-    Ok(Vec::from_array(alloc, list)?)
+    let mut list = Vec::new(alloc);
+    list.push(count(alloc, &[])?)?;
+    list.push(put(alloc, "p", "A")?)?;
+    list.push(count(alloc, &["A"])?)?;
+    list.push(put(alloc, "q", "A&(B|C)")?)?;
+    list.push(put(alloc, "p", "A")?)?;
+    list.push(count(alloc, &["A"])?)?;
+    list.push(count(alloc, &["A", "C"])?)?;
+    list.push(count(alloc, &["X"])?)?;
+    Ok(list)
 }
 
 // What is told to them, one after another.
