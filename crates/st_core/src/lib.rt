@@ -6,10 +6,14 @@ mod audit;
 mod held;
 pub mod law;
 mod reply;
+mod runs;
 mod store;
+#[cfg(test)]
+mod tests;
 
 pub use asked::{Asked, Call, Token};
 pub use audit::Entry;
 pub use held::Held;
 pub use reply::Reply;
+pub use runs::run;
 pub use store::Store;

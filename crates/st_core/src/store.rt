@@ -134,6 +134,11 @@ impl<A: Allocator + Copy> Store<A> {
         })
     }
 
+    // The allocator of its parts.
+    pub(crate) fn allocator(&self) -> A {
+        self.alloc
+    }
+
     // Lists a change that was asked for.
     fn note(&mut self, asker: &Name, request: &Request<A>, number: u8)
         ensures { self.new ≡ record self.old { audit = keep_last 1024 (self.old.audit ++ record { request = name_of request.now; result = number; target = target_of request.now; user = asker.now } ∷ []) } }

@@ -7,6 +7,8 @@ mod name;
 mod permission;
 mod table;
 mod table_name;
+#[cfg(test)]
+mod tests;
 mod user;
 
 pub use directory::Directory;

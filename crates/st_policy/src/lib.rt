@@ -6,6 +6,8 @@ mod field_name;
 mod policy;
 mod refusal;
 mod request;
+#[cfg(test)]
+mod tests;
 
 pub use denial::Denial;
 pub use field_name::FieldName;

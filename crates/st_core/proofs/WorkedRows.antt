@@ -1,0 +1,237 @@
+-- The definitions on worked examples.
+use Rattle.std.proofs.Common.{◌≡◌, ℕ, List, [], ◌∷◌, ◌++◌, Bool, true, false, Option, Some, None, refl, map}
+use Rattle.std.specs.Prelude.{codes}
+use Prim.Native.String.{String}
+use Rattle.st_text.specs.Texts.{Text}
+use Rattle.st_key.specs.Coordinates.{point_at}
+use Rattle.st_key.specs.Order.{bits_below}
+use Rattle.st_key.specs.declared.period.Period.{Period}
+use Rattle.st_key.specs.declared.point.Point.{Point}
+use Rattle.st_box.specs.declared.query.Query.{Query}
+use Rattle.st_box.specs.Query.{query_of}
+use Rattle.st_label.specs.Machine.{class_of}
+use Rattle.st_label.specs.Reading.{reading}
+use Rattle.st_index.specs.declared.row.Row.{Row}
+use Rattle.st_dir.specs.declared.grant.Scope.TheVariants.{OnTable, OnNamespace}
+use Rattle.st_dir.specs.declared.grant.Scope.{Scope}
+use Rattle.st_dir.specs.declared.permission.Permission.{Permission}
+use Rattle.st_policy.specs.declared.denial.Denial.{Denial}
+use Rattle.st_policy.specs.declared.refusal.Refusal.{Refusal}
+use Rattle.st_policy.specs.declared.request.Request.{Request}
+use Rattle.st_core.specs.declared.asked.Call.{Call}
+use Rattle.st_core.specs.declared.audit.Entry.{Entry}
+use Rattle.st_core.specs.declared.reply.Reply.{Reply}
+use Rattle.st_core.specs.State.{State, first_state}
+use Rattle.st_core.specs.Step.{Outcome, judge_call, settle}
+
+-- ---- requests of users whose tokens hold
+
+record Said : Type 0 where
+  user : Text
+  request : Request ℕ
+
+abbrev asks : String → Request ℕ → Said
+asks user request = record { user = codes user; request = request }
+
+abbrev outcome : State ℕ → Said → Outcome ℕ
+outcome s said = settle s (judge_call s.directory (Some said.user) (Call.Good said.request))
+
+abbrev after : State ℕ → List Said → State ℕ
+after s [] = s
+after s (said ∷ rest) = after (outcome s said).state rest
+
+abbrev told : State ℕ → Said → Reply
+told s said = (outcome s said).reply
+
+abbrev all_told : State ℕ → List Said → List Reply
+all_told s [] = []
+all_told s (said ∷ rest) = (outcome s said).reply ∷ all_told (outcome s said).state rest
+
+abbrev texts : List String → List Text
+texts names = map codes names
+
+abbrev here : Point
+here = point_at 1 2 3 refl refl refl
+
+abbrev row : String → Point → String → Row ℕ
+row id point label = record { id = codes id; point = point; label = codes label; note = [] }
+
+abbrev everything : Query
+everything = query_of 0 2097151 0 2097151 0 19818086399 refl refl refl refl refl refl
+
+abbrev put_in : String → String → String → String → Said
+put_in user table id label = asks user (Request.Put (codes table) (row id here label))
+
+abbrev put : String → String → Said
+put id label = put_in "root" "points" id label
+
+abbrev count_in : String → String → List String → Said
+count_in user table auths = asks user (Request.Count (codes table) everything (texts auths))
+
+abbrev count : List String → Said
+count auths = count_in "root" "points" auths
+
+abbrev fresh : List String → State ℕ
+fresh auths = first_state [] (texts auths)
+
+abbrev denied : Denial → Reply
+denied denial = Reply.Refused (Refusal.Denied denial)
+
+-- ---- rows of points, by root
+
+nothing_put : told (fresh ("A" ∷ [])) (count []) ≡ Reply.Count 0
+unfolding reading class_of
+nothing_put = refl
+
+put_and_counted : all_told (fresh ("A" ∷ [])) (count [] ∷ put "p" "A" ∷ count ("A" ∷ []) ∷ []) ≡ Reply.Count 0 ∷ Reply.Accepted ∷ Reply.Count 1 ∷ []
+unfolding reading class_of
+put_and_counted = refl
+
+three_terms : map (told (after (fresh ("A" ∷ "B" ∷ "C" ∷ [])) (put "p" "A&(B|C)" ∷ []))) (count ("A" ∷ []) ∷ count ("A" ∷ "C" ∷ []) ∷ count ("B" ∷ "C" ∷ []) ∷ [])
+    ≡ Reply.Count 0 ∷ Reply.Count 1 ∷ Reply.Count 0 ∷ []
+unfolding reading class_of
+three_terms = refl
+
+empty_label : told (after (fresh []) (put "p" "" ∷ [])) (count []) ≡ Reply.Count 1
+unfolding reading class_of
+empty_label = refl
+
+quoted_label : told (after (fresh ("A" ∷ [])) (put "p" "\"A\"" ∷ [])) (count ("A" ∷ [])) ≡ Reply.Count 1
+unfolding reading class_of
+quoted_label = refl
+
+-- what root may see is not shown where it is not asked for
+not_asked_for : told (after (fresh ("A" ∷ [])) (put "p" "A" ∷ [])) (count []) ≡ Reply.Count 0
+unfolding reading class_of
+not_asked_for = refl
+
+-- two rows of one id
+two_labels : map (told (after (fresh ("A" ∷ "B" ∷ [])) (put "p" "B" ∷ put "p" "A" ∷ []))) (count ("A" ∷ "B" ∷ []) ∷ count ("A" ∷ []) ∷ [])
+    ≡ Reply.Count 2 ∷ Reply.Count 1 ∷ []
+unfolding reading class_of bits_below
+two_labels = refl
+
+-- two texts of one meaning name two rows
+two_texts : told (after (fresh ("A" ∷ "B" ∷ [])) (put "p" "A&B" ∷ put "p" "B&A" ∷ [])) (count ("A" ∷ "B" ∷ [])) ≡ Reply.Count 2
+unfolding reading class_of bits_below
+two_texts = refl
+
+-- a put in place of the row of its name, which was elsewhere
+moved : all_told (fresh ("A" ∷ []))
+    (asks "root" (Request.Put (codes "points") (row "p" (point_at 0 0 0 refl refl refl) "A"))
+    ∷ asks "root" (Request.Put (codes "points") (row "p" (point_at 5 5 5 refl refl refl) "A"))
+    ∷ asks "root" (Request.Count (codes "points") (query_of 0 0 0 0 0 0 refl refl refl refl refl refl) (texts ("A" ∷ [])))
+    ∷ asks "root" (Request.Count (codes "points") (query_of 5 5 5 5 5 5 refl refl refl refl refl refl) (texts ("A" ∷ []))) ∷ [])
+    ≡ Reply.Accepted ∷ Reply.Accepted ∷ Reply.Count 0 ∷ Reply.Count 1 ∷ []
+unfolding reading class_of
+moved = refl
+
+-- the rows after a put in place of another: the new one alone, with its note
+replaced : (after (fresh []) (put "p" "" ∷ asks "root" (Request.Put (codes "points") (record { id = codes "p"; point = here; label = []; note = codes "n" })) ∷ [])).rows
+    ≡ record { table = codes "points"; row = record { id = codes "p"; point = here; label = []; note = codes "n" } } ∷ []
+unfolding reading class_of
+replaced = refl
+
+-- the last point of space and time
+last_point : told (after (fresh []) (asks "root" (Request.Put (codes "points") (row "p" (point_at 2097151 2097151 19818086399 refl refl refl) "")) ∷ [])) (count []) ≡ Reply.Count 1
+unfolding reading class_of
+last_point = refl
+
+-- ---- refusals
+
+no_table : all_told (fresh []) (count_in "root" "t" [] ∷ put_in "root" "t" "p" "" ∷ [])
+    ≡ Reply.Refused (Refusal.NoTable (codes "t")) ∷ Reply.Refused (Refusal.NoTable (codes "t")) ∷ []
+unfolding reading class_of
+no_table = refl
+
+first_lacking : told (fresh ("A" ∷ [])) (count ("A" ∷ "X" ∷ "Y" ∷ [])) ≡ denied (Denial.Authorization (codes "X"))
+unfolding reading class_of
+first_lacking = refl
+
+-- u beside root, with these authorizations and these permissions on the table points
+abbrev with_user : State ℕ → List String → List Permission → State ℕ
+with_user s auths permissions = record s {
+  directory = record s.directory {
+    users = s.directory.users ++ record { name = codes "u"; digest = []; auths = texts auths; permissions = [] } ∷ [];
+    grants = s.directory.grants ++ map (λ p. record { user = codes "u"; scope = OnTable (codes "points"); permission = p }) permissions;
+  };
+}
+
+no_permission : all_told (with_user (fresh []) [] []) (count_in "u" "points" [] ∷ put_in "u" "points" "p" "" ∷ [])
+    ≡ denied (Denial.Permission Permission.Read (Some (codes "points"))) ∷ denied (Denial.Permission Permission.Write (Some (codes "points"))) ∷ []
+unfolding reading class_of
+no_permission = refl
+
+-- that a table is not there comes before the permission, and the permission before the authorization
+order_of_refusals : all_told (with_user (fresh []) [] []) (count_in "u" "t" ("X" ∷ []) ∷ count_in "u" "points" ("X" ∷ []) ∷ [])
+    ≡ Reply.Refused (Refusal.NoTable (codes "t")) ∷ denied (Denial.Permission Permission.Read (Some (codes "points"))) ∷ []
+unfolding reading class_of
+order_of_refusals = refl
+
+only_reads : all_told (with_user (fresh []) ("A" ∷ []) (Permission.Read ∷ [])) (count_in "u" "points" ("A" ∷ []) ∷ count_in "u" "points" ("A" ∷ "X" ∷ "Y" ∷ []) ∷ put_in "u" "points" "p" "A" ∷ [])
+    ≡ Reply.Count 0 ∷ denied (Denial.Authorization (codes "X")) ∷ denied (Denial.Permission Permission.Write (Some (codes "points"))) ∷ []
+unfolding reading class_of
+only_reads = refl
+
+-- ---- the constraint
+
+abbrev constrained : Bool → State ℕ → State ℕ
+constrained constraint s = record s {
+  directory = record s.directory { tables = record { table = codes "points"; constraint = constraint; period = Period.Week } ∷ [] };
+}
+
+abbrev writer : State ℕ
+writer = with_user (fresh ("S" ∷ [])) [] (Permission.Write ∷ [])
+
+constraint_on : all_told (constrained true writer) (put_in "u" "points" "p" "S" ∷ count ("S" ∷ []) ∷ [])
+    ≡ denied (Denial.Constraint (codes "S")) ∷ Reply.Count 0 ∷ []
+unfolding reading class_of
+constraint_on = refl
+
+constraint_off : all_told (constrained false writer) (put_in "u" "points" "p" "S" ∷ count ("S" ∷ []) ∷ [])
+    ≡ Reply.Accepted ∷ Reply.Count 1 ∷ []
+unfolding reading class_of
+constraint_off = refl
+
+-- a label that is true for the writer may name what the writer lacks
+one_of_two : all_told (constrained true (with_user (fresh ("A" ∷ "S" ∷ [])) ("A" ∷ []) (Permission.Write ∷ []))) (put_in "u" "points" "p" "A|S" ∷ put_in "u" "points" "q" "A&S" ∷ [])
+    ≡ Reply.Accepted ∷ denied (Denial.Constraint (codes "A&S")) ∷ []
+unfolding reading class_of
+one_of_two = refl
+
+-- ---- namespaces
+
+-- the tables geo.a and geo.ab, and a grant to u on this scope
+abbrev spaced : Scope → State ℕ
+spaced scope = record (with_user (fresh []) [] []) {
+  directory = record {
+    users = (with_user (fresh []) [] []).directory.users;
+    tables = record { table = codes "geo.a"; constraint = false; period = Period.Week } ∷ record { table = codes "geo.ab"; constraint = false; period = Period.Week } ∷ [];
+    grants = record { user = codes "u"; scope = scope; permission = Permission.Read } ∷ [];
+  };
+}
+
+namespace_grant : all_told (spaced (OnNamespace (codes "geo"))) (count_in "u" "geo.a" [] ∷ count_in "u" "geo.ab" [] ∷ []) ≡ Reply.Count 0 ∷ Reply.Count 0 ∷ []
+unfolding reading class_of
+namespace_grant = refl
+
+-- a grant on the first letters of a name gives nothing
+first_letters : all_told (spaced (OnNamespace (codes "ge"))) (count_in "u" "geo.a" [] ∷ []) ≡ denied (Denial.Permission Permission.Read (Some (codes "geo.a"))) ∷ []
+unfolding reading class_of
+first_letters = refl
+
+one_table : all_told (spaced (OnTable (codes "geo.a"))) (count_in "u" "geo.a" [] ∷ count_in "u" "geo.ab" [] ∷ [])
+    ≡ Reply.Count 0 ∷ denied (Denial.Permission Permission.Read (Some (codes "geo.ab"))) ∷ []
+unfolding reading class_of
+one_table = refl
+
+-- ---- the audit listing
+
+abbrev entry : String → ℕ → String → String → Entry
+entry request result target user = record { request = codes request; result = result; target = codes target; user = codes user }
+
+-- changes are listed, whether made or refused, and reads are not
+audited : (after (with_user (fresh []) [] []) (put "p" "" ∷ count [] ∷ put_in "u" "points" "q" "" ∷ put_in "root" "t" "q" "" ∷ count_in "u" "points" [] ∷ [])).audit
+    ≡ entry "put" 0 "points" "root" ∷ entry "put" 9 "points" "u" ∷ entry "put" 14 "t" "root" ∷ []
+unfolding reading class_of
+audited = refl
