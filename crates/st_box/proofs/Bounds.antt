@@ -1,5 +1,5 @@
 -- A point is inside a query where each coordinate is between its bounds.
-use Rattle.std.proofs.Common.{◌≡◌, ℕ, ◌≤◌, Bool, true, ◌&&◌, nat_le}
+use Rattle.std.proofs.Common.{◌≡◌, ◌≤◌, Bool, true, ◌&&◌, nat_le}
 use Rattle.std.proofs.lemmas.Bool.{leb-true, le-leb, and_parts, and_from}
 use Rattle.st_key.specs.declared.point.Point.{Point}
 use Rattle.st_box.specs.declared.query.Query.{Query}

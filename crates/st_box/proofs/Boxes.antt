@@ -1,5 +1,5 @@
 -- What is inside a box.
-use Rattle.std.proofs.Common.{◌≡◌, ℕ, ◌+◌, ◌-◌, ◌*◌, ◌/◌, ◌^◌, ◌<◌, ◌≤◌, sym, subst, arith}
+use Rattle.std.proofs.Common.{◌≡◌, ℕ, ◌+◌, ◌-◌, ◌*◌, ◌/◌, ◌^◌, ◌≤◌, sym, subst, arith}
 use Rattle.st_key.specs.Order.{Spot}
 use Rattle.st_box.specs.declared.zbox.ZBox.{ZBox}
 use Rattle.st_box.specs.Corner.{IsWithin, spot_at, address_at}

@@ -1,7 +1,7 @@
 -- The parts of a query.
-use Rattle.std.proofs.Common.{◌≡◌, ℕ, ◌+◌, ◌-◌, ◌/◌, ◌%◌, ◌<◌, ◌≤◌, ◌↔◌, ◌⊎◌, inl, inr, List, [], ◌∷◌, map, Bool, true, false, nat_eq, nat_lt, refl, sym, ap, ◌∙◌, subst, arith}
+use Rattle.std.proofs.Common.{◌≡◌, ℕ, ◌+◌, ◌-◌, ◌/◌, ◌%◌, ◌<◌, ◌≤◌, ◌↔◌, inl, inr, List, [], ◌∷◌, map, refl, sym, ap, ◌∙◌, subst, arith}
 use Rattle.std.specs.Prelude.{if◌then◌else◌}
-use Rattle.std.proofs.lemmas.Bool.{cases_lt, cases_eq, eq-eqb, ne_eqb, lt-ltb, le-ltb}
+use Rattle.std.proofs.lemmas.Bool.{cases_lt, eq-eqb, ne_eqb, lt-ltb, le-ltb}
 use Rattle.std.proofs.lemmas.Nat.{le-div, div-add-mod'}
 use Rattle.st_key.specs.declared.key.Key.{Key}
 use Rattle.st_key.specs.declared.period.Period.{Period}
@@ -11,8 +11,8 @@ use Rattle.st_box.specs.declared.part.Part.{Part}
 use Rattle.st_box.specs.declared.query.Query.{Query}
 use Rattle.st_box.specs.declared.zbox.ZBox.{ZBox}
 use Rattle.st_box.specs.Part.{Cut, cut_of, cut_to, cuts_of, IsInPart, HasPart, FollowBins, IsEdge, IsMiddle}
-use Rattle.st_box.specs.Query.{HasKey, IsBoxIn, first_offset_of, last_offset_of}
-use Rattle.st_box.specs.ZBox.{HasBounds, IsInside}
+use Rattle.st_box.specs.Query.{HasKey, first_offset_of, last_offset_of}
+use Rattle.st_box.specs.ZBox.{HasBounds}
 use Rattle.st_box.proofs.Spans.{bins_of_key}
 
 abbrev make : (lo hi x0 x1 y0 y1 o0 o1 : ℕ) → Cut

@@ -1,5 +1,5 @@
 -- Spans of time, bin by bin.
-use Rattle.std.proofs.Common.{◌≡◌, ℕ, ◌+◌, ◌-◌, ◌*◌, ◌/◌, ◌%◌, ◌<◌, ◌≤◌, ◌⊎◌, inl, inr, refl, sym, ap, ◌∙◌, subst, arith}
+use Rattle.std.proofs.Common.{◌≡◌, ℕ, ◌+◌, ◌-◌, ◌*◌, ◌/◌, ◌%◌, ◌<◌, ◌≤◌, inl, inr, refl, sym, ap, ◌∙◌, arith}
 use Rattle.std.proofs.lemmas.Bool.{cases_lt}
 use Rattle.std.proofs.lemmas.Nat.{div-add-mod', mod_below, mul-le, le-div}
 use Rattle.st_key.specs.declared.period.Period.{Period}
@@ -12,9 +12,8 @@ use Rattle.st_key.proofs.MortonLemmas.{gather-lt}
 use Rattle.st_key.proofs.PeriodLemmas.{period}
 use Rattle.st_box.specs.declared.query.Query.{Query}
 use Rattle.st_box.specs.declared.zbox.ZBox.{ZBox}
-use Rattle.st_box.specs.ZBox.{IsInside}
 use Rattle.st_box.specs.Query.{HasKey, IsBoxIn, StartsAt, EndsAt}
-use Rattle.st_box.proofs.Bounds.{Has, has, holds}
+use Rattle.st_box.proofs.Bounds.{has, holds}
 
 -- a whole bin more
 row : (s m n : ℕ) → m < n → m * s + s ≤ n * s

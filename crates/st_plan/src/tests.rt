@@ -1,4 +1,5 @@
 use crate::{Plan, PlanFault, plan, plan_box};
+use refusing_alloc::Refusing;
 use st_box::{Query, ZBox};
 use st_key::{Key, Period};
 use std::process::Abort;
@@ -72,5 +73,27 @@ fn budgets(rt: HostRuntime) -> Result<(), Fail> {
     let ranges = plan_box(rt.alloc(), &zbox, 1)?;
     assert_eq!(rt; ranges.len(), 1);
     assert_eq!(rt; ranges[0].hi, (1 << 63) - 1);
+    Ok(())
+}
+
+#[test]
+fn each_growth_refused(rt: HostRuntime) -> Result<(), Fail> {
+    let span = Query::new(1, 20, 3, 17, 604_700, 4 * 604_800).map_err(|_| "a query")?;
+    let heap = Refusing::new(rt.alloc());
+    let mut refused = 0u32;
+    for n in 1..100u64 {
+        heap.arm(n);
+        let made = plan(&heap, &span, 16, Period::Week);
+        if heap.is_armed() {
+            assert!(rt; made.is_ok());
+            break;
+        }
+        match made {
+            Ok(_) => return Err("it went on without memory".into()),
+            Err(fault) => assert_eq!(rt; fault, PlanFault::NoMemory),
+        }
+        refused = refused.wrapping_add(1);
+    }
+    assert!(rt; refused >= 3 && refused < 99);
     Ok(())
 }

@@ -1,10 +1,9 @@
 -- One item, answered.
-use Rattle.std.proofs.Common.{◌≡◌, ◌≢◌, ℕ, ◌+◌, ◌*◌, ◌^◌, ◌<◌, ◌≤◌, Bool, true, false, Option, Ok, Err, List, [], ◌∷◌, ◌++◌, length, drop, refl, sym, ap, ◌∙◌, subst, arith, length-append}
+use Rattle.std.proofs.Common.{◌≡◌, ◌≢◌, ℕ, ◌^◌, ◌<◌, ◌≤◌, Bool, true, false, Option, List, [], ◌∷◌, ◌++◌, length, drop, refl, sym, ap, ◌∙◌, subst, arith}
 use Rattle.std.specs.List.{concat}
 use Rattle.std.specs.Io.KnownBytes.{Appends}
 use Rattle.std.proofs.lemmas.Grind.{common_steps}
 use Rattle.httparse.specs.Grammar.{RequestHead}
-use Rattle.st_http.specs.declared.take.Take.{Take}
 use Rattle.st_http.specs.declared.take.Take.TheVariants as takes
 use Rattle.st_http.specs.declared.take.Message.{Message}
 use Rattle.st_http.specs.declared.take.Fault.{Fault}
@@ -12,7 +11,7 @@ use Rattle.st_http.specs.Take.{Takes, ShowsMessage}
 use Rattle.st_http.specs.First.{First, message, fault, more, IsFirst, size_of}
 use Rattle.st_http.specs.Items.{after_message}
 use Rattle.st_http.proofs.ItemLemmas.{message_size}
-use Rattle.st_service.specs.Items.{closes, after_item, is_closed}
+use Rattle.st_service.specs.Items.{closes, after_item}
 use Rattle.st_service.specs.Connection.{Whole, Broken, Sent}
 use Rattle.st_service.proofs.Reading.{begins_one, closed_one}
 use Rattle.st_service.proofs.Joins.{reaches_one}

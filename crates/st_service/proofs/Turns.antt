@@ -1,16 +1,13 @@
 -- A connection, as far as the loop over its reads has come.
-use Rattle.std.proofs.Common.{◌≡◌, ◌≢◌, ◌+◌, ◌-◌, ◌*◌, ◌^◌, ◌≤◌, ◌<◌, ◌==◌, min, ℕ, zero, suc, Bool, true, false, Option, Ok, Err, List, [], ◌++◌, length, take, drop, refl, ap, sym, ◌∙◌, subst, arith, append-nil, length-append}
+use Rattle.std.proofs.Common.{◌≡◌, ◌≢◌, ◌+◌, ◌-◌, ◌*◌, ◌^◌, ◌≤◌, ◌<◌, min, ℕ, zero, suc, Bool, true, false, Option, Ok, Err, List, [], ◌++◌, length, drop, refl, ap, sym, ◌∙◌, subst, arith, append-nil, length-append}
 use Rattle.std.specs.List.{concat}
 use Rattle.std.specs.Io.KnownBytes.{Consumes, Keeps}
 use Rattle.std.proofs.KnownBytes.{Consumes-nil, Consumes-trans, Consumes-kept}
-use Rattle.std.proofs.lemmas.Grind.{common_steps}
 use Rattle.st_http.specs.First.{First, more, IsFirst}
 use Rattle.st_http.specs.Items.{Items}
 use Rattle.st_http.proofs.FirstLemmas.{more_short}
-use Rattle.st_service.specs.Items.{Begins, is_closed}
 use Rattle.st_service.specs.Connection.{Whole, Broken, Served}
 use Rattle.st_service.specs.declared.connection.Ended.TheVariants.{Clean, Closed, Cut, TurnsSpent}
-use Rattle.st_service.specs.declared.streams.Failed.{Failed}
 use Rattle.st_service.proofs.Empty.{first_empty}
 use Rattle.st_service.proofs.Reading.{few_items, items_whole}
 use Rattle.st_service.proofs.Joins.{reaches_all, whole_none, whole_join, broken_join, whole_grows}

@@ -31,3 +31,7 @@ fault_text reason bare = render (fault_status reason) None (fault_body reason) t
 -- the answer for which no memory was found
 abbrev pub busy_text : Bool → Bool → List ℕ
 busy_text close bare = render 503 None (codes "{\"error\":\"memory\"}") close bare
+
+-- the answer to a change that was made
+abbrev pub accepted_text : Bool → Bool → List ℕ
+accepted_text close bare = render 200 None (codes "{\"ok\":true}") close bare

@@ -1,4 +1,4 @@
-ghost use Rattle.std.specs.Prelude.{None};
+ghost use Rattle.std.specs.Prelude.{None, false};
 
 use crate::connection::{Ended, IoFault, ROOM, serve_connection};
 use crate::replies::Replies;
@@ -21,7 +21,7 @@ impl AsSlice<u8> for Digit {
     }
 }
 
-// Answers each message by the number of messages so far, of one digit.
+// Answers each message by the number of messages so far, from 1 to 9 and around.
 #[derive(Drop)]
 struct Tally(u8);
 
@@ -33,7 +33,7 @@ impl Replies for Tally {
     ghost faults = { λ _ _ _. tt };
 
     fn reply(&mut self, _message: &Message<'_>) -> Digit {
-        self.0 = (self.0 + 1) % 10;
+        self.0 = self.0 % 9 + 1;
         Digit([b'0' + self.0, b'\n'])
     }
 }

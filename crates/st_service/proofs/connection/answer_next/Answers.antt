@@ -20,7 +20,7 @@ returns-in_err-write_all-in-Fault-clause-answered g c =
 pub returns-in_ok-write_all-in-Fault-clause-answered : goal.returns-in_ok-write_all-in-Fault-clause-answered
 returns-in_ok-write_all-in-Fault-clause-answered g c =
     let s = subst (λ (a : List ℕ). g.X.Replies.answers c.args.answerer.now (fault c.in-Fault.fault.reason c.in-Fault.fault.bare) a c.args.answerer.now) (sym c.fault_text.ensures) (g.met.X.Replies.faults c.args.answerer.now _ _) in
-    (c.args.text.now, fault_closes _ _ _ _ _ _ _ _ _ _ c.in-Fault.ensures.first s (omega arith) c.in_ok-write_all-in-Fault.ensures.sent)
+    (c.args.text.now, fault_closes g.X.Replies.answers _ _ _ _ _ _ _ _ _ c.in-Fault.ensures.first s (omega arith) c.in_ok-write_all-in-Fault.ensures.sent)
 
 pub returns-in_err-write_all-in-Message-clause-answered : goal.returns-in_err-write_all-in-Message-clause-answered
 returns-in_err-write_all-in-Message-clause-answered g c =

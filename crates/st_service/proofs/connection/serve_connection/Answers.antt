@@ -40,19 +40,19 @@ answer_all-requires g c =
 
 pub returns-in-Err-clause-served : goal.returns-in-Err-clause-served
 returns-in-Err-clause-served g c =
-    let t = text_after_read c.reads.buffer c.read.new.buffer c.reads.filled _ c.in-Ok.count c.reads.invariant.within c.in-Ok.ensures.room in
+    let t = text_after_read c.reads.buffer c.read.new.buffer c.reads.filled (c.reads.filled + 65536 - c.reads.filled) c.in-Ok.count c.reads.invariant.within c.in-Ok.ensures.room in
     write_breaks _ _ _ _ _ _ _ _ _ _ c.reads.invariant.serving _ (take c.in-Ok.count c.read.new.buffer) c.in-Ok.ensures.bytes.0 _ _ t _ _ _
     (c.in-Ok.ensures.ok ∙ c.reads.invariant.reader_sound) c.in-Err.ensures.answered
 
 pub returns-in-Ok-Closed-clause-served : goal.returns-in-Ok-Closed-clause-served
 returns-in-Ok-Closed-clause-served g c =
-    let t = text_after_read c.reads.buffer c.read.new.buffer c.reads.filled _ c.in-Ok.count c.reads.invariant.within c.in-Ok.ensures.room in
+    let t = text_after_read c.reads.buffer c.read.new.buffer c.reads.filled (c.reads.filled + 65536 - c.reads.filled) c.in-Ok.count c.reads.invariant.within c.in-Ok.ensures.room in
     connection_closes _ _ _ _ _ _ _ _ _ _ c.reads.invariant.serving _ (take c.in-Ok.count c.read.new.buffer) c.in-Ok.ensures.bytes.0 _ _ t _ _ _
     (rw c.in-Ok-Closed.field-0-is at c.in-Ok-Closed.ensures.answered)
 
 pub reads-preserved : goal.reads-preserved
 reads-preserved g c =
-    let t = text_after_read c.reads.buffer c.read.new.buffer c.reads.filled _ c.in-Ok.count c.reads.invariant.within c.in-Ok.ensures.room in
+    let t = text_after_read c.reads.buffer c.read.new.buffer c.reads.filled (c.reads.filled + 65536 - c.reads.filled) c.in-Ok.count c.reads.invariant.within c.in-Ok.ensures.room in
     let a = rw c.in-Ok-Waits.field-0-is at c.in-Ok-Waits.ensures.answered in
     let b = put_mid c.reads.filled (c.reads.filled + 65536 - c.reads.filled) c.reads.buffer c.read.new.buffer in
     let p = part_at_most c.reads.buffer c.reads.filled in

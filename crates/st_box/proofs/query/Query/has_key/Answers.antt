@@ -1,5 +1,5 @@
-use Rattle.std.proofs.Common.{◌≡◌, true, IsTrue, subst, sym, ◌∙◌, rules}
-use Rattle.st_box.specs.Query.{is_inside, HasKey}
+use Rattle.std.proofs.Common.{◌≡◌, true, subst, sym, ◌∙◌, rules}
+use Rattle.st_box.specs.Query.{is_inside}
 use Rattle.st_box.proofs.query.Query.has_key.Goals as goal
 
 pub returns-in-Some : goal.returns-in-Some

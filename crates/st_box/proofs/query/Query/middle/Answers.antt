@@ -1,4 +1,4 @@
-use Rattle.std.proofs.Common.{◌≡◌, ◌+◌, ◌-◌, ◌/◌, ◌<◌, ap, sym, subst, refl, ◌∙◌, arith}
+use Rattle.std.proofs.Common.{◌≡◌, ◌+◌, ◌-◌, ap, sym, subst, refl, arith}
 use Rattle.st_key.specs.Period.{seconds_of}
 use Rattle.st_key.proofs.PeriodLemmas.{period}
 use Rattle.st_box.specs.Query.{EndsAt}

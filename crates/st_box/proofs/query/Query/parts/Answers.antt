@@ -1,5 +1,4 @@
-use Rattle.std.proofs.Common.{◌≡◌, ◌+◌, ◌/◌, ◌<◌, [], ◌∷◌, ◌++◌, ap, sym, ◌∙◌, arith}
-use Rattle.st_key.specs.Period.{seconds_of}
+use Rattle.std.proofs.Common.{◌/◌, [], ◌∷◌, ◌++◌, ap, ◌∙◌, arith}
 use Rattle.st_box.proofs.Parts.{AreParts, are_one, are_two, are_three}
 use Rattle.st_box.proofs.query.Query.parts.Goals as goal
 use Rattle.st_box.proofs.query.Query.parts.Goals.{then-first-last-2, else-first-last-2}

@@ -1,0 +1,76 @@
+//! Times keys, jumps and plans. Without arguments it makes each call once; with a number it makes
+//! each call so often, and prints how long one takes.
+#![tactic(auto)]
+
+mod numbers;
+mod rounds;
+
+use rounds::Rounds;
+use std::time::{Duration, Instant};
+use std::{env, io};
+
+/// The number of rounds that is asked for, if one is.
+fn asked(rt: &HostRuntime) -> io::Result<Option<u32>> {
+    let mut words = env::args(rt)?;
+    let _program = words.next();
+    match words.next() {
+        Some(word) => Ok(word.as_str().parse().ok()),
+        None => Ok(None),
+    }
+}
+
+/// Prints the nanoseconds of one of so many calls.
+fn print(rt: &HostRuntime, name: &str, took: Duration, count: u32, sum: u64) -> io::Result<()> {
+    let each = took.as_nanos() / u128::from(count.max(1));
+    println!(rt; "{name}: {each} ns ({sum})")
+}
+
+/// Prints what a call takes.
+fn time(rt: &HostRuntime, count: u32) -> io::Result<()> {
+    let rounds = Rounds::new(count);
+    let start = Instant::now(rt)?;
+    let sum = rounds.interleaves();
+    print(rt, "interleave", start.elapsed(rt)?, count, sum)?;
+    let start = Instant::now(rt)?;
+    let sum = rounds.jumps();
+    print(rt, "jump", start.elapsed(rt)?, count, sum)?;
+    let start = Instant::now(rt)?;
+    let sum = rounds.first_keys();
+    print(rt, "first key", start.elapsed(rt)?, count, sum)?;
+    let start = Instant::now(rt)?;
+    let sum = rounds.plans(rt.alloc(), 2);
+    print(rt, "plan of 16, 2 per cent", start.elapsed(rt)?, count, sum)?;
+    let start = Instant::now(rt)?;
+    let sum = rounds.plans(rt.alloc(), 14);
+    print(
+        rt,
+        "plan of 16, 14 per cent",
+        start.elapsed(rt)?,
+        count,
+        sum,
+    )?;
+    let start = Instant::now(rt)?;
+    let sum = rounds.worst_plans(rt.alloc());
+    print(
+        rt,
+        "plan of 64, the worst box",
+        start.elapsed(rt)?,
+        count,
+        sum,
+    )
+}
+
+fn main(rt: HostRuntime) -> io::Result<()> {
+    if let Some(count) = asked(&rt)? {
+        return time(&rt, count);
+    }
+    let once = Rounds::new(1);
+    let sum = once.interleaves() ^ once.jumps() ^ once.first_keys();
+    println!(rt; "keys: {sum}")?;
+    let small = once.plans(rt.alloc(), 2);
+    let large = once.plans(rt.alloc(), 14);
+    println!(rt;
+        "ranges: {small}, {large}, {}",
+        once.worst_plans(rt.alloc())
+    )
+}

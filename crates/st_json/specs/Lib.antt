@@ -1,0 +1,7 @@
+pub mod Fields
+pub mod Needs
+pub mod Bodies
+pub mod Adds
+pub mod Refusals
+pub mod Replies
+pub mod Order

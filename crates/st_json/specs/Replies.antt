@@ -1,0 +1,15 @@
+-- The body of a reply: compact JSON (RFC 8259), keys in byte order.
+use Rattle.std.specs.Prelude.{ℕ, List, [], ◌∷◌, codes, true}
+use Rattle.serde_json.specs.Data.{Data, boolean}
+use Rattle.serde_json.specs.Written.{compact_text}
+use Rattle.st_json.specs.declared.told.Reply.{Reply}
+use Rattle.st_json.specs.declared.told.Reply.TheVariants.{Accepted, Count, Refused}
+use Rattle.st_json.specs.Refusals.{of, nat, refusal_data}
+
+abbrev pub reply_data : Reply → Data
+reply_data Accepted = of ((codes "ok", boolean true) ∷ [])
+reply_data (Count n) = of ((codes "count", nat n) ∷ [])
+reply_data (Refused refusal) = refusal_data refusal
+
+unfoldable pub text_of : Reply → List ℕ
+text_of reply = compact_text (reply_data reply)

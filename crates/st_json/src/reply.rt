@@ -1,0 +1,55 @@
+//! Replies as text.
+ghost use Rattle.std.specs.Prelude.{◌≡◌, ◌∷◌, ◌++◌, [], OnOk, IfOk, codes, true};
+ghost use Rattle.serde_json.specs.Data.{boolean};
+ghost use Rattle.st_json.specs.Adds.{tokens_of, Adds};
+ghost use Rattle.st_json.specs.Refusals.{of, nat};
+ghost use Rattle.st_json.specs.Replies.{reply_data, text_of};
+
+use crate::refusal::{write_number, write_refusal};
+use crate::told::Reply;
+use json::Writer;
+use std::alloc::{AllocError, Allocator};
+
+fn write_accepted<A: Allocator>(out: &mut Writer<A>) -> Result<(), AllocError>
+    ensures { OnOk result (Adds out.old out.new (tokens_of (of ((codes "ok", boolean true) ∷ [])))) }
+{
+    out.begin_object()?;
+    out.key("ok")?;
+    out.boolean(true)?;
+    out.end_object()
+}
+
+fn write_count<A: Allocator>(out: &mut Writer<A>, count: u64) -> Result<(), AllocError>
+    ensures { OnOk result (Adds out.old out.new (tokens_of (of ((codes "count", nat count) ∷ [])))) }
+{
+    out.begin_object()?;
+    write_number(out, "count", count)?;
+    out.end_object()
+}
+
+fn write_reply<A: Allocator>(out: &mut Writer<A>, reply: &Reply) -> Result<(), AllocError>
+    ensures { OnOk result (Adds out.old out.new (tokens_of (reply_data reply.now))) }
+{
+    match reply {
+        Reply::Accepted => write_accepted(out),
+        Reply::Count(count) => write_count(out, *count),
+        Reply::Refused(refusal) => write_refusal(out, refusal),
+    }
+}
+
+/// Writes the body of a reply behind what the list holds: compact JSON (RFC 8259) whose keys stand
+/// in byte order. Where memory is wanting the list is lost.
+pub fn encode_into<A: Allocator>(out: Vec<u8, A>, reply: &Reply) -> Result<Vec<u8, A>, AllocError>
+    ensures { IfOk result (λ text. text.items ≡ out.items ++ text_of reply.now) }
+{
+    let mut out = Writer::new(out);
+    write_reply(&mut out, reply)?;
+    Ok(out.into_inner())
+}
+
+/// The body of a reply: compact JSON (RFC 8259) whose keys stand in byte order.
+pub fn encode<A: Allocator>(alloc: A, reply: &Reply) -> Result<Vec<u8, A>, AllocError>
+    ensures { IfOk result (λ text. text.items ≡ text_of reply.now) }
+{
+    encode_into(Vec::new(alloc), reply)
+}

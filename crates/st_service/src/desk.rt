@@ -1,0 +1,123 @@
+//! A store, and what answers messages over it.
+ghost use Rattle.std.specs.Prelude.{◌≡◌, ◌≢◌, ◌⊎◌};
+ghost use Rattle.st_core.specs.declared.reply.Reply.{Reply as Told};
+ghost use Rattle.st_service.specs.Answers.{Answers, Replied, IsFound, faulty, reply_status, reply_text};
+ghost use Rattle.st_service.specs.Bytes.{bytes_of};
+ghost use Rattle.st_service.specs.Render.{busy_text};
+
+use crate::answer::Answer;
+use crate::asked::asked_of;
+use crate::replies::Replies;
+use http::StatusCode;
+use st_core::{Reply, Store};
+use st_http::routes::Route;
+use st_http::take::Message;
+use st_json::{encode, status};
+use std::alloc::{AllocError, Allocator, Global};
+use std::marker::Model;
+
+// A store, and the allocators for what is asked of it and told.
+#[derive(Drop)]
+pub(crate) struct Desk<A: Allocator = Global> {
+    alloc: A,
+    global: Global,
+    store: Store<A>,
+}
+
+impl<A: Allocator> Model for Desk<A> {
+    ghost use Rattle.st_core.specs.State.{State};
+
+    ghost Value = { State A };
+
+    ghost view = { λ d. d.store };
+}
+
+#[tactic(auto, using(crate::proofs::Told::not_405))]
+// The status code of a reply (RFC 9110, "Status Codes").
+fn status_of(reply: &Reply) -> StatusCode
+    ensures status { result ≡ reply_status reply.now }
+    ensures allows { result ≢ 405 }
+{
+    match reply {
+        Reply::Accepted | Reply::Count(_) => StatusCode::OK,
+        Reply::Refused(refusal) => status(refusal),
+    }
+}
+
+// The answer that tells a reply. That a change was made is told without memory.
+fn tell<A: Allocator + Copy>(alloc: A, reply: &Reply, close: bool, bare: bool) -> Answer<A>
+    ensures { (bytes_of result ≡ reply_text reply.now close bare)
+        ⊎ ((bytes_of result ≡ busy_text close bare) × (reply.now ≢ Told.Accepted)) }
+{
+    if let Reply::Accepted = reply {
+        return Answer::Accepted { close, bare };
+    }
+    match encode(alloc, reply) {
+        Ok(body) => Answer::of(alloc, status_of(reply), None, body.as_slice(), close, bare),
+        Err(AllocError) => Answer::Busy { close, bare },
+    }
+}
+
+impl<A: Allocator + Copy> Desk<A> {
+    pub(crate) fn new(alloc: A, global: Global, store: Store<A>) -> Desk<A>
+        ensures { result ≡ store }
+    {
+        Desk {
+            alloc,
+            global,
+            store,
+        }
+    }
+
+    // Answers a message whose route is a line.
+    fn answer(&mut self, message: &Message<'_>) -> Answer<A>
+        requires { IsFound message.now }
+        ensures { Replied self.old message.now (bytes_of result) self.new }
+    {
+        let close = message.close;
+        let bare = message.bare;
+        let Ok(asked) = asked_of(self.alloc, self.global, message) else {
+            return Answer::Busy { close, bare };
+        };
+        let Ok(reply) = self.store.take(&asked) else {
+            return Answer::Busy { close, bare };
+        };
+        tell(self.alloc, &reply, close, bare)
+    }
+
+    // Answers a message whose route is no line.
+    fn refuse(&self, message: &Message<'_>) -> Answer<A>
+        requires { IsFound message.now → ⊥ }
+        ensures { Replied self.now message.now (bytes_of result) self.now }
+    {
+        let close = message.close;
+        let bare = message.bare;
+        match message.route {
+            Route::Found(..) => unreachable!(),
+            Route::NoRoute => {
+                let body = b"{\"error\":\"route\"}";
+                Answer::of(self.alloc, StatusCode::NOT_FOUND, None, body, close, bare)
+            }
+            Route::BadMethod { allow } => {
+                let body = b"{\"error\":\"method\"}";
+                let status = StatusCode::METHOD_NOT_ALLOWED;
+                Answer::of(self.alloc, status, Some(allow), body, close, bare)
+            }
+        }
+    }
+}
+
+impl<A: Allocator + Copy> Replies for Desk<A> {
+    type Reply = Answer<A>;
+
+    ghost answers = { Answers };
+
+    ghost faults = { λ s reason bare. faulty };
+
+    fn reply(&mut self, message: &Message<'_>) -> Answer<A> {
+        match message.route {
+            Route::Found(..) => self.answer(message),
+            Route::NoRoute | Route::BadMethod { .. } => self.refuse(message),
+        }
+    }
+}
