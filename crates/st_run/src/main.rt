@@ -7,7 +7,7 @@ mod tests;
 mod words;
 
 use fault::Fault;
-use st_service::streams::{FromRead, FromWrite};
+use st_service::{FromRead, FromWrite};
 use std::process::ExitCode;
 use std::{env, io};
 use words::{give_up, run_words};

@@ -1,5 +1,5 @@
 use crate::words::run_words;
-use st_service::streams::{FromRead, FromWrite};
+use st_service::{FromRead, FromWrite};
 use std::alloc::{AllocError, Global};
 use std::test::Fail;
 

@@ -5,9 +5,7 @@ use crate::fault::Fault;
 use clap::{Arg, ArgAction, Command};
 use st_auth::AuthsFault;
 use st_core::Store;
-use st_service::Service;
-use st_service::connection::{Ended, IoFault};
-use st_service::streams::{Sink, Source};
+use st_service::{Ended, IoFault, Service, Sink, Source};
 use std::alloc::Global;
 use std::io::Write;
 
