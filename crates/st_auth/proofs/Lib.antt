@@ -1,3 +1,4 @@
 pub mod Places
 pub mod Search
 pub mod Sized
+pub mod Recall

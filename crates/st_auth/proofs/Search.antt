@@ -1,5 +1,5 @@
 -- A search in a set's order finds just its names.
-use Rattle.std.proofs.Common.{◌≡◌, ◌≢◌, ◌+◌, ◌<◌, ℕ, zero, suc, List, [], ◌∷◌, ◌++◌, Bool, true, false, Result, Ok, Err, length, map, get_or, refl, sym, ap, ◌∙◌, arith, add-one, is_ok}
+use Rattle.std.proofs.Common.{◌≡◌, ◌≢◌, ◌+◌, ◌<◌, ℕ, zero, suc, List, [], ◌∷◌, ◌++◌, Bool, true, false, not, Result, Ok, Err, length, map, get_or, refl, sym, ap, ap₂, take, ◌∙◌, arith, add-one, is_ok}
 use lib.Dec.{ltb}
 use Rattle.std.proofs.lemmas.Bool.{ltb-true, ltb-false}
 use Rattle.std.specs.Cmp.{Equal-is}
@@ -9,7 +9,7 @@ use Rattle.std.specs.List.Sorted.{IsBinarySearchResult, IsSearchInRange, IsParti
 use Rattle.std.specs.Ordering.{nat_cmp, is_eq}
 use Rattle.std.specs.declared.cmp.Ordering.TheVariants.{Less, Equal, Greater}
 use Rattle.std.proofs.lemmas.Cmp.{nat_list_cmp_total}
-use Rattle.std.proofs.lemmas.List.{get_or-map, length-map}
+use Rattle.std.proofs.lemmas.List.{get_or-map, length-map, take_more}
 use Rattle.std.proofs.lemmas.List.Folds.{list_any_at}
 use Rattle.std.proofs.lemmas.List.FromFn.{fill_by_all}
 use Rattle.std.proofs.lemmas.List.Sorted.{IsPermutation-map, list_any-IsPermutation, searchable_from_sorted}
@@ -83,3 +83,15 @@ range_more_from (suc n) a =
 
 pub range_more : (n : ℕ) → range_with_len 0 (n + 1) ≡ range_with_len 0 n ++ n ∷ []
 range_more n = rw add-one (range_more_from n 0 ∙ ap (λ (k : ℕ). range_with_len 0 n ++ k ∷ []) (omega arith))
+
+-- ---- lists that are the same up to a place
+
+pub one_more_same : (xs ys : List Text) (i : ℕ) (a b : Text) → i < length xs → i < length ys → a ≡ get_or xs i a → b ≡ get_or ys i b → a ≡ b → take i xs ≡ take i ys → take (i + 1) xs ≡ take (i + 1) ys
+one_more_same xs ys i a b h k at other is before =
+    take_more xs i a h
+    ∙ ap₂ (λ (l : List Text) (t : Text). l ++ t ∷ []) before (sym at ∙ is ∙ other)
+    ∙ sym (take_more ys i b k)
+
+pub not_false : (b : Bool) → not b ≡ false → b ≡ true
+not_false true e = refl
+not_false false e = cc

@@ -1,7 +1,7 @@
 -- In a list of names each name has its length.
-use Rattle.std.proofs.Common.{◌≡◌, ◌≤◌, ◌<◌, ◌+◌, ℕ, List, [], ◌∷◌, Bool, true, false, not, refl, cond, Option, Some, None, length, arith, nat_lt, suc, ap, sym, ◌∙◌}
+use Rattle.std.proofs.Common.{◌≡◌, ◌≤◌, ◌+◌, List, [], ◌∷◌, Bool, true, false, not, refl, cond, Some, None, length, arith, nat_lt, suc, sym}
 use Rattle.std.proofs.lemmas.Bool.Decides.{nat_tests}
-use Rattle.std.specs.List.{position, prefix_len, find}
+use Rattle.std.specs.List.{prefix_len, find}
 use Rattle.st_text.specs.Texts.{Text}
 use Rattle.st_auth.specs.Names.{is_name, first_bad}
 

@@ -1,5 +1,5 @@
 //! Sets of authorizations.
-ghost use Rattle.std.specs.Prelude.{◌≡◌, ◌<◌, ◌≤◌, [], None, option_map, find, IfSome, IfOk, IfErr, length, map, not, slice_index_or};
+ghost use Rattle.std.specs.Prelude.{◌≡◌, ◌↔◌, ◌<◌, ◌≤◌, [], None, option_map, find, IsTrue, IfSome, IfOk, IfErr, length, map, not, slice_index_or};
 ghost use Rattle.std.specs.List.{position, range_with_len};
 ghost use Rattle.st_text.specs.Texts.{is_among};
 ghost use Rattle.st_auth.specs.Names.{is_name, first_bad, first_missing, Refuses};
@@ -85,15 +85,18 @@ impl<A: Allocator + Copy> Auths<A> {
     pub fn copy(&self) -> Result<Auths<A>, AllocError>
         ensures { IfOk result (λ other. other ≡ self.now) }
     {
-        let mut names = Vec::new(self.alloc);
-        for name in &self.names {
-            names.push(Words::new(self.alloc, name.as_str())?)?;
+        self.copy_in(self.alloc)
+    }
+
+    /// The set of no names, which takes no memory.
+    pub fn none(alloc: A) -> Auths<A>
+        ensures { result ≡ [] }
+    {
+        Auths {
+            alloc,
+            names: Vec::new(alloc),
+            order: Vec::new(alloc),
         }
-        Ok(Auths {
-            alloc: self.alloc,
-            names,
-            order: Vec::from_slice(self.alloc, &self.order)?,
-        })
     }
 }
 
@@ -114,6 +117,47 @@ impl<A: Allocator> Auths<A> {
         names.names.iter().position(|name| !self.has(name.as_str()))
     }
 
+    /// The first of the other's names, in the order given, that this set lacks.
+    pub fn missing_from<'b, B: Allocator>(&self, names: &'b Auths<B>) -> Option<&'b str>
+        ensures name { option_map (λ name. name.now) result ≡ find (λ name. not (is_among self.now name)) names.now }
+        ensures sized { IfSome result (λ name. length name.now ≤ MAX_NAME) }
+    {
+        match first_outside(self, names.names.as_slice()) {
+            Some(name) => Some(name.as_str()),
+            None => None,
+        }
+    }
+
+    /// An equal set in memory of another allocator.
+    pub fn copy_in<B: Allocator + Copy>(&self, alloc: B) -> Result<Auths<B>, AllocError>
+        ensures { IfOk result (λ other. other ≡ self.now) }
+    {
+        let mut names = Vec::new(alloc);
+        for name in &self.names {
+            names.push(Words::new(alloc, name.as_str())?)?;
+        }
+        Ok(Auths {
+            alloc,
+            names,
+            order: Vec::from_slice(alloc, &self.order)?,
+        })
+    }
+
+    /// Whether the same names were given in the same order.
+    pub fn is_same<B: Allocator>(&self, other: &Auths<B>) -> bool
+        ensures { IsTrue result ↔ (self.now ≡ other.now) }
+    {
+        if self.names.len() != other.names.len() {
+            return false;
+        }
+        for place in 0..self.names.len() {
+            if self.names[place].as_str() != other.names[place].as_str() {
+                return false;
+            }
+        }
+        true
+    }
+
     /// How many names were given, repeats counted.
     pub fn len(&self) -> usize
         ensures { result ≡ length self.now }
@@ -127,32 +171,6 @@ impl<A: Allocator> Auths<A> {
         ensures { result.now ≡ slice_index_or self.now index result.now }
     {
         self.names[index].as_str()
-    }
-}
-
-impl<A: Allocator + Copy> Auths<A> {
-    /// The set of no names, which takes no memory.
-    pub fn none(alloc: A) -> Auths<A>
-        ensures { result ≡ [] }
-    {
-        Auths {
-            alloc,
-            names: Vec::new(alloc),
-            order: Vec::new(alloc),
-        }
-    }
-}
-
-impl<A: Allocator> Auths<A> {
-    /// The first of the other's names, in the order given, that this set lacks.
-    pub fn missing_from<'b, B: Allocator>(&self, names: &'b Auths<B>) -> Option<&'b str>
-        ensures name { option_map (λ name. name.now) result ≡ find (λ name. not (is_among self.now name)) names.now }
-        ensures sized { IfSome result (λ name. length name.now ≤ MAX_NAME) }
-    {
-        match first_outside(self, names.names.as_slice()) {
-            Some(name) => Some(name.as_str()),
-            None => None,
-        }
     }
 }
 

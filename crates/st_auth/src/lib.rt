@@ -5,6 +5,8 @@ mod auths;
 #[cfg(test)]
 mod tests;
 mod truth;
+mod verdicts;
 
 pub use auths::{Auths, AuthsFault, MAX_NAME};
 pub use truth::satisfies;
+pub use verdicts::Verdicts;

@@ -1,5 +1,6 @@
-use crate::{Auths, AuthsFault, satisfies};
+use crate::{Auths, AuthsFault, Verdicts, satisfies};
 use st_label::Label;
+use std::num::NonZeroUsize;
 use std::test::Fail;
 
 #[test]
@@ -29,5 +30,22 @@ fn truth(rt: HostRuntime) -> Result<(), Fail> {
         let auths = Auths::from_list(rt.alloc(), names)?;
         assert_eq!(rt; satisfies(&label, &auths), seen);
     }
+    Ok(())
+}
+
+#[test]
+fn verdicts(rt: HostRuntime) -> Result<(), Fail> {
+    let mut verdicts = Verdicts::new(rt.alloc(), NonZeroUsize::MIN)?;
+    let label = Label::parse(rt.alloc(), "A")?;
+    let other = Label::parse(rt.alloc(), "B")?;
+    let set = Auths::from_list(rt.alloc(), &["A"])?;
+    let empty = Auths::none(rt.alloc());
+    let others = Auths::from_list(rt.alloc(), &["B"])?;
+    assert!(rt; verdicts.ask(&label, &set));
+    assert!(rt; !verdicts.ask(&label, &empty));
+    assert!(rt; verdicts.ask(&other, &others));
+    assert!(rt; verdicts.ask(&label, &set));
+    assert!(rt; verdicts.ask(&label, &set));
+    assert!(rt; !verdicts.ask(&other, &set));
     Ok(())
 }

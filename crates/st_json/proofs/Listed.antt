@@ -1,7 +1,6 @@
 -- Lists of numbers and of texts in a body.
-use Rattle.std.proofs.Common.{◌≡◌, ℕ, zero, suc, ◌+◌, ◌<◌, List, [], ◌∷◌, ◌++◌, length, map, drop, get_or, Option, Some, None, option_map, option_and_then, refl, sym, ap, ◌∙◌, subst, arith}
-use Rattle.serde_json.specs.Data.{Data, Items, no_items, item}
-use Rattle.serde_json.specs.Find.{as_str}
+use Rattle.std.proofs.Common.{◌≡◌, ℕ, suc, ◌<◌, List, [], ◌∷◌, length, drop, get_or, Option, Some, None, option_map, option_and_then, refl, sym, ap, ◌∙◌, arith}
+use Rattle.serde_json.specs.Data.{Data}
 use Rattle.std.proofs.Math.Seq.{drop-cons}
 use Rattle.std.proofs.lemmas.List.{drop_all}
 use Rattle.serde_json.specs.declared.value.Value.{Value}
@@ -9,7 +8,7 @@ use Rattle.serde_json.specs.View.{items_of, items_view, view}
 use Rattle.std.specs.Prelude.{IfNone}
 use Rattle.st_json.specs.Needs.{Picks}
 use Rattle.st_key.specs.declared.point.Point.{Point}
-use Rattle.st_json.specs.Fields.{number_of, numbers_of, texts_of}
+use Rattle.st_json.specs.Fields.{number_of, numbers_of}
 
 -- both a first and the rest were there
 pub record Both (A : Type 0) (o : Option A) (p : Option (List A)) (xs : List A) : Type 0 where

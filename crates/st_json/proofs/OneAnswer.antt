@@ -1,7 +1,6 @@
 -- A body has one answer.
-use Rattle.std.proofs.Common.{◌≡◌, ◌≢◌, ◌⊎◌, inl, inr, ℕ, List, [], ◌∷◌, Option, Some, None, Result, Ok, Err, refl, sym, ap, ◌∙◌, subst}
+use Rattle.std.proofs.Common.{◌≡◌, ◌≢◌, inl, inr, ℕ, List, [], ◌∷◌, Option, Some, Result, Err, refl, sym, ap, ◌∙◌, subst}
 use Rattle.serde_json.specs.Data.{Data}
-use Rattle.st_key.specs.declared.point.Point.{Point}
 use Rattle.st_label.specs.Reading.{IsLabel}
 use Rattle.st_label.specs.Refusals.{max_len}
 use Rattle.st_label.specs.Faults.{Refuses}

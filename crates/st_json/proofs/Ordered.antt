@@ -2,7 +2,7 @@
 use Rattle.std.proofs.Common.{◌≡◌, Some, None, true, refl}
 use Rattle.st_policy.specs.declared.denial.Denial.{Denial}
 use Rattle.st_policy.specs.declared.refusal.Refusal.{Refusal}
-use Rattle.st_json.specs.declared.told.Reply.{Reply}
+use Rattle.st_core.specs.declared.reply.Reply.{Reply}
 use Rattle.st_json.specs.Order.{in_order}
 use Rattle.st_json.specs.Refusals.{denial_data, refusal_data}
 use Rattle.st_json.specs.Replies.{reply_data}

@@ -1,5 +1,5 @@
 -- What a request needs, in order.
-use Rattle.std.specs.Prelude.{List, Option, Some, None, Result, Ok, Err, ⊤}
+use Rattle.std.specs.Prelude.{Option, Some, None, Result, Ok, Err, ⊤}
 use Rattle.st_policy.specs.declared.refusal.Refusal.{Refusal}
 use Rattle.st_json.specs.declared.fault.DecodeFault.{DecodeFault}
 use Rattle.st_json.specs.declared.fault.DecodeFault.TheVariants.{Refused, NoMemory}

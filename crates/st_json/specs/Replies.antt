@@ -2,8 +2,8 @@
 use Rattle.std.specs.Prelude.{ℕ, List, [], ◌∷◌, codes, true}
 use Rattle.serde_json.specs.Data.{Data, boolean}
 use Rattle.serde_json.specs.Written.{compact_text}
-use Rattle.st_json.specs.declared.told.Reply.{Reply}
-use Rattle.st_json.specs.declared.told.Reply.TheVariants.{Accepted, Count, Refused}
+use Rattle.st_core.specs.declared.reply.Reply.{Reply}
+use Rattle.st_core.specs.declared.reply.Reply.TheVariants.{Accepted, Count, Refused}
 use Rattle.st_json.specs.Refusals.{of, nat, refusal_data}
 
 abbrev pub reply_data : Reply → Data

@@ -3,7 +3,7 @@ ghost use Rattle.std.specs.Prelude.{◌≡◌, ℕ, List, Result, true};
 ghost use Rattle.st_http.specs.declared.routes.Line.{Line};
 ghost use Rattle.st_policy.specs.declared.request.Request.{Request};
 ghost use Rattle.st_policy.specs.declared.refusal.Refusal.{Refusal};
-ghost use Rattle.st_json.specs.declared.told.Reply.{Reply};
+ghost use Rattle.st_core.specs.declared.reply.Reply.{Reply};
 ghost use Rattle.st_json.specs.Bodies.{Decoded};
 ghost use Rattle.st_json.specs.Order.{in_order};
 ghost use Rattle.st_json.specs.Replies.{reply_data};

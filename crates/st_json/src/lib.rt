@@ -9,7 +9,6 @@ mod refusal;
 mod reply;
 #[cfg(test)]
 mod tests;
-mod told;
 
 pub use body::decode;
 pub use fault::DecodeFault;

@@ -6,8 +6,8 @@ ghost use Rattle.st_json.specs.Refusals.{of, nat};
 ghost use Rattle.st_json.specs.Replies.{reply_data, text_of};
 
 use crate::refusal::{write_number, write_refusal};
-use crate::told::Reply;
 use json::Writer;
+use st_core::Reply;
 use std::alloc::{AllocError, Allocator};
 
 fn write_accepted<A: Allocator>(out: &mut Writer<A>) -> Result<(), AllocError>

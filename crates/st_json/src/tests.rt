@@ -1,6 +1,6 @@
-use crate::told::Reply;
 use crate::{DecodeFault, decode, encode, encode_into, status};
 use http::StatusCode;
+use st_core::Reply;
 use st_dir::{Name, Permission, TableName};
 use st_http::routes::Line;
 use st_policy::{Denial, Refusal, Request};

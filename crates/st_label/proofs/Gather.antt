@@ -1,6 +1,6 @@
 -- Operands at their places, by their printed forms.
 use lib.Dec.{ltb}
-use Rattle.std.proofs.Common.{◌≡◌, ◌≢◌, ◌+◌, ◌<◌, ◌≤◌, ℕ, zero, suc, List, [], ◌∷◌, ◌++◌, Bool, true, false, not, cond, Option, Some, None, length, map, take, drop, get_or, refl, sym, ap, ap₂, ◌∙◌, arith, string_bytes, bytes_eq}
+use Rattle.std.proofs.Common.{◌≡◌, ◌≢◌, ◌+◌, ◌<◌, ◌≤◌, ℕ, zero, suc, List, [], ◌∷◌, ◌++◌, Bool, true, false, not, cond, Option, Some, None, length, map, take, get_or, refl, sym, ap, ap₂, ◌∙◌, arith, string_bytes}
 use Rattle.std.specs.Prelude.{String, Vec}
 use Rattle.std.specs.Cmp.{Equal-is}
 use Rattle.std.specs.Cmp.Lexicographic.{slice_cmp}

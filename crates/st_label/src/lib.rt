@@ -1,4 +1,4 @@
-// Visibility labels: the language, its trees and their truth.
+//! Visibility labels: the language, its trees and their normal form.
 #![tactic(auto)]
 
 mod class;

@@ -1,9 +1,7 @@
-use Rattle.std.proofs.Common.{◌≡◌, Some, refl, sym, ◌∙◌, ap, map}
-use Rattle.std.proofs.lemmas.Result.{err_from_is_err_and}
+use Rattle.std.proofs.Common.{refl, ap, map}
 use Rattle.st_json.specs.Needs.{found, missing}
-use Rattle.st_json.specs.Bodies.{labelled, refused, PutBody, AreAuths}
-use Rattle.serde_json.specs.View.{view}
-use Rattle.st_json.proofs.Chosen.{some_of, none_of, none_was, picked_for, unpicked_for}
+use Rattle.st_json.specs.Bodies.{AreAuths}
+use Rattle.st_json.proofs.Chosen.{some_of, none_of, picked_for, unpicked_for}
 use Rattle.st_json.proofs.body.count.Goals as goal
 
 pub returns-in_default : goal.returns-in_default

@@ -1,9 +1,9 @@
-use Rattle.std.proofs.Common.{◌≡◌, Some, refl, sym, ◌∙◌, ap, map, rules}
+use Rattle.std.proofs.Common.{Some, refl, sym, ◌∙◌, ap}
 use Rattle.std.proofs.lemmas.Result.{err_from_is_err_and}
 use Rattle.st_json.specs.Needs.{found, missing}
-use Rattle.st_json.specs.Bodies.{labelled, refused, PutBody, AreAuths}
+use Rattle.st_json.specs.Bodies.{labelled, refused, PutBody}
 use Rattle.serde_json.specs.View.{view}
-use Rattle.st_json.proofs.Chosen.{some_of, none_of, none_was, picked, unpicked, label_fault}
+use Rattle.st_json.proofs.Chosen.{none_was, label_fault}
 use Rattle.st_json.proofs.body.put.Goals as goal
 
 pub returns-in_default : goal.returns-in_default

@@ -1,4 +1,4 @@
-use Rattle.std.proofs.Common.{◌≡◌, sym}
+use Rattle.std.proofs.Common.{sym}
 use Rattle.st_json.proofs.refusal.write_refusal.Goals as goal
 
 pub returns-in-TableExists : goal.returns-in-TableExists

@@ -1,6 +1,5 @@
-use Rattle.std.proofs.Common.{◌≡◌, ap, ◌∙◌, sym, refl, subst, string_bytes}
+use Rattle.std.proofs.Common.{◌≡◌, ap, ◌∙◌, refl, string_bytes}
 use Rattle.st_label.specs.Normal.{normal, text_of}
-use Rattle.st_label.specs.Reading.{reading, IsLabel}
 use Rattle.st_label.specs.Views.{tree_view}
 use Rattle.st_label.proofs.NormalLabels.{label_normal}
 use Rattle.st_label.proofs.label.Label.normal.Goals as goal

@@ -1,5 +1,5 @@
 use Rattle.std.proofs.Common.{◌≡◌, take}
-use Rattle.st_auth.proofs.auths.Auths.copy.Given as goal
+use Rattle.st_auth.proofs.auths.Auths.copy_in.Given as goal
 
 -- the names so far
 abbrev pub invariant-loop-name : goal.invariant-loop-name
