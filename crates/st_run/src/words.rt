@@ -1,0 +1,116 @@
+//! One connection from a reader to a writer, by the words of a command line.
+ghost use Rattle.std.specs.Prelude.{◌≡◌, false};
+
+use crate::fault::Fault;
+use clap::{Arg, ArgAction, Command};
+use st_auth::AuthsFault;
+use st_core::Store;
+use st_service::{Ended, IoFault, Service, Sink, Source};
+use std::alloc::Global;
+use std::io::Write;
+
+// What the command line says.
+#[derive(Drop)]
+struct Words<'a> {
+    digest: &'a str,
+    names: Vec<&'a str>,
+}
+
+// Reads a command line.
+fn read<'a>(alloc: Global, words: &'a [String]) -> Result<Words<'a>, clap::Error> {
+    let root = Arg::new(alloc, "root")
+        .long("root")
+        .value_name("DIGEST")
+        .required(true)
+        .action(ArgAction::Set);
+    let names = Arg::new(alloc, "NAME").action(ArgAction::Append);
+    let command = Command::new(alloc, "st_run").arg(root)?.arg(names)?;
+    let matches = command.try_get_matches_from(words)?;
+    Ok(Words {
+        digest: matches.get_str("root").unwrap_or(""),
+        names: Vec::from_slice(alloc, matches.get_strs("NAME").unwrap_or(&[]))?,
+    })
+}
+
+// The bytes that 64 hexadecimal digits write.
+fn digest_of(text: &str) -> Result<[u8; 32], Fault> {
+    let mut digest = [0; 32];
+    match hex::decode_to_slice(text, &mut digest) {
+        Ok(()) => Ok(digest),
+        Err(_) => Err(Fault::BadDigest),
+    }
+}
+
+// The service over the store that the words open. The digest is judged first.
+fn service_for(alloc: Global, words: &Words<'_>) -> Result<Service, Fault> {
+    let digest = digest_of(words.digest)?;
+    match Store::open(alloc, digest, &words.names) {
+        Ok(store) => Ok(Service::new(alloc, alloc, store)?),
+        Err(AuthsFault::BadName { .. }) => Err(Fault::BadName),
+        Err(AuthsFault::NoMemory) => Err(Fault::NoMemory),
+    }
+}
+
+// Serves the connection.
+fn converse<R: Source, W: Sink>(
+    service: &mut Service,
+    reader: &mut R,
+    writer: &mut W,
+) -> Result<(), Fault>
+    requires reader_sound { R.has_failed reader.old ≡ false }
+    requires writer_sound { W.has_failed writer.old ≡ false }
+{
+    match service.serve(reader, writer) {
+        Ok(Ended::Clean | Ended::Closed) => Ok(()),
+        Ok(Ended::Cut) => Err(Fault::Cut),
+        Ok(Ended::TurnsSpent) => Err(Fault::TurnsSpent),
+        Err(IoFault { .. }) => Err(Fault::Io),
+    }
+}
+
+// Serves the connection by the words.
+fn run<R: Source, W: Sink>(
+    alloc: Global,
+    words: &[String],
+    reader: &mut R,
+    writer: &mut W,
+) -> Result<(), Fault>
+    requires reader_sound { R.has_failed reader.old ≡ false }
+    requires writer_sound { W.has_failed writer.old ≡ false }
+{
+    let words = match read(alloc, words) {
+        Ok(words) => words,
+        Err(error) => return Err(Fault::Usage(error)),
+    };
+    let mut service = service_for(alloc, &words)?;
+    converse(&mut service, reader, writer)
+}
+
+/// Tells of a fault, and gives the status that the program ends with. A text that is not taken is
+/// dropped.
+pub fn give_up<F: Write>(fault: Fault, faults: &mut F) -> u8 {
+    let _ = writeln!(faults, "{fault}");
+    fault.status()
+}
+
+/// Opens a store by the words, the program's own name first among them, serves the reader to the
+/// writer as one connection, and gives the status: 0 where the input ended between messages or a
+/// reply closed the connection; 2 where the words are no command line, the digest is not 64
+/// hexadecimal digits, or a name is no authorization; 3 where the input ended inside a message; 4
+/// after a million reads; 5 where a read or a write failed; 6 where there was no memory. Each but 0
+/// has its text in `faults`.
+pub fn run_words<R: Source, W: Sink, F: Write>(
+    alloc: Global,
+    words: &[String],
+    reader: &mut R,
+    writer: &mut W,
+    faults: &mut F,
+) -> u8
+    requires reader_sound { R.has_failed reader.old ≡ false }
+    requires writer_sound { W.has_failed writer.old ≡ false }
+{
+    match run(alloc, words, reader, writer) {
+        Ok(()) => 0,
+        Err(fault) => give_up(fault, faults),
+    }
+}
