@@ -30,29 +30,44 @@ fn put<A: Allocator + Copy>(alloc: A, table: &str, label: &str) -> Result<Reques
 }
 
 // The number of the refusal, or 0.
-fn number<A: Allocator>(directory: &Directory<A>, asker: &Name, request: &Request<A>) -> u8 {
-    match decide(directory, asker, request) {
-        Ok(()) => 0,
-        Err(refusal) => refusal.copy().number(),
+fn number<A: Allocator>(
+    directory: &Directory<A>,
+    asker: &str,
+    request: Request<A>,
+) -> Result<u8, Fail> {
+    match decide(directory, &Name::new(asker)?, &request) {
+        Ok(()) => Ok(0),
+        Err(refusal) => Ok(refusal.copy().number()),
     }
 }
 
 #[test]
-fn decisions(rt: HostRuntime) -> Result<(), Fail> {
+fn decisions_on_counts(rt: HostRuntime) -> Result<(), Fail> {
     let auths = Auths::from_list(rt.alloc(), &["A"])?;
     let directory = Directory::new(rt.alloc(), [0; 32], auths)?;
-    let rows = [
-        ("root", count(rt.alloc(), "points", &["A"])?, 0),
-        ("root", put(rt.alloc(), "points", "S")?, 0),
-        ("root", count(rt.alloc(), "t", &["A", "X"])?, 14),
-        ("zoe", put(rt.alloc(), "t", "S")?, 14),
-        ("zoe", count(rt.alloc(), "points", &["X"])?, 9),
-        ("zoe", put(rt.alloc(), "points", "S")?, 9),
-        ("root", count(rt.alloc(), "points", &["A", "X", "Y"])?, 10),
-    ];
-    for (asker, request, wanted) in &rows {
-        let asker = Name::new(asker)?;
-        assert_eq!(rt; number(&directory, &asker, request), *wanted);
+    for (asker, table, names, wanted) in [
+        ("root", "points", &["A"][..], 0),
+        ("root", "t", &["A", "X"][..], 14),
+        ("zoe", "points", &["X"][..], 9),
+        ("root", "points", &["A", "X", "Y"][..], 10),
+    ] {
+        let request = count(rt.alloc(), table, names)?;
+        assert_eq!(rt; number(&directory, asker, request)?, wanted);
+    }
+    Ok(())
+}
+
+#[test]
+fn decisions_on_puts(rt: HostRuntime) -> Result<(), Fail> {
+    let auths = Auths::from_list(rt.alloc(), &["A"])?;
+    let directory = Directory::new(rt.alloc(), [0; 32], auths)?;
+    for (asker, table, wanted) in [
+        ("root", "points", 0),
+        ("zoe", "t", 14),
+        ("zoe", "points", 9),
+    ] {
+        let request = put(rt.alloc(), table, "S")?;
+        assert_eq!(rt; number(&directory, asker, request)?, wanted);
     }
     Ok(())
 }
