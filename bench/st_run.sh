@@ -10,7 +10,7 @@ trap 'rm -f "$input"' EXIT
 for count in 100000 200000 400000; do
     python3 bench/requests.py "$count" > "$input"
     start=$(date +%s.%N)
-    replies=$(cat "$input" | "$program" --root "$digest" A B C | grep -c '^HTTP/1.1 200 OK')
+    replies=$("$program" --root "$digest" A B C < "$input" | grep -o 'HTTP/1.1 200 OK' | wc -l)
     end=$(date +%s.%N)
     python3 -c "
 seconds = $end - $start
