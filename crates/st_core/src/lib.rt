@@ -8,8 +8,6 @@ pub mod law;
 mod reply;
 mod runs;
 mod store;
-#[cfg(test)]
-mod tests;
 
 pub use asked::{Asked, Call, Token};
 pub use audit::Entry;
