@@ -8,6 +8,8 @@ pub mod law;
 mod reply;
 mod runs;
 mod store;
+#[cfg(test)]
+mod tests;
 
 pub use asked::{Asked, Call, Token};
 pub use audit::Entry;

@@ -1,5 +1,10 @@
 //! One connection from a reader to a writer, by the words of a command line.
-ghost use Rattle.std.specs.Prelude.{◌≡◌, false};
+ghost use Rattle.std.specs.Prelude.{◌≡◌, ◌⊎◌, Ok, IfOk, IfErr, false, map};
+ghost use Rattle.hex.specs.Hex.{decode_sized};
+ghost use Rattle.st_service.specs.Answers.{Answers};
+ghost use Rattle.st_service.specs.Connection.{Served};
+ghost use Rattle.st_run.specs.Serving.{Serves, Opens, Ran, status_given};
+ghost use Rattle.st_run.specs.Status.{status_of};
 
 use crate::fault::Fault;
 use clap::{Arg, ArgAction, Command};
@@ -33,7 +38,10 @@ fn read<'a>(alloc: Global, words: &'a [String]) -> Result<Words<'a>, clap::Error
 }
 
 // The bytes that 64 hexadecimal digits write.
-fn digest_of(text: &str) -> Result<[u8; 32], Fault> {
+fn digest_of(text: &str) -> Result<[u8; 32], Fault>
+    ensures ok { IfOk result (λ digest. decode_sized text.now 32 ≡ Ok digest) }
+    ensures err { IfErr result (λ fault. status_of fault ≡ 2) }
+{
     let mut digest = [0; 32];
     match hex::decode_to_slice(text, &mut digest) {
         Ok(()) => Ok(digest),
@@ -42,7 +50,10 @@ fn digest_of(text: &str) -> Result<[u8; 32], Fault> {
 }
 
 // The service over the store that the words open. The digest is judged first.
-fn service_for(alloc: Global, words: &Words<'_>) -> Result<Service, Fault> {
+fn service_for(alloc: Global, words: &Words<'_>) -> Result<Service, Fault>
+    ensures ok { IfOk result (λ service. Opens words.now.digest.now (map (λ name. name.now) words.now.names.items) service) }
+    ensures err { IfErr result (λ fault. (status_of fault ≡ 2) ⊎ (status_of fault ≡ 6)) }
+{
     let digest = digest_of(words.digest)?;
     match Store::open(alloc, digest, &words.names) {
         Ok(store) => Ok(Service::new(alloc, alloc, store)?),
@@ -59,6 +70,7 @@ fn converse<R: Source, W: Sink>(
 ) -> Result<(), Fault>
     requires reader_sound { R.has_failed reader.old ≡ false }
     requires writer_sound { W.has_failed writer.old ≡ false }
+    ensures { Serves service.old service.new (R.left reader.old) (R.left reader.new) (W.held writer.old) (W.held writer.new) (R.has_failed reader.new) (status_given result) }
 {
     match service.serve(reader, writer) {
         Ok(Ended::Clean | Ended::Closed) => Ok(()),
@@ -77,6 +89,7 @@ fn run<R: Source, W: Sink>(
 ) -> Result<(), Fault>
     requires reader_sound { R.has_failed reader.old ≡ false }
     requires writer_sound { W.has_failed writer.old ≡ false }
+    ensures { Ran (R.left reader.old) (R.left reader.new) (W.held writer.old) (W.held writer.new) (R.has_failed reader.new) (status_given result) }
 {
     let words = match read(alloc, words) {
         Ok(words) => words,
@@ -88,7 +101,9 @@ fn run<R: Source, W: Sink>(
 
 /// Tells of a fault, and gives the status that the program ends with. A text that is not taken is
 /// dropped.
-pub fn give_up<F: Write>(fault: Fault, faults: &mut F) -> u8 {
+pub fn give_up<F: Write>(fault: Fault, faults: &mut F) -> u8
+    ensures { result ≡ status_of fault }
+{
     let _ = writeln!(faults, "{fault}");
     fault.status()
 }
@@ -108,6 +123,7 @@ pub fn run_words<R: Source, W: Sink, F: Write>(
 ) -> u8
     requires reader_sound { R.has_failed reader.old ≡ false }
     requires writer_sound { W.has_failed writer.old ≡ false }
+    ensures { Ran (R.left reader.old) (R.left reader.new) (W.held writer.old) (W.held writer.new) (R.has_failed reader.new) result }
 {
     match run(alloc, words, reader, writer) {
         Ok(()) => 0,

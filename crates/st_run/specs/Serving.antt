@@ -1,0 +1,57 @@
+-- What a run does, by the status that it gives.
+use Rattle.std.specs.Prelude.{◌≡◌, ◌⊎◌, ℕ, Bool, Option, Result, Ok, Err, List, map}
+use Rattle.std.specs.declared.alloc.Global.{Global}
+use Rattle.hex.specs.Hex.{decode_sized}
+use Rattle.st_text.specs.Texts.{Text}
+use Rattle.st_core.specs.State.{State, first_state}
+use Rattle.st_service.specs.Answers.{Answers}
+use Rattle.st_service.specs.Connection.{Served}
+use Rattle.st_service.specs.declared.connection.Ended.{Ended}
+use Rattle.st_service.specs.declared.connection.Ended.TheVariants.{Clean, Closed, Cut, TurnsSpent}
+use Rattle.st_service.specs.declared.connection.IoFault.{IoFault}
+use Rattle.st_run.specs.declared.fault.Fault.{Fault}
+use Rattle.st_run.specs.Status.{status_of}
+
+-- the status after a connection ended so
+abbrev pub status_after : Result Ended IoFault → ℕ
+status_after (Ok Clean) = 0
+status_after (Ok Closed) = 0
+status_after (Ok Cut) = 3
+status_after (Ok TurnsSpent) = 4
+status_after (Err broken) = 5
+
+-- the status after a run
+abbrev pub status_given : Result Unit Fault → ℕ
+status_given (Ok done) = 0
+status_given (Err fault) = status_of fault
+
+-- the state that a server begins with, whose root has these authorizations and the digest that 64 hexadecimal digits write
+pub record Opens (digits : Text) (names : List Text) (state : State Global) : Type 0 where
+  pub digest : List ℕ
+  pub written : decode_sized digits 32 ≡ Ok digest
+  pub is : state ≡ first_state digest names
+
+-- the connection was served, and ended by the status
+pub record Serves (before after : State Global) (left_old left_new held_old held_new : Option (List ℕ)) (read_failed : Bool) (status : ℕ) : Type 0 where
+  pub ended : Result Ended IoFault
+  pub served : Served Answers before after left_old left_new held_old held_new read_failed ended
+  pub status_is : status ≡ status_after ended
+
+-- the connection was served from such a state on
+pub record IsServed (left_old left_new held_old held_new : Option (List ℕ)) (read_failed : Bool) (status : ℕ) : Type 0 where
+  pub digits : Text
+  pub names : List Text
+  pub before : State Global
+  pub opens : Opens digits names before
+  pub after : State Global
+  pub serves : Serves before after left_old left_new held_old held_new read_failed status
+
+-- nothing was read or written
+pub record IsRefused (left_old left_new held_old held_new : Option (List ℕ)) (status : ℕ) : Type 0 where
+  pub status_is : (status ≡ 2) ⊎ (status ≡ 6)
+  pub unread : left_new ≡ left_old
+  pub unwritten : held_new ≡ held_old
+
+abbrev pub Ran : Option (List ℕ) → Option (List ℕ) → Option (List ℕ) → Option (List ℕ) → Bool → ℕ → Type 0
+Ran left_old left_new held_old held_new read_failed status =
+    IsServed left_old left_new held_old held_new read_failed status ⊎ IsRefused left_old left_new held_old held_new status
