@@ -85,62 +85,39 @@ impl<A: Allocator + Copy> Reader<A> {
             unit,
         } = self;
         let class = class_of(c);
-        match unit {
-            Unit::Start => start(alloc, outer, level, c, class),
+        let unit = match unit {
+            Unit::Start => return start(alloc, outer, level, c, class),
             Unit::Word(mut name) => match class {
                 Class::Plain => {
                     name.push(c)?;
-                    Ok(Reader {
-                        alloc,
-                        outer,
-                        level,
-                        unit: Unit::Word(name),
-                    })
+                    Unit::Word(name)
                 }
-                _ => behind(alloc, outer, level, Tree::Term(name), class),
+                _ => return behind(alloc, outer, level, Tree::Term(name), class),
             },
             Unit::Quoted(mut name) => match class {
-                Class::Quote => {
-                    if name.is_empty() {
-                        return Err(ReadFault::NotViable);
-                    }
-                    Ok(Reader {
-                        alloc,
-                        outer,
-                        level,
-                        unit: Unit::Done(Tree::Term(name)),
-                    })
-                }
-                Class::Backslash => Ok(Reader {
-                    alloc,
-                    outer,
-                    level,
-                    unit: Unit::Escape(name),
-                }),
+                Class::Quote if name.is_empty() => return Err(ReadFault::NotViable),
+                Class::Quote => Unit::Done(Tree::Term(name)),
+                Class::Backslash => Unit::Escape(name),
                 _ => {
                     name.push(c)?;
-                    Ok(Reader {
-                        alloc,
-                        outer,
-                        level,
-                        unit: Unit::Quoted(name),
-                    })
+                    Unit::Quoted(name)
                 }
             },
             Unit::Escape(mut name) => match class {
                 Class::Quote | Class::Backslash => {
                     name.push(c)?;
-                    Ok(Reader {
-                        alloc,
-                        outer,
-                        level,
-                        unit: Unit::Quoted(name),
-                    })
+                    Unit::Quoted(name)
                 }
-                _ => Err(ReadFault::NotViable),
+                _ => return Err(ReadFault::NotViable),
             },
-            Unit::Done(tree) => behind(alloc, outer, level, tree, class),
-        }
+            Unit::Done(tree) => return behind(alloc, outer, level, tree, class),
+        };
+        Ok(Reader {
+            alloc,
+            outer,
+            level,
+            unit,
+        })
     }
 
     /// The tree of the whole text.
