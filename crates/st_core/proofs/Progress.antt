@@ -15,16 +15,16 @@ after_next s (one ∷ rest) zero d below = refl
 after_next s (one ∷ rest) (suc i) d below = after_next (step s one).state rest i d (omega arith)
 
 -- after i requests of a run the state is s and these were told
-pub record Running {A : Type 0} (first s : State A) (asked : List (Asked A)) (i : ℕ) (told : List Reply) : Type 0 where
+pub record Running {A : Type 0} (first s : State A) (asked : List (Asked A)) (i : ℕ) (told : List (Reply A)) : Type 0 where
   pub so_far : s ≡ after first (take i asked)
   pub ahead : told ++ replies s (drop i asked) ≡ replies first asked
   pub rest : after s (drop i asked) ≡ after first asked
   pub count : length told ≡ i
 
-pub at_start : {A : Type 0} (first : State A) (asked : List (Asked A)) (told : List Reply) → told ≡ [] → Running first first asked 0 told
+pub at_start : {A : Type 0} (first : State A) (asked : List (Asked A)) (told : List (Reply A)) → told ≡ [] → Running first first asked 0 told
 at_start first asked told none = record { so_far = refl; ahead = ap (λ xs. xs ++ replies first asked) none; rest = refl; count = ap length none }
 
-one_more : {A : Type 0} (first s : State A) (asked : List (Asked A)) (i : ℕ) (told : List Reply) (one : Asked A)
+one_more : {A : Type 0} (first s : State A) (asked : List (Asked A)) (i : ℕ) (told : List (Reply A)) (one : Asked A)
     → i < length asked → one ≡ slice_index_or asked i one → Running first s asked i told
     → Running first (step s one).state asked (i + 1) (told ++ (step s one).reply ∷ [])
 one_more first s asked i told one below is running =
@@ -36,13 +36,13 @@ one_more first s asked i told one below is running =
       count = omega (arith, length-append told ((step s one).reply ∷ []), running.count);
     })
 
-pub one_more_told : {A : Type 0} (first s next : State A) (asked : List (Asked A)) (i : ℕ) (told more : List Reply) (one : Asked A) (reply : Reply)
+pub one_more_told : {A : Type 0} (first s next : State A) (asked : List (Asked A)) (i : ℕ) (told more : List (Reply A)) (one : Asked A) (reply : Reply A)
     → i < length asked → one ≡ slice_index_or asked i one → next ≡ (step s one).state → reply ≡ (step s one).reply → more ≡ told ++ reply ∷ []
     → Running first s asked i told → Running first next asked (i + 1) more
 one_more_told first s next asked i told more one reply below is is_next is_reply is_more running =
     rw (is_more, is_reply, is_next) (one_more first s asked i told one below is running)
 
-pub done : {A : Type 0} (first s : State A) (asked : List (Asked A)) (i : ℕ) (told : List Reply) → length asked ≤ i
+pub done : {A : Type 0} (first s : State A) (asked : List (Asked A)) (i : ℕ) (told : List (Reply A)) → length asked ≤ i
     → Running first s asked i told → (told ≡ replies first asked) × (s ≡ after first asked)
 done first s asked i told all running =
     let end : drop i asked ≡ [] = drop_all i asked all in (

@@ -1,5 +1,5 @@
 -- The definitions on worked examples.
-use Rattle.std.proofs.Common.{◌≡◌, ℕ, List, [], ◌∷◌, ◌++◌, Bool, true, false, Option, Some, None, refl, map}
+use Rattle.std.proofs.Common.{◌≡◌, ℕ, List, [], ◌∷◌, ◌++◌, Bool, true, false, Some, refl, map}
 use Rattle.std.specs.Prelude.{codes}
 use Prim.Native.String.{String}
 use Rattle.st_text.specs.Texts.{Text}
@@ -40,10 +40,10 @@ abbrev after : State ℕ → List Said → State ℕ
 after s [] = s
 after s (said ∷ rest) = after (outcome s said).state rest
 
-abbrev told : State ℕ → Said → Reply
+abbrev told : State ℕ → Said → Reply ℕ
 told s said = (outcome s said).reply
 
-abbrev all_told : State ℕ → List Said → List Reply
+abbrev all_told : State ℕ → List Said → List (Reply ℕ)
 all_told s [] = []
 all_told s (said ∷ rest) = (outcome s said).reply ∷ all_told (outcome s said).state rest
 
@@ -74,7 +74,7 @@ count auths = count_in "root" "points" auths
 abbrev fresh : List String → State ℕ
 fresh auths = first_state [] (texts auths)
 
-abbrev denied : Denial → Reply
+abbrev denied : Denial → Reply ℕ
 denied denial = Reply.Refused (Refusal.Denied denial)
 
 -- ---- rows of points, by root
@@ -137,6 +137,16 @@ last_point : told (after (fresh []) (asks "root" (Request.Put (codes "points") (
 unfolding reading class_of
 last_point = refl
 
+-- ---- normal forms
+
+abbrev label : String → String → Said
+label user text = asks user (Request.Label (codes text))
+
+normal_forms : map (told (fresh [])) (label "root" "(C|B)&A&A" ∷ label "root" "\"A\"|A" ∷ label "root" "((A|B)|(C&C))" ∷ label "root" "" ∷ [])
+    ≡ map (λ (text : String). Reply.Normal (codes text)) ("(B|C)&A" ∷ "A" ∷ "A|B|C" ∷ "" ∷ [])
+unfolding reading class_of
+normal_forms = refl
+
 -- ---- refusals
 
 no_table : all_told (fresh []) (count_in "root" "t" [] ∷ put_in "root" "t" "p" "" ∷ [])
@@ -172,6 +182,11 @@ only_reads : all_told (with_user (fresh []) ("A" ∷ []) (Permission.Read ∷ []
     ≡ Reply.Count 0 ∷ denied (Denial.Authorization (codes "X")) ∷ denied (Denial.Permission Permission.Write (Some (codes "points"))) ∷ []
 unfolding reading class_of
 only_reads = refl
+
+-- whoever asks, the normal form is told, and nothing is listed
+label_of_a_stranger : (outcome (with_user (fresh []) [] []) (label "u" "B&A")) ≡ record { reply = Reply.Normal (codes "A&B"); state = with_user (fresh []) [] [] }
+unfolding reading class_of
+label_of_a_stranger = refl
 
 -- ---- the constraint
 

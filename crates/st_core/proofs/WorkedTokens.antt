@@ -13,7 +13,6 @@ use Rattle.st_policy.specs.declared.request.Request.{Request}
 use Rattle.st_core.specs.declared.asked.Asked.{Asked}
 use Rattle.st_core.specs.declared.asked.Call.{Call}
 use Rattle.st_core.specs.declared.asked.Token.{Token}
-use Rattle.st_core.specs.declared.audit.Entry.{Entry}
 use Rattle.st_core.specs.declared.reply.Reply.{Reply}
 use Rattle.st_core.specs.State.{State, first_state}
 use Rattle.st_core.specs.Step.{replies, after}
@@ -46,7 +45,7 @@ count auths = Call.Good (Request.Count (codes "points") (query_of 0 2097151 0 20
 abbrev put : String → Call ℕ
 put label = Call.Good (Request.Put (codes "points") (record { id = codes "p"; point = point_at 1 2 3 refl refl refl; label = codes label; note = [] }))
 
-abbrev no_token : Reply
+abbrev no_token : Reply ℕ
 no_token = Reply.Refused (Refusal.Denied Denial.Token)
 
 counted_put_counted : replies start (by_whom root (count []) ∷ by_whom root (put "A") ∷ by_whom root (count ("A" ∷ [])) ∷ [])

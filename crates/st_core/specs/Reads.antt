@@ -6,10 +6,11 @@ use Rattle.st_key.specs.Order.{digits_of}
 use Rattle.st_box.specs.declared.query.Query.{Query}
 use Rattle.st_box.specs.Query.{is_inside}
 use Rattle.st_label.specs.Reading.{is_true}
+use Rattle.st_label.specs.Normal.{normal_text}
 use Rattle.st_index.specs.declared.row.Row.{Row}
 use Rattle.st_dir.specs.Directory.{period_of}
 use Rattle.st_policy.specs.declared.request.Request.{Request}
-use Rattle.st_policy.specs.declared.request.Request.TheVariants.{Count, Put}
+use Rattle.st_policy.specs.declared.request.Request.TheVariants.{Label, Count, Put}
 use Rattle.st_core.specs.declared.held.Held.{Held}
 use Rattle.st_core.specs.declared.reply.Reply.{Reply}
 use Rattle.st_core.specs.State.{State, rows_of}
@@ -32,6 +33,7 @@ seen s table query auths =
     in_order (scan_key (period_of s.directory table)) (rows_that (λ row. is_inside query row.point) table auths s.rows)
 
 -- what a read shows to whom it is allowed
-abbrev pub shown : {A : Type 0} → State A → Request A → Reply
+abbrev pub shown : {A : Type 0} → State A → Request A → Reply A
+shown s (Label label) = Reply.Normal (normal_text label)
 shown s (Count table query auths) = Reply.Count (length (seen s table query auths))
 shown s (Put table row) = Reply.Accepted

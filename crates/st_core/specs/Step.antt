@@ -49,7 +49,7 @@ audit_after asker request result entries =
     else entries
 
 pub record Outcome (A : Type 0) : Type 0 where
-  pub reply : Reply
+  pub reply : Reply A
   pub state : State A
 
 abbrev pub settle : {A : Type 0} → State A → Judged A → Outcome A
@@ -80,7 +80,7 @@ asks_for_change asked = calls_for_change asked.call
 
 -- ---- the run
 
-abbrev pub replies : {A : Type 0} → State A → List (Asked A) → List Reply
+abbrev pub replies : {A : Type 0} → State A → List (Asked A) → List (Reply A)
 replies s [] = []
 replies s (asked ∷ rest) = (step s asked).reply ∷ replies (step s asked).state rest
 

@@ -1,6 +1,6 @@
 //! The audit listing.
 ghost use Rattle.std.specs.Prelude.{◌≡◌};
-ghost use Rattle.st_policy.specs.Requests.{name_of};
+ghost use Rattle.st_policy.specs.Requests.{name_of, target_of};
 
 use st_dir::Name;
 use st_policy::Request;
@@ -17,7 +17,7 @@ pub struct Entry {
     pub request: Text<16>,
     /// The number of its refusal, or 0.
     pub result: u8,
-    /// The table that it was about.
+    /// The table that it was about, or nothing.
     pub target: Text<65>,
     /// Who asked.
     pub user: Name,
@@ -33,7 +33,7 @@ impl Entry {
         Entry {
             request: text_of_name(request),
             result: number,
-            target: request.table().to_text(),
+            target: text_of_target(request),
             user: asker.copy(),
         }
     }
@@ -44,6 +44,19 @@ fn text_of_name<A: Allocator>(request: &Request<A>) -> Text<16>
     ensures { result ≡ name_of request.now }
 {
     match Text::new(request.name()) {
+        Some(text) => text,
+        None => unreachable!(),
+    }
+}
+
+// What a request is about.
+fn text_of_target<A: Allocator>(request: &Request<A>) -> Text<65>
+    ensures { result ≡ target_of request.now }
+{
+    if let Some(table) = request.table() {
+        return table.to_text();
+    }
+    match Text::new("") {
         Some(text) => text,
         None => unreachable!(),
     }

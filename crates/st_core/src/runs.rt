@@ -12,7 +12,7 @@ use std::alloc::{AllocError, Allocator};
 pub fn run<A: Allocator + Copy>(
     store: &mut Store<A>,
     asked: &[Asked<A>],
-) -> Result<Vec<Reply, A>, AllocError>
+) -> Result<Vec<Reply<A>, A>, AllocError>
     ensures replies { IfOk result (λ told. told.items ≡ replies store.old asked.now) }
     ensures state { OnOk result (store.new ≡ after store.old asked.now) }
     ensures stopped { OnErr result ((done : ℕ) × (done ≤ length asked.now) × (store.new ≡ after store.old (take done asked.now))) }

@@ -147,7 +147,7 @@ impl<A: Allocator + Copy> Store<A> {
     }
 
     /// The reply to what asks for no change. It changes nothing.
-    pub fn answer(&self, asked: &Asked<A>) -> Result<Reply, AllocError>
+    pub fn answer(&self, asked: &Asked<A>) -> Result<Reply<A>, AllocError>
         requires { asks_for_change asked.now ≡ false }
         ensures { IfOk result (λ reply. reply ≡ (step self.now asked.now).reply) }
     {
@@ -162,6 +162,9 @@ impl<A: Allocator + Copy> Store<A> {
             return Ok(Reply::Refused(refusal));
         }
         match request {
+            Request::Label { label } => Ok(Reply::Normal {
+                label: label.normal()?,
+            }),
             Request::Count {
                 table,
                 query,
@@ -173,7 +176,7 @@ impl<A: Allocator + Copy> Store<A> {
 
     /// Makes a change where it is allowed, and gives the reply. Whether it is made or refused, it is
     /// listed in the audit listing where its token holds. On a want of memory nothing is changed.
-    pub fn change(&mut self, asked: &Asked<A>) -> Result<Reply, AllocError>
+    pub fn change(&mut self, asked: &Asked<A>) -> Result<Reply<A>, AllocError>
         requires { asks_for_change asked.now ≡ true }
         ensures reply { IfOk result (λ reply. reply ≡ (step self.old asked.now).reply) }
         ensures state { OnOk result (self.new ≡ (step self.old asked.now).state) }
@@ -190,7 +193,7 @@ impl<A: Allocator + Copy> Store<A> {
             return Ok(Reply::Refused(refusal));
         }
         match request {
-            Request::Count { .. } => unreachable!(),
+            Request::Label { .. } | Request::Count { .. } => unreachable!(),
             Request::Put { table, row } => put(&mut self.rows, table, row)?,
         }
         self.note(asker, request, 0);
@@ -198,7 +201,7 @@ impl<A: Allocator + Copy> Store<A> {
     }
 
     /// The reply to what is asked, which may be a change.
-    pub fn take(&mut self, asked: &Asked<A>) -> Result<Reply, AllocError>
+    pub fn take(&mut self, asked: &Asked<A>) -> Result<Reply<A>, AllocError>
         ensures reply { IfOk result (λ reply. reply ≡ (step self.old asked.now).reply) }
         ensures state { OnOk result (self.new ≡ (step self.old asked.now).state) }
         ensures unchanged { OnErr result (self.new ≡ self.old) }

@@ -52,7 +52,7 @@ fn put<A: Allocator + Copy>(alloc: A) -> Option<Asked<A>> {
 }
 
 // The number of rows that a count tells.
-fn number(reply: &Reply) -> Option<u64> {
+fn number<A: Allocator>(reply: &Reply<A>) -> Option<u64> {
     match reply {
         Reply::Count(rows) => Some(*rows),
         _ => None,

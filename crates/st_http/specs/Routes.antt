@@ -44,18 +44,19 @@ path_of target =
     let front = before_first (λ b. b == question) target in
     if is_absolute front then from_slash (after_scheme front) else front
 
--- the name in a path: what stands between its second slash and its third
+-- the name in a path: what stands between its second slash and its third, and nothing where there is no second one
 abbrev pub name_in : List ℕ → List ℕ
 name_in path = before_first (λ b. b == slash) (after_first (λ b. b == slash) (after_first (λ b. b == slash) path))
 
 -- how a path of the table is written
 abbrev pub pattern_of : Path → List ℕ
+pattern_of paths.Label = codes "/label"
 pattern_of paths.Count = codes "/tables/{table}/count"
 pattern_of paths.Put = codes "/tables/{table}/put"
 
 -- the paths of the table of requests, in its order, each once
 unfoldable pub all_paths : List Path
-all_paths = paths.Count ∷ paths.Put ∷ []
+all_paths = paths.Label ∷ paths.Count ∷ paths.Put ∷ []
 
 -- the methods (RFC 9110, "Methods")
 abbrev pub post : List ℕ
@@ -63,6 +64,7 @@ post = codes "POST"
 
 -- the lines of a path, each with its method, in the order DELETE, GET, POST
 abbrev pub lines_of : Path → List (List ℕ × Line)
+lines_of paths.Label = (post, lines.Label) ∷ []
 lines_of paths.Count = (post, lines.Count) ∷ []
 lines_of paths.Put = (post, lines.Put) ∷ []
 

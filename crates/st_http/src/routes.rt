@@ -9,6 +9,8 @@ use std::alloc::{AllocError, Global};
 /// A line of the table of requests.
 #[derive(Clone, Copy, Debug, PartialEq, Eq)]
 pub enum Line {
+    /// `POST /label`
+    Label,
     /// `POST /tables/{table}/count`
     Count,
     /// `POST /tables/{table}/put`
@@ -18,7 +20,7 @@ pub enum Line {
 /// What a method and a target name.
 #[derive(Clone, Copy, Debug)]
 pub enum Route<'a> {
-    /// A line, and the name in the path, of any form.
+    /// A line, and the name in the path, of any form; the empty text where the path has none.
     Found(Line, &'a str),
     /// No line has the path: the reply's status is 404.
     NoRoute,
@@ -29,12 +31,13 @@ pub enum Route<'a> {
 // A path of the table of requests.
 #[derive(Clone, Copy, Debug, PartialEq, Eq)]
 enum Path {
+    Label,
     Count,
     Put,
 }
 
 // The paths of the table of requests, in its order.
-const ALL: [Path; 2] = [Path::Count, Path::Put];
+const ALL: [Path; 3] = [Path::Label, Path::Count, Path::Put];
 
 impl Path {
     // The line of the path that has this method.
@@ -42,6 +45,7 @@ impl Path {
         ensures { result ≡ line_of method.now (lines_of self) }
     {
         match (self, method) {
+            (Path::Label, b"POST") => Some(Line::Label),
             (Path::Count, b"POST") => Some(Line::Count),
             (Path::Put, b"POST") => Some(Line::Put),
             _ => None,
@@ -53,7 +57,7 @@ impl Path {
         ensures { result.now ≡ allow_of (lines_of self) }
     {
         match self {
-            Path::Count | Path::Put => "POST",
+            Path::Label | Path::Count | Path::Put => "POST",
         }
     }
 
@@ -62,6 +66,7 @@ impl Path {
         ensures { result.now ≡ pattern_of self }
     {
         match self {
+            Path::Label => "/label",
             Path::Count => "/tables/{table}/count",
             Path::Put => "/tables/{table}/put",
         }

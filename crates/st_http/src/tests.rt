@@ -154,7 +154,13 @@ fn tells_the_close(rt: HostRuntime) {
     }
 }
 
-const ROUTES: [(&str, &str, &str, &str); 12] = [
+const ROUTES: [(&str, &str, &str, &str); 18] = [
+    ("POST", "/label", "label", ""),
+    ("POST", "/label?x", "label", ""),
+    ("GET", "/label", "allow", "POST"),
+    ("DELETE", "/label", "allow", "POST"),
+    ("POST", "/label/", "none", ""),
+    ("POST", "/labels", "none", ""),
     ("POST", "/tables/points/count", "count", "points"),
     ("POST", "/tables/points/put", "put", "points"),
     ("POST", "/tables/points/count?a/b", "count", "points"),
@@ -178,6 +184,7 @@ fn finds_routes(rt: HostRuntime) {
         match routes.find(method.as_bytes(), target) {
             Route::Found(line, name) => {
                 let is = match line {
+                    Line::Label => "label",
                     Line::Count => "count",
                     Line::Put => "put",
                 };

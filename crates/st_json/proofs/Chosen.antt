@@ -55,6 +55,7 @@ no_object body next e (inl none) = rw none tt
 no_object body next e (inr (what, why)) = rw what (missing why)
 
 by_line : (A : Type 0) (l : Line) (name body : List ℕ) (e : DecodeFault) → JsonFails body e → Tells {B = Request A} (Decoded l name body) (Err e)
+by_line A Line.Label name body e h = no_object body _ e h
 by_line A Line.Count name body e h = no_object body _ e h
 by_line A Line.Put name body e h = no_object body _ e h
 

@@ -13,7 +13,7 @@ use Rattle.st_policy.specs.declared.refusal.Refusal.TheVariants.{BadLabel}
 use Rattle.st_json.specs.declared.field.Bounds.{Bounds}
 use Rattle.st_json.specs.Needs.{Needs, found, missing}
 use Rattle.st_json.specs.Fields.{HasBox, HasPoint, numbers}
-use Rattle.st_json.specs.Bodies.{NeedsLabel, labelled, refused, RefusesAt, IsQuery, IsTable, AreAuths, IsObject, CountBody, PutBody, Decoded}
+use Rattle.st_json.specs.Bodies.{NeedsLabel, labelled, refused, RefusesAt, IsQuery, IsTable, AreAuths, IsObject, LabelBody, CountBody, PutBody, Decoded}
 use Rattle.st_json.proofs.Same.{same_point, same_query}
 
 abbrev OnlyOne : {B : Type 0} → (B → Type 0) → Type 0
@@ -90,6 +90,9 @@ one_object body d e f g = let s : Some d ≡ Some e = sym f.1 ∙ g.1 in cc
 
 -- ---- the bodies
 
+one_label : {A : Type 0} (d : Data) → OnlyOne (LabelBody {A = A} d)
+one_label d = one_needs _ _ _ (one_some _) (λ text. one_needs_label text _ (one_equal _))
+
 one_count : {A : Type 0} (name : List ℕ) (d : Data) → OnlyOne (CountBody {A = A} name d)
 one_count name d =
     one_needs _ _ _ (one_box d) (λ b. one_needs _ _ _ (one_some _) (λ names. one_needs _ _ _ (one_query b) (λ q. one_needs _ _ _ (one_table name) (λ table. one_needs _ _ _ (one_set names) (λ auths. one_equal _)))))
@@ -100,5 +103,6 @@ one_put name d =
     one_needs_label text _ (one_needs _ _ _ (one_table name) (λ table. one_equal _))))))
 
 pub one_answer : (A : Type 0) (l : Line) (name body : List ℕ) → OnlyOne (Decoded {A = A} l name body)
+one_answer A Line.Label name body = one_needs _ _ _ (one_object body) one_label
 one_answer A Line.Count name body = one_needs _ _ _ (one_object body) (one_count name)
 one_answer A Line.Put name body = one_needs _ _ _ (one_object body) (one_put name)

@@ -28,7 +28,8 @@ refusal_in_order (Refusal.NoUser user) = refl
 refusal_in_order (Refusal.TableExists table) = refl
 refusal_in_order (Refusal.UserExists user) = refl
 
-pub reply_in_order : (r : Reply) → in_order (reply_data r) ≡ true
+pub reply_in_order : {A : Type 0} (r : Reply A) → in_order (reply_data r) ≡ true
 reply_in_order Reply.Accepted = refl
+reply_in_order (Reply.Normal label) = refl
 reply_in_order (Reply.Count n) = refl
 reply_in_order (Reply.Refused r) = refusal_in_order r

@@ -45,6 +45,12 @@ pub data NeedsLabel {R : Type 0} (text : Text) (next : Result R Refusal → Type
   labelled : (answer : Result R Refusal) → IsLabel text → next answer → NeedsLabel text next answer
   refused : (at : ℕ) → RefusesAt text at → NeedsLabel text next (Err (Refusal.BadLabel at))
 
+abbrev pub LabelBody : {A : Type 0} → Data → Answer A → Type 0
+LabelBody d =
+    Needs (Field Label) (λ label. label_in d ≡ Some label) (λ label.
+    NeedsLabel label (λ answer.
+    answer ≡ Ok (Request.Label label)))
+
 abbrev pub CountBody : {A : Type 0} → Text → Data → Answer A → Type 0
 CountBody name d =
     Needs (Field Box) (HasBox d) (λ b.
@@ -68,7 +74,8 @@ PutBody name d =
 abbrev pub IsObject : List ℕ → Data → Type 0
 IsObject body d = IsUtf8 body × (read body ≡ Some d) × ((ms : Members) × (d ≡ object ms))
 
--- the answer to a line, the name in its path and a body
+-- the answer to a line, the name in its path and a body; a path without a name has the empty one
 abbrev pub Decoded : {A : Type 0} → Line → Text → List ℕ → Answer A → Type 0
+Decoded Line.Label name body = Needs Json (IsObject body) LabelBody
 Decoded Line.Count name body = Needs Json (IsObject body) (CountBody name)
 Decoded Line.Put name body = Needs Json (IsObject body) (PutBody name)

@@ -5,7 +5,7 @@ ghost use Rattle.serde_json.specs.View.{view};
 ghost use Rattle.st_label.specs.Reading.{IsLabel};
 ghost use Rattle.st_policy.specs.declared.refusal.Refusal.TheVariants.{Json, BadLabel};
 ghost use Rattle.st_json.specs.Needs.{Tells, Picks};
-ghost use Rattle.st_json.specs.Bodies.{CountBody, PutBody, IsQuery, IsTable, AreAuths, IsObject, RefusesAt, Decoded};
+ghost use Rattle.st_json.specs.Bodies.{LabelBody, CountBody, PutBody, IsQuery, IsTable, AreAuths, IsObject, RefusesAt, Decoded};
 ghost use Rattle.st_json.specs.declared.fault.DecodeFault.TheVariants.{Refused, NoMemory};
 
 use crate::fault::DecodeFault::{self, NoMemory, Refused};
@@ -65,6 +65,18 @@ fn label_of<A: Allocator + Copy>(alloc: A, text: &str) -> Result<Label<A>, Decod
         Err(LabelFault::TooLong) => Err(Refused(BadLabel { at: MAX_LEN as u64 })),
         Err(LabelFault::NoMemory) => Err(NoMemory),
     }
+}
+
+fn label_request<A: Allocator + Copy>(alloc: A, object: &Value) -> Result<Request<A>, DecodeFault>
+    ensures { Tells (LabelBody (view object.now)) result }
+{
+    let Some(text) = field::text(object, "label") else {
+        return Err(Refused(Field {
+            name: FieldName::Label,
+        }));
+    };
+    let label = label_of(alloc, text)?;
+    Ok(Request::Label { label })
 }
 
 fn count<A: Allocator + Copy>(
@@ -185,6 +197,7 @@ pub fn decode<A: Allocator + Copy>(
 {
     let object = object_of(global, body)?;
     match line {
+        Line::Label => label_request(alloc, &object),
         Line::Count => count(alloc, name, &object),
         Line::Put => put(alloc, name, &object),
     }

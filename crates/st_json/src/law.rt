@@ -17,6 +17,6 @@ pub fn one_answer<A: Allocator>()
 {}
 
 /// The keys of a reply stand in byte order, each once.
-pub fn keys_in_order()
-    ensures { (r : Reply) → in_order (reply_data r) ≡ true }
+pub fn keys_in_order<A: Allocator>()
+    ensures { (r : Reply A) → in_order (reply_data r) ≡ true }
 {}

@@ -40,7 +40,11 @@ pub fn status(refusal: &Refusal) -> StatusCode
 }
 
 // A key and a text.
-fn write_text<A: Allocator>(out: &mut Writer<A>, name: &str, text: &str) -> Result<(), AllocError>
+pub(crate) fn write_text<A: Allocator>(
+    out: &mut Writer<A>,
+    name: &str,
+    text: &str,
+) -> Result<(), AllocError>
     ensures { OnOk result (Adds out.old out.new (token.key name.now ∷ token.string text.now ∷ [])) }
 {
     out.key(name)?;

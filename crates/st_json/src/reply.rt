@@ -1,11 +1,11 @@
 //! Replies as text.
 ghost use Rattle.std.specs.Prelude.{◌≡◌, ◌∷◌, ◌++◌, [], OnOk, IfOk, codes, true};
-ghost use Rattle.serde_json.specs.Data.{boolean};
+ghost use Rattle.serde_json.specs.Data.{boolean, string};
 ghost use Rattle.st_json.specs.Adds.{tokens_of, Adds};
 ghost use Rattle.st_json.specs.Refusals.{of, nat};
 ghost use Rattle.st_json.specs.Replies.{reply_data, text_of};
 
-use crate::refusal::{write_number, write_refusal};
+use crate::refusal::{write_number, write_refusal, write_text};
 use json::Writer;
 use st_core::Reply;
 use std::alloc::{AllocError, Allocator};
@@ -27,11 +27,23 @@ fn write_count<A: Allocator>(out: &mut Writer<A>, count: u64) -> Result<(), Allo
     out.end_object()
 }
 
-fn write_reply<A: Allocator>(out: &mut Writer<A>, reply: &Reply) -> Result<(), AllocError>
+fn write_normal<A: Allocator>(out: &mut Writer<A>, label: &str) -> Result<(), AllocError>
+    ensures { OnOk result (Adds out.old out.new (tokens_of (of ((codes "normal", string label.now) ∷ [])))) }
+{
+    out.begin_object()?;
+    write_text(out, "normal", label)?;
+    out.end_object()
+}
+
+fn write_reply<A: Allocator, B: Allocator>(
+    out: &mut Writer<A>,
+    reply: &Reply<B>,
+) -> Result<(), AllocError>
     ensures { OnOk result (Adds out.old out.new (tokens_of (reply_data reply.now))) }
 {
     match reply {
         Reply::Accepted => write_accepted(out),
+        Reply::Normal { label } => write_normal(out, label.text()),
         Reply::Count(count) => write_count(out, *count),
         Reply::Refused(refusal) => write_refusal(out, refusal),
     }
@@ -39,7 +51,10 @@ fn write_reply<A: Allocator>(out: &mut Writer<A>, reply: &Reply) -> Result<(), A
 
 /// Writes the body of a reply behind what the list holds: compact JSON (RFC 8259) whose keys stand
 /// in byte order. Where memory is wanting the list is lost.
-pub fn encode_into<A: Allocator>(out: Vec<u8, A>, reply: &Reply) -> Result<Vec<u8, A>, AllocError>
+pub fn encode_into<A: Allocator, B: Allocator>(
+    out: Vec<u8, A>,
+    reply: &Reply<B>,
+) -> Result<Vec<u8, A>, AllocError>
     ensures { IfOk result (λ text. text.items ≡ out.items ++ text_of reply.now) }
 {
     let mut out = Writer::new(out);
@@ -48,7 +63,10 @@ pub fn encode_into<A: Allocator>(out: Vec<u8, A>, reply: &Reply) -> Result<Vec<u
 }
 
 /// The body of a reply: compact JSON (RFC 8259) whose keys stand in byte order.
-pub fn encode<A: Allocator>(alloc: A, reply: &Reply) -> Result<Vec<u8, A>, AllocError>
+pub fn encode<A: Allocator, B: Allocator>(
+    alloc: A,
+    reply: &Reply<B>,
+) -> Result<Vec<u8, A>, AllocError>
     ensures { IfOk result (λ text. text.items ≡ text_of reply.now) }
 {
     encode_into(Vec::new(alloc), reply)

@@ -3,6 +3,7 @@ use http::StatusCode;
 use st_core::Reply;
 use st_dir::{Name, Permission, TableName};
 use st_http::routes::Line;
+use st_label::Label;
 use st_policy::{Denial, Refusal, Request};
 use st_text::Text;
 use std::alloc::{Allocator, Global};
@@ -183,6 +184,34 @@ fn puts(rt: HostRuntime) -> Result<(), Fail> {
         let reply = reply_to(alloc, Line::Put, "points", body.as_bytes()).ok_or("memory")?;
         assert!(rt; written(alloc, &reply)?.as_str() == told, "{body}");
     }
+    Ok(())
+}
+
+// Bodies of requests for a label's normal form, and what is told of each.
+const LABELS: [(&str, &str); 8] = [
+    ("{\"label\":\"A&(B|C)\"}", OK),
+    ("{\"label\":\"\"}", OK),
+    ("{\"label\":\"(\",\"label\":\"A\",\"id\":1}", OK),
+    ("[", BAD_JSON),
+    ("{}", NO_LABEL),
+    ("{\"label\":1}", NO_LABEL),
+    ("{\"label\":[\"A\"]}", NO_LABEL),
+    (
+        "{\"label\":\"A\\u007cB&C\"}",
+        "{\"at\":3,\"error\":\"label\"}",
+    ),
+];
+
+#[test]
+fn labels(rt: HostRuntime) -> Result<(), Fail> {
+    let alloc = rt.alloc();
+    for (body, told) in LABELS {
+        let reply = reply_to(alloc, Line::Label, "", body.as_bytes()).ok_or("memory")?;
+        assert!(rt; written(alloc, &reply)?.as_str() == told, "{body}");
+    }
+    let label = Label::parse(alloc, "\"a b\"|a")?;
+    let reply = Reply::Normal { label };
+    assert!(rt; written(alloc, &reply)?.as_str() == "{\"normal\":\"\\\"a b\\\"|a\"}");
     Ok(())
 }
 

@@ -1,4 +1,5 @@
 use super::*;
+use refusing_alloc::Refusing;
 use std::alloc::Allocator;
 use std::test::Fail;
 
@@ -93,5 +94,26 @@ fn normal_forms(rt: HostRuntime) -> Result<(), Fail> {
     assert!(rt; is_normal_form(rt.alloc(), "\"a b\"|a", "\"a b\"|a")?);
     assert!(rt; is_normal_form(rt.alloc(), "\"é\"", "\"é\"")?);
     assert!(rt; is_normal_form(rt.alloc(), "((B|A)&(A|B))|C", "A|B|C")?);
+    Ok(())
+}
+
+// With any one growth refused there is no normal form, and the label is as before.
+#[test]
+fn each_growth_refused(rt: HostRuntime) -> Result<(), Fail> {
+    let heap = Refusing::new(rt.alloc());
+    let label = Label::parse(&heap, "(C|B)&A&A")?;
+    let mut refused = 0u32;
+    for n in 1..100u64 {
+        heap.arm(n);
+        let made = label.normal();
+        if heap.is_armed() {
+            assert_eq!(rt; made?.text(), "(B|C)&A");
+            break;
+        }
+        assert!(rt; made.is_err(), "with {n}");
+        refused = refused.wrapping_add(1);
+    }
+    assert!(rt; refused >= 3 && refused < 99);
+    assert_eq!(rt; label.text(), "(C|B)&A&A");
     Ok(())
 }

@@ -8,7 +8,7 @@ use Rattle.st_policy.specs.declared.denial.Denial.{Denial}
 use Rattle.st_policy.specs.declared.refusal.Refusal.{Refusal}
 use Rattle.st_policy.specs.declared.refusal.Refusal.TheVariants.{NoTable, Denied}
 use Rattle.st_policy.specs.declared.request.Request.{Request}
-use Rattle.st_policy.specs.declared.request.Request.TheVariants.{Count, Put}
+use Rattle.st_policy.specs.declared.request.Request.TheVariants.{Label, Count, Put}
 use Rattle.st_policy.specs.Requests.{table_of, auths_of}
 
 abbrev pub first_of : List (Option Refusal) → Option Refusal
@@ -29,13 +29,18 @@ table_exists d (Some table) = unless (is_table d table) (NoTable table)
 
 -- what a line needs
 pub data Need : Type 0 where
+  -- no permission
+  Nothing : Need
+  -- a permission on the table
   Table : (table : Text) → Permission → Need
 
 abbrev pub need_of : {A : Type 0} → Request A → Need
+need_of (Label label) = Nothing
 need_of (Count table query auths) = Table table Permission.Read
 need_of (Put table row) = Table table Permission.Write
 
 abbrev pub meets : {A : Type 0} → Directory A → Text → Need → Option Refusal
+meets d asker Nothing = None
 meets d asker (Table table p) = unless (has_table d asker table p) (Denied (Denial.Permission p (Some table)))
 
 -- ---- authorization and constraint
@@ -48,6 +53,7 @@ auths_are_held d asker auths = option_map (λ name. Denied (Denial.Authorization
 -- visibility constraint of Apache Accumulo)
 abbrev pub label_is_met : {A : Type 0} → Directory A → Text → Request A → Option Refusal
 label_is_met d asker (Put table row) = unless (not (is_constrained d table) || is_true (has_auth d asker) row.label) (Denied (Denial.Constraint row.label))
+label_is_met d asker (Label label) = None
 label_is_met d asker (Count table query auths) = None
 
 -- the first refusal that applies, or none

@@ -1,9 +1,9 @@
 //! The policy.
-ghost use Rattle.std.specs.Prelude.{◌≡◌, find, not};
+ghost use Rattle.std.specs.Prelude.{◌≡◌, IsSome, find, not};
 ghost use Rattle.st_dir.specs.Directory.{has_auth};
 ghost use Rattle.st_label.specs.Reading.{is_true};
 ghost use Rattle.st_policy.specs.Policy.{refusal_of, decision, need_of, Table};
-ghost use Rattle.st_policy.specs.Requests.{target_of};
+ghost use Rattle.st_policy.specs.Requests.{table_of, target_of};
 
 use crate::denial::Denial;
 use crate::refusal::Refusal;
@@ -48,16 +48,18 @@ fn text_of_label<A: Allocator>(label: &Label<A>) -> Text<256>
 
 // The permission on its table that a request needs.
 fn permission_for<A: Allocator>(request: &Request<A>) -> Permission
+    requires { IsSome (table_of request.now) }
     ensures { need_of request.now ≡ Table (target_of request.now) result }
 {
     match request {
+        Request::Label { .. } => unreachable!(),
         Request::Count { .. } => Permission::Read,
         Request::Put { .. } => Permission::Write,
     }
 }
 
 /// Whether the directory allows the asker the request, or the first refusal that applies: existence,
-/// permission, authorization, constraint.
+/// permission, authorization, constraint. The normal form of a label is allowed to every user.
 pub fn decide<A: Allocator>(
     directory: &Directory<A>,
     asker: &Name,
@@ -65,7 +67,9 @@ pub fn decide<A: Allocator>(
 ) -> Result<(), Refusal>
     ensures { result ≡ decision (refusal_of directory.now asker.now request.now) }
 {
-    let table = request.table();
+    let Some(table) = request.table() else {
+        return Ok(());
+    };
     let Some(constraint) = directory.constraint_of(table) else {
         return Err(Refusal::NoTable {
             table: table.copy(),
@@ -79,6 +83,7 @@ pub fn decide<A: Allocator>(
         }));
     }
     match request {
+        Request::Label { .. } => Ok(()),
         Request::Count { auths, .. } => match lacking(directory, asker, auths) {
             Some(name) => Err(Refusal::Denied(Denial::Authorization { name })),
             None => Ok(()),

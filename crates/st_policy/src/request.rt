@@ -3,11 +3,16 @@ use st_auth::Auths;
 use st_box::Query;
 use st_dir::TableName;
 use st_index::Row;
+use st_label::Label;
 use std::alloc::{Allocator, Global};
 
 /// A request: one variant for each line that is served.
 #[derive(Drop)]
 pub enum Request<A: Allocator = Global> {
+    /// The normal form of a label.
+    Label {
+        label: Label<A>,
+    },
     /// How many rows of a table are inside a query and seen with these authorizations.
     Count {
         table: TableName,
@@ -22,15 +27,15 @@ pub enum Request<A: Allocator = Global> {
 }
 
 impl<A: Allocator> Request<A> {
-    ghost use Rattle.std.specs.Prelude.{◌≡◌, ◌≤◌, length};
-    ghost use Rattle.st_policy.specs.Requests.{is_change, name_of, target_of};
+    ghost use Rattle.std.specs.Prelude.{◌≡◌, ◌≤◌, length, option_map};
+    ghost use Rattle.st_policy.specs.Requests.{is_change, name_of, table_of};
 
     /// Whether it changes anything, where it is allowed.
     pub fn is_change(&self) -> bool
         ensures { result ≡ is_change self.now }
     {
         match self {
-            Request::Count { .. } => false,
+            Request::Label { .. } | Request::Count { .. } => false,
             Request::Put { .. } => true,
         }
     }
@@ -41,18 +46,20 @@ impl<A: Allocator> Request<A> {
         ensures short { length result.now ≤ 16 }
     {
         match self {
+            Request::Label { .. } => "label",
             Request::Count { .. } => "count",
             Request::Put { .. } => "put",
         }
     }
 
-    /// The table that it is about.
-    pub fn table(&self) -> &TableName
-        ensures { result.now ≡ target_of self.now }
+    /// The table that it is about, if it is about one.
+    pub fn table(&self) -> Option<&TableName>
+        ensures { option_map (λ table. table.now) result ≡ table_of self.now }
     {
         match self {
-            Request::Count { table, .. } => table,
-            Request::Put { table, .. } => table,
+            Request::Label { .. } => None,
+            Request::Count { table, .. } => Some(table),
+            Request::Put { table, .. } => Some(table),
         }
     }
 }

@@ -73,6 +73,17 @@ fn decisions_on_puts(rt: HostRuntime) -> Result<(), Fail> {
 }
 
 #[test]
+fn a_label_needs_no_permission(rt: HostRuntime) -> Result<(), Fail> {
+    let directory = Directory::new(rt.alloc(), [0; 32], Auths::none(rt.alloc()))?;
+    let label = Label::parse(rt.alloc(), "S")?;
+    let request = Request::Label { label };
+    assert!(rt; !request.is_change() && request.table().is_none());
+    assert_eq!(rt; request.name(), "label");
+    assert_eq!(rt; number(&directory, "zoe", request)?, 0);
+    Ok(())
+}
+
+#[test]
 fn what_refused(rt: HostRuntime) -> Result<(), Fail> {
     let auths = Auths::from_list(rt.alloc(), &["A"])?;
     let directory = Directory::new(rt.alloc(), [0; 32], auths)?;
@@ -107,7 +118,7 @@ fn requests_and_numbers(rt: HostRuntime) -> Result<(), Fail> {
     assert!(rt; !counted.is_change() && row.is_change());
     assert_eq!(rt; counted.name(), "count");
     assert_eq!(rt; row.name(), "put");
-    assert_eq!(rt; row.table().as_str(), "t");
+    assert!(rt; row.table().is_some_and(|table| table.is("t")));
     assert_eq!(rt; FieldName::Auths.name(), "auths");
     let refusals = [
         (Refusal::Json, 3),

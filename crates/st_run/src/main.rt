@@ -3,6 +3,8 @@
 
 mod fault;
 #[cfg(test)]
+mod label_rows;
+#[cfg(test)]
 mod rows;
 #[cfg(test)]
 mod tests;

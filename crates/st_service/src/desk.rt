@@ -34,18 +34,18 @@ impl<A: Allocator> Model for Desk<A> {
 
 #[tactic(auto, using(crate::proofs::Told::not_405))]
 // The status code of a reply (RFC 9110, "Status Codes").
-fn status_of(reply: &Reply) -> StatusCode
+fn status_of<A: Allocator>(reply: &Reply<A>) -> StatusCode
     ensures status { result ≡ reply_status reply.now }
     ensures allows { result ≢ 405 }
 {
     match reply {
-        Reply::Accepted | Reply::Count(_) => StatusCode::OK,
+        Reply::Accepted | Reply::Normal { .. } | Reply::Count(_) => StatusCode::OK,
         Reply::Refused(refusal) => status(refusal),
     }
 }
 
 // The answer that tells a reply. That a change was made is told without memory.
-fn tell<A: Allocator + Copy>(alloc: A, reply: &Reply, close: bool, bare: bool) -> Answer<A>
+fn tell<A: Allocator + Copy>(alloc: A, reply: &Reply<A>, close: bool, bare: bool) -> Answer<A>
     ensures { (bytes_of result ≡ reply_text reply.now close bare)
         ⊎ ((bytes_of result ≡ busy_text close bare) × (reply.now ≢ Told.Accepted)) }
 {

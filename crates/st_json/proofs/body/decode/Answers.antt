@@ -2,6 +2,9 @@ use Rattle.std.proofs.lemmas.Result.{err_from_is_err_and}
 use Rattle.st_json.proofs.Chosen.{tells_found, body_fault}
 use Rattle.st_json.proofs.body.decode.Goals as goal
 
+pub returns-in-Label : goal.returns-in-Label
+returns-in-Label g c = rw c.in-Label.is (tells_found _ _ _ _ c.in_ok-object.ensures.ok _ c.label_request.ensures)
+
 pub returns-in-Count : goal.returns-in-Count
 returns-in-Count g c = rw c.in-Count.is (tells_found _ _ _ _ c.in_ok-object.ensures.ok _ c.count.ensures)
 

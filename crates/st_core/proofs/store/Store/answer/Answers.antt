@@ -1,4 +1,4 @@
-use Rattle.std.proofs.Common.{rules, ◌≡◌, Some, refl, sym, ◌∙◌, ap, subst}
+use Rattle.std.proofs.Common.{rules, ◌≡◌, Some, sym, ◌∙◌, ap, subst}
 use Rattle.st_core.specs.declared.reply.Reply.{Reply}
 use Rattle.st_core.specs.State.{State}
 use Rattle.st_core.specs.Reads.{scan_key, rows_that, shown}
@@ -8,8 +8,8 @@ use Rattle.st_box.specs.Query.{is_inside}
 use Rattle.st_core.proofs.Steps.{step_shown, length-in_order}
 use Rattle.st_core.proofs.store.Store.answer.Goals as goal
 
-pub returns : goal.returns
-returns g c =
+pub returns-in-Count : goal.returns-in-Count
+returns-in-Count g c =
     let s : State g.row.A.Denot = record { directory = c.self.inside.directory; rows = c.self.inside.rows.items; audit = c.self.inside.audit.items } in
     let heard : asker_of c.self.inside.directory c.args.asked.now.token ≡ Some c.in-Some.asker.now = search rules in
     let whole = step_shown s c.args.asked.now c.in-Some.asker.now c.in-Good.request heard c.in-Good.is (search rules) in

@@ -8,8 +8,8 @@ use Rattle.st_http.proofs.routes.Routes.new.Goals as goal
 pub loop-path-preserved : goal.loop-path-preserved
 unfolding all_paths
 loop-path-preserved c =
-    c.in_ok-add.ensures ∙ ap (λ (rows : Rows). with_path rows (get_or all_paths c.loop-path.path-index paths.Count)) c.loop-path.invariant
-    ∙ sym (fold_more with_path [] all_paths c.loop-path.path-index paths.Count c.loop-path-test.true)
+    c.in_ok-add.ensures ∙ ap (λ (rows : Rows). with_path rows (get_or all_paths c.loop-path.path-index paths.Label)) c.loop-path.invariant
+    ∙ sym (fold_more with_path [] all_paths c.loop-path.path-index paths.Label c.loop-path-test.true)
 
 pub invariant_of-result : goal.invariant_of-result
 unfolding routes all_paths
