@@ -85,39 +85,62 @@ impl<A: Allocator + Copy> Reader<A> {
             unit,
         } = self;
         let class = class_of(c);
-        let unit = match unit {
-            Unit::Start => return start(alloc, outer, level, c, class),
+        match unit {
+            Unit::Start => start(alloc, outer, level, c, class),
             Unit::Word(mut name) => match class {
                 Class::Plain => {
                     name.push(c)?;
-                    Unit::Word(name)
+                    Ok(Reader {
+                        alloc,
+                        outer,
+                        level,
+                        unit: Unit::Word(name),
+                    })
                 }
-                _ => return behind(alloc, outer, level, Tree::Term(name), class),
+                _ => behind(alloc, outer, level, Tree::Term(name), class),
             },
             Unit::Quoted(mut name) => match class {
-                Class::Quote if name.is_empty() => return Err(ReadFault::NotViable),
-                Class::Quote => Unit::Done(Tree::Term(name)),
-                Class::Backslash => Unit::Escape(name),
+                Class::Quote => {
+                    if name.is_empty() {
+                        return Err(ReadFault::NotViable);
+                    }
+                    Ok(Reader {
+                        alloc,
+                        outer,
+                        level,
+                        unit: Unit::Done(Tree::Term(name)),
+                    })
+                }
+                Class::Backslash => Ok(Reader {
+                    alloc,
+                    outer,
+                    level,
+                    unit: Unit::Escape(name),
+                }),
                 _ => {
                     name.push(c)?;
-                    Unit::Quoted(name)
+                    Ok(Reader {
+                        alloc,
+                        outer,
+                        level,
+                        unit: Unit::Quoted(name),
+                    })
                 }
             },
             Unit::Escape(mut name) => match class {
                 Class::Quote | Class::Backslash => {
                     name.push(c)?;
-                    Unit::Quoted(name)
+                    Ok(Reader {
+                        alloc,
+                        outer,
+                        level,
+                        unit: Unit::Quoted(name),
+                    })
                 }
-                _ => return Err(ReadFault::NotViable),
+                _ => Err(ReadFault::NotViable),
             },
-            Unit::Done(tree) => return behind(alloc, outer, level, tree, class),
-        };
-        Ok(Reader {
-            alloc,
-            outer,
-            level,
-            unit,
-        })
+            Unit::Done(tree) => behind(alloc, outer, level, tree, class),
+        }
     }
 
     /// The tree of the whole text.
