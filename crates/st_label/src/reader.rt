@@ -61,6 +61,23 @@ pub struct Reader<A: Allocator> {
     unit: Unit<A>,
 }
 
+// A reader with these parts.
+fn reader_at<A: Allocator>(
+    alloc: A,
+    outer: Vec<Level<A>, A>,
+    level: Level<A>,
+    unit: Unit<A>,
+) -> Result<Reader<A>, ReadFault>
+    ensures { result ≡ Ok (record { alloc = alloc; outer = outer; level = level; unit = unit }) }
+{
+    Ok(Reader {
+        alloc,
+        outer,
+        level,
+        unit,
+    })
+}
+
 impl<A: Allocator + Copy> Reader<A> {
     pub fn new(alloc: A) -> Result<Reader<A>, AllocError>
         ensures { IfOk result (λ reader. reader_view reader ≡ init) }
@@ -90,12 +107,7 @@ impl<A: Allocator + Copy> Reader<A> {
             Unit::Word(mut name) => match class {
                 Class::Plain => {
                     name.push(c)?;
-                    Ok(Reader {
-                        alloc,
-                        outer,
-                        level,
-                        unit: Unit::Word(name),
-                    })
+                    reader_at(alloc, outer, level, Unit::Word(name))
                 }
                 _ => behind(alloc, outer, level, Tree::Term(name), class),
             },
@@ -104,38 +116,18 @@ impl<A: Allocator + Copy> Reader<A> {
                     if name.is_empty() {
                         return Err(ReadFault::NotViable);
                     }
-                    Ok(Reader {
-                        alloc,
-                        outer,
-                        level,
-                        unit: Unit::Done(Tree::Term(name)),
-                    })
+                    reader_at(alloc, outer, level, Unit::Done(Tree::Term(name)))
                 }
-                Class::Backslash => Ok(Reader {
-                    alloc,
-                    outer,
-                    level,
-                    unit: Unit::Escape(name),
-                }),
+                Class::Backslash => reader_at(alloc, outer, level, Unit::Escape(name)),
                 _ => {
                     name.push(c)?;
-                    Ok(Reader {
-                        alloc,
-                        outer,
-                        level,
-                        unit: Unit::Quoted(name),
-                    })
+                    reader_at(alloc, outer, level, Unit::Quoted(name))
                 }
             },
             Unit::Escape(mut name) => match class {
                 Class::Quote | Class::Backslash => {
                     name.push(c)?;
-                    Ok(Reader {
-                        alloc,
-                        outer,
-                        level,
-                        unit: Unit::Quoted(name),
-                    })
+                    reader_at(alloc, outer, level, Unit::Quoted(name))
                 }
                 _ => Err(ReadFault::NotViable),
             },
@@ -184,33 +176,18 @@ fn start<A: Allocator + Copy>(
         Class::Plain => {
             let mut name = String::new(alloc);
             name.push(c)?;
-            Ok(Reader {
-                alloc,
-                outer,
-                level,
-                unit: Unit::Word(name),
-            })
+            reader_at(alloc, outer, level, Unit::Word(name))
         }
         Class::Quote => {
             let name = String::new(alloc);
-            Ok(Reader {
-                alloc,
-                outer,
-                level,
-                unit: Unit::Quoted(name),
-            })
+            reader_at(alloc, outer, level, Unit::Quoted(name))
         }
         Class::Open => {
             if outer.len() >= MAX_DEPTH {
                 return Err(ReadFault::TooDeep);
             }
             outer.push(level)?;
-            Ok(Reader {
-                alloc,
-                outer,
-                level: Level::Free,
-                unit: Unit::Start,
-            })
+            reader_at(alloc, outer, Level::Free, Unit::Start)
         }
         _ => Err(ReadFault::NotViable),
     }
@@ -229,23 +206,13 @@ fn behind<A: Allocator + Copy>(
     match class {
         Class::Sign(operator) => {
             let level = joined(alloc, operator, level, tree)?;
-            Ok(Reader {
-                alloc,
-                outer,
-                level,
-                unit: Unit::Start,
-            })
+            reader_at(alloc, outer, level, Unit::Start)
         }
         Class::Close => match outer.pop() {
             None => Err(ReadFault::NotViable),
             Some(around) => {
                 let tree = closed(level, tree)?;
-                Ok(Reader {
-                    alloc,
-                    outer,
-                    level: around,
-                    unit: Unit::Done(tree),
-                })
+                reader_at(alloc, outer, around, Unit::Done(tree))
             }
         },
         _ => Err(ReadFault::NotViable),
