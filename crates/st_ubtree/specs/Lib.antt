@@ -1,0 +1,6 @@
+pub mod Pages
+pub mod Nodes
+pub mod Falls
+pub mod Growing
+pub mod Shrinking
+pub mod Trading
