@@ -8,4 +8,5 @@ pub mod Joining
 pub mod Mending
 pub mod Shrinking
 pub mod Trading
+pub mod Needing
 pub mod Counting

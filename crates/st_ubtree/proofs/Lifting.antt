@@ -3,6 +3,7 @@ use Rattle.std.proofs.Common.{◌≡◌, ℕ, ◌+◌, ◌-◌, ◌<◌, ◌≤�
 use Rattle.std.proofs.lemmas.List.{set_split, length-drop}
 use Rattle.std.proofs.lemmas.List.Elements.{All-append, All-cons, All-head, All-tail, All-drop}
 use Rattle.std.specs.List.{All, insert}
+use Rattle.std.specs.Prelude.{IfSome}
 use Rattle.std.specs.List.Sorted.{IsPartitionedBy, IsPartitionPoint}
 use Rattle.st_index.specs.declared.row.Row.{Row}
 use Rattle.st_index.specs.Rows.{EntryValue}
@@ -10,7 +11,7 @@ use Rattle.st_index.proofs.Climbing.{all_left, all_right}
 use Rattle.st_index.proofs.Putting.{split_read}
 use Rattle.st_ubtree.specs.Pages.{PageValue, NodeValue, GrowsBy, HeadAt, IsFilled, IsKid, StartsAt, entries_in, pages_of}
 use Rattle.st_ubtree.specs.Growing.{Grows, IsRoomFor, Settles}
-use Rattle.st_ubtree.specs.Nodes.{IsInner}
+use Rattle.st_ubtree.specs.Nodes.{IsInner, inner_node}
 use Rattle.st_ubtree.proofs.Spanning.{entries-append, pages-append, pages_split}
 use Rattle.st_ubtree.proofs.Inside.{kid_grows}
 use Rattle.st_ubtree.proofs.Settling.{kids_start, pages_filled}
@@ -23,10 +24,6 @@ insert_after xs v ys s j e = ap (λ n. insert (xs ++ v ∷ ys) n s) e ∙ at xs
     at (z ∷ zs) = ap (λ t. z ∷ t) (at zs)
 
 module _ {A : Type 0} where
-  -- a node over children, as clauses see it
-  abbrev pub inner_node : ℕ → ℕ → List (NodeValue A) → NodeValue A
-  inner_node first height kids = record { first = first; height = height; width = length kids; pages = pages_of kids }
-
   pub kid_stays : (key : ℕ) (row : Row A) (below : ℕ) (kid v : NodeValue A) → IsKid below kid → Grows key row kid v None → IsKid below v
   kid_stays key row below kid v k g = record {
     same_height = g.height ∙ k.same_height;
@@ -149,6 +146,10 @@ module _ {A : Type 0} where
   head_first : (first : ℕ) (all new : List (NodeValue A)) → new ≡ take 16 all → HeadAt first all → HeadAt first new
   head_first first [] new e h = absurd h
   head_first first (x ∷ xs) new e h = subst (HeadAt first) (sym e) h
+
+  pub settled_split : (height : ℕ) (all new : List (NodeValue A)) (r : Option (NodeValue A)) (P : Type 0) → Settles height all new r → (length all ≡ 33 → P) → IfSome r (λ _. P)
+  settled_split height all new None P t f = tt
+  settled_split height all new (Some w) P t f = f t.4
 
   pub settled_inner : (below first height : ℕ) (all new : List (NodeValue A)) (capacity : ℕ) (r : Option (NodeValue A)) → height ≡ below + 1 → All (IsKid below) all → HeadAt first all → 1 ≤ length all → 33 ≤ capacity → Settles height all new r → IsInner first height new capacity
   settled_inner below first height all new capacity None h each head some room t = record {

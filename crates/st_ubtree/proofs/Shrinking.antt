@@ -12,14 +12,14 @@ use Rattle.st_index.specs.Index.{Adds, IsAbsent}
 use Rattle.st_index.proofs.Climbing.{all_left, all_right}
 use Rattle.st_index.proofs.Putting.{adds_inside, split_read}
 use Rattle.st_index.proofs.Taking.{absent_high, absent_join, absent_low, rows_below, rows_from}
-use Rattle.st_ubtree.specs.Nodes.{IsInner}
+use Rattle.st_ubtree.specs.Nodes.{IsInner, inner_node, page_node}
 use Rattle.st_ubtree.specs.Pages.{PageValue, NodeValue, HeadAt, IsFilled, IsKid, Spans, StartsAt, entries_in, pages_of, rows_in}
 use Rattle.st_ubtree.specs.Shrinking.{AreWorn, DropsFrom, HasNone, IsWorn, Mends, Reshapes, Shrinks}
 use Rattle.st_ubtree.proofs.Inside.{rows_join, rows_three}
-use Rattle.st_ubtree.proofs.Lifting.{head_same, inner_node, that_kid}
+use Rattle.st_ubtree.proofs.Lifting.{head_same, that_kid}
 use Rattle.st_ubtree.proofs.Settling.{kids_start, pages_filled}
 use Rattle.st_ubtree.proofs.Spanning.{Found, found_kid, pages-append, pages_split, spans_bounds, spans_cut, spans_join}
-use Rattle.st_ubtree.proofs.Splitting.{filled_page, one_rows, page, page_node}
+use Rattle.st_ubtree.proofs.Splitting.{filled_page, one_rows, page}
 
 module _ {A : Type 0} (period : Period) where
   pub page_rows_below : (lo hi : ℕ) (ps : List (PageValue A)) → Spans period lo hi ps → All (λ r. place_of period r < hi) (rows_in ps)

@@ -77,7 +77,7 @@ module _ {A : Type 0} (period : Period) where
   firsts_from below lo hi [] each h = λ k d l. absurd (omega (arith, l))
   firsts_from below lo hi (v ∷ vs) each h =
       let c = spans_cut lo hi v.pages (pages_of vs) h in
-      let s = starts_there v.first lo c.at v.pages (All-head (IsKid below) v vs each).starts c.low in
+      let s = starts_there v.first lo c.at v.pages (All-head (IsKid below) v vs each).starts.0 c.low in
       let rest = firsts_from below c.at hi vs (All-tail (IsKid below) v vs each) c.high in
       All-cons (λ (w : NodeValue A). lo ≤ w.first) v vs (let e = s.0 in omega (arith, e)) (λ k d l. let r = rest k d l in let b = s.1 in omega (arith, r, b))
 
@@ -86,7 +86,7 @@ module _ {A : Type 0} (period : Period) where
   firsts_parted key below lo hi (v ∷ vs) each h zero zero d a b p = p
   firsts_parted key below lo hi (v ∷ vs) each h zero (suc j) d a b p =
       let c = spans_cut lo hi v.pages (pages_of vs) h in
-      let s = starts_there v.first lo c.at v.pages (All-head (IsKid below) v vs each).starts c.low in
+      let s = starts_there v.first lo c.at v.pages (All-head (IsKid below) v vs each).starts.0 c.low in
       let l : j < length vs = omega (arith, b) in
       let r = firsts_from below c.at hi vs (All-tail (IsKid below) v vs each) c.high j d l in
       let u = upto_is key (get_or vs j d).first p in
@@ -113,7 +113,7 @@ module _ {A : Type 0} (period : Period) where
   next_first below b hi w ws vs e kid h =
       let g = subst (λ t. Spans period b hi (pages_of t)) e h in
       let c = spans_cut b hi w.pages (pages_of ws) g in
-      (starts_there w.first b c.at w.pages kid.starts c.low).0
+      (starts_there w.first b c.at w.pages kid.starts.0 c.low).0
 
   none_left : (b hi : ℕ) (vs : List (NodeValue A)) → vs ≡ [] → Spans period b hi (pages_of vs) → hi ≡ b
   none_left b hi vs e h = sym (subst (λ t. Spans period b hi (pages_of t)) e h)
@@ -139,7 +139,7 @@ module _ {A : Type 0} (period : Period) where
       let g = subst (Spans period lo hi) (pages_split kids i kid l read) h in
       let c = spans_cut lo hi (pages_of (take i kids)) (kid.pages ++ pages_of (drop (suc i) kids)) g in
       let e = spans_cut c.at hi kid.pages (pages_of (drop (suc i) kids)) c.high in
-      let s = starts_there kid.first c.at e.at kid.pages (kid_at below kids each i kid l read).starts e.low in
+      let s = starts_there kid.first c.at e.at kid.pages (kid_at below kids each i kid l read).starts.0 e.low in
       record {
         a = c.at;
         b = e.at;

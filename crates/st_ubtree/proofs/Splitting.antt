@@ -9,6 +9,7 @@ use Rattle.st_index.proofs.Putting.{split_read}
 use Rattle.st_index.proofs.Rising.{rises_bounds, rises_around}
 use Rattle.st_ubtree.specs.Pages.{PageValue, NodeValue, Spans, GrowsBy, IsFilled, IsKid, rows_in, entries_in}
 use Rattle.st_ubtree.specs.Growing.{PageGrows, Grows}
+use Rattle.st_ubtree.specs.Nodes.{page_node}
 use Rattle.st_key.specs.declared.period.Period.{Period}
 use Rattle.st_index.specs.declared.row.Row.{Row}
 
@@ -55,9 +56,6 @@ module _ {A : Type 0} where
           subst (λ f. Spans period lo hi (page f (take n new) ∷ page e.at (drop n new) ∷ [])) (sym s.0) (split_spans period lo hi new n e p l read r);
     }
 
-  abbrev pub page_node : ℕ → ℕ → List (EntryValue A) → NodeValue A
-  page_node first height es = record { first = first; height = height; width = length es; pages = page first es ∷ [] }
-
   pub page_fits : (key : ℕ) (row : Row A) (old new : List (EntryValue A)) (r : Option (NodeValue A)) → PageGrows key row old new r → length new ≤ 32
   page_fits key row old new None h = h.1
   page_fits key row old new (Some s) h = let a = h.0 in omega (arith, a)
@@ -74,6 +72,6 @@ module _ {A : Type 0} where
     first = refl;
     height = refl;
     starts = λ t. t;
-    widths = (record { same_height = refl; not_less = let a = h.0 in omega (arith, a); not_more = let a = h.0 in omega (arith, a); starts = refl; filled = let a = h.0 in filled_page first new (omega (arith, a)) (omega (arith, a)) }, subst (λ n. IsKid n s) (sym z) h.2);
+    widths = (record { same_height = refl; not_less = let a = h.0 in omega (arith, a); not_more = let a = h.0 in omega (arith, a); starts = (refl, refl); filled = let a = h.0 in filled_page first new (omega (arith, a)) (omega (arith, a)) }, subst (λ n. IsKid n s) (sym z) h.2);
     by = h.3 first;
   }

@@ -9,16 +9,16 @@ use Rattle.st_key.specs.declared.period.Period.{Period}
 use Rattle.st_index.specs.declared.row.Row.{Row}
 use Rattle.st_index.specs.Rows.{EntryValue, Name, Rises, name_of, place_of, rows_of}
 use Rattle.st_index.specs.Index.{IsAbsent, Swaps}
-use Rattle.st_ubtree.specs.Nodes.{IsInner}
+use Rattle.st_ubtree.specs.Nodes.{IsInner, inner_node, page_node}
 use Rattle.st_ubtree.specs.Pages.{PageValue, NodeValue, HeadAt, IsFilled, IsKid, Spans, pages_of, rows_in}
 use Rattle.st_ubtree.specs.Shrinking.{HasNone}
 use Rattle.st_ubtree.specs.Trading.{Keeps, TradesIn}
 use Rattle.st_ubtree.proofs.Inside.{rows_three}
-use Rattle.st_ubtree.proofs.Lifting.{alone, each_with, head_same, inner_node, that_kid}
+use Rattle.st_ubtree.proofs.Lifting.{alone, each_with, head_same, that_kid}
 use Rattle.st_ubtree.proofs.Settling.{kids_start, pages_filled}
 use Rattle.st_ubtree.proofs.Shrinking.{none_in_kids, none_in_page}
 use Rattle.st_ubtree.proofs.Spanning.{pages-append, pages_split, spans_cut, spans_join}
-use Rattle.st_ubtree.proofs.Splitting.{filled_more, one_rows, page, page_node}
+use Rattle.st_ubtree.proofs.Splitting.{filled_more, one_rows, page}
 
 module _ {A : Type 0} where
   pub page_trades : (key : ℕ) (row : Row A) (first : ℕ) (old new : List (EntryValue A)) (r : Result (Row A) (Row A)) → IfOk r (λ out. Swaps out row (rows_of old) (rows_of new) × (name_of out ≡ name_of row)) → IfOk r (λ out. (period : Period) (lo hi : ℕ) → Rises period lo hi old → place_of period out ≡ key) → ((period : Period) (lo hi : ℕ) → key ≡ place_of period row → Rises period lo hi old → Rises period lo hi new) → IfOk r (λ out. TradesIn key out row (page first old ∷ []) (page first new ∷ []))

@@ -4,7 +4,7 @@ use Rattle.std.specs.List.{All}
 use Rattle.st_key.specs.declared.period.Period.{Period}
 use Rattle.st_index.specs.declared.row.Row.{Row}
 use Rattle.st_index.specs.Rows.{EntryValue, Rises}
-use Rattle.st_ubtree.specs.Pages.{PageValue, NodeValue, Spans, GrowsBy, IsFilled, IsKid, StartsAt, pages_of}
+use Rattle.st_ubtree.specs.Pages.{PageValue, NodeValue, Spans, GrowsBy, IsFilled, IsKid, Starts, pages_of}
 
 -- an empty list of rows that can hold one more than the key's
 pub record IsRoomFor {A : Type 0} (key : ℕ) (items : List (Row A)) (capacity : ℕ) (es : List (EntryValue A)) : Type 0 where
@@ -12,9 +12,27 @@ pub record IsRoomFor {A : Type 0} (key : ℕ) (items : List (Row A)) (capacity :
   pub some : 0 < capacity
   pub enough : All (λ (e : EntryValue A). e.at ≡ key → length e.rows < capacity) es
 
+-- an empty list of entries with room
+abbrev pub IsBlankPage : {A B : Type 0} → Option (Vec B A) → Type 0
+IsBlankPage None = ⊥
+IsBlankPage (Some v) = (v.items ≡ []) × (33 ≤ vec_capacity v)
+
 -- empty lists of children, each with room
 abbrev pub AreBlank : {A B : Type 0} → List (Vec B A) → Type 0
 AreBlank {A} {B} vs = All (λ (v : Vec B A). (v.items ≡ []) × (33 ≤ vec_capacity v)) vs
+
+-- the pages follow each other between some bounds, and the key stands between these
+pub record AreAround {A : Type 0} (key : ℕ) (pages : List (PageValue A)) : Type 0 where
+  pub period : Period
+  pub lo : ℕ
+  pub hi : ℕ
+  pub spans : Spans period lo hi pages
+  pub from : lo ≤ key
+  pub to : key < hi
+
+-- the entries rise between some bounds
+abbrev pub DoRise : {A : Type 0} → List (EntryValue A) → Type 0
+DoRise es = (period : Period) × (lo : ℕ) × (hi : ℕ) × Rises period lo hi es
 
 -- the pages of a node and of the one beside it
 abbrev pub pages_with : {A : Type 0} → NodeValue A → Option (NodeValue A) → List (PageValue A)
@@ -28,7 +46,7 @@ WidthsAfter old v (Some s) = IsKid v.height v × IsKid v.height s
 pub record Grows {A : Type 0} (key : ℕ) (row : Row A) (old new : NodeValue A) (split : Option (NodeValue A)) : Type 0 where
   pub first : new.first ≡ old.first
   pub height : new.height ≡ old.height
-  pub starts : StartsAt old.first old.pages → StartsAt new.first new.pages
+  pub starts : Starts old.first old.pages old.chains → Starts new.first new.pages new.chains
   pub widths : WidthsAfter old new split
   pub by : GrowsBy key row old.pages (pages_with new split)
 
@@ -59,4 +77,4 @@ pub record AreKids {A : Type 0} (height : ℕ) (kids : List (NodeValue A)) : Typ
 -- at most 32 children stay; of more, the lower 16 stay and the others go under a node beside this one
 abbrev pub Settles : {A : Type 0} → ℕ → List (NodeValue A) → List (NodeValue A) → Option (NodeValue A) → Type 0
 Settles height old new None = (new ≡ old) × (length old ≤ 32)
-Settles height old new (Some s) = (new ≡ take 16 old) × (length new ≡ 16) × IsKid height s × (s.pages ≡ pages_of (drop 16 old))
+Settles height old new (Some s) = (new ≡ take 16 old) × (length new ≡ 16) × IsKid height s × (s.pages ≡ pages_of (drop 16 old)) × (length old ≡ 33)

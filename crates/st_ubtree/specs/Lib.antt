@@ -1,4 +1,5 @@
 pub mod Pages
+pub mod Splits
 pub mod Nodes
 pub mod Falls
 pub mod Growing

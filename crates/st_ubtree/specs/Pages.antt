@@ -11,12 +11,14 @@ pub record PageValue (A : Type 0) : Type 0 where
   pub first : ℕ
   pub entries : List (EntryValue A)
 
--- a node: its first key, its height above the pages, how many entries or children it has, and the pages under it
+-- a node: its first key, its height above the pages, how many entries or children it has, the pages under it, and
+-- for each page how many nodes are split where it is: the page, and those over it that are full, one after the other
 pub record NodeValue (A : Type 0) : Type 0 where
   pub first : ℕ
   pub height : ℕ
   pub width : ℕ
   pub pages : List (PageValue A)
+  pub chains : List ℕ
 
 -- the pages' regions follow each other from lo to just below hi, and each page's entries rise inside its own
 abbrev pub Spans : {A : Type 0} → Period → ℕ → ℕ → List (PageValue A) → Type 0
@@ -34,6 +36,10 @@ abbrev pub StartsAt : {A : Type 0} → ℕ → List (PageValue A) → Type 0
 StartsAt first [] = ⊥
 StartsAt first (p ∷ ps) = p.first ≡ first
 
+-- the pages start at this key, and there is a number for each
+abbrev pub Starts : {A : Type 0} → ℕ → List (PageValue A) → List ℕ → Type 0
+Starts first pages chains = StartsAt first pages × (length chains ≡ length pages)
+
 -- a page beside others has 16 to 32 keys
 pub record IsFilled {A : Type 0} (p : PageValue A) : Type 0 where
   pub not_less : 16 ≤ length p.entries
@@ -44,7 +50,7 @@ pub record IsKid {A : Type 0} (height : ℕ) (v : NodeValue A) : Type 0 where
   pub same_height : v.height ≡ height
   pub not_less : 16 ≤ v.width
   pub not_more : v.width ≤ 32
-  pub starts : StartsAt v.first v.pages
+  pub starts : Starts v.first v.pages v.chains
   pub filled : All IsFilled v.pages
 
 abbrev pub pages_of : {A : Type 0} → List (NodeValue A) → List (PageValue A)

@@ -5,7 +5,7 @@ use Rattle.st_key.specs.declared.period.Period.{Period}
 use Rattle.st_index.specs.declared.row.Row.{Row}
 use Rattle.st_index.specs.Rows.{EntryValue, Name, place_of}
 use Rattle.st_index.specs.Index.{Adds, IsAbsent, Swaps}
-use Rattle.st_ubtree.specs.Pages.{PageValue, NodeValue, HeadAt, IsFilled, IsKid, Spans, StartsAt, pages_of, rows_in}
+use Rattle.st_ubtree.specs.Pages.{PageValue, NodeValue, HeadAt, IsFilled, IsKid, Spans, Starts, pages_of, rows_in}
 
 -- the same rows in pages between the same bounds
 pub record Reshapes {A : Type 0} (old new : List (PageValue A)) : Type 0 where
@@ -21,7 +21,7 @@ pub record DropsFrom {A : Type 0} (key : ℕ) (row : Row A) (old new : List (Pag
 pub record Shrinks {A : Type 0} (key : ℕ) (row : Row A) (old new : NodeValue A) : Type 0 where
   pub first : new.first ≡ old.first
   pub height : new.height ≡ old.height
-  pub starts : StartsAt old.first old.pages → StartsAt new.first new.pages
+  pub starts : Starts old.first old.pages old.chains → Starts new.first new.pages new.chains
   pub shorter : new.width ≤ old.width
   pub at_most_one : old.width ≤ new.width + 1
   pub filled : 16 ≤ new.width → All IsFilled new.pages
@@ -36,7 +36,7 @@ pub record IsWorn {A : Type 0} (height : ℕ) (v : NodeValue A) : Type 0 where
   pub same_height : v.height ≡ height
   pub not_less : 15 ≤ v.width
   pub not_more : v.width ≤ 32
-  pub starts : StartsAt v.first v.pages
+  pub starts : Starts v.first v.pages v.chains
   pub filled : 16 ≤ v.width → All IsFilled v.pages
 
 -- all children but one are as they must be, and that one may be worn

@@ -1,13 +1,15 @@
 //! Pages, and the nodes over them.
-ghost use Rattle.std.specs.Prelude.{◌≡◌, ◌+◌, ◌<◌, ◌≤◌, ◌++◌, ℕ, [], IfSome, IfNone, IfOk, OnErr, ◌^◌, length, vec_len, vec_capacity, ltb, not, ◌∷◌, true, false};
+ghost use Rattle.std.specs.Prelude.{◌≡◌, ◌+◌, ◌-◌, ◌<◌, ◌≤◌, ◌++◌, ℕ, [], IfSome, IfNone, IfOk, OnErr, ◌^◌, length, vec_len, vec_capacity, ltb, not, ◌∷◌, true, false};
 ghost use Rattle.std.specs.List.{All};
 ghost use Rattle.std.specs.List.Sorted.{IsNonDecreasingBy, IsPartitionPoint, IsPartitionedBy};
 ghost use Rattle.st_key.specs.Key.{rank};
-ghost use Rattle.st_index.specs.Rows.{name_of};
-ghost use Rattle.st_ubtree.specs.Pages.{IsKid, NodeValue, entries_in};
+ghost use Rattle.st_index.specs.Rows.{EntryValue, name_of};
+ghost use Rattle.st_ubtree.specs.Pages.{GrowsBy, IsKid, NodeValue, entries_in};
 ghost use Rattle.st_ubtree.specs.Trading.{AreFilled, Keeps, TradesIn};
 ghost use Rattle.st_ubtree.specs.Shrinking.{AreWorn, HasNone, IsWorn, Joins, KidsJoin, Mends, PagesJoin, Shrinks};
-ghost use Rattle.st_ubtree.specs.Growing.{AreKids, Settles, PageGrows, IsRoomFor, AreBlank, Grows, IsLeafIn};
+ghost use Rattle.st_ubtree.specs.Growing.{AreAround, AreBlank, AreKids, DoRise, Grows, IsBlankPage, IsLeafIn, IsRoomFor, PageGrows, Settles};
+ghost use Rattle.st_ubtree.specs.Nodes.{page_node};
+ghost use Rattle.st_ubtree.specs.Splits.{made_nodes, split_nodes, splits, splits_page, splits_with};
 
 use crate::split::{share, split_at};
 use st_index::{Entry, Leaf, Row, entries, order};
@@ -39,9 +41,9 @@ impl<A: Allocator> Model for Node<A> {
 
     ghost Value = { NodeValue A };
 
-    ghost use Rattle.st_ubtree.specs.Nodes.{width_of, pages_under, IsNode};
+    ghost use Rattle.st_ubtree.specs.Nodes.{node_value, IsNode};
 
-    ghost view = { λ n. record { first = rank n.first; height = n.height; width = width_of n.kids; pages = pages_under (rank n.first) n.kids } };
+    ghost view = { λ n. node_value (rank n.first) n.height n.kids };
 
     ghost invariant = { λ n. IsNode (rank n.first) n.height n.kids };
 
@@ -64,26 +66,72 @@ fn count_up_to<A: Allocator + Copy>(kids: &[Node<A>], key: Key) -> usize
     )
 }
 
+/// What a new row of a key takes: how many rows the key has, and, where its page is to be split, how many
+/// nodes above the page are.
+#[derive(Clone, Copy)]
+pub struct Needs {
+    pub rows: usize,
+    pub inners: Option<u64>,
+}
+
+/// What a new row of the key takes in a page.
+fn page_needs<A: Allocator + Copy>(entries: &[Entry<A>], key: Key) -> Needs
+    requires { DoRise entries.now }
+    ensures rows { All (λ (e : EntryValue A). e.at ≡ rank key → length e.rows ≡ result.rows) entries.now }
+    ensures in_range { result.rows + 1 < 2 ^ 64 }
+    ensures splits { splits_page entries.now 1 (rank key) ≡ split_nodes result.inners }
+{
+    match entries::find(entries, key) {
+        Ok(i) => {
+            let entry = &entries[i];
+            Needs {
+                rows: entry.len(),
+                inners: None,
+            }
+        }
+        Err(_) => Needs {
+            rows: 0,
+            inners: if entries.len() < 32 { None } else { Some(0) },
+        },
+    }
+}
+
+/// How many nodes above a page are split, up to a node of this height over so many children, from how many
+/// are up to the child.
+fn count_node(inners: Option<u64>, height: u64, width: usize) -> Option<u64>
+    requires { 1 ≤ height }
+    ensures { split_nodes result ≡ splits_with width (height - 1) (split_nodes inners) }
+{
+    match inners {
+        Some(inners) if inners == height - 1 && width >= 32 => Some(height),
+        inners => inners,
+    }
+}
+
 /// Puts a row into a page's entries. Of 33 entries the upper 17 are handed back as a page of their own.
 fn put_in_page<A: Allocator + Copy>(
     entries: &mut Vec<Entry<A>, A>,
     key: Key,
     row: Row<A>,
     rows: Vec<Row<A>, A>,
-    page: Vec<Entry<A>, A>,
+    page: Option<Vec<Entry<A>, A>>,
 ) -> Option<Node<A>>
     requires rows { IsRoomFor (rank key) rows.items (vec_capacity rows) entries.old.items }
+    requires rising { DoRise entries.old.items }
     requires not_more { length entries.old.items ≤ 32 }
     requires room { 33 ≤ vec_capacity entries.old }
-    requires page_empty { page.items ≡ [] }
-    requires page_room { 33 ≤ vec_capacity page }
+    requires page { 1 ≤ splits_page entries.old.items 1 (rank key) → IsBlankPage page }
     ensures grows { PageGrows (rank key) row entries.old.items entries.new.items result }
+    ensures split { IfSome result (λ _. splits_page entries.old.items 1 (rank key) ≡ 1) }
     ensures room { 33 ≤ vec_capacity entries.new }
 {
     entries::put(entries, key, row, rows);
     if entries.len() <= 32 {
         return None;
     }
+    let Some(page) = page else {
+        unreachable!()
+    };
     let least = &entries[16];
     let first = least.key;
     let upper = split_at(entries, 16, page);
@@ -99,7 +147,7 @@ fn settle<A: Allocator + Copy>(
     requires kids { AreKids height kids.old.items }
     requires not_more { length kids.old.items ≤ 33 }
     requires blank { AreBlank inners.old.items }
-    requires enough { 0 < vec_len inners.old }
+    requires enough { 32 < length kids.old.items → 0 < vec_len inners.old }
     ensures settles { Settles height kids.old.items kids.new.items result }
     ensures capacity { vec_capacity kids.new ≡ vec_capacity kids.old }
     ensures blank { AreBlank inners.new.items }
@@ -198,7 +246,7 @@ impl<A: Allocator + Copy> Node<A> {
     pub fn page(first: Key, entries: Vec<Entry<A>, A>) -> Self
         requires not_more { length entries.items ≤ 32 }
         requires room { 33 ≤ vec_capacity entries }
-        ensures { result ≡ record { first = rank first; height = 0; width = length entries.items; pages = record { first = rank first; entries = entries.items } ∷ [] } }
+        ensures { result ≡ page_node (rank first) 0 entries.items }
     {
         Node {
             first,
@@ -238,21 +286,43 @@ impl<A: Allocator + Copy> Node<A> {
         }
     }
 
+    /// What a new row of the key takes.
+    pub fn needs(&self, key: Key) -> Needs
+        requires { AreAround (rank key) self.now.pages }
+        ensures rows { All (λ (e : EntryValue A). e.at ≡ rank key → length e.rows ≡ result.rows) (entries_in self.now.pages) }
+        ensures in_range { result.rows + 1 < 2 ^ 64 }
+        ensures splits { splits self.now (rank key) ≡ split_nodes result.inners }
+    {
+        match &self.kids {
+            Kids::Page(entries) => page_needs(entries, key),
+            Kids::Inner(kids) => {
+                let at = count_up_to(kids, key).max(1) - 1;
+                let kid = &kids[at];
+                let needs = kid.needs(key);
+                Needs {
+                    rows: needs.rows,
+                    inners: count_node(needs.inners, self.height, kids.len()),
+                }
+            }
+        }
+    }
+
     /// Puts in a row. Where the node is full, its upper half is handed back as a node of its own.
     pub fn insert(
         &mut self,
         key: Key,
         row: Row<A>,
         rows: Vec<Row<A>, A>,
-        page: Vec<Entry<A>, A>,
+        page: Option<Vec<Entry<A>, A>>,
         inners: &mut Vec<Vec<Node<A>, A>, A>,
     ) -> Option<Node<A>>
         requires rows { IsRoomFor (rank key) rows.items (vec_capacity rows) (entries_in self.old.pages) }
-        requires page_empty { page.items ≡ [] }
-        requires page_room { 33 ≤ vec_capacity page }
+        requires around { AreAround (rank key) self.old.pages }
+        requires page { 1 ≤ splits self.old (rank key) → IsBlankPage page }
         requires blank { AreBlank inners.old.items }
-        requires enough { self.old.height ≤ vec_len inners.old }
+        requires enough { splits self.old (rank key) ≤ vec_len inners.old + 1 }
         ensures grows { Grows (rank key) row self.old self.new result }
+        ensures split { IfSome result (λ _. splits self.old (rank key) ≡ self.old.height + 1) }
         ensures blank { AreBlank inners.new.items }
         ensures left { vec_len inners.old ≤ vec_len inners.new + self.old.height }
     {
@@ -334,13 +404,51 @@ impl<A: Allocator + Copy> Node<A> {
         }
     }
 
+    /// Puts in a row. Where the node is split, it comes to stand over its halves.
+    pub fn put(
+        &mut self,
+        key: Key,
+        row: Row<A>,
+        rows: Vec<Row<A>, A>,
+        page: Option<Vec<Entry<A>, A>>,
+        mut inners: Vec<Vec<Node<A>, A>, A>,
+    )
+        requires rows { IsRoomFor (rank key) rows.items (vec_capacity rows) (entries_in self.old.pages) }
+        requires around { AreAround (rank key) self.old.pages }
+        requires page { 1 ≤ splits self.old (rank key) → IsBlankPage page }
+        requires blank { AreBlank inners.items }
+        requires enough { made_nodes self.old.height (splits self.old (rank key)) ≤ vec_len inners }
+        requires wide { 1 ≤ self.old.height → 2 ≤ self.old.width }
+        ensures grows { GrowsBy (rank key) row self.old.pages self.new.pages }
+        ensures wide { 1 ≤ self.new.height → 2 ≤ self.new.width }
+    {
+        let Some(right) = self.insert(key, row, rows, page, &mut inners) else {
+            return;
+        };
+        let Some(blank) = inners.pop() else {
+            unreachable!()
+        };
+        self.raise(right, blank);
+    }
+
+    /// Where the node's memory comes from.
+    pub fn allocator(&self) -> A {
+        match &self.kids {
+            Kids::Page(entries) => *entries.allocator(),
+            Kids::Inner(kids) => *kids.allocator(),
+        }
+    }
+
     /// Puts the node, and one beside it, under a node in its place.
     pub fn raise(&mut self, right: Node<A>, mut blank: Vec<Node<A>, A>)
         requires kids { IsKid self.old.height self.old × IsKid self.old.height right }
         requires empty { blank.items ≡ [] }
         requires room { 33 ≤ vec_capacity blank }
         requires height { self.old.height + 1 < 2 ^ 64 }
-        ensures { self.new ≡ record { first = self.old.first; height = self.old.height + 1; width = 2; pages = self.old.pages ++ right.pages } }
+        ensures first { self.new.first ≡ self.old.first }
+        ensures height { self.new.height ≡ self.old.height + 1 }
+        ensures width { self.new.width ≡ 2 }
+        ensures pages { self.new.pages ≡ self.old.pages ++ right.pages }
     {
         let kids = mem::replace(&mut self.kids, Kids::Inner(Vec::new(*blank.allocator())));
         let left = Node {

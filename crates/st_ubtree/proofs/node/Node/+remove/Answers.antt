@@ -3,11 +3,10 @@ use Rattle.std.proofs.lemmas.List.{set_split}
 use Rattle.std.specs.List.{All}
 use Rattle.st_key.specs.Key.{rank}
 use Rattle.st_ubtree.specs.Pages.{PageValue, NodeValue, HeadAt, IsKid, pages_of}
-use Rattle.st_ubtree.specs.Nodes.{IsNode, IsInner, IsPage, width_of, pages_under}
+use Rattle.st_ubtree.specs.Nodes.{IsNode, IsInner, IsPage, inner_node, node_value, page_node, width_of, pages_under}
 use Rattle.st_ubtree.specs.Shrinking.{AreWorn, HasNone, Mends, Shrinks}
-use Rattle.st_ubtree.proofs.Lifting.{inner_node}
 use Rattle.st_ubtree.proofs.Shrinking.{are_worn, none_in_kids, page_taken, page_without, shrinks_inner, shrunk_inner}
-use Rattle.st_ubtree.proofs.Splitting.{page, page_node}
+use Rattle.st_ubtree.proofs.Splitting.{page}
 use Rattle.st_ubtree.proofs.node.Node.+remove.Goals as goal
 use Rattle.st_ubtree.proofs.node.Node.+remove.Goals.{in-Page, in-Inner+in_ok-row-in-Inner}
 
@@ -70,7 +69,8 @@ invariant_of-self-2 g t c =
           let tall : c.args.self.now.height ≡ c.self.inside.height = ap (λ (v : NodeValue g.row.A.Denot). v.height) (sym c.self.view_is) in
           let broad : c.args.self.now.width ≡ length kids = ap (λ (v : NodeValue g.row.A.Denot). v.width) (sym c.self.view_is) ∙ ap width_of w.in-Inner.is in
           let higher = good.higher in
-          let two : 2 ≤ length kids = let t = c.requires.wide (omega (arith, tall, higher)) in omega (arith, t, broad) in
+          let given : 1 ≤ c.args.self.now.height → 2 ≤ c.args.self.now.width = search (rules, c.requires) in
+          let two : 2 ≤ length kids = let t = given (omega (arith, tall, higher)) in omega (arith, t, broad) in
           let fell = w.in_ok-row-in-Inner.ensures.some in
           let worn = are_worn (rank c.args.key) good.below kids i kid l read good.each w.in_ok-row-in-Inner.row w.remove.new.self fell in
           rw w.self-inside-is (shrunk_inner (rank c.args.key) good.below kids i kid l read good.each w.in_ok-row-in-Inner.row w.remove.new.self fell (rank c.self.inside.first) c.self.inside.height _ w.mend.new.kids.items good.higher good.head two good.not_more w.mend.ensures.room (w.mend.ensures.mends good.below worn))
@@ -87,7 +87,7 @@ returns-clause-some g t c =
           let shorter = w.take.ensures.shorter in
           let most = w.take.ensures.at_most_one in
           let old : page_node (rank c.self.inside.first) c.self.inside.height es ≡ c.args.self.now =
-          ap (λ k. record { first = rank c.self.inside.first; height = c.self.inside.height; width = width_of k; pages = pages_under (rank c.self.inside.first) k }) (sym w.in-Page.is) ∙ c.self.view_is in
+          ap (node_value (rank c.self.inside.first) c.self.inside.height) (sym w.in-Page.is) ∙ c.self.view_is in
           rw (← old, w.self-inside-is, w.result-is) (page_taken (rank c.args.key) (record { id = c.args.id.now; label = c.args.label.now }) (rank c.self.inside.first) c.self.inside.height es w.take.new.entries.items w.take.result w.take.ensures.some w.take.ensures.placed w.take.ensures.rising (omega (arith, was, now, shorter)) (omega (arith, was, now, most)) good.not_more)
       | in-Inner+in_ok-row-in-Inner w ↦
           let kids = w.in-Inner.kids.items in
@@ -102,7 +102,7 @@ returns-clause-some g t c =
           let kid = w.index_mut-kid.result.now in
           let read = w.index_mut-kid.ensures.value in
           let old : inner_node (rank c.self.inside.first) c.self.inside.height kids ≡ c.args.self.now =
-          ap (λ k. record { first = rank c.self.inside.first; height = c.self.inside.height; width = width_of k; pages = pages_under (rank c.self.inside.first) k }) (sym w.in-Inner.is) ∙ c.self.view_is in
+          ap (node_value (rank c.self.inside.first) c.self.inside.height) (sym w.in-Inner.is) ∙ c.self.view_is in
           let fell = w.in_ok-row-in-Inner.ensures.some in
           let worn = are_worn (rank c.args.key) good.below kids i kid l read good.each w.in_ok-row-in-Inner.row w.remove.new.self fell in
           rw (← old, w.self-inside-is, w.result-is) (shrinks_inner (rank c.args.key) good.below kids i kid l read good.each w.in_ok-row-in-Inner.row w.remove.new.self fell (rank c.self.inside.first) c.self.inside.height w.mend.new.kids.items good.head (w.mend.ensures.mends good.below worn))

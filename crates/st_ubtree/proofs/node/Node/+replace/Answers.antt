@@ -3,9 +3,8 @@ use Rattle.std.specs.List.{All}
 use Rattle.st_key.specs.Key.{rank}
 use Rattle.st_index.specs.Rows.{name_of, rows_of}
 use Rattle.st_ubtree.specs.Pages.{PageValue, NodeValue, pages_of}
-use Rattle.st_ubtree.specs.Nodes.{IsNode, IsInner, IsPage, width_of, pages_under}
-use Rattle.st_ubtree.proofs.Lifting.{inner_node}
-use Rattle.st_ubtree.proofs.Splitting.{page, page_node}
+use Rattle.st_ubtree.specs.Nodes.{IsNode, IsInner, IsPage, inner_node, node_value, page_node, width_of, pages_under}
+use Rattle.st_ubtree.proofs.Splitting.{page}
 use Rattle.st_ubtree.proofs.Trading.{kept_inner, kid_trades, kids_keep, kids_lack, page_keeps, page_lacks, page_named, page_trades}
 use Rattle.st_ubtree.proofs.node.Node.+replace.Goals as goal
 use Rattle.st_ubtree.proofs.node.Node.+replace.Goals.{in-Page, in-Inner}
@@ -76,7 +75,7 @@ returns-clause-keeps g t c =
           let now : length w.swap.new.entries.items ≡ vec_len w.swap.new.entries = search rules in
           let same : length w.swap.new.entries.items ≡ length es = omega (arith, was, now, w.swap.ensures.len) in
           let old : page_node (rank c.self.inside.first) c.self.inside.height es ≡ c.args.self.now =
-          ap (λ k. record { first = rank c.self.inside.first; height = c.self.inside.height; width = width_of k; pages = pages_under (rank c.self.inside.first) k }) (sym w.in-Page.is) ∙ c.self.view_is in
+          ap (node_value (rank c.self.inside.first) c.self.inside.height) (sym w.in-Page.is) ∙ c.self.view_is in
           rw (← old, w.self-inside-is) (page_keeps (rank c.self.inside.first) c.self.inside.height es w.swap.new.entries.items same)
       | in-Inner w ↦
           let kids = w.in-Inner.kids.items in
@@ -91,7 +90,7 @@ returns-clause-keeps g t c =
           let kid = w.index_mut-kid.result.now in
           let read = w.index_mut-kid.ensures.value in
           let old : inner_node (rank c.self.inside.first) c.self.inside.height kids ≡ c.args.self.now =
-          ap (λ k. record { first = rank c.self.inside.first; height = c.self.inside.height; width = width_of k; pages = pages_under (rank c.self.inside.first) k }) (sym w.in-Inner.is) ∙ c.self.view_is in
+          ap (node_value (rank c.self.inside.first) c.self.inside.height) (sym w.in-Inner.is) ∙ c.self.view_is in
           rw (← old, w.self-inside-is) (kids_keep (rank c.args.key) good.below kids i kid w.replace.new.self l read good.each (rank c.self.inside.first) c.self.inside.height good.head w.replace.ensures.keeps)
     ]
 

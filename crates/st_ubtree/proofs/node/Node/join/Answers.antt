@@ -2,12 +2,11 @@ use Rattle.std.proofs.Common.{◌≡◌, ℕ, ◌+◌, ◌<◌, ◌≤◌, ◌++
 use Rattle.std.specs.List.{All}
 use Rattle.st_key.specs.Key.{rank}
 use Rattle.st_ubtree.specs.Pages.{PageValue, NodeValue, HeadAt, IsKid, pages_of}
-use Rattle.st_ubtree.specs.Nodes.{IsNode, IsInner, IsPage, width_of, pages_under}
+use Rattle.st_ubtree.specs.Nodes.{IsNode, IsInner, IsPage, inner_node, node_value, page_node, width_of, pages_under}
 use Rattle.st_ubtree.specs.Growing.{AreKids}
 use Rattle.st_ubtree.specs.Shrinking.{Joins, KidsJoin}
 use Rattle.st_ubtree.proofs.Joining.{both_kids, join_of_kids, join_of_pages, joined_each, joined_head}
-use Rattle.st_ubtree.proofs.Lifting.{inner_node}
-use Rattle.st_ubtree.proofs.Splitting.{page, page_node}
+use Rattle.st_ubtree.proofs.Splitting.{page}
 use Rattle.st_ubtree.proofs.node.Node.join.Goals as goal
 use Rattle.st_ubtree.proofs.node.Node.join.Goals.{in-Page-Page, in-Inner-Inner}
 
@@ -56,7 +55,7 @@ returns g c =
             let left = w.in-Page-Page.left.items in
             let right = w.in-Page-Page.right.items in
             let old : page_node (rank c.self.inside.first) c.self.inside.height left ≡ c.args.self.now =
-            ap (λ k. record { first = rank c.self.inside.first; height = c.self.inside.height; width = width_of k; pages = pages_under (rank c.self.inside.first) k }) (sym w.in-Page-Page.is-0) ∙ c.self.view_is in
+            ap (node_value (rank c.self.inside.first) c.self.inside.height) (sym w.in-Page-Page.is-0) ∙ c.self.view_is in
             let pages : c.args.right.pages ≡ page (rank c.right.inside.first) right ∷ [] = ap (λ (v : NodeValue g.row.A.Denot). v.pages) (sym c.right.view_is) ∙ ap (pages_under (rank c.right.inside.first)) w.in-Page-Page.is-1 in
             rw (← old, w.self-inside-is, w.result-is) (join_of_pages (rank c.self.inside.first) (rank c.right.inside.first) c.self.inside.height left right w.join_pages.new.left.items w.join_pages.result c.args.right good.lowest pages w.join_pages.ensures.joins)
         | in-Inner-Inner w ↦
@@ -66,7 +65,7 @@ returns g c =
             let other : IsInner (rank c.right.inside.first) c.right.inside.height right (vec_capacity w.in-Inner-Inner.right) = subst (IsNode (rank c.right.inside.first) c.right.inside.height) w.in-Inner-Inner.is-1 c.right.invariant in
             let all = both_kids (rank c.self.inside.first) (rank c.right.inside.first) c.self.inside.height c.right.inside.height old right _ _ same good other in
             let made : inner_node (rank c.self.inside.first) c.self.inside.height old ≡ c.args.self.now =
-            ap (λ k. record { first = rank c.self.inside.first; height = c.self.inside.height; width = width_of k; pages = pages_under (rank c.self.inside.first) k }) (sym w.in-Inner-Inner.is-0) ∙ c.self.view_is in
+            ap (node_value (rank c.self.inside.first) c.self.inside.height) (sym w.in-Inner-Inner.is-0) ∙ c.self.view_is in
             let pages : c.args.right.pages ≡ pages_of right = ap (λ (v : NodeValue g.row.A.Denot). v.pages) (sym c.right.view_is) ∙ ap (pages_under (rank c.right.inside.first)) w.in-Inner-Inner.is-1 in
             let j : KidsJoin c.self.inside.height old right w.join_kids.new.left.items w.join_kids.result = subst (λ n. KidsJoin n old right w.join_kids.new.left.items w.join_kids.result) same w.join_kids.ensures.joins in
             rw (← made, w.self-inside-is, w.result-is) (join_of_kids (rank c.self.inside.first) c.self.inside.height good.below old right w.join_kids.new.left.items w.join_kids.result c.args.right pages all good.head j)

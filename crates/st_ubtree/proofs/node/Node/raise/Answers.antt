@@ -2,15 +2,15 @@ use Rattle.std.proofs.Common.{◌≡◌, ℕ, ◌+◌, ◌≤◌, ◌∷◌, ◌
 use Rattle.std.specs.List.{All}
 use Rattle.st_key.specs.Key.{rank}
 use Rattle.st_ubtree.specs.Pages.{NodeValue, HeadAt, IsKid}
-use Rattle.st_ubtree.specs.Nodes.{pages_under, width_of}
+use Rattle.st_ubtree.specs.Nodes.{node_value}
 use Rattle.st_ubtree.proofs.Lifting.{both}
 use Rattle.st_ubtree.proofs.node.Node.raise.Goals as goal
 
 pub invariant_of-self : goal.invariant_of-self
 invariant_of-self g c =
-    let left : NodeValue g.row.A.Denot = record { first = rank c.self.inside.first; height = c.self.inside.height; width = width_of c.replace-kids.result; pages = pages_under (rank c.self.inside.first) c.replace-kids.result } in
+    let left : NodeValue g.row.A.Denot = node_value (rank c.self.inside.first) c.self.inside.height c.replace-kids.result in
     let left_is : left ≡ c.args.self.now =
-    ap (λ k. record { first = rank c.self.inside.first; height = c.self.inside.height; width = width_of k; pages = pages_under (rank c.self.inside.first) k }) c.replace-kids.ensures.value ∙ c.self.view_is in
+    ap (node_value (rank c.self.inside.first) c.self.inside.height) c.replace-kids.ensures.value ∙ c.self.view_is in
     let is : c.push-2.new.self.items ≡ c.args.self.now ∷ c.args.right ∷ [] =
     c.in-Ok-push.ensures.items ∙ ap (λ t. t ++ c.args.right ∷ []) (c.in-Ok.ensures.items ∙ ap (λ t. t ++ left ∷ []) c.requires.empty) ∙ ap (λ v. v ∷ c.args.right ∷ []) left_is in
     let tall : c.args.self.now.height ≡ c.self.inside.height = ap (λ (v : NodeValue g.row.A.Denot). v.height) (sym c.self.view_is) in
