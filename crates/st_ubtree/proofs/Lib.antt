@@ -10,3 +10,4 @@ pub mod Shrinking
 pub mod Trading
 pub mod Needing
 pub mod Counting
+pub mod Lawful

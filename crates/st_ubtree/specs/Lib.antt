@@ -5,3 +5,4 @@ pub mod Falls
 pub mod Growing
 pub mod Shrinking
 pub mod Trading
+pub mod Trees
