@@ -4,7 +4,7 @@ use Rattle.std.proofs.lemmas.List.Elements.{All-cons, All-weaker}
 use Rattle.std.specs.List.{All}
 use Rattle.st_ubtree.specs.declared.node.Kids.{Kids}
 use Rattle.st_ubtree.specs.declared.node.Kids.TheVariants.{Page, Inner}
-use Rattle.st_ubtree.specs.Nodes.{IsNode, pages_under}
+use Rattle.st_ubtree.specs.Nodes.{IsNode, pages_under, width_of}
 use Rattle.st_ubtree.specs.Pages.{PageValue, IsFilled, pages_of}
 use Rattle.st_ubtree.specs.Trading.{AreFilled}
 use Rattle.st_ubtree.proofs.Settling.{pages_filled}
@@ -21,3 +21,7 @@ node_filled {A} first height (Inner kids) h =
       not_more = All-weaker IsFilled (λ (p : PageValue A). length p.entries ≤ 32) (λ p f. f.not_more) (pages_of kids.items) filled;
       not_less = λ two. filled;
     }
+
+pub node_fits : {A : Type 0} (first height : ℕ) (kids : Kids A) → IsNode first height kids → width_of kids ≤ 32
+node_fits first height (Page entries) h = h.not_more
+node_fits first height (Inner kids) h = h.not_more

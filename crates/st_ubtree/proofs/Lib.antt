@@ -11,3 +11,4 @@ pub mod Trading
 pub mod Needing
 pub mod Counting
 pub mod Lawful
+pub mod Walking

@@ -6,3 +6,4 @@ pub mod Growing
 pub mod Shrinking
 pub mod Trading
 pub mod Trees
+pub mod Ranges

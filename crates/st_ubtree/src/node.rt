@@ -492,7 +492,8 @@ impl<A: Allocator + Copy> Node<A> {
 
     /// Shows that the pages hold as many keys as they must.
     pub fn count_keys(&self)
-        ensures { AreFilled self.now.pages }
+        ensures keys { AreFilled self.now.pages }
+        ensures not_more { self.now.width ≤ 32 }
     {
         let _kids = &self.kids;
     }

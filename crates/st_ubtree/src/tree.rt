@@ -1,5 +1,5 @@
 //! The tree.
-ghost use Rattle.std.specs.Prelude.{◌≡◌, ◌+◌, ◌<◌, ◌≤◌, ◌++◌, [], length, vec_len, IfOk, None};
+ghost use Rattle.std.specs.Prelude.{◌≡◌, ◌+◌, ◌<◌, ◌≤◌, ◌++◌, [], length, map, vec_len, IfOk, None};
 ghost use Rattle.st_key.specs.Key.{rank};
 ghost use Rattle.st_index.specs.Rows.{key_end};
 ghost use Rattle.st_ubtree.specs.Growing.{AreAround, AreBlank, IsBlankPage, IsRoomFor};
@@ -7,6 +7,8 @@ ghost use Rattle.st_ubtree.specs.Nodes.{page_node};
 ghost use Rattle.st_ubtree.specs.Pages.{GrowsBy, entries_in, rows_in};
 ghost use Rattle.st_ubtree.specs.Splits.{made_nodes, split_nodes};
 ghost use Rattle.st_ubtree.specs.Trees.{HasTreeRoom, regions_of};
+ghost use Rattle.st_ubtree.specs.Trading.{AreFilled};
+ghost use Rattle.st_ubtree.specs.Ranges.{region_in};
 
 use crate::node::Node;
 use st_index::{Entry, Leaf, Row, RowIndex};
@@ -31,6 +33,13 @@ impl<A: Allocator> Model for UbTree<A> {
     ghost view = { λ t. record { period = t.period; root = t.root } };
 
     ghost invariant = { λ t. IsTree t.period t.root t.len };
+}
+
+/// The keys from the first to the last.
+#[derive(Clone, Copy)]
+pub struct KeyRange {
+    pub first: Key,
+    pub last: Key,
 }
 
 /// The memory that one more row takes in a tree.
@@ -92,6 +101,31 @@ impl<A: Allocator + Copy> UbTree<A> {
             root: Node::page(Key::FIRST, entries),
             len: 0,
         })
+    }
+
+    /// The regions of the tree in order: for each page its keys, from the first to the last.
+    pub fn regions(&self) -> Result<Vec<KeyRange, A>, AllocError>
+        ensures { IfOk result (λ ranges. map region_in ranges.items ≡ regions_of (key_end self.now.period) self.now.root.pages) }
+    {
+        let mut ranges = Vec::new(self.root.allocator());
+        let mut next = Some(Key::FIRST);
+        while let Some(key) = next {
+            let leaf = self.leaf_at(key);
+            let (first, last) = (leaf.first, leaf.last);
+            ranges.push(KeyRange { first, last })?;
+            next = last.after(self.period);
+        }
+        Ok(ranges)
+    }
+
+    /// Shows the bounds: a page holds at most 32 keys, and at least 16 unless it is the only one; an inner
+    /// root has 2 to 32 children.
+    pub fn count_keys(&self)
+        ensures keys { AreFilled self.now.root.pages }
+        ensures children { 1 ≤ self.now.root.height → 2 ≤ self.now.root.width }
+        ensures not_more { self.now.root.width ≤ 32 }
+    {
+        self.root.count_keys();
     }
 
     /// How many rows the tree holds.

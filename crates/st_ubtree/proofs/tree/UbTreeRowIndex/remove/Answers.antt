@@ -12,4 +12,4 @@ returns-in_err-row-clause-lawful g c = rw c.in_err-row.ensures.none (lawful_tree
 pub returns-clause-lawful : goal.returns-clause-lawful
 returns-clause-lawful g c =
     let drops = subst (DropsFrom (rank c.args.key) c.in_ok-row.row c.self.inside.root.pages) (sym c.lower.ensures.pages) c.in_ok-row.ensures.some.by in
-    lawful_tree c.self.inside.period c.lower.new.self (c.self.inside.len - 1) (tree_shrinks c.self.inside.period (rank c.args.key) c.in_ok-row.row c.self.inside.root c.lower.new.self c.self.inside.len c.self.invariant c.lower.ensures.wide c.count_keys.ensures drops)
+    lawful_tree c.self.inside.period c.lower.new.self (c.self.inside.len - 1) (tree_shrinks c.self.inside.period (rank c.args.key) c.in_ok-row.row c.self.inside.root c.lower.new.self c.self.inside.len c.self.invariant c.lower.ensures.wide c.count_keys.ensures.keys drops)
