@@ -163,10 +163,10 @@ fn as_a_list(rt: HostRuntime) -> Result<(), Fail> {
 }
 
 /// How many growths putting in a row takes, by refusing each in turn.
-fn growths<A: Allocator + Copy>(
-    heap: &Refusing<A>,
-    tree: &UbTree<&Refusing<A>>,
-    row: &Row<&Refusing<A>>,
+fn growths<'a, A: Allocator + Copy>(
+    heap: &'a Refusing<A>,
+    tree: &UbTree<&'a Refusing<A>>,
+    row: &Row<&'a Refusing<A>>,
 ) -> Result<u64, Fail> {
     for n in 1..100u64 {
         heap.arm(n);
