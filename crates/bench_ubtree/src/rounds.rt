@@ -97,8 +97,8 @@ fn take(tree: &mut UbTree, row: &Row) -> bool {
     tree.remove(key, row.id.as_str(), row.label.text()).is_some()
 }
 
-fn put_all(tree: &mut UbTree, mut rows: Vec<Row>) -> Result<(), AllocError> {
-    while let Some(row) = rows.pop() {
+fn put_all(tree: &mut UbTree, rows: Vec<Row>) -> Result<(), AllocError> {
+    for row in rows {
         put(tree, row)?;
     }
     Ok(())

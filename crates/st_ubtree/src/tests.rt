@@ -163,14 +163,14 @@ fn as_a_list(rt: HostRuntime) -> Result<(), Fail> {
 }
 
 /// How many growths putting in a row takes, by refusing each in turn.
-fn growths<'a, A: Allocator + Copy>(
-    heap: &'a Refusing<A>,
-    tree: &UbTree<&'a Refusing<A>>,
-    row: &Row<&'a Refusing<A>>,
+fn growths<A: Allocator, I: RowIndex>(
+    heap: &Refusing<A>,
+    index: &I,
+    row: &Row<I::Alloc>,
 ) -> Result<u64, Fail> {
     for n in 1..100u64 {
         heap.arm(n);
-        let spare = tree.prepare(row);
+        let spare = index.prepare(row);
         if heap.is_armed() {
             heap.arm(0);
             return match spare {
