@@ -106,13 +106,18 @@ module _ {A : Type 0} (period : Period) where
       (λ j d l p named. All-head (λ (f : EntryValue A). f.at ≡ k → ⊥) e es a (sym (h.1.placed j d l) ∙ p))
       (absent_entries k n es (e.at + 1) hi h.2 (All-tail (λ (f : EntryValue A). f.at ≡ k → ⊥) e es a))
 
-  -- where a search finds no entry, no row has the key
-  pub missing_absent : (k : ℕ) (n : Name) (es : List (EntryValue A)) (i : ℕ) (lo hi : ℕ) → Rises period lo hi es → (IsNonDecreasingBy (λ (e : EntryValue A). ordering_index (nat_cmp e.at k)) es → IsPartitionPoint (λ (e : EntryValue A). nat_cmp e.at k ≡ Less) (λ (e : EntryValue A). nat_cmp e.at k ≡ Greater) es i) → IsAbsent period k n (rows_of es)
-  missing_absent k n es i lo hi h found =
+  -- where a search finds no entry, no entry has the key
+  pub missing_key : (k : ℕ) (es : List (EntryValue A)) (i : ℕ) (lo hi : ℕ) → Rises period lo hi es → (IsNonDecreasingBy (λ (e : EntryValue A). ordering_index (nat_cmp e.at k)) es → IsPartitionPoint (λ (e : EntryValue A). nat_cmp e.at k ≡ Less) (λ (e : EntryValue A). nat_cmp e.at k ≡ Greater) es i) → All (λ (e : EntryValue A). e.at ≡ k → ⊥) es
+  missing_key k es i lo hi h found =
       let m = missing period k es i lo hi h found in
       let P : EntryValue A → Type 0 = λ e. e.at ≡ k → ⊥ in
       let all = All-append P (take i es) (drop i es) (λ j d l e. let p = m.0 j d l in omega (arith, p, e)) (λ j d l e. let p = m.1 j d l in omega (arith, p, e)) in
-      absent_entries k n es lo hi h (subst (All P) (take-append-drop i es) all)
+      subst (All P) (take-append-drop i es) all
+
+  -- where a search finds no entry, no row has the key
+  pub missing_absent : (k : ℕ) (n : Name) (es : List (EntryValue A)) (i : ℕ) (lo hi : ℕ) → Rises period lo hi es → (IsNonDecreasingBy (λ (e : EntryValue A). ordering_index (nat_cmp e.at k)) es → IsPartitionPoint (λ (e : EntryValue A). nat_cmp e.at k ≡ Less) (λ (e : EntryValue A). nat_cmp e.at k ≡ Greater) es i) → IsAbsent period k n (rows_of es)
+  missing_absent k n es i lo hi h found =
+      absent_entries k n es lo hi h (missing_key k es i lo hi h found)
 
   -- an entry that changes
 

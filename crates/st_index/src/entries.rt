@@ -43,6 +43,7 @@ pub fn put<A: Allocator + Copy>(
     ensures rising { (period : Period) (lo hi : _) → rank key ≡ place_of period row → Rises period lo hi entries.old.items → lo ≤ rank key → rank key < hi → IsAbsent period (rank key) (name_of row) (rows_of entries.old.items) → Rises period lo hi entries.new.items }
     ensures longer { vec_len entries.old ≤ vec_len entries.new }
     ensures at_most_one { vec_len entries.new ≤ vec_len entries.old + 1 }
+    ensures new_key { (period : Period) (lo hi : _) → Rises period lo hi entries.old.items → vec_len entries.old < vec_len entries.new → All (λ (e : EntryValue A). e.at ≡ rank key → ⊥) entries.old.items }
     ensures capacity { vec_capacity entries.old ≤ vec_capacity entries.new }
 {
     match find(entries, key) {

@@ -6,6 +6,7 @@ use Rattle.st_index.specs.Index.{Adds, IsAbsent}
 use Rattle.st_index.proofs.Names.{nat_equal}
 use Rattle.st_index.specs.declared.row.Row.{Row}
 use Rattle.st_index.proofs.Putting.{held_added, held_rising, missing_added, missing_rising}
+use Rattle.st_index.proofs.Taking.{missing_key}
 use Rattle.st_index.proofs.entries.put.Goals as goal
 
 pub put-requires-clause-room : goal.put-requires-clause-room
@@ -37,3 +38,6 @@ pub returns-in-Ok-insert-clause-rising : goal.returns-in-Ok-insert-clause-rising
 returns-in-Ok-insert-clause-rising g c = λ period lo hi key h a b absent.
     let found = rw (c.deref.ensures.value, key) at c.in-Err.ensures.place in
     rw (c.in-Ok-insert.ensures.items, c.new.ensures, key) (missing_rising period c.args.row c.args.entries.now.items c.in-Err.i lo hi found h (rw key at a) (rw key at b))
+
+pub returns-in-Ok-insert-clause-new_key : goal.returns-in-Ok-insert-clause-new_key
+returns-in-Ok-insert-clause-new_key g c = λ period lo hi h longer. missing_key period (rank c.args.key) c.args.entries.now.items c.in-Err.i lo hi h (rw c.deref.ensures.value at c.in-Err.ensures.place)

@@ -1,0 +1,27 @@
+-- How many keys the pages of a node hold.
+use Rattle.std.proofs.Common.{◌≡◌, ℕ, ◌+◌, ◌<◌, ◌≤◌, List, [], ◌∷◌, length, refl, arith, vec_capacity}
+use Rattle.std.proofs.lemmas.List.Elements.{All-cons, All-weaker}
+use Rattle.std.specs.List.{All}
+use Rattle.st_ubtree.specs.declared.node.Kids.{Kids}
+use Rattle.st_ubtree.specs.declared.node.Kids.TheVariants.{Page, Inner}
+use Rattle.st_ubtree.specs.Nodes.{IsNode, pages_under, width_of}
+use Rattle.st_ubtree.specs.Pages.{PageValue, IsFilled, pages_of}
+use Rattle.st_ubtree.specs.Trading.{AreFilled}
+use Rattle.st_ubtree.proofs.Settling.{pages_filled}
+use Rattle.st_ubtree.proofs.Splitting.{page}
+
+pub node_filled : {A : Type 0} (first height : ℕ) (kids : Kids A) → IsNode first height kids → AreFilled (pages_under first kids)
+node_filled {A} first height (Page entries) h = record {
+  not_more = All-cons (λ (p : PageValue A). length p.entries ≤ 32) (page first entries.items) [] h.not_more (λ k d l. absurd (omega (arith, l)));
+  not_less = λ two. absurd (omega (arith, two));
+}
+node_filled {A} first height (Inner kids) h =
+    let filled = pages_filled h.below kids.items h.each in
+    record {
+      not_more = All-weaker IsFilled (λ (p : PageValue A). length p.entries ≤ 32) (λ p f. f.not_more) (pages_of kids.items) filled;
+      not_less = λ two. filled;
+    }
+
+pub node_fits : {A : Type 0} (first height : ℕ) (kids : Kids A) → IsNode first height kids → width_of kids ≤ 32
+node_fits first height (Page entries) h = h.not_more
+node_fits first height (Inner kids) h = h.not_more

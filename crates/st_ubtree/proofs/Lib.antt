@@ -1,0 +1,14 @@
+pub mod Spanning
+pub mod Leaves
+pub mod Inside
+pub mod Splitting
+pub mod Settling
+pub mod Lifting
+pub mod Joining
+pub mod Mending
+pub mod Shrinking
+pub mod Trading
+pub mod Needing
+pub mod Counting
+pub mod Lawful
+pub mod Walking

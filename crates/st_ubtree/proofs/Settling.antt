@@ -1,0 +1,45 @@
+-- Children cut in two.
+use Rattle.std.proofs.Common.{◌≡◌, ℕ, ◌+◌, ◌<◌, ◌≤◌, List, [], ◌∷◌, ◌++◌, length, get_or, map, take, drop, length-append, refl, sym, ap, subst, ◌∙◌, suc, arith, drop-cons, Vec, vec_capacity}
+use Rattle.std.proofs.lemmas.List.{length-map}
+use Rattle.std.proofs.lemmas.List.Elements.{All-append, All-head, All-tail}
+use Rattle.std.specs.List.{All}
+use Rattle.st_index.proofs.Climbing.{all_left, all_right}
+use Rattle.st_ubtree.specs.Pages.{PageValue, NodeValue, IsFilled, IsKid, Starts, StartsAt, HeadAt, pages_of}
+use Rattle.st_ubtree.specs.Splits.{chains_of, chains_over, splits_with}
+use Rattle.st_ubtree.specs.Growing.{AreBlank}
+use Rattle.st_key.specs.declared.period.Period.{Period}
+use Rattle.st_index.specs.declared.row.Row.{Row}
+
+pub blank_last : {A B : Type 0} → (vs : List (Vec B A)) (v : Vec B A) → AreBlank (vs ++ v ∷ []) → AreBlank vs × ((v.items ≡ []) × (33 ≤ vec_capacity v))
+blank_last {A} {B} vs v h =
+    let P : Vec B A → Type 0 = λ w. (w.items ≡ []) × (33 ≤ vec_capacity w) in
+    (all_left P vs (v ∷ []) h, All-head P v [] (all_right P vs (v ∷ []) h))
+
+module _ {A : Type 0} where
+  pub head_there : (kids : List (NodeValue A)) (i : ℕ) (kid : NodeValue A) → i < length kids → kid ≡ get_or kids i kid → HeadAt kid.first (drop i kids)
+  head_there kids i kid l read = subst (HeadAt kid.first) (sym (drop-cons kids i kid l)) (ap (λ (v : NodeValue A). v.first) (sym read))
+
+  starts_more : (first : ℕ) (ps qs : List (PageValue A)) → StartsAt first ps → StartsAt first (ps ++ qs)
+  starts_more first [] qs h = absurd h
+  starts_more first (p ∷ ps) qs h = h
+
+  pub chains_length : (width below : ℕ) (kids : List (NodeValue A)) → All (IsKid below) kids → length (chains_over width kids) ≡ length (pages_of kids)
+  chains_length width below [] each = refl
+  chains_length width below (v ∷ vs) each =
+      let a = length-append (map (splits_with width v.height) v.chains) (chains_over width vs) in
+      let b = length-map v.chains (splits_with width v.height) in
+      let c = (All-head (IsKid below) v vs each).starts.1 in
+      let d = chains_length width below vs (All-tail (IsKid below) v vs each) in
+      let e = length-append v.pages (pages_of vs) in
+      omega (arith, a, b, c, d, e)
+
+  kids_begin : (below first : ℕ) (kids : List (NodeValue A)) → All (IsKid below) kids → HeadAt first kids → StartsAt first (pages_of kids)
+  kids_begin below first [] each h = absurd h
+  kids_begin below first (v ∷ vs) each h = subst (λ n. StartsAt n (v.pages ++ pages_of vs)) h (starts_more v.first v.pages (pages_of vs) (All-head (IsKid below) v vs each).starts.0)
+
+  pub kids_start : (below first : ℕ) (kids : List (NodeValue A)) → All (IsKid below) kids → HeadAt first kids → Starts first (pages_of kids) (chains_of kids)
+  kids_start below first kids each h = (kids_begin below first kids each h, chains_length (length kids) below kids each)
+
+  pub pages_filled : (below : ℕ) (kids : List (NodeValue A)) → All (IsKid below) kids → All IsFilled (pages_of kids)
+  pages_filled below [] each = λ k d l. absurd (omega (arith, l))
+  pages_filled below (v ∷ vs) each = All-append IsFilled v.pages (pages_of vs) (All-head (IsKid below) v vs each).filled (pages_filled below vs (All-tail (IsKid below) v vs each))

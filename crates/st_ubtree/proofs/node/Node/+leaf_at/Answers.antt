@@ -1,0 +1,41 @@
+use Rattle.std.proofs.Common.{◌≡◌, ℕ, ◌+◌, ◌-◌, ◌<◌, ◌≤◌, max, [], ◌∷◌, length, subst, sym, ap, ◌∙◌, get_or, refl, arith, rules, suc, vec_capacity}
+use Rattle.st_key.specs.declared.period.Period.{Period}
+use Rattle.st_key.specs.Key.{rank}
+use Rattle.st_ubtree.specs.Pages.{PageValue, NodeValue, pages_of}
+use Rattle.st_ubtree.specs.Nodes.{IsNode, IsInner, pages_under}
+use Rattle.st_ubtree.specs.Growing.{IsLeafIn}
+use Rattle.st_ubtree.proofs.Spanning.{Found}
+use Rattle.st_ubtree.proofs.Leaves.{leaf_page, leaf_kid, ends_next, ends_last}
+use Rattle.st_ubtree.proofs.node.Node.+leaf_at.Goals as goal
+use Rattle.st_ubtree.proofs.node.Node.+leaf_at.Goals.{then-after-len, else-after-len}
+
+pub returns-in-Page : goal.returns-in-Page
+returns-in-Page g t c =
+    let pages : c.args.self.now.pages ≡ record { first = rank c.self.inside.first; entries = c.in-Page.entries.items } ∷ [] = ap (λ (v : NodeValue g.row.A.Denot). v.pages) (sym c.self.view_is) ∙ ap (pages_under (rank c.self.inside.first)) c.in-Page.is in
+    rw (pages, c.as_slice.ensures.value) (leaf_page (rank c.args.key) (rank c.args.last) (rank c.self.inside.first) c.in-Page.entries.items)
+
+pub returns-after-after-len : goal.returns-after-after-len
+returns-after-after-len g t c =
+    let kids = c.in-Inner.kids.items in
+    let good : IsInner (rank c.self.inside.first) c.self.inside.height kids (vec_capacity c.in-Inner.kids) = subst (IsNode (rank c.self.inside.first) c.self.inside.height) c.in-Inner.is c.self.invariant in
+    let pages : c.args.self.now.pages ≡ pages_of kids = ap (λ (v : NodeValue g.row.A.Denot). v.pages) (sym c.self.view_is) ∙ ap (pages_under (rank c.self.inside.first)) c.in-Inner.is in
+    let n = c.count_up_to.result in
+    let i = c.max-after.result - 1 in
+    let m : c.max-after.result ≡ max n 1 = c.max-after.ensures in
+    let is : i + 1 ≡ max n 1 = omega (arith, m) in
+    let found = rw c.deref.ensures.value at c.count_up_to.ensures.place in
+    let bound = rw c.deref.ensures.value at c.count_up_to.ensures.bound in
+    let l : i < length kids = let two = good.not_less in omega (arith, is, bound, two) in
+    let e : c.max-after.result ≡ suc i = omega (arith, is, m) in
+    let within : (period : Period) (lo hi : ℕ) (f : Found period (rank c.args.key) lo hi kids i c.index-kid.result.now) → rank c.args.last + 1 ≡ hi → rank c.if-after-len.kid_last + 1 ≡ f.b =
+    elim c.if-after-len.branch [
+      | then-after-len w ↦
+          let k : rank c.if-after-len.kid_last ≡ w.index-next.result.now.first - 1 = ap rank w.kid_last-is ∙ w.before-kid_last.ensures ∙ ap (λ (v : NodeValue g.row.A.Denot). v.first - 1) w.next.view_is in
+          ends_next (rank c.args.key) good.below (rank c.args.last) kids i n c.index-kid.result.now good.each found is l c.index-kid.ensures
+          (rank c.if-after-len.kid_last) w.index-next.result.now (let a = w.if-after-len.true in omega (arith, a, e, c.len.ensures)) (subst (λ (j : ℕ). w.index-next.result.now ≡ get_or kids j w.index-next.result.now) e w.index-next.ensures) k
+      | else-after-len w ↦
+          rw w.kid_last-is (ends_last (rank c.args.key) good.below (rank c.args.last) kids i n c.index-kid.result.now good.each found is l c.index-kid.ensures
+          (let a = w.if-after-len.false in omega (arith, a, e, c.len.ensures)))
+    ] in
+    rw pages (leaf_kid (rank c.args.key) good.below (rank c.args.last) kids i n c.index-kid.result.now good.each found is l c.index-kid.ensures
+    (rank c.if-after-len.kid_last) (rank c.leaf_at.result.first) (rank c.leaf_at.result.last) c.leaf_at.result.entries.now within c.leaf_at.ensures)

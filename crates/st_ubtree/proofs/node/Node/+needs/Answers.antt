@@ -1,0 +1,81 @@
+use Rattle.std.proofs.Common.{◌≡◌, ℕ, ◌+◌, ◌-◌, ◌<◌, ◌≤◌, max, length, subst, sym, ap, ◌∙◌, arith, rules, vec_len, vec_capacity}
+use Rattle.st_key.specs.Key.{rank}
+use Rattle.st_ubtree.specs.Growing.{AreAround}
+use Rattle.st_ubtree.specs.Nodes.{IsNode, IsInner, node_value, pages_under}
+use Rattle.st_ubtree.specs.Pages.{NodeValue, pages_of}
+use Rattle.st_ubtree.specs.Splits.{chains_of, split_nodes, splits, splits_in, splits_page, splits_with}
+use Rattle.st_ubtree.proofs.Lifting.{that_kid}
+use Rattle.st_ubtree.proofs.Needing.{kid_around, kid_rows, kid_splits_by, splits_alone}
+use Rattle.st_ubtree.proofs.node.Node.+needs.Goals as goal
+
+pub needs-needs-requires : goal.needs-needs-requires
+needs-needs-requires g t c κs within =
+    let kids = c.in-Inner.kids.items in
+    let good : IsInner (rank c.self.inside.first) c.self.inside.height kids (vec_capacity c.in-Inner.kids) = subst (IsNode (rank c.self.inside.first) c.self.inside.height) c.in-Inner.is c.self.invariant in
+    let i = c.max-at.result - 1 in
+    let n = c.count_up_to.result in
+    let m : c.max-at.result ≡ max n 1 = c.max-at.ensures in
+    let is : i + 1 ≡ max n 1 = omega (arith, m) in
+    let found = rw c.deref-in-Inner.ensures.value at c.count_up_to.ensures.place in
+    let bound = rw c.deref-in-Inner.ensures.value at c.count_up_to.ensures.bound in
+    let l : i < length kids = let two = good.not_less in omega (arith, is, bound, two) in
+    let kid = c.index-kid.result.now in
+    let read = c.index-kid.ensures in
+    let pages : c.args.self.now.pages ≡ pages_of kids = ap (λ (v : NodeValue g.row.A.Denot). v.pages) (sym c.self.view_is) ∙ ap (pages_under (rank c.self.inside.first)) c.in-Inner.is in
+    let tall : c.args.self.now.height ≡ c.self.inside.height = ap (λ (v : NodeValue g.row.A.Denot). v.height) (sym c.self.view_is) in
+    let low : kid.height ≡ good.below = (that_kid good.below kids i kid l read good.each).same_height in
+    let higher = good.higher in
+    let o = subst (AreAround (rank c.args.key)) pages c.requires in
+    let lower : kid.height < c.args.self.now.height = omega (arith, low, tall, higher) in
+    (search (rules, lower), (search (rules, within), kid_around (rank c.args.key) good.below kids i n kid good.each found is l read o))
+
+pub count_node-requires : goal.count_node-requires
+count_node-requires g t c =
+    let good : IsInner (rank c.self.inside.first) c.self.inside.height c.in-Inner.kids.items (vec_capacity c.in-Inner.kids) = subst (IsNode (rank c.self.inside.first) c.self.inside.height) c.in-Inner.is c.self.invariant in
+    let higher = good.higher in
+    omega (arith, higher)
+
+pub returns-in-Page-clause-splits : goal.returns-in-Page-clause-splits
+returns-in-Page-clause-splits g t c =
+    let same : splits c.args.self.now (rank c.args.key) ≡ splits_page c.in-Page.entries.items 1 (rank c.args.key) = ap (λ (v : NodeValue g.row.A.Denot). splits v (rank c.args.key)) (sym c.self.view_is) ∙ ap (λ k. splits (node_value (rank c.self.inside.first) c.self.inside.height k) (rank c.args.key)) c.in-Page.is ∙ splits_alone (rank c.args.key) (rank c.self.inside.first) c.self.inside.height c.in-Page.entries.items in
+    same ∙ rw c.deref.ensures.value at c.page_needs.ensures.splits
+
+pub returns-in-Inner-clause-rows : goal.returns-in-Inner-clause-rows
+returns-in-Inner-clause-rows g t c =
+    let kids = c.in-Inner.kids.items in
+    let good : IsInner (rank c.self.inside.first) c.self.inside.height kids (vec_capacity c.in-Inner.kids) = subst (IsNode (rank c.self.inside.first) c.self.inside.height) c.in-Inner.is c.self.invariant in
+    let i = c.max-at.result - 1 in
+    let n = c.count_up_to.result in
+    let m : c.max-at.result ≡ max n 1 = c.max-at.ensures in
+    let is : i + 1 ≡ max n 1 = omega (arith, m) in
+    let found = rw c.deref-in-Inner.ensures.value at c.count_up_to.ensures.place in
+    let bound = rw c.deref-in-Inner.ensures.value at c.count_up_to.ensures.bound in
+    let l : i < length kids = let two = good.not_less in omega (arith, is, bound, two) in
+    let kid = c.index-kid.result.now in
+    let pages : c.args.self.now.pages ≡ pages_of kids = ap (λ (v : NodeValue g.row.A.Denot). v.pages) (sym c.self.view_is) ∙ ap (pages_under (rank c.self.inside.first)) c.in-Inner.is in
+    let o = subst (AreAround (rank c.args.key)) pages c.requires in
+    rw pages (kid_rows (rank c.args.key) good.below kids i n kid good.each found is l c.index-kid.ensures o c.needs-needs.result.rows c.needs-needs.ensures.rows)
+
+pub returns-in-Inner-clause-splits : goal.returns-in-Inner-clause-splits
+returns-in-Inner-clause-splits g t c =
+    let kids = c.in-Inner.kids.items in
+    let good : IsInner (rank c.self.inside.first) c.self.inside.height kids (vec_capacity c.in-Inner.kids) = subst (IsNode (rank c.self.inside.first) c.self.inside.height) c.in-Inner.is c.self.invariant in
+    let i = c.max-at.result - 1 in
+    let n = c.count_up_to.result in
+    let m : c.max-at.result ≡ max n 1 = c.max-at.ensures in
+    let is : i + 1 ≡ max n 1 = omega (arith, m) in
+    let found = rw c.deref-in-Inner.ensures.value at c.count_up_to.ensures.place in
+    let bound = rw c.deref-in-Inner.ensures.value at c.count_up_to.ensures.bound in
+    let l : i < length kids = let two = good.not_less in omega (arith, is, bound, two) in
+    let kid = c.index-kid.result.now in
+    let pages : c.args.self.now.pages ≡ pages_of kids = ap (λ (v : NodeValue g.row.A.Denot). v.pages) (sym c.self.view_is) ∙ ap (pages_under (rank c.self.inside.first)) c.in-Inner.is in
+    let o = subst (AreAround (rank c.args.key)) pages c.requires in
+    let same : splits c.args.self.now (rank c.args.key) ≡ splits_in (pages_of kids) (chains_of kids) (rank c.args.key) = ap (λ (v : NodeValue g.row.A.Denot). splits v (rank c.args.key)) (sym c.self.view_is) ∙ ap (λ k. splits (node_value (rank c.self.inside.first) c.self.inside.height k) (rank c.args.key)) c.in-Inner.is in
+    let some = kid_splits_by (rank c.args.key) good.below kids i n kid good.each found is l c.index-kid.ensures o in
+    let len : length kids ≡ vec_len c.in-Inner.kids = search rules in
+    let inner = split_nodes c.needs-needs.result.inners in
+    let low = (that_kid good.below kids i kid l c.index-kid.ensures good.each).same_height in
+    let higher = good.higher in
+    let below : kid.height ≡ c.self.inside.height - 1 = omega (arith, low, higher) in
+    same ∙ some ∙ ap (λ s. splits_with (length kids) kid.height s) c.needs-needs.ensures.splits
+    ∙ ap (λ w. splits_with w kid.height inner) (len ∙ sym c.len.ensures) ∙ ap (λ h. splits_with c.len.result h inner) below ∙ sym c.count_node.ensures

@@ -1,0 +1,73 @@
+use Rattle.std.proofs.Common.{◌≡◌, ℕ, ◌+◌, ◌<◌, ◌≤◌, ◌++◌, ◌∷◌, [], length, subst, sym, ap, ◌∙◌, refl, arith, rules, vec_capacity}
+use Rattle.std.specs.List.{All}
+use Rattle.st_key.specs.Key.{rank}
+use Rattle.st_ubtree.specs.Pages.{PageValue, NodeValue, HeadAt, IsKid, pages_of}
+use Rattle.st_ubtree.specs.Nodes.{IsNode, IsInner, IsPage, inner_node, node_value, page_node, width_of, pages_under}
+use Rattle.st_ubtree.specs.Growing.{AreKids}
+use Rattle.st_ubtree.specs.Shrinking.{Joins, KidsJoin}
+use Rattle.st_ubtree.proofs.Joining.{both_kids, join_of_kids, join_of_pages, joined_each, joined_head}
+use Rattle.st_ubtree.proofs.Splitting.{page}
+use Rattle.st_ubtree.proofs.node.Node.join.Goals as goal
+use Rattle.st_ubtree.proofs.node.Node.join.Goals.{in-Page-Page, in-Inner-Inner}
+
+pub join_kids-requires-clause-kids : goal.join_kids-requires-clause-kids
+join_kids-requires-clause-kids g c =
+    let same : c.right.inside.height ≡ c.self.inside.height = ap (λ (v : NodeValue g.row.A.Denot). v.height) c.right.view_is ∙ c.requires.right.same_height ∙ ap (λ (v : NodeValue g.row.A.Denot). v.height) (sym c.self.view_is) in
+    let old = c.in-Inner-Inner.left.items in
+    let right = c.in-Inner-Inner.right.items in
+    let good : IsInner (rank c.self.inside.first) c.self.inside.height old (vec_capacity c.in-Inner-Inner.left) = subst (IsNode (rank c.self.inside.first) c.self.inside.height) c.in-Inner-Inner.is-0 c.self.invariant in
+    let other : IsInner (rank c.right.inside.first) c.right.inside.height right (vec_capacity c.in-Inner-Inner.right) = subst (IsNode (rank c.right.inside.first) c.right.inside.height) c.in-Inner-Inner.is-1 c.right.invariant in
+    let all = both_kids (rank c.self.inside.first) (rank c.right.inside.first) c.self.inside.height c.right.inside.height old right _ _ same good other in
+    record { below = good.below; higher = same ∙ good.higher; each = all }
+
+pub invariant_of-self : goal.invariant_of-self
+invariant_of-self g c =
+    let same : c.right.inside.height ≡ c.self.inside.height = ap (λ (v : NodeValue g.row.A.Denot). v.height) c.right.view_is ∙ c.requires.right.same_height ∙ ap (λ (v : NodeValue g.row.A.Denot). v.height) (sym c.self.view_is) in
+    elim c.match-self.branch [
+      | in-Page-Page w ↦
+          let good : IsPage c.self.inside.height (length w.in-Page-Page.left.items) (vec_capacity w.in-Page-Page.left) = subst (IsNode (rank c.self.inside.first) c.self.inside.height) w.in-Page-Page.is-0 c.self.invariant in
+          rw w.self-inside-is (record { lowest = good.lowest; not_more = w.join_pages.ensures.joins.not_more; room = w.join_pages.ensures.room })
+      | in-Inner-Inner w ↦
+          let old = w.in-Inner-Inner.left.items in
+          let right = w.in-Inner-Inner.right.items in
+          let good : IsInner (rank c.self.inside.first) c.self.inside.height old (vec_capacity w.in-Inner-Inner.left) = subst (IsNode (rank c.self.inside.first) c.self.inside.height) w.in-Inner-Inner.is-0 c.self.invariant in
+          let other : IsInner (rank c.right.inside.first) c.right.inside.height right (vec_capacity w.in-Inner-Inner.right) = subst (IsNode (rank c.right.inside.first) c.right.inside.height) w.in-Inner-Inner.is-1 c.right.invariant in
+          let all = both_kids (rank c.self.inside.first) (rank c.right.inside.first) c.self.inside.height c.right.inside.height old right _ _ same good other in
+          let j = w.join_kids.ensures.joins in
+          rw w.self-inside-is (record {
+            below = good.below;
+            higher = good.higher;
+            each = joined_each good.below old right w.join_kids.new.left.items j.rest j.kept all;
+            head = joined_head c.right.inside.height (rank c.self.inside.first) old right w.join_kids.new.left.items w.join_kids.result j good.head;
+            not_less = let a = j.not_less in omega (arith, a);
+            not_more = j.not_more;
+            room = w.join_kids.ensures.room;
+          })
+    ]
+
+pub returns : goal.returns
+returns g c =
+    let same : c.right.inside.height ≡ c.self.inside.height = ap (λ (v : NodeValue g.row.A.Denot). v.height) c.right.view_is ∙ c.requires.right.same_height ∙ ap (λ (v : NodeValue g.row.A.Denot). v.height) (sym c.self.view_is) in
+    record {
+      joins = elim c.match-self.branch [
+        | in-Page-Page w ↦
+            let good : IsPage c.self.inside.height (length w.in-Page-Page.left.items) (vec_capacity w.in-Page-Page.left) = subst (IsNode (rank c.self.inside.first) c.self.inside.height) w.in-Page-Page.is-0 c.self.invariant in
+            let left = w.in-Page-Page.left.items in
+            let right = w.in-Page-Page.right.items in
+            let old : page_node (rank c.self.inside.first) c.self.inside.height left ≡ c.args.self.now =
+            ap (node_value (rank c.self.inside.first) c.self.inside.height) (sym w.in-Page-Page.is-0) ∙ c.self.view_is in
+            let pages : c.args.right.pages ≡ page (rank c.right.inside.first) right ∷ [] = ap (λ (v : NodeValue g.row.A.Denot). v.pages) (sym c.right.view_is) ∙ ap (pages_under (rank c.right.inside.first)) w.in-Page-Page.is-1 in
+            rw (← old, w.self-inside-is, w.result-is) (join_of_pages (rank c.self.inside.first) (rank c.right.inside.first) c.self.inside.height left right w.join_pages.new.left.items w.join_pages.result c.args.right good.lowest pages w.join_pages.ensures.joins)
+        | in-Inner-Inner w ↦
+            let old = w.in-Inner-Inner.left.items in
+            let right = w.in-Inner-Inner.right.items in
+            let good : IsInner (rank c.self.inside.first) c.self.inside.height old (vec_capacity w.in-Inner-Inner.left) = subst (IsNode (rank c.self.inside.first) c.self.inside.height) w.in-Inner-Inner.is-0 c.self.invariant in
+            let other : IsInner (rank c.right.inside.first) c.right.inside.height right (vec_capacity w.in-Inner-Inner.right) = subst (IsNode (rank c.right.inside.first) c.right.inside.height) w.in-Inner-Inner.is-1 c.right.invariant in
+            let all = both_kids (rank c.self.inside.first) (rank c.right.inside.first) c.self.inside.height c.right.inside.height old right _ _ same good other in
+            let made : inner_node (rank c.self.inside.first) c.self.inside.height old ≡ c.args.self.now =
+            ap (node_value (rank c.self.inside.first) c.self.inside.height) (sym w.in-Inner-Inner.is-0) ∙ c.self.view_is in
+            let pages : c.args.right.pages ≡ pages_of right = ap (λ (v : NodeValue g.row.A.Denot). v.pages) (sym c.right.view_is) ∙ ap (pages_under (rank c.right.inside.first)) w.in-Inner-Inner.is-1 in
+            let j : KidsJoin c.self.inside.height old right w.join_kids.new.left.items w.join_kids.result = subst (λ n. KidsJoin n old right w.join_kids.new.left.items w.join_kids.result) same w.join_kids.ensures.joins in
+            rw (← made, w.self-inside-is, w.result-is) (join_of_kids (rank c.self.inside.first) c.self.inside.height good.below old right w.join_kids.new.left.items w.join_kids.result c.args.right pages all good.head j)
+      ];
+    }

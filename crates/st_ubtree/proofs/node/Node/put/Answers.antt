@@ -1,0 +1,40 @@
+use Rattle.std.proofs.Common.{◌≡◌, ◌+◌, ◌<◌, ◌≤◌, ◌∷◌, ◌++◌, [], subst, ap, ◌∙◌, arith, rules, vec_len}
+use Rattle.st_key.specs.Key.{rank}
+use Rattle.st_ubtree.specs.Growing.{AreBlank}
+use Rattle.st_ubtree.specs.Splits.{made_nodes, splits}
+use Rattle.st_ubtree.proofs.Needing.{made_full, made_less}
+use Rattle.st_ubtree.proofs.Settling.{blank_last}
+use Rattle.st_ubtree.proofs.node.Node.put.Goals as goal
+
+pub insert-requires-clause-enough : goal.insert-requires-clause-enough
+insert-requires-clause-enough g c = made_less c.args.self.now.height (splits c.args.self.now (rank c.args.key)) (vec_len c.args.inners) c.requires.enough
+
+pub returns-in_default-clause-wide : goal.returns-in_default-clause-wide
+returns-in_default-clause-wide g c =
+    let same = c.in_default.ensures.grows.height in
+    let more = c.in_default.ensures.grows.widths.0 in
+    λ tall. let two = c.requires.wide (omega (arith, same, tall)) in omega (arith, more, two)
+
+pub unreachable-requires : goal.unreachable-requires
+unreachable-requires g c =
+    let split : splits c.args.self.now (rank c.args.key) ≡ c.args.self.now.height + 1 = c.in-Some.ensures.split in
+    let made = made_full c.args.self.now.height (splits c.args.self.now (rank c.args.key)) split in
+    let enough = c.requires.enough in
+    let left = c.in-Some.ensures.left in
+    let none = c.in_default-pop.ensures.cases.0 in
+    omega (arith, split, made, enough, left, none)
+
+pub raise-requires-clause-empty : goal.raise-requires-clause-empty
+raise-requires-clause-empty g c = (blank_last c.pop.new.self.items c.in-Some-pop.blank (subst AreBlank c.in-Some-pop.ensures.items c.in-Some.ensures.blank)).1.0
+
+pub raise-requires-clause-room : goal.raise-requires-clause-room
+raise-requires-clause-room g c = (blank_last c.pop.new.self.items c.in-Some-pop.blank (subst AreBlank c.in-Some-pop.ensures.items c.in-Some.ensures.blank)).1.1
+
+pub raise-requires-clause-height : goal.raise-requires-clause-height
+raise-requires-clause-height g c =
+    let split : splits c.args.self.now (rank c.args.key) ≡ c.args.self.now.height + 1 = c.in-Some.ensures.split in
+    let made = made_full c.args.self.now.height (splits c.args.self.now (rank c.args.key)) split in
+    let enough = c.requires.enough in
+    let fits : vec_len c.args.inners < 18446744073709551616 = search rules in
+    let same = c.in-Some.ensures.grows.height in
+    omega (arith, split, made, enough, fits, same)

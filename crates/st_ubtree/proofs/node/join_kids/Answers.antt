@@ -1,0 +1,39 @@
+use Rattle.std.proofs.Common.{◌≡◌, ℕ, ◌+◌, ◌<◌, ◌≤◌, ◌++◌, length, subst, sym, ap, ◌∙◌, refl, arith, rules, vec_capacity}
+use Rattle.std.specs.List.{All}
+use Rattle.st_key.specs.Key.{rank}
+use Rattle.st_index.proofs.Climbing.{all_right}
+use Rattle.st_ubtree.specs.Pages.{NodeValue, HeadAt, IsKid, StartsAt, pages_of}
+use Rattle.st_ubtree.proofs.Settling.{head_there, kids_start, pages_filled}
+use Rattle.st_ubtree.proofs.node.join_kids.Goals as goal
+
+pub invariant_of-result : goal.invariant_of-result
+invariant_of-result g c =
+    let left = c.share.new.left.items in
+    let rest = c.share.new.right.items in
+    let wide : (16 ≤ length rest) × (length rest ≤ 32) = search rules in
+    let each : All (IsKid c.requires.kids.below) rest = all_right (IsKid c.requires.kids.below) left rest (subst (All (IsKid c.requires.kids.below)) (sym c.share.ensures.kept) c.requires.kids.each) in
+    let least : HeadAt c.index-least.result.now.first rest = head_there rest 0 c.index-least.result.now (let a = wide.0 in omega (arith, a)) c.index-least.ensures in
+    let first : c.index-least.result.now.first ≡ rank c.least.inside.first = ap (λ (v : NodeValue g.row.A.Denot). v.first) (sym c.least.view_is) in
+    record {
+      below = c.requires.kids.below;
+      higher = c.requires.kids.higher;
+      each = each;
+      head = subst (λ n. HeadAt n rest) first least;
+      not_less = let a = wide.0 in omega (arith, a);
+      not_more = wide.1;
+      room = c.share.ensures.right_room;
+    }
+
+pub returns-clause-joins : goal.returns-clause-joins
+returns-clause-joins g c =
+    let left = c.share.new.left.items in
+    let rest = c.share.new.right.items in
+    let i = invariant_of-result g c in
+    let wide : (16 ≤ length rest) × (length rest ≤ 32) = search rules in
+    record {
+      rest = rest;
+      kept = c.share.ensures.kept;
+      not_less = c.share.ensures.left.0;
+      not_more = c.share.ensures.left.1;
+      beside = (record { same_height = refl; not_less = wide.0; not_more = wide.1; starts = kids_start i.below (rank c.least.inside.first) rest i.each i.head; filled = pages_filled i.below rest i.each }, refl);
+    }

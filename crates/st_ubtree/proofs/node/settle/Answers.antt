@@ -1,0 +1,52 @@
+use Rattle.std.proofs.Common.{◌≡◌, ℕ, ◌+◌, ◌-◌, ◌<◌, ◌≤◌, [], ◌∷◌, ◌++◌, length, take, drop, get_or, refl, subst, sym, ap, ◌∙◌, vec_len, arith, rules}
+use Rattle.std.proofs.lemmas.List.{length-take-le, length-drop}
+use Rattle.std.proofs.lemmas.List.Elements.{All-drop}
+use Rattle.std.specs.List.{All}
+use Rattle.st_key.specs.Key.{rank}
+use Rattle.st_ubtree.specs.Pages.{PageValue, NodeValue, IsFilled, IsKid, HeadAt, Starts, pages_of}
+use Rattle.st_ubtree.specs.Splits.{chains_of}
+use Rattle.st_ubtree.specs.Growing.{AreBlank}
+use Rattle.st_ubtree.proofs.Settling.{blank_last, head_there, kids_start, pages_filled}
+use Rattle.st_ubtree.proofs.node.settle.Goals as goal
+
+pub invariant_of-result : goal.invariant_of-result
+invariant_of-result g c =
+    let kids = c.args.kids.now.items in
+    let len : length kids ≡ vec_len c.args.kids.now = search rules in
+    let all : length kids ≡ 33 = let a = c.if-len-le32.false in let b = c.requires.not_more in omega (arith, len, a, b, c.len.ensures) in
+    let moved : length (drop 16 kids) ≡ 17 = let d = length-drop 16 kids in omega (arith, all, d) in
+    let least : HeadAt c.index-least.result.now.first (drop 16 kids) = head_there kids 16 c.index-least.result.now (omega (arith, all)) c.index-least.ensures in
+    let first : c.index-least.result.now.first ≡ rank c.least.inside.first = ap (λ (v : NodeValue g.row.A.Denot). v.first) (sym c.least.view_is) in
+    let blank = (blank_last c.pop.new.self.items c.in-Some.blank (subst AreBlank c.in-Some.ensures.items c.requires.blank)).1 in
+    let cap = c.split_at-upper.ensures.to_capacity in
+    rw c.split_at-upper.ensures.moved (record {
+      below = c.requires.kids.below;
+      higher = c.requires.kids.higher;
+      each = All-drop (IsKid c.requires.kids.below) 16 kids c.requires.kids.each;
+      head = subst (λ n. HeadAt n (drop 16 kids)) first least;
+      not_less = omega (arith, moved);
+      not_more = omega (arith, moved);
+      room = let b = blank.1 in omega (arith, b, cap);
+    })
+
+pub returns-clause-settles : goal.returns-clause-settles
+returns-clause-settles g c =
+    let kids = c.args.kids.now.items in
+    let len : length kids ≡ vec_len c.args.kids.now = search rules in
+    let all : length kids ≡ 33 = let a = c.if-len-le32.false in let b = c.requires.not_more in omega (arith, len, a, b, c.len.ensures) in
+    let moved : length (drop 16 kids) ≡ 17 = let d = length-drop 16 kids in omega (arith, all, d) in
+    let least : HeadAt c.index-least.result.now.first (drop 16 kids) = head_there kids 16 c.index-least.result.now (omega (arith, all)) c.index-least.ensures in
+    let first : c.index-least.result.now.first ≡ rank c.least.inside.first = ap (λ (v : NodeValue g.row.A.Denot). v.first) (sym c.least.view_is) in
+    let starts : Starts (rank c.least.inside.first) (pages_of (drop 16 kids)) (chains_of (drop 16 kids)) =
+    kids_start c.requires.kids.below (rank c.least.inside.first) (drop 16 kids) (All-drop (IsKid c.requires.kids.below) 16 kids c.requires.kids.each) (subst (λ n. HeadAt n (drop 16 kids)) first least) in
+    let is = c.split_at-upper.ensures.moved in
+    let width : length c.split_at-upper.result.items ≡ 17 = ap length is ∙ moved in (
+      c.split_at-upper.ensures.kept,
+      ap length c.split_at-upper.ensures.kept ∙ length-take-le 16 kids (omega (arith, all)),
+      record { same_height = refl; not_less = omega (arith, width); not_more = omega (arith, width); starts = subst (λ vs. Starts (rank c.least.inside.first) (pages_of vs) (chains_of vs)) (sym is) starts; filled = subst (λ vs. All IsFilled (pages_of vs)) (sym is) (pages_filled c.requires.kids.below (drop 16 kids) (All-drop (IsKid c.requires.kids.below) 16 kids c.requires.kids.each)) },
+      ap pages_of is,
+      all,
+    )
+
+pub returns-clause-blank : goal.returns-clause-blank
+returns-clause-blank g c = (blank_last c.pop.new.self.items c.in-Some.blank (subst AreBlank c.in-Some.ensures.items c.requires.blank)).0

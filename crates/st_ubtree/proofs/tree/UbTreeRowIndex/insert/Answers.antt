@@ -1,0 +1,22 @@
+use Rattle.std.proofs.Common.{◌≡◌, ℕ, ◌+◌, ◌-◌, ◌<◌, ◌≤◌, ◌^◌, length, refl, subst, sym, ap, ◌∙◌, arith, rules, vec_capacity}
+use Rattle.st_key.specs.Key.{rank}
+use Rattle.st_index.specs.Rows.{key_end, name_of}
+use Rattle.st_index.specs.Index.{IsAbsent}
+use Rattle.st_ubtree.specs.Growing.{IsBlankPage}
+use Rattle.st_ubtree.specs.Pages.{rows_in}
+use Rattle.st_ubtree.specs.Splits.{splits}
+use Rattle.st_ubtree.specs.Trees.{HasTreeRoom}
+use Rattle.st_ubtree.proofs.Lawful.{lawful_tree, tree_grows}
+use Rattle.st_ubtree.proofs.tree.UbTreeRowIndex.insert.Goals as goal
+
+pub put-requires-clause-page : goal.put-requires-clause-page
+put-requires-clause-page g c = rw c.key-key.ensures.value ((rw (← c.self.view_is) at c.requires.room.page))
+
+pub invariant_of-self : goal.invariant_of-self
+invariant_of-self g c =
+    let key = c.key-key.ensures.value in
+    let absent : IsAbsent c.self.inside.period (rank c.key-key.result) (name_of c.args.row) (rows_in c.self.inside.root.pages) = rw key (rw (← c.self.view_is) at c.requires.absent) in
+    tree_grows c.self.inside.period (rank c.key-key.result) c.args.row c.self.inside.root c.put.new.self c.self.inside.len c.self.invariant c.put.ensures.wide c.count_keys.ensures.keys c.put.ensures.grows key c.key-key.ensures.in_period absent (rw (← c.self.view_is) at c.requires.room.count)
+
+pub returns-clause-lawful : goal.returns-clause-lawful
+returns-clause-lawful g c = lawful_tree c.self.inside.period c.put.new.self (c.self.inside.len + 1) (invariant_of-self g c)

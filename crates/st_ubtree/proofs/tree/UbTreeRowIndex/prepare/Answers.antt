@@ -1,0 +1,31 @@
+use Rattle.std.proofs.Common.{◌≡◌, ℕ, ◌+◌, ◌-◌, ◌<◌, ◌≤◌, ◌^◌, length, refl, subst, sym, ap, ◌∙◌, arith, rules, vec_capacity}
+use Rattle.st_key.specs.Key.{rank}
+use Rattle.std.specs.List.{All}
+use Rattle.st_index.specs.Rows.{EntryValue, place_of}
+use Rattle.st_ubtree.specs.Growing.{IsBlankPage}
+use Rattle.st_ubtree.specs.Pages.{entries_in, rows_in}
+use Rattle.st_ubtree.specs.Splits.{made_nodes, split_nodes, splits}
+use Rattle.st_ubtree.proofs.tree.UbTreeRowIndex.prepare.Goals as goal
+
+pub returns : goal.returns
+returns g c =
+    let p = c.self.inside.period in
+    let root = c.self.inside.root in
+    let key = c.key.ensures.value in
+    let place = place_of p c.args.row.now in
+    let split : splits root place ≡ split_nodes c.needs-needs.result.inners = ap (splits root) (sym key) ∙ c.needs-needs.ensures.splits in
+    let len = c.self.invariant.counted in
+    let most = c.self.invariant.most in
+    let full = c.if-self.false in
+    let room : c.needs-needs.result.rows + 1 ≤ vec_capacity c.in_ok-rows.rows = c.in_ok-rows.ensures.capacity in
+    let enough : All (λ (e : EntryValue g.row.A.Denot). e.at ≡ place → length e.rows < vec_capacity c.in_ok-rows.rows) (entries_in root.pages) =
+    λ k d l at. let n = c.needs-needs.ensures.rows k d l (at ∙ sym key) in omega (arith, n, room) in
+    let made = c.in_ok-inners.ensures.count ∙ c.in_ok-made.ensures ∙ ap (λ h. made_nodes h (split_nodes c.needs-needs.result.inners)) c.height.ensures ∙ ap (made_nodes root.height) (sym split) in
+    rw (← c.self.view_is) (record {
+      rows = record { empty = c.in_ok-rows.ensures.items; some = omega (arith, room); enough = enough };
+      page = λ some. c.in_ok-page.ensures.some (omega (arith, split, some));
+      no_page = λ none. c.in_ok-page.ensures.none (omega (arith, split, none));
+      blank = c.in_ok-inners.ensures.blank;
+      inners = made;
+      count = omega (arith, len, most, full);
+    })

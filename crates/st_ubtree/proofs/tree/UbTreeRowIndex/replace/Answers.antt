@@ -1,0 +1,23 @@
+use Rattle.std.proofs.Common.{◌≡◌, ℕ, ◌+◌, ◌-◌, ◌<◌, ◌≤◌, ◌^◌, length, refl, subst, sym, ap, ◌∙◌, arith, rules, vec_capacity}
+use Rattle.st_key.specs.Key.{rank}
+use Rattle.st_index.specs.Rows.{key_end, name_of, place_of}
+use Rattle.st_index.specs.Index.{Holds}
+use Rattle.st_index.proofs.Taking.{absent_held}
+use Rattle.st_ubtree.specs.Pages.{rows_in}
+use Rattle.st_ubtree.proofs.Lawful.{lawful_tree, tree_trades}
+use Rattle.st_ubtree.proofs.tree.UbTreeRowIndex.replace.Goals as goal
+
+pub unreachable-requires : goal.unreachable-requires
+unreachable-requires g c =
+    let p = c.self.inside.period in
+    let absent = c.in_default.ensures.absent p 0 (key_end p) c.self.invariant.spans (omega arith) c.key-key.ensures.in_period in
+    let held : Holds p (place_of p c.args.row) (name_of c.args.row) (rows_in c.self.inside.root.pages) = rw (← c.self.view_is) at c.requires in
+    absent_held p _ _ _ held (rw c.key-key.ensures.value at absent)
+
+pub returns-clause-lawful : goal.returns-clause-lawful
+returns-clause-lawful g c =
+    let keeps = c.in-Ok.ensures.keeps in
+    let same = keeps.height in
+    let broad = keeps.width in
+    let wide = c.self.invariant.wide in
+    lawful_tree c.self.inside.period c.replace.new.self c.self.inside.len (tree_trades c.self.inside.period (rank c.key-key.result) c.args.row c.self.inside.root c.replace.new.self c.self.inside.len c.self.invariant (λ tall. let two = wide (omega (arith, same, tall)) in omega (arith, broad, two)) c.count_keys.ensures.keys c.in-Ok.out c.in-Ok.ensures.ok c.key-key.ensures.value)

@@ -1,0 +1,66 @@
+-- Pages, and how they follow each other.
+use Rattle.std.specs.Prelude.{◌≡◌, ℕ, ◌+◌, ◌<◌, ◌≤◌, List, [], ◌∷◌, ◌++◌, length}
+use Rattle.std.specs.List.{All, flat_map}
+use Rattle.st_key.specs.declared.period.Period.{Period}
+use Rattle.st_index.specs.declared.row.Row.{Row}
+use Rattle.st_index.specs.Rows.{EntryValue, Rises, name_of, place_of, rows_of}
+use Rattle.st_index.specs.Index.{Adds, IsAbsent}
+
+-- a page: the first key of its region, and its entries
+pub record PageValue (A : Type 0) : Type 0 where
+  pub first : ℕ
+  pub entries : List (EntryValue A)
+
+-- a node: its first key, its height above the pages, how many entries or children it has, the pages under it, and
+-- for each page how many nodes are split where it is: the page, and those over it that are full, one after the other
+pub record NodeValue (A : Type 0) : Type 0 where
+  pub first : ℕ
+  pub height : ℕ
+  pub width : ℕ
+  pub pages : List (PageValue A)
+  pub chains : List ℕ
+
+-- the pages' regions follow each other from lo to just below hi, and each page's entries rise inside its own
+abbrev pub Spans : {A : Type 0} → Period → ℕ → ℕ → List (PageValue A) → Type 0
+Spans period lo hi [] = lo ≡ hi
+Spans period lo hi (p ∷ ps) = (p.first ≡ lo) × ((mid : ℕ) × (lo < mid) × Rises period lo mid p.entries × Spans period mid hi ps)
+
+abbrev pub entries_in : {A : Type 0} → List (PageValue A) → List (EntryValue A)
+entries_in {A} = flat_map (λ (p : PageValue A). p.entries)
+
+abbrev pub rows_in : {A : Type 0} → List (PageValue A) → List (Row A)
+rows_in ps = rows_of (entries_in ps)
+
+-- there is a page, and this is its first key
+abbrev pub StartsAt : {A : Type 0} → ℕ → List (PageValue A) → Type 0
+StartsAt first [] = ⊥
+StartsAt first (p ∷ ps) = p.first ≡ first
+
+-- the pages start at this key, and there is a number for each
+abbrev pub Starts : {A : Type 0} → ℕ → List (PageValue A) → List ℕ → Type 0
+Starts first pages chains = StartsAt first pages × (length chains ≡ length pages)
+
+-- a page beside others has 16 to 32 keys
+pub record IsFilled {A : Type 0} (p : PageValue A) : Type 0 where
+  pub not_less : 16 ≤ length p.entries
+  pub not_more : length p.entries ≤ 32
+
+-- a node under another one has 16 to 32 entries or children
+pub record IsKid {A : Type 0} (height : ℕ) (v : NodeValue A) : Type 0 where
+  pub same_height : v.height ≡ height
+  pub not_less : 16 ≤ v.width
+  pub not_more : v.width ≤ 32
+  pub starts : Starts v.first v.pages v.chains
+  pub filled : All IsFilled v.pages
+
+abbrev pub pages_of : {A : Type 0} → List (NodeValue A) → List (PageValue A)
+pages_of {A} = flat_map (λ (v : NodeValue A). v.pages)
+
+abbrev pub HeadAt : {A : Type 0} → ℕ → List (NodeValue A) → Type 0
+HeadAt first [] = ⊥
+HeadAt first (v ∷ vs) = v.first ≡ first
+
+-- new pages hold one row more, between the same bounds
+pub record GrowsBy {A : Type 0} (key : ℕ) (row : Row A) (old new : List (PageValue A)) : Type 0 where
+  pub adds : Adds row (rows_in old) (rows_in new)
+  pub spans : (period : Period) (lo hi : ℕ) → key ≡ place_of period row → Spans period lo hi old → lo ≤ key → key < hi → IsAbsent period key (name_of row) (rows_in old) → Spans period lo hi new
