@@ -70,12 +70,12 @@ fn label_of<A: Allocator + Copy>(alloc: A, text: &str) -> Result<Label<A>, Decod
 fn label_request<A: Allocator + Copy>(alloc: A, object: &Value) -> Result<Request<A>, DecodeFault>
     ensures { Tells (LabelBody (view object.now)) result }
 {
-    let Some(text) = field::text(object, "label") else {
+    let Some(written) = field::text(object, "label") else {
         return Err(Refused(Field {
             name: FieldName::Label,
         }));
     };
-    let label = label_of(alloc, text)?;
+    let label = label_of(alloc, written)?;
     Ok(Request::Label { label })
 }
 

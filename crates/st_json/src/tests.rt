@@ -374,7 +374,7 @@ fn replies(rt: HostRuntime) -> Result<(), Fail> {
         assert!(rt; is_told(alloc, told)?);
     }
     assert!(rt; status(&Refusal::Json) == StatusCode::BAD_REQUEST);
-    let count = Reply::Count(18446744073709551615);
+    let count: Reply = Reply::Count(18446744073709551615);
     let text = encode_into(Vec::from_slice(alloc, b"-- ")?, &count)?;
     let text = String::from_utf8(text).ok().ok_or("a text")?;
     assert!(rt; text.as_str() == "-- {\"count\":18446744073709551615}");

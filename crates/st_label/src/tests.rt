@@ -90,6 +90,7 @@ fn normal_forms(rt: HostRuntime) -> Result<(), Fail> {
     assert!(rt; is_normal_form(rt.alloc(), "\"A\"|A", "A")?);
     assert!(rt; is_normal_form(rt.alloc(), "((A|B)|(C&C))", "A|B|C")?);
     assert!(rt; is_normal_form(rt.alloc(), "", "")?);
+    assert!(rt; is_normal_form(rt.alloc(), "B|A", "A|B")?);
     assert!(rt; is_normal_form(rt.alloc(), "A&(B&A)", "A&B")?);
     assert!(rt; is_normal_form(rt.alloc(), "\"a b\"|a", "\"a b\"|a")?);
     assert!(rt; is_normal_form(rt.alloc(), "\"é\"", "\"é\"")?);

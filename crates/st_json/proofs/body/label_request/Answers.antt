@@ -11,7 +11,7 @@ returns-in_default g c = missing (none_was _ c.in_default.ensures)
 
 pub returns-in_err-label : goal.returns-in_err-label
 returns-in_err-label g c = let p = err_from_is_err_and c.from_residual.result c.from_residual.ensures.1 in
-    label_fault (LabelBody (view c.args.object.now)) c.in-Some.text.now _ _ _ p.1 p.2 c.in_err-label.ensures.fault (λ at why. found _ _ (sym c.in-Some.ensures) (refused at why))
+    label_fault (LabelBody (view c.args.object.now)) c.in-Some.written.now _ _ _ p.1 p.2 c.in_err-label.ensures.fault (λ at why. found _ _ (sym c.in-Some.ensures) (refused at why))
 
 pub returns : goal.returns
 returns g c = found c.in_ok-label.label _ (sym c.in-Some.ensures ∙ ap Some (sym c.in_ok-label.ensures.text)) (labelled _ c.in_ok-label.ensures.label refl)
