@@ -94,7 +94,8 @@ fn has_key(tree: &UbTree, row: &Row) -> bool {
 /// Takes a row out.
 fn take(tree: &mut UbTree, row: &Row) -> bool {
     let key = row.key(tree.period());
-    tree.remove(key, row.id.as_str(), row.label.text()).is_some()
+    tree.remove(key, row.id.as_str(), row.label.text())
+        .is_some()
 }
 
 fn put_all(tree: &mut UbTree, rows: Vec<Row>) -> Result<(), AllocError> {
