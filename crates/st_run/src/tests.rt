@@ -36,7 +36,7 @@ fn run(alloc: Global, digest: &str, input: &str) -> Result<Outcome, AllocError> 
 }
 
 // Whether a run over the input ends well and writes the output.
-fn is_answered(alloc: Global, row: (&str, &str)) -> Result<bool, AllocError> {
+pub fn is_answered(alloc: Global, row: (&str, &str)) -> Result<bool, AllocError> {
     let outcome = run(alloc, DIGEST, row.0)?;
     Ok(outcome.status == 0 && outcome.output.as_slice() == row.1.as_bytes())
 }
