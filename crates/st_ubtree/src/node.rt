@@ -129,9 +129,7 @@ fn put_in_page<A: Allocator + Copy>(
     if entries.len() <= 32 {
         return None;
     }
-    let Some(page) = page else {
-        unreachable!()
-    };
+    let Some(page) = page else { unreachable!() };
     let least = &entries[16];
     let first = least.key;
     let upper = split_at(entries, 16, page);

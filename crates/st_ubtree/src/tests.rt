@@ -79,10 +79,10 @@ fn bounds<A: Allocator + Copy>(alloc: A, tree: &UbTree<A>) -> Result<String<A>, 
 
 const TWO: &str = "0:0 to 0:4095\n0:4096 to 32767:9223372036854775807\n";
 
-const FOUR: &str = "0:0 to 0:4095\n0:4096 to 0:32767\n0:32768 to 0:36863\n0:36864 to 32767:9223372036854775807\n";
+const FOUR: &str =
+    "0:0 to 0:4095\n0:4096 to 0:32767\n0:32768 to 0:36863\n0:36864 to 32767:9223372036854775807\n";
 
-const THREE: &str =
-    "0:0 to 0:32767\n0:32768 to 0:36863\n0:36864 to 32767:9223372036854775807\n";
+const THREE: &str = "0:0 to 0:32767\n0:32768 to 0:36863\n0:36864 to 32767:9223372036854775807\n";
 
 #[test]
 fn pages_split_and_merge(rt: HostRuntime) -> Result<(), Fail> {

@@ -138,7 +138,9 @@ impl<A: Allocator + Copy> UbTree<A> {
 
 impl<A: Allocator + Copy> RowIndex for UbTree<A> {
     type Alloc = A;
+
     type Row = Row<A>;
+
     type Spare = UbSpare<A>;
 
     ghost period_of = { λ t. t.period };
