@@ -9,7 +9,7 @@ use std::alloc::{AllocError, Global};
 use std::io;
 use std::time::Instant;
 
-const LABEL: &str = "ABC";
+const LABEL: &str = "A&B";
 
 /// How long all calls took, in nanoseconds, and how often each was made.
 #[derive(Clone, Copy)]
@@ -94,7 +94,8 @@ fn has_key(tree: &UbTree, row: &Row) -> bool {
 /// Takes a row out.
 fn take(tree: &mut UbTree, row: &Row) -> bool {
     let key = row.key(tree.period());
-    tree.remove(key, row.id.as_str(), row.label.text()).is_some()
+    tree.remove(key, row.id.as_str(), row.label.text())
+        .is_some()
 }
 
 fn put_all(tree: &mut UbTree, rows: Vec<Row>) -> Result<(), AllocError> {
