@@ -6,7 +6,7 @@ mod numbers;
 mod rounds;
 
 use rounds::{Rounds, Times};
-use std::{env, fs, io};
+use std::{env, io};
 
 /// The number of rows that is asked for, if one is.
 fn asked(rt: &HostRuntime) -> io::Result<Option<u64>> {
@@ -24,24 +24,9 @@ fn print(rt: &HostRuntime, name: &str, nanoseconds: u128, count: u64) -> io::Res
     println!(rt; "{name}: {each} ns")
 }
 
-/// The bytes that the process holds in memory, by Linux's count of pages of 4,096 bytes.
-fn resident(rt: &HostRuntime) -> io::Result<u64> {
-    let text = fs::read_to_string(rt, "/proc/self/statm")?;
-    let mut words = text.as_str().split(' ');
-    let _whole = words.next();
-    let pages: u64 = match words.next() {
-        Some(word) => word.parse().unwrap_or(0),
-        None => 0,
-    };
-    Ok(pages.wrapping_mul(4_096))
-}
-
-/// Prints what a call and a row take in a tree of so many rows.
+/// Prints what a call takes in a tree of so many rows.
 fn time(rt: &HostRuntime, count: u64) -> io::Result<()> {
-    let before = resident(rt)?;
     let mut rounds = Rounds::new(rt.alloc(), count)?;
-    let held = resident(rt)?.saturating_sub(before);
-    println!(rt; "memory: {} bytes a row", held / count.max(1))?;
     let mut times = Times::new();
     for _ in 0..(1_000_000 / count.max(1)).max(1) {
         rounds.time(rt, &mut times)?;

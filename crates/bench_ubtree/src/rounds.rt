@@ -9,7 +9,7 @@ use std::alloc::{AllocError, Global};
 use std::io;
 use std::time::Instant;
 
-const LABEL: &str = "ABC";
+const LABEL: &str = "A&B";
 
 /// How long all calls took, in nanoseconds, and how often each was made.
 #[derive(Clone, Copy)]

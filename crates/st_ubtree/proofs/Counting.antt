@@ -1,7 +1,6 @@
 -- How many keys the pages of a node hold.
-use Rattle.std.proofs.Common.{◌≡◌, ℕ, ◌+◌, ◌<◌, ◌≤◌, List, [], ◌∷◌, length, refl, arith, vec_capacity}
+use Rattle.std.proofs.Common.{ℕ, ◌≤◌, [], length, arith}
 use Rattle.std.proofs.lemmas.List.Elements.{All-cons, All-weaker}
-use Rattle.std.specs.List.{All}
 use Rattle.st_ubtree.specs.declared.node.Kids.{Kids}
 use Rattle.st_ubtree.specs.declared.node.Kids.TheVariants.{Page, Inner}
 use Rattle.st_ubtree.specs.Nodes.{IsNode, pages_under, width_of}

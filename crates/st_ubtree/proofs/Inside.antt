@@ -1,14 +1,13 @@
 -- What changes under one child, seen from its parent.
-use Rattle.std.proofs.Common.{◌≡◌, ℕ, ◌+◌, ◌<◌, ◌≤◌, max, List, [], ◌∷◌, ◌++◌, length, get_or, take, drop, refl, sym, ap, subst, ◌∙◌, suc, arith, true, false, not, ltb}
+use Rattle.std.proofs.Common.{◌≡◌, ℕ, ◌+◌, ◌<◌, max, List, ◌++◌, length, get_or, take, drop, sym, ap, subst, ◌∙◌, suc, true, false, not, ltb}
 use Rattle.std.specs.List.{All}
 use Rattle.std.specs.List.Sorted.{IsPartitionedBy, IsPartitionPoint}
-use Rattle.st_index.specs.Rows.{name_of, EntryValue, place_of, rows_of}
-use Rattle.st_index.specs.Index.{Adds, IsAbsent}
+use Rattle.st_index.specs.Rows.{name_of, place_of, rows_of}
+use Rattle.st_index.specs.Index.{Adds}
 use Rattle.st_index.proofs.Climbing.{all_left, all_right}
 use Rattle.st_index.proofs.Putting.{rows-append, adds_inside}
-use Rattle.st_ubtree.specs.Pages.{PageValue, NodeValue, Spans, GrowsBy, IsKid, pages_of, entries_in, rows_in}
-use Rattle.st_ubtree.proofs.Spanning.{Found, found_kid, pages_split, spans_join, entries-append}
-use Rattle.st_key.specs.declared.period.Period.{Period}
+use Rattle.st_ubtree.specs.Pages.{PageValue, NodeValue, GrowsBy, IsKid, pages_of, entries_in, rows_in}
+use Rattle.st_ubtree.proofs.Spanning.{found_kid, pages_split, spans_join, entries-append}
 use Rattle.st_index.specs.declared.row.Row.{Row}
 
 module _ {A : Type 0} where

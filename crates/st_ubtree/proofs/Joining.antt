@@ -1,17 +1,15 @@
 -- Two children side by side that are evened.
-use Rattle.std.proofs.Common.{◌≡◌, ℕ, ◌+◌, ◌<◌, ◌≤◌, List, [], ◌∷◌, ◌++◌, length, get_or, refl, sym, ap, subst, ◌∙◌, suc, zero, arith, append_assoc, length-append, Option, Some, None}
+use Rattle.std.proofs.Common.{◌≡◌, ℕ, ◌+◌, ◌≤◌, List, [], ◌∷◌, ◌++◌, length, get_or, refl, sym, ap, subst, ◌∙◌, arith, Option, Some, None}
 use Rattle.std.proofs.lemmas.List.{append-nil}
 use Rattle.std.proofs.lemmas.List.Elements.{All-append}
 use Rattle.std.specs.List.{All}
-use Rattle.st_key.specs.declared.period.Period.{Period}
-use Rattle.st_index.specs.declared.row.Row.{Row}
 use Rattle.st_index.specs.Rows.{EntryValue, Rises, rows_of}
 use Rattle.st_index.proofs.Climbing.{all_left}
 use Rattle.st_index.proofs.Rising.{rises_around, rises_bounds, rises_join}
 use Rattle.st_ubtree.specs.Nodes.{IsInner, inner_node, page_node}
-use Rattle.st_ubtree.specs.Pages.{PageValue, NodeValue, HeadAt, IsKid, Spans, entries_in, pages_of, rows_in}
+use Rattle.st_ubtree.specs.Pages.{PageValue, NodeValue, HeadAt, IsKid, Spans, pages_of, rows_in}
 use Rattle.st_ubtree.specs.Shrinking.{IsNodeOf, IsPageOf, IsKidBeside, Joins, KidsJoin, PagesJoin, Reshapes, pages_beside}
-use Rattle.st_ubtree.proofs.Inside.{rows_join, rows_three}
+use Rattle.st_ubtree.proofs.Inside.{rows_three}
 use Rattle.st_ubtree.proofs.Settling.{kids_start, pages_filled}
 use Rattle.st_ubtree.proofs.Spanning.{pages-append, spans_cut, spans_join}
 use Rattle.st_ubtree.proofs.Splitting.{filled_page, page, rises_wide}

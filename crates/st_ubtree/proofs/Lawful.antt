@@ -1,7 +1,6 @@
 -- What holds of the pages of a tree, and of their regions.
-use Rattle.std.proofs.Common.{◌≡◌, ℕ, ◌+◌, ◌-◌, ◌*◌, ◌^◌, ◌<◌, ◌≤◌, List, [], ◌∷◌, ◌++◌, length, get_or, refl, sym, ap, subst, ◌∙◌, suc, zero, arith, length-append}
-use Rattle.std.proofs.lemmas.List.{append-nil}
-use Rattle.std.proofs.lemmas.List.Elements.{All-head, All-tail, All-weaker}
+use Rattle.std.proofs.Common.{◌≡◌, ℕ, ◌+◌, ◌-◌, ◌^◌, ◌<◌, ◌≤◌, List, [], ◌∷◌, ◌++◌, length, get_or, refl, sym, ap, subst, ◌∙◌, suc, arith, length-append}
+use Rattle.std.proofs.lemmas.List.Elements.{All-head, All-tail}
 use Rattle.std.specs.List.{All, Contains}
 use Rattle.st_key.specs.declared.period.Period.{Period}
 use Rattle.st_index.specs.declared.row.Row.{Row}
@@ -9,10 +8,9 @@ use Rattle.st_index.specs.Rows.{EntryValue, Rises, key_end, name_of, place_of, r
 use Rattle.st_index.specs.Index.{Follow, IsAbsent, IsLawful, IsLeafAt, Region, region}
 use Rattle.st_index.proofs.Listing.{adds_length, swaps_length}
 use Rattle.st_ubtree.specs.Shrinking.{DropsFrom}
-use Rattle.st_index.specs.Order.{InScanOrder}
 use Rattle.st_index.proofs.Rising.{rises_join}
 use Rattle.st_index.proofs.Scanning.{scan_rises}
-use Rattle.st_ubtree.specs.Growing.{AreAround, IsLeafIn}
+use Rattle.st_ubtree.specs.Growing.{IsLeafIn}
 use Rattle.st_ubtree.specs.Pages.{GrowsBy, PageValue, NodeValue, IsFilled, Spans, entries_in, rows_in}
 use Rattle.st_ubtree.specs.Trading.{AreFilled, TradesIn}
 use Rattle.st_ubtree.specs.Trees.{IsTree, regions_of}

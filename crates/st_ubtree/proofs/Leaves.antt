@@ -1,14 +1,13 @@
 -- The page that a search finds.
-use Rattle.std.proofs.Common.{◌≡◌, ℕ, ◌+◌, ◌-◌, ◌<◌, ◌≤◌, max, List, [], ◌∷◌, ◌++◌, length, get_or, take, drop, refl, sym, ap, subst, ◌∙◌, suc, zero, arith, rules, append_assoc, drop-cons, true, false, not, ltb}
+use Rattle.std.proofs.Common.{◌≡◌, ℕ, ◌+◌, ◌-◌, ◌<◌, ◌≤◌, max, List, [], ◌∷◌, ◌++◌, length, get_or, take, drop, refl, sym, ap, subst, ◌∙◌, suc, arith, append_assoc, drop-cons, true, false, not, ltb}
 use Rattle.std.proofs.lemmas.List.{drop_all}
 use Rattle.std.specs.List.{All}
 use Rattle.std.specs.List.Sorted.{IsPartitionedBy, IsPartitionPoint}
 use Rattle.st_index.specs.Rows.{EntryValue, Rises}
-use Rattle.st_ubtree.specs.Pages.{PageValue, NodeValue, Spans, IsKid, pages_of}
+use Rattle.st_ubtree.specs.Pages.{NodeValue, Spans, IsKid, pages_of}
 use Rattle.st_ubtree.specs.Growing.{IsLeafIn}
 use Rattle.st_ubtree.proofs.Spanning.{Found, found_kid, pages_split, spans_join}
 use Rattle.st_key.specs.declared.period.Period.{Period}
-use Rattle.st_index.specs.declared.row.Row.{Row}
 
 module _ {A : Type 0} where
   pub leaf_page : (key end first : ℕ) (entries : List (EntryValue A)) → IsLeafIn key (record { first = first; entries = entries } ∷ []) end first end entries

@@ -1,7 +1,7 @@
 -- A node over children, where one child takes a row.
-use Rattle.std.proofs.Common.{◌≡◌, ℕ, ◌+◌, ◌-◌, ◌<◌, ◌≤◌, max, List, [], ◌∷◌, ◌++◌, length, get_or, set, take, drop, refl, sym, ap, subst, ◌∙◌, suc, zero, arith, true, false, not, ltb, append_assoc, length-append, take-append-drop, length-set, length-take-le, Option, Some, None}
+use Rattle.std.proofs.Common.{◌≡◌, ℕ, ◌+◌, ◌<◌, ◌≤◌, max, List, [], ◌∷◌, ◌++◌, length, get_or, set, take, drop, refl, sym, ap, subst, ◌∙◌, suc, zero, arith, true, false, not, ltb, append_assoc, length-append, take-append-drop, length-set, length-take-le, Option, Some, None}
 use Rattle.std.proofs.lemmas.List.{set_split, length-drop}
-use Rattle.std.proofs.lemmas.List.Elements.{All-append, All-cons, All-head, All-tail, All-drop}
+use Rattle.std.proofs.lemmas.List.Elements.{All-append, All-cons, All-tail}
 use Rattle.std.specs.List.{All, insert}
 use Rattle.std.specs.Prelude.{IfSome}
 use Rattle.std.specs.List.Sorted.{IsPartitionedBy, IsPartitionPoint}
@@ -9,7 +9,7 @@ use Rattle.st_index.specs.declared.row.Row.{Row}
 use Rattle.st_index.specs.Rows.{EntryValue}
 use Rattle.st_index.proofs.Climbing.{all_left, all_right}
 use Rattle.st_index.proofs.Putting.{split_read}
-use Rattle.st_ubtree.specs.Pages.{PageValue, NodeValue, GrowsBy, HeadAt, IsFilled, IsKid, StartsAt, entries_in, pages_of}
+use Rattle.st_ubtree.specs.Pages.{NodeValue, GrowsBy, HeadAt, IsKid, entries_in, pages_of}
 use Rattle.st_ubtree.specs.Growing.{Grows, IsRoomFor, Settles}
 use Rattle.st_ubtree.specs.Nodes.{IsInner, inner_node}
 use Rattle.st_ubtree.proofs.Spanning.{entries-append, pages-append, pages_split}

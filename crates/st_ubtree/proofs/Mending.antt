@@ -1,8 +1,7 @@
 -- A child that has 15 entries or children, evened with the one beside it.
-use Rattle.std.proofs.Common.{◌≡◌, ℕ, ◌+◌, ◌-◌, ◌<◌, ◌≤◌, min, List, [], ◌∷◌, ◌++◌, length, get_or, set, refl, sym, ap, subst, ◌∙◌, suc, zero, arith, append_assoc, length-append, Option, Some, None}
+use Rattle.std.proofs.Common.{◌≡◌, ℕ, ◌+◌, ◌-◌, ◌<◌, ◌≤◌, min, List, [], ◌∷◌, ◌++◌, length, get_or, set, refl, sym, ap, subst, ◌∙◌, suc, arith, append_assoc, length-append, Option, Some, None}
 use Rattle.std.proofs.lemmas.List.Elements.{All-append, All-cons, All-head, All-tail}
 use Rattle.std.specs.List.{All, insert, remove}
-use Rattle.st_index.specs.declared.row.Row.{Row}
 use Rattle.st_index.proofs.Climbing.{all_left, all_right}
 use Rattle.st_ubtree.specs.Pages.{PageValue, NodeValue, HeadAt, IsKid, pages_of}
 use Rattle.st_ubtree.specs.Shrinking.{AreWorn, IsKidBeside, IsWorn, Joins, Mends, Reshapes, pages_beside}

@@ -1,12 +1,11 @@
 -- Which nodes a new row splits, seen from a page and from a node over it.
-use Rattle.std.proofs.Common.{◌≡◌, ℕ, ◌+◌, ◌-◌, ◌<◌, ◌≤◌, max, List, [], ◌∷◌, ◌++◌, length, get_or, map, take, drop, append_assoc, refl, sym, ap, subst, ◌∙◌, suc, zero, arith, true, false, Bool, not, ltb, eqb, ◌||◌, if◌then◌else◌, Option, Some, None}
-use Rattle.std.proofs.lemmas.Bool.{true≢false, eq-eqb, ne_eqb, eqb-true, le-ltb, lt-ltb, or_from, or_left, or_right}
+use Rattle.std.proofs.Common.{◌≡◌, ℕ, ◌+◌, ◌-◌, ◌<◌, ◌≤◌, max, List, [], ◌∷◌, ◌++◌, length, get_or, map, take, drop, append_assoc, refl, sym, ap, subst, ◌∙◌, suc, zero, arith, true, false, Bool, not, ltb, eqb, ◌||◌, if◌then◌else◌}
+use Rattle.std.proofs.lemmas.Bool.{true≢false, eq-eqb, ne_eqb, le-ltb, lt-ltb, or_from, or_left, or_right}
 use Rattle.std.proofs.lemmas.List.Elements.{All-append, All-cons, All-head, All-tail}
 use Rattle.std.proofs.lemmas.List.{length-map}
-use Rattle.std.specs.List.{All, AllWithin}
+use Rattle.std.specs.List.{All}
 use Rattle.std.specs.List.Sorted.{IsPartitionedBy, IsPartitionPoint}
 use Rattle.st_key.specs.declared.period.Period.{Period}
-use Rattle.st_index.specs.declared.row.Row.{Row}
 use Rattle.st_index.specs.Rows.{EntryValue, Rises}
 use Rattle.st_index.proofs.Rising.{rises_bounds, rises_all}
 use Rattle.st_ubtree.specs.Growing.{AreAround, DoRise}
@@ -16,7 +15,7 @@ use Rattle.st_ubtree.specs.Splits.{chains_of, chains_over, has_key, made_nodes, 
 use Rattle.st_ubtree.proofs.Settling.{chains_length}
 use Rattle.st_index.proofs.Climbing.{all_left, all_right}
 use Rattle.st_index.proofs.Putting.{split_read}
-use Rattle.st_ubtree.proofs.Spanning.{Found, entries-append, firsts_parted, found_kid, later_is, pages_split, spans_bounds, upto_is}
+use Rattle.st_ubtree.proofs.Spanning.{Found, entries-append, found_kid, pages_split, spans_bounds}
 
 with_none : (width height : ℕ) → splits_with width height 0 ≡ 0
 with_none width height = by (ltb width 32) (eqb 0 (height + 1)) (ne_eqb 0 (height + 1) (λ e. omega (arith, e)))

@@ -1,5 +1,5 @@
 -- Children cut in two.
-use Rattle.std.proofs.Common.{◌≡◌, ℕ, ◌+◌, ◌<◌, ◌≤◌, List, [], ◌∷◌, ◌++◌, length, get_or, map, take, drop, length-append, refl, sym, ap, subst, ◌∙◌, suc, arith, drop-cons, Vec, vec_capacity}
+use Rattle.std.proofs.Common.{◌≡◌, ℕ, ◌<◌, ◌≤◌, List, [], ◌∷◌, ◌++◌, length, get_or, map, drop, length-append, refl, sym, ap, subst, arith, drop-cons, Vec, vec_capacity}
 use Rattle.std.proofs.lemmas.List.{length-map}
 use Rattle.std.proofs.lemmas.List.Elements.{All-append, All-head, All-tail}
 use Rattle.std.specs.List.{All}
@@ -7,8 +7,6 @@ use Rattle.st_index.proofs.Climbing.{all_left, all_right}
 use Rattle.st_ubtree.specs.Pages.{PageValue, NodeValue, IsFilled, IsKid, Starts, StartsAt, HeadAt, pages_of}
 use Rattle.st_ubtree.specs.Splits.{chains_of, chains_over, splits_with}
 use Rattle.st_ubtree.specs.Growing.{AreBlank}
-use Rattle.st_key.specs.declared.period.Period.{Period}
-use Rattle.st_index.specs.declared.row.Row.{Row}
 
 pub blank_last : {A B : Type 0} → (vs : List (Vec B A)) (v : Vec B A) → AreBlank (vs ++ v ∷ []) → AreBlank vs × ((v.items ≡ []) × (33 ≤ vec_capacity v))
 blank_last {A} {B} vs v h =

@@ -1,7 +1,7 @@
 -- What taking out a row does to a page, and to a node over the child that it is taken from.
-use Rattle.std.proofs.Common.{◌≡◌, ℕ, ◌+◌, ◌-◌, ◌<◌, ◌≤◌, max, List, [], ◌∷◌, ◌++◌, length, get_or, set, take, drop, refl, sym, ap, subst, ◌∙◌, suc, zero, arith, true, false, not, ltb, append_assoc, length-append, length-set, length-take-le, Option, Some, None}
-use Rattle.std.proofs.lemmas.List.{set_split, length-drop}
-use Rattle.std.proofs.lemmas.List.Elements.{All-append, All-cons, All-head, All-tail}
+use Rattle.std.proofs.Common.{◌≡◌, ℕ, ◌+◌, ◌<◌, ◌≤◌, max, List, [], ◌∷◌, ◌++◌, length, get_or, set, take, drop, refl, sym, ap, subst, ◌∙◌, suc, arith, true, false, not, ltb, length-set, length-take-le, Option, Some, None}
+use Rattle.std.proofs.lemmas.List.{set_split}
+use Rattle.std.proofs.lemmas.List.Elements.{All-append, All-tail}
 use Rattle.std.specs.List.{All}
 use Rattle.std.specs.Prelude.{IfSome, IfNone}
 use Rattle.std.specs.List.Sorted.{IsPartitionedBy, IsPartitionPoint}
@@ -13,12 +13,12 @@ use Rattle.st_index.proofs.Climbing.{all_left, all_right}
 use Rattle.st_index.proofs.Putting.{adds_inside, split_read}
 use Rattle.st_index.proofs.Taking.{absent_high, absent_join, absent_low, rows_below, rows_from}
 use Rattle.st_ubtree.specs.Nodes.{IsInner, inner_node, page_node}
-use Rattle.st_ubtree.specs.Pages.{PageValue, NodeValue, HeadAt, IsFilled, IsKid, Spans, StartsAt, entries_in, pages_of, rows_in}
+use Rattle.st_ubtree.specs.Pages.{PageValue, NodeValue, HeadAt, IsKid, Spans, pages_of, rows_in}
 use Rattle.st_ubtree.specs.Shrinking.{AreWorn, DropsFrom, HasNone, IsWorn, Mends, Reshapes, Shrinks}
 use Rattle.st_ubtree.proofs.Inside.{rows_join, rows_three}
 use Rattle.st_ubtree.proofs.Lifting.{head_same, that_kid}
 use Rattle.st_ubtree.proofs.Settling.{kids_start, pages_filled}
-use Rattle.st_ubtree.proofs.Spanning.{Found, found_kid, pages-append, pages_split, spans_bounds, spans_cut, spans_join}
+use Rattle.st_ubtree.proofs.Spanning.{found_kid, pages-append, pages_split, spans_bounds, spans_cut, spans_join}
 use Rattle.st_ubtree.proofs.Splitting.{filled_page, one_rows, page}
 
 module _ {A : Type 0} (period : Period) where

@@ -1,5 +1,5 @@
 -- What putting a row in another's place does to a page, and to a node over the child that it stands under.
-use Rattle.std.proofs.Common.{◌≡◌, ℕ, ◌+◌, ◌<◌, ◌≤◌, max, List, [], ◌∷◌, ◌++◌, length, get_or, set, take, drop, refl, sym, ap, subst, ◌∙◌, suc, zero, arith, true, false, not, ltb, append_assoc, length-set, Result, Ok, Err}
+use Rattle.std.proofs.Common.{◌≡◌, ℕ, ◌+◌, ◌<◌, ◌≤◌, max, List, [], ◌∷◌, ◌++◌, length, get_or, set, take, drop, refl, sym, ap, subst, ◌∙◌, suc, arith, true, false, not, ltb, append_assoc, length-set, Result, Ok, Err}
 use Rattle.std.proofs.lemmas.List.{set_split}
 use Rattle.std.proofs.lemmas.List.Elements.{All-head}
 use Rattle.std.specs.List.{All}
@@ -10,7 +10,7 @@ use Rattle.st_index.specs.declared.row.Row.{Row}
 use Rattle.st_index.specs.Rows.{EntryValue, Name, Rises, name_of, place_of, rows_of}
 use Rattle.st_index.specs.Index.{IsAbsent, Swaps}
 use Rattle.st_ubtree.specs.Nodes.{IsInner, inner_node, page_node}
-use Rattle.st_ubtree.specs.Pages.{PageValue, NodeValue, HeadAt, IsFilled, IsKid, Spans, pages_of, rows_in}
+use Rattle.st_ubtree.specs.Pages.{NodeValue, HeadAt, IsFilled, IsKid, pages_of, rows_in}
 use Rattle.st_ubtree.specs.Shrinking.{HasNone}
 use Rattle.st_ubtree.specs.Trading.{Keeps, TradesIn}
 use Rattle.st_ubtree.proofs.Inside.{rows_three}

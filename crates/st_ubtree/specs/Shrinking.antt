@@ -1,10 +1,10 @@
 -- What taking out a row, or putting one in another's place, does to a node.
-use Rattle.std.specs.Prelude.{◌≡◌, ℕ, ◌+◌, ◌<◌, ◌≤◌, List, [], ◌∷◌, ◌++◌, length, take, drop, get_or, suc, Option, Some, None}
+use Rattle.std.specs.Prelude.{◌≡◌, ℕ, ◌+◌, ◌<◌, ◌≤◌, List, [], ◌∷◌, ◌++◌, length, Option, Some, None}
 use Rattle.std.specs.List.{All}
 use Rattle.st_key.specs.declared.period.Period.{Period}
 use Rattle.st_index.specs.declared.row.Row.{Row}
 use Rattle.st_index.specs.Rows.{EntryValue, Name, place_of}
-use Rattle.st_index.specs.Index.{Adds, IsAbsent, Swaps}
+use Rattle.st_index.specs.Index.{Adds, IsAbsent}
 use Rattle.st_ubtree.specs.Pages.{PageValue, NodeValue, HeadAt, IsFilled, IsKid, Spans, Starts, pages_of, rows_in}
 
 -- the same rows in pages between the same bounds

@@ -1,6 +1,6 @@
 -- Which nodes a new row splits: the page of its key where that has 32 other keys, and each node of 32 children over
 -- a child that is split.
-use Rattle.std.specs.Prelude.{ℕ, ◌+◌, ◌-◌, Bool, true, false, ◌||◌, if◌then◌else◌, eqb, ltb, List, [], ◌∷◌, ◌++◌, length, map, drop, get_or, Option, Some, None}
+use Rattle.std.specs.Prelude.{ℕ, ◌+◌, ◌-◌, Bool, false, ◌||◌, if◌then◌else◌, eqb, ltb, List, [], ◌∷◌, ◌++◌, length, map, drop, get_or, Option, Some, None}
 use Rattle.st_index.specs.Rows.{EntryValue}
 use Rattle.st_ubtree.specs.Pages.{PageValue, NodeValue}
 

@@ -1,7 +1,5 @@
-use Rattle.std.proofs.Common.{◌≡◌, ℕ, ◌+◌, ◌-◌, ◌<◌, ◌≤◌, min, ◌++◌, length, subst, sym, ap, ◌∙◌, refl, arith, rules, vec_len, vec_capacity}
-use Rattle.st_ubtree.specs.Pages.{NodeValue}
-use Rattle.st_ubtree.specs.Shrinking.{AreWorn}
-use Rattle.st_ubtree.proofs.Mending.{Paired, joins_worn, mends_alone, mends_both, paired}
+use Rattle.std.proofs.Common.{◌≡◌, ◌-◌, ◌<◌, min, length, sym, ap, ◌∙◌, arith, rules, vec_len}
+use Rattle.st_ubtree.proofs.Mending.{mends_alone, mends_both, paired}
 use Rattle.st_ubtree.proofs.node.mend.Goals as goal
 
 pub returns-in_default-clause-mends : goal.returns-in_default-clause-mends

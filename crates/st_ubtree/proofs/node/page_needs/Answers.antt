@@ -1,4 +1,4 @@
-use Rattle.std.proofs.Common.{◌≡◌, ◌<◌, ◌≤◌, length, ap, ◌∙◌, arith, rules}
+use Rattle.std.proofs.Common.{◌≡◌, ap, ◌∙◌}
 use Rattle.st_key.specs.Key.{rank}
 use Rattle.st_index.specs.Rows.{EntryValue}
 use Rattle.st_index.proofs.Names.{nat_equal}

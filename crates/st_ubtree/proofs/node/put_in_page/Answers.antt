@@ -1,9 +1,9 @@
-use Rattle.std.proofs.Common.{◌≡◌, ℕ, ◌+◌, ◌-◌, ◌<◌, ◌≤◌, [], ◌∷◌, length, take, drop, get_or, refl, subst, sym, ap, ◌∙◌, vec_len, arith, rules}
+use Rattle.std.proofs.Common.{◌≡◌, ◌<◌, length, refl, subst, ap, ◌∙◌, vec_len, arith, rules}
 use Rattle.std.proofs.lemmas.List.{length-take-le, length-drop}
 use Rattle.st_key.specs.Key.{rank}
 use Rattle.st_index.specs.Rows.{EntryValue}
-use Rattle.st_ubtree.specs.Pages.{PageValue, NodeValue, GrowsBy, IsKid}
-use Rattle.st_ubtree.specs.Growing.{IsBlankPage, PageGrows}
+use Rattle.st_ubtree.specs.Pages.{NodeValue, IsKid}
+use Rattle.st_ubtree.specs.Growing.{IsBlankPage}
 use Rattle.st_ubtree.specs.Splits.{splits_page}
 use Rattle.st_ubtree.proofs.Splitting.{filled_page, page_grows, page_splits}
 use Rattle.st_ubtree.proofs.Needing.{page_full}

@@ -1,9 +1,9 @@
-use Rattle.std.proofs.Common.{◌≡◌, ℕ, ◌+◌, ◌-◌, ◌<◌, ◌≤◌, [], ◌∷◌, ◌++◌, length, take, drop, get_or, refl, subst, sym, ap, ◌∙◌, vec_len, arith, rules}
+use Rattle.std.proofs.Common.{◌≡◌, length, drop, refl, subst, sym, ap, ◌∙◌, vec_len, arith, rules}
 use Rattle.std.proofs.lemmas.List.{length-take-le, length-drop}
 use Rattle.std.proofs.lemmas.List.Elements.{All-drop}
 use Rattle.std.specs.List.{All}
 use Rattle.st_key.specs.Key.{rank}
-use Rattle.st_ubtree.specs.Pages.{PageValue, NodeValue, IsFilled, IsKid, HeadAt, Starts, pages_of}
+use Rattle.st_ubtree.specs.Pages.{NodeValue, IsFilled, IsKid, HeadAt, Starts, pages_of}
 use Rattle.st_ubtree.specs.Splits.{chains_of}
 use Rattle.st_ubtree.specs.Growing.{AreBlank}
 use Rattle.st_ubtree.proofs.Settling.{blank_last, head_there, kids_start, pages_filled}

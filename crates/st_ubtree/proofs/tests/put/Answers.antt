@@ -1,9 +1,9 @@
-use Rattle.std.proofs.Common.{◌≡◌, ◌∷◌, ◌++◌, ap, subst, sym, ◌∙◌}
+use Rattle.std.proofs.Common.{◌≡◌, ap, subst, sym, ◌∙◌}
 use Rattle.st_key.specs.Key.{rank}
 use Rattle.st_index.specs.declared.row.Row.{Row}
-use Rattle.st_index.specs.Index.{Adds, Holds, IsAbsent}
+use Rattle.st_index.specs.Index.{IsAbsent}
 use Rattle.st_index.specs.Order.{InScanOrder}
-use Rattle.st_index.specs.Rows.{Name, name_of, place_of}
+use Rattle.st_index.specs.Rows.{name_of, place_of}
 use Rattle.st_index.proofs.Scanning.{scan_apart}
 use Rattle.st_ubtree.proofs.tests.put.Goals as goal
 

@@ -1,12 +1,11 @@
-use Rattle.std.proofs.Common.{rules, ◌≡◌, ◌+◌, ◌<◌, ◌≤◌, [], length, vec_len, vec_capacity, ltb, not, ◌∷◌, true, false, ℕ, ◌-◌, ◌*◌, ◌/◌, ◌%◌, Bool, nat_eq, List, ◌++◌, slice_index_or, slice_set, bit_and, bit_or, Fits, w8, w32, w64, Bor, MutBor}
+use Rattle.std.proofs.Common.{rules, ◌≡◌, ◌+◌, ◌<◌, ◌≤◌, [], length, vec_len, vec_capacity, ◌∷◌, ◌-◌, ◌++◌}
 use Rattle.std.specs.List.{All}
 use Rattle.st_key.specs.Key.{rank}
-use Rattle.st_ubtree.specs.Pages.{PageValue, NodeValue, GrowsBy, HeadAt, IsKid, entries_in, pages_of}
-use Rattle.st_ubtree.specs.Growing.{AreKids, Settles, PageGrows, IsRoomFor, AreBlank, Grows, IsLeafIn}
-use Rattle.std.proofs.Common.{subst, sym, ap, ◌∙◌, max, set, take, drop, suc, arith, length-set}
+use Rattle.st_ubtree.specs.Pages.{NodeValue, HeadAt, IsKid, pages_of}
+use Rattle.std.proofs.Common.{subst, sym, ap, ◌∙◌, max, take, drop, suc, arith, length-set}
 use Rattle.std.proofs.lemmas.List.{set_split}
 use Rattle.st_ubtree.proofs.Lifting.{alone, both, each_with, grows_alone, grows_settled, head_same, inserted, kid_splits, kid_stays, length-inserted, room_for_kid, settled_inner, that_kid}
-use Rattle.st_ubtree.specs.Nodes.{IsNode, IsInner, IsPage, inner_node, node_value, page_node, width_of, pages_under}
+use Rattle.st_ubtree.specs.Nodes.{IsNode, IsInner, IsPage, inner_node, node_value, page_node, pages_under}
 use Rattle.st_ubtree.proofs.Splitting.{page, page_fits, page_node_grows}
 use Rattle.st_ubtree.specs.Growing.{AreAround}
 use Rattle.st_ubtree.specs.Splits.{chains_of, splits, splits_in, splits_page}

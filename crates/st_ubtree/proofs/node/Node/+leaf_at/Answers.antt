@@ -1,9 +1,8 @@
-use Rattle.std.proofs.Common.{◌≡◌, ℕ, ◌+◌, ◌-◌, ◌<◌, ◌≤◌, max, [], ◌∷◌, length, subst, sym, ap, ◌∙◌, get_or, refl, arith, rules, suc, vec_capacity}
+use Rattle.std.proofs.Common.{◌≡◌, ℕ, ◌+◌, ◌-◌, ◌<◌, max, [], ◌∷◌, length, subst, sym, ap, ◌∙◌, get_or, arith, suc, vec_capacity}
 use Rattle.st_key.specs.declared.period.Period.{Period}
 use Rattle.st_key.specs.Key.{rank}
-use Rattle.st_ubtree.specs.Pages.{PageValue, NodeValue, pages_of}
+use Rattle.st_ubtree.specs.Pages.{NodeValue, pages_of}
 use Rattle.st_ubtree.specs.Nodes.{IsNode, IsInner, pages_under}
-use Rattle.st_ubtree.specs.Growing.{IsLeafIn}
 use Rattle.st_ubtree.proofs.Spanning.{Found}
 use Rattle.st_ubtree.proofs.Leaves.{leaf_page, leaf_kid, ends_next, ends_last}
 use Rattle.st_ubtree.proofs.node.Node.+leaf_at.Goals as goal

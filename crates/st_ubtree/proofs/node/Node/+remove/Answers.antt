@@ -1,10 +1,7 @@
-use Rattle.std.proofs.Common.{◌≡◌, ℕ, ◌+◌, ◌-◌, ◌<◌, ◌≤◌, max, ◌++◌, ◌∷◌, [], length, set, take, drop, suc, subst, sym, ap, ◌∙◌, refl, arith, rules, vec_len, vec_capacity}
-use Rattle.std.proofs.lemmas.List.{set_split}
-use Rattle.std.specs.List.{All}
+use Rattle.std.proofs.Common.{◌≡◌, ◌+◌, ◌-◌, ◌<◌, ◌≤◌, max, ◌∷◌, [], length, subst, sym, ap, ◌∙◌, arith, rules, vec_len, vec_capacity}
 use Rattle.st_key.specs.Key.{rank}
-use Rattle.st_ubtree.specs.Pages.{PageValue, NodeValue, HeadAt, IsKid, pages_of}
+use Rattle.st_ubtree.specs.Pages.{NodeValue, pages_of}
 use Rattle.st_ubtree.specs.Nodes.{IsNode, IsInner, IsPage, inner_node, node_value, page_node, width_of, pages_under}
-use Rattle.st_ubtree.specs.Shrinking.{AreWorn, HasNone, Mends, Shrinks}
 use Rattle.st_ubtree.proofs.Shrinking.{are_worn, none_in_kids, page_taken, page_without, shrinks_inner, shrunk_inner}
 use Rattle.st_ubtree.proofs.Splitting.{page}
 use Rattle.st_ubtree.proofs.node.Node.+remove.Goals as goal

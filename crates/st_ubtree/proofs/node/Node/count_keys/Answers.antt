@@ -1,7 +1,6 @@
-use Rattle.std.proofs.Common.{◌≡◌, ◌≤◌, sym, ap, ◌∙◌, subst}
+use Rattle.std.proofs.Common.{◌≤◌, ap, subst}
 use Rattle.st_key.specs.Key.{rank}
 use Rattle.st_ubtree.specs.Pages.{NodeValue}
-use Rattle.st_ubtree.specs.Nodes.{pages_under}
 use Rattle.st_ubtree.specs.Trading.{AreFilled}
 use Rattle.st_ubtree.proofs.Counting.{node_fits, node_filled}
 use Rattle.st_ubtree.proofs.node.Node.count_keys.Goals as goal

@@ -1,10 +1,8 @@
-use Rattle.std.proofs.Common.{◌≡◌, ℕ, ◌+◌, ◌<◌, ◌≤◌, ◌++◌, ◌∷◌, [], length, subst, sym, ap, ◌∙◌, refl, arith, rules, vec_capacity}
-use Rattle.std.specs.List.{All}
+use Rattle.std.proofs.Common.{◌≡◌, ◌∷◌, [], length, subst, sym, ap, ◌∙◌, arith, vec_capacity}
 use Rattle.st_key.specs.Key.{rank}
-use Rattle.st_ubtree.specs.Pages.{PageValue, NodeValue, HeadAt, IsKid, pages_of}
-use Rattle.st_ubtree.specs.Nodes.{IsNode, IsInner, IsPage, inner_node, node_value, page_node, width_of, pages_under}
-use Rattle.st_ubtree.specs.Growing.{AreKids}
-use Rattle.st_ubtree.specs.Shrinking.{Joins, KidsJoin}
+use Rattle.st_ubtree.specs.Pages.{NodeValue, pages_of}
+use Rattle.st_ubtree.specs.Nodes.{IsNode, IsInner, IsPage, inner_node, node_value, page_node, pages_under}
+use Rattle.st_ubtree.specs.Shrinking.{KidsJoin}
 use Rattle.st_ubtree.proofs.Joining.{both_kids, join_of_kids, join_of_pages, joined_each, joined_head}
 use Rattle.st_ubtree.proofs.Splitting.{page}
 use Rattle.st_ubtree.proofs.node.Node.join.Goals as goal

@@ -1,11 +1,11 @@
-use Rattle.std.proofs.Common.{◌≡◌, ◌+◌, ◌-◌, ◌<◌, ◌≤◌, ◌∷◌, ◌++◌, [], map, subst, sym, ap, ◌∙◌, arith, rules}
+use Rattle.std.proofs.Common.{◌≡◌, map, subst, ap}
 use Rattle.st_key.specs.Key.{rank}
 use Rattle.st_index.specs.Rows.{key_end}
 use Rattle.st_index.proofs.Listing.{some_keys}
 use Rattle.st_ubtree.specs.Ranges.{region_in}
 use Rattle.st_ubtree.specs.Trees.{TreeValue, regions_of}
 use Rattle.st_ubtree.proofs.Lawful.{spans_follow}
-use Rattle.st_ubtree.proofs.Walking.{IsWalked, Walks, left, left_less, walks_first, walks_on}
+use Rattle.st_ubtree.proofs.Walking.{IsWalked, Walks, left_less, walks_first, walks_on}
 use Rattle.st_ubtree.proofs.tree.UbTree.regions.Goals as goal
 
 pub loop-next-init : goal.loop-next-init

@@ -1,11 +1,8 @@
-use Rattle.std.proofs.Common.{◌≡◌, ℕ, ◌+◌, ◌-◌, ◌<◌, ◌≤◌, ◌^◌, length, refl, subst, sym, ap, ◌∙◌, arith, rules, vec_capacity}
+use Rattle.std.proofs.Common.{◌+◌}
 use Rattle.st_key.specs.Key.{rank}
-use Rattle.st_index.specs.Rows.{key_end, name_of}
+use Rattle.st_index.specs.Rows.{name_of}
 use Rattle.st_index.specs.Index.{IsAbsent}
-use Rattle.st_ubtree.specs.Growing.{IsBlankPage}
 use Rattle.st_ubtree.specs.Pages.{rows_in}
-use Rattle.st_ubtree.specs.Splits.{splits}
-use Rattle.st_ubtree.specs.Trees.{HasTreeRoom}
 use Rattle.st_ubtree.proofs.Lawful.{lawful_tree, tree_grows}
 use Rattle.st_ubtree.proofs.tree.UbTreeRowIndex.insert.Goals as goal
 

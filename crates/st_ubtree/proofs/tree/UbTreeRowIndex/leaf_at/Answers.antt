@@ -1,4 +1,4 @@
-use Rattle.std.proofs.Common.{◌≡◌, ℕ, ◌+◌, ◌-◌, ◌<◌, ◌≤◌, ◌^◌, length, refl, subst, sym, ap, ◌∙◌, arith, rules, vec_capacity}
+use Rattle.std.proofs.Common.{◌≡◌, ◌+◌, ◌<◌}
 use Rattle.st_key.specs.Key.{rank}
 use Rattle.st_index.specs.Rows.{key_end}
 use Rattle.st_ubtree.proofs.Lawful.{leaf_at_key, leaf_of_regions}

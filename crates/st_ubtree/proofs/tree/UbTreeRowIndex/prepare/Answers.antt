@@ -1,9 +1,7 @@
-use Rattle.std.proofs.Common.{◌≡◌, ℕ, ◌+◌, ◌-◌, ◌<◌, ◌≤◌, ◌^◌, length, refl, subst, sym, ap, ◌∙◌, arith, rules, vec_capacity}
-use Rattle.st_key.specs.Key.{rank}
+use Rattle.std.proofs.Common.{◌≡◌, ◌+◌, ◌<◌, ◌≤◌, length, sym, ap, ◌∙◌, arith, vec_capacity}
 use Rattle.std.specs.List.{All}
 use Rattle.st_index.specs.Rows.{EntryValue, place_of}
-use Rattle.st_ubtree.specs.Growing.{IsBlankPage}
-use Rattle.st_ubtree.specs.Pages.{entries_in, rows_in}
+use Rattle.st_ubtree.specs.Pages.{entries_in}
 use Rattle.st_ubtree.specs.Splits.{made_nodes, split_nodes, splits}
 use Rattle.st_ubtree.proofs.tree.UbTreeRowIndex.prepare.Goals as goal
 

@@ -1,8 +1,6 @@
-use Rattle.std.proofs.Common.{◌≡◌, ℕ, ◌+◌, ◌-◌, ◌<◌, ◌≤◌, ◌^◌, length, refl, subst, sym, ap, ◌∙◌, arith, rules, vec_capacity}
+use Rattle.std.proofs.Common.{◌-◌, subst, sym}
 use Rattle.st_key.specs.Key.{rank}
-use Rattle.st_ubtree.specs.Pages.{NodeValue, rows_in}
 use Rattle.st_ubtree.specs.Shrinking.{DropsFrom}
-use Rattle.st_ubtree.specs.Trees.{IsTree}
 use Rattle.st_ubtree.proofs.Lawful.{lawful_tree, tree_shrinks}
 use Rattle.st_ubtree.proofs.tree.UbTreeRowIndex.remove.Goals as goal
 

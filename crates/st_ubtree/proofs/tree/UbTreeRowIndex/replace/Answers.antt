@@ -1,4 +1,4 @@
-use Rattle.std.proofs.Common.{◌≡◌, ℕ, ◌+◌, ◌-◌, ◌<◌, ◌≤◌, ◌^◌, length, refl, subst, sym, ap, ◌∙◌, arith, rules, vec_capacity}
+use Rattle.std.proofs.Common.{arith}
 use Rattle.st_key.specs.Key.{rank}
 use Rattle.st_index.specs.Rows.{key_end, name_of, place_of}
 use Rattle.st_index.specs.Index.{Holds}
