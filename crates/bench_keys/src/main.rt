@@ -2,7 +2,6 @@
 //! each call so often, and prints how long one takes.
 #![tactic(auto)]
 
-mod numbers;
 mod rounds;
 
 use rounds::Rounds;
@@ -65,12 +64,7 @@ fn main(rt: HostRuntime) -> io::Result<()> {
         return time(&rt, count);
     }
     let once = Rounds::new(1);
-    let sum = once.interleaves() ^ once.jumps() ^ once.first_keys();
-    println!(rt; "keys: {sum}")?;
-    let small = once.plans(rt.alloc(), 2);
-    let large = once.plans(rt.alloc(), 14);
-    println!(rt;
-        "ranges: {small}, {large}, {}",
-        once.worst_plans(rt.alloc())
-    )
+    let _ = once.interleaves() ^ once.jumps() ^ once.first_keys();
+    let _ = once.plans(rt.alloc(), 2) ^ once.plans(rt.alloc(), 14);
+    println!(rt; "ranges of the worst box: {}", once.worst_plans(rt.alloc()))
 }

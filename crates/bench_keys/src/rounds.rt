@@ -1,7 +1,8 @@
 //! What is timed.
-ghost use Rattle.std.specs.Prelude.{◌≤◌, ◌<◌};
+ghost use Rattle.std.specs.Prelude.{◌≤◌};
 
-use crate::numbers::Numbers;
+use rand_core::{Rng, SeedableRng};
+use rand_xoshiro::SplitMix64;
 use st_bigmin::{bigmin, first_from};
 use st_box::{Query, ZBox};
 use st_key::{Key, Period, interleave};
@@ -26,10 +27,10 @@ impl Rounds {
 
     /// Addresses of places.
     pub fn interleaves(&self) -> u64 {
-        let mut numbers = Numbers::new();
+        let mut numbers = SplitMix64::seed_from_u64(1);
         let mut sum = 0;
         for _ in 0..self.count {
-            let n = numbers.next();
+            let n = numbers.next_u64() >> 1;
             let x = (n >> 42) as u32 % (1 << 21);
             let y = (n >> 21 & 0x1f_ffff) as u32;
             let offset = (n & 0x1f_ffff) as u32;
@@ -40,11 +41,11 @@ impl Rounds {
 
     /// Jumps from anywhere into a box of a seventh of each side.
     pub fn jumps(&self) -> u64 {
-        let mut numbers = Numbers::new();
+        let mut numbers = SplitMix64::seed_from_u64(1);
         let mut sum = 0;
         if let Some(zbox) = ZBox::new(900_000, 1_200_000, 300_000, 600_000, 100_000, 190_000) {
             for _ in 0..self.count {
-                sum ^= bigmin(numbers.next(), &zbox).unwrap_or(0);
+                sum ^= bigmin(numbers.next_u64() >> 1, &zbox).unwrap_or(0);
             }
         }
         sum
@@ -52,12 +53,12 @@ impl Rounds {
 
     /// First keys of a query over three weeks, from anywhere in them.
     pub fn first_keys(&self) -> u64 {
-        let mut numbers = Numbers::new();
+        let mut numbers = SplitMix64::seed_from_u64(1);
         let mut sum = 0;
         if let Ok(query) = Query::new(900_000, 1_200_000, 300_000, 600_000, WEEK, 4 * WEEK) {
             for _ in 0..self.count {
-                let bin = numbers.below(4) as u32;
-                if let Some(from) = Key::new(bin, numbers.next(), Period::Week) {
+                let bin = (numbers.next_u64() % 4) as u32;
+                if let Some(from) = Key::new(bin, numbers.next_u64() >> 1, Period::Week) {
                     if let Some(key) = first_from(&query, from, Period::Week) {
                         sum ^= key.address();
                     }
@@ -71,14 +72,14 @@ impl Rounds {
     pub fn plans(&self, alloc: Global, percent: u64) -> u64
         requires { percent ≤ 50 }
     {
-        let mut numbers = Numbers::new();
+        let mut numbers = SplitMix64::seed_from_u64(1);
         let mut ranges = 0u64;
         let side = SIDE * percent / 100;
         let span = WEEK * percent / 100;
         for _ in 0..self.count {
-            let x = numbers.below(SIDE / 2);
-            let y = numbers.below(SIDE / 2);
-            let t = numbers.below(WEEK / 2);
+            let x = numbers.next_u64() % (SIDE / 2);
+            let y = numbers.next_u64() % (SIDE / 2);
+            let t = numbers.next_u64() % (WEEK / 2);
             if let Ok(query) = Query::new(x, x + side, y, y + side, t, t + span) {
                 if let Ok(plan) = plan(alloc, &query, 16, Period::Week) {
                     for part in plan.parts() {

@@ -1,12 +1,14 @@
 //! Times the UB-tree. Without arguments it makes each call a few times; with a number of rows it times a
-//! put, a look-up and a remove in a tree of so many rows.
+//! put, a look-up and a remove in a tree of so many rows, and says how much memory a row takes.
 #![tactic(auto)]
 
-mod numbers;
 mod rounds;
 
 use rounds::{Rounds, Times};
-use std::{env, io};
+use std::{env, fs, io};
+
+/// The size of a page of memory.
+const PAGE: u64 = 4_096;
 
 /// The number of rows that is asked for, if one is.
 fn asked(rt: &HostRuntime) -> io::Result<Option<u64>> {
@@ -24,9 +26,22 @@ fn print(rt: &HostRuntime, name: &str, nanoseconds: u128, count: u64) -> io::Res
     println!(rt; "{name}: {each} ns")
 }
 
-/// Prints what a call takes in a tree of so many rows.
+/// The bytes of memory that the process holds, by the second number of Linux's `statm`.
+fn memory(rt: &HostRuntime) -> io::Result<u64> {
+    let text = fs::read_to_string(rt, "/proc/self/statm")?;
+    let pages: u64 = match text.as_str().split(' ').nth(1) {
+        Some(word) => word.parse().unwrap_or(0),
+        None => 0,
+    };
+    Ok(pages.wrapping_mul(PAGE))
+}
+
+/// Prints what a row takes, and what a call takes in a tree of so many rows.
 fn time(rt: &HostRuntime, count: u64) -> io::Result<()> {
+    let before = memory(rt)?;
     let mut rounds = Rounds::new(rt.alloc(), count)?;
+    let held = memory(rt)?.saturating_sub(before);
+    println!(rt; "memory: {} bytes a row", held / rounds.len().max(1))?;
     let mut times = Times::new();
     for _ in 0..(1_000_000 / count.max(1)).max(1) {
         rounds.time(rt, &mut times)?;

@@ -1,5 +1,6 @@
 //! What is timed.
-use crate::numbers::Numbers;
+use rand_core::{Rng, SeedableRng};
+use rand_xoshiro::SplitMix64;
 use st_index::{Row, RowIndex, entries};
 use st_key::{Key, Period, Point};
 use st_label::Label;
@@ -37,7 +38,7 @@ impl Times {
 #[derive(Drop)]
 pub struct Rounds {
     alloc: Global,
-    numbers: Numbers,
+    numbers: SplitMix64,
     tree: UbTree,
     many: u64,
 }
@@ -61,10 +62,10 @@ fn row_of(alloc: Global, number: u64) -> Result<Option<Row>, AllocError> {
 }
 
 /// So many rows.
-fn rows_of(alloc: Global, numbers: &mut Numbers, count: u64) -> Result<Vec<Row>, AllocError> {
+fn rows_of(alloc: Global, numbers: &mut SplitMix64, count: u64) -> Result<Vec<Row>, AllocError> {
     let mut rows = Vec::new(alloc);
     for _ in 0..count {
-        if let Some(row) = row_of(alloc, numbers.next())? {
+        if let Some(row) = row_of(alloc, numbers.next_u64() >> 1)? {
             rows.push(row)?;
         }
     }
@@ -124,10 +125,10 @@ fn take_all(tree: &mut UbTree, rows: &[Row]) -> u64 {
 impl Rounds {
     /// A tree of so many rows.
     pub fn new(alloc: Global, many: u64) -> Result<Rounds, AllocError> {
-        let mut numbers = Numbers::new();
+        let mut numbers = SplitMix64::seed_from_u64(1);
         let mut tree = UbTree::new(alloc, Period::Week)?;
         for _ in 0..many {
-            if let Some(row) = row_of(alloc, numbers.next())? {
+            if let Some(row) = row_of(alloc, numbers.next_u64() >> 1)? {
                 put(&mut tree, row)?;
             }
         }
@@ -142,7 +143,7 @@ impl Rounds {
     /// Puts a tenth more rows in, looks them up, and takes them out again.
     pub fn time(&mut self, rt: &HostRuntime, times: &mut Times) -> io::Result<()> {
         let count = self.many / 10;
-        let mut later = self.numbers;
+        let mut later = self.numbers.clone()?;
         let rows = rows_of(self.alloc, &mut self.numbers, count)?;
         let named = rows_of(self.alloc, &mut later, count)?;
         let start = Instant::now(rt)?;

@@ -10,6 +10,7 @@ use Rattle.st_service.specs.declared.connection.Ended.{Ended}
 use Rattle.st_service.specs.declared.connection.Ended.TheVariants.{Clean, Closed, Cut, TurnsSpent}
 use Rattle.st_service.specs.declared.connection.IoFault.{IoFault}
 use Rattle.st_run.specs.declared.fault.Fault.{Fault}
+use Rattle.st_run.specs.CommandLine.{Says, Refuses}
 use Rattle.st_run.specs.Status.{status_of}
 
 -- the status after a connection ended so
@@ -37,21 +38,24 @@ pub record Serves (before after : State Global) (left_old left_new held_old held
   pub served : Served Answers before after left_old left_new held_old held_new read_failed ended
   pub status_is : status ≡ status_after ended
 
--- the connection was served from such a state on
-pub record IsServed (left_old left_new held_old held_new : Option (List ℕ)) (read_failed : Bool) (status : ℕ) : Type 0 where
+-- the words open a state, and the connection was served from it on
+pub record IsServed (words : List Text) (left_old left_new held_old held_new : Option (List ℕ)) (read_failed : Bool) (status : ℕ) : Type 0 where
   pub digits : Text
   pub names : List Text
+  pub says : Says words digits names
   pub before : State Global
   pub opens : Opens digits names before
   pub after : State Global
   pub serves : Serves before after left_old left_new held_old held_new read_failed status
 
--- nothing was read or written
-pub record IsRefused (left_old left_new held_old held_new : Option (List ℕ)) (status : ℕ) : Type 0 where
-  pub status_is : (status ≡ 2) ⊎ (status ≡ 6)
+-- the words are refused, and nothing was read or written
+pub record IsRefused (words : List Text) (left_old left_new held_old held_new : Option (List ℕ)) (status : ℕ) : Type 0 where
+  pub fault : Fault
+  pub why : Refuses words fault
+  pub status_is : status ≡ status_of fault
   pub unread : left_new ≡ left_old
   pub unwritten : held_new ≡ held_old
 
-abbrev pub Ran : Option (List ℕ) → Option (List ℕ) → Option (List ℕ) → Option (List ℕ) → Bool → ℕ → Type 0
-Ran left_old left_new held_old held_new read_failed status =
-    IsServed left_old left_new held_old held_new read_failed status ⊎ IsRefused left_old left_new held_old held_new status
+abbrev pub Ran : List Text → Option (List ℕ) → Option (List ℕ) → Option (List ℕ) → Option (List ℕ) → Bool → ℕ → Type 0
+Ran words left_old left_new held_old held_new read_failed status =
+    IsServed words left_old left_new held_old held_new read_failed status ⊎ IsRefused words left_old left_new held_old held_new status

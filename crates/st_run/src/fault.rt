@@ -1,4 +1,5 @@
 //! Why a run did not end well.
+use clap::error::ErrorKind;
 use std::alloc::AllocError;
 use thiserror::Error;
 
@@ -53,5 +54,20 @@ impl From<AllocError> for Fault {
 
     fn from(_: AllocError) -> Fault {
         Fault::NoMemory
+    }
+}
+
+impl From<clap::Error> for Fault {
+    ghost use Rattle.std.specs.Prelude.{◌≡◌};
+    ghost use Rattle.clap.specs.Words.{kind_of};
+    ghost use Rattle.st_run.specs.CommandLine.{as_fault};
+
+    ghost from_gives = { λ error fault. fault ≡ as_fault (kind_of error) error };
+
+    fn from(error: clap::Error) -> Fault {
+        match error.kind() {
+            ErrorKind::OutOfMemory => Fault::NoMemory,
+            _ => Fault::Usage(error),
+        }
     }
 }

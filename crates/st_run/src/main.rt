@@ -1,6 +1,7 @@
 //! `st_run --root DIGEST [NAME]...` serves standard input to standard output, as one connection.
 #![tactic(auto)]
 
+mod command_line;
 mod fault;
 #[cfg(test)]
 mod label_rows;

@@ -1,46 +1,26 @@
 //! One connection from a reader to a writer, by the words of a command line.
-ghost use Rattle.std.specs.Prelude.{◌≡◌, ◌⊎◌, Ok, IfOk, IfErr, false, map};
+ghost use Rattle.std.specs.Prelude.{◌≡◌, Ok, IfOk, IfErr, IsErr, List, false, map, string_bytes};
 ghost use Rattle.hex.specs.Hex.{decode_sized};
 ghost use Rattle.st_service.specs.Answers.{Answers};
 ghost use Rattle.st_service.specs.Connection.{Served};
+ghost use Rattle.st_text.specs.Texts.{Text};
+ghost use Rattle.st_run.specs.CommandLine.{Says, Refuses};
 ghost use Rattle.st_run.specs.Serving.{Serves, Opens, Ran, status_given};
+ghost use Rattle.st_run.specs.declared.fault.Fault.TheVariants.{BadDigest};
 ghost use Rattle.st_run.specs.Status.{status_of};
 
+use crate::command_line::{Words, read};
 use crate::fault::Fault;
-use clap::{Arg, ArgAction, Command};
 use st_auth::AuthsFault;
 use st_core::Store;
 use st_service::{Ended, IoFault, Service, Sink, Source};
 use std::alloc::Global;
 use std::io::Write;
 
-// What the command line says.
-#[derive(Drop)]
-struct Words<'a> {
-    digest: &'a str,
-    names: Vec<&'a str>,
-}
-
-// Reads a command line.
-fn read<'a>(alloc: Global, words: &'a [String]) -> Result<Words<'a>, clap::Error> {
-    let root = Arg::new(alloc, "root")
-        .long("root")
-        .value_name("DIGEST")
-        .required(true)
-        .action(ArgAction::Set);
-    let names = Arg::new(alloc, "NAME").action(ArgAction::Append);
-    let command = Command::new(alloc, "st_run").arg(root)?.arg(names)?;
-    let matches = command.try_get_matches_from(words)?;
-    Ok(Words {
-        digest: matches.get_str("root").unwrap_or(""),
-        names: Vec::from_slice(alloc, matches.get_strs("NAME").unwrap_or(&[]))?,
-    })
-}
-
 // The bytes that 64 hexadecimal digits write.
 fn digest_of(text: &str) -> Result<[u8; 32], Fault>
     ensures ok { IfOk result (λ digest. decode_sized text.now 32 ≡ Ok digest) }
-    ensures err { IfErr result (λ fault. status_of fault ≡ 2) }
+    ensures err { IfErr result (λ fault. (fault ≡ BadDigest) × IsErr (decode_sized text.now 32)) }
 {
     let mut digest = [0; 32];
     match hex::decode_to_slice(text, &mut digest) {
@@ -50,12 +30,12 @@ fn digest_of(text: &str) -> Result<[u8; 32], Fault>
 }
 
 // The service over the store that the words open. The digest is judged first.
-fn service_for(alloc: Global, words: &Words<'_>) -> Result<Service, Fault>
-    ensures ok { IfOk result (λ service. Opens words.now.digest.now (map (λ name. name.now) words.now.names.items) service) }
-    ensures err { IfErr result (λ fault. (status_of fault ≡ 2) ⊎ (status_of fault ≡ 6)) }
+fn service_for(alloc: Global, said: &Words<'_>) -> Result<Service, Fault>
+    ensures ok { IfOk result (λ service. Opens said.now.digest.now (map (λ name. name.now) said.now.names.items) service) }
+    ensures err { IfErr result (λ fault. (words : List Text) → Says words said.now.digest.now (map (λ name. name.now) said.now.names.items) → Refuses words fault) }
 {
-    let digest = digest_of(words.digest)?;
-    match Store::open(alloc, digest, &words.names) {
+    let digest = digest_of(said.digest)?;
+    match Store::open(alloc, digest, &said.names) {
         Ok(store) => Ok(Service::new(alloc, alloc, store)?),
         Err(AuthsFault::BadName { .. }) => Err(Fault::BadName),
         Err(AuthsFault::NoMemory) => Err(Fault::NoMemory),
@@ -89,13 +69,10 @@ fn run<R: Source, W: Sink>(
 ) -> Result<(), Fault>
     requires reader_sound { R.has_failed reader.old ≡ false }
     requires writer_sound { W.has_failed writer.old ≡ false }
-    ensures { Ran (R.left reader.old) (R.left reader.new) (W.held writer.old) (W.held writer.new) (R.has_failed reader.new) (status_given result) }
+    ensures { Ran (map string_bytes words.now) (R.left reader.old) (R.left reader.new) (W.held writer.old) (W.held writer.new) (R.has_failed reader.new) (status_given result) }
 {
-    let words = match read(alloc, words) {
-        Ok(words) => words,
-        Err(error) => return Err(Fault::Usage(error)),
-    };
-    let mut service = service_for(alloc, &words)?;
+    let said = read(alloc, words)?;
+    let mut service = service_for(alloc, &said)?;
     converse(&mut service, reader, writer)
 }
 
@@ -123,7 +100,7 @@ pub fn run_words<R: Source, W: Sink, F: Write>(
 ) -> u8
     requires reader_sound { R.has_failed reader.old ≡ false }
     requires writer_sound { W.has_failed writer.old ≡ false }
-    ensures { Ran (R.left reader.old) (R.left reader.new) (W.held writer.old) (W.held writer.new) (R.has_failed reader.new) result }
+    ensures { Ran (map string_bytes words.now) (R.left reader.old) (R.left reader.new) (W.held writer.old) (W.held writer.new) (R.has_failed reader.new) result }
 {
     match run(alloc, words, reader, writer) {
         Ok(()) => 0,

@@ -1,0 +1,50 @@
+use Rattle.std.proofs.Common.{rules, ap, ap₂, refl, sym, subst, true, [], ◌∷◌, ◌≡◌, ◌∙◌, arith, codes, map, string_bytes, is_some}
+use Rattle.std.specs.List.{All}
+use Rattle.std.proofs.lemmas.List.Elements.{All-cons, All-nil}
+use Rattle.std.proofs.lemmas.Result.{err_from_is_err_and}
+use Rattle.clap.specs.Built.{FitsChain}
+use Rattle.clap.specs.Words.{HasKind, app_of, fault_of, first_value, found_of, is_simple, is_simple_and_free, matches_of, rule_of, with_rule}
+use Rattle.clap.proofs.CallerLemmas.{required_in_chain}
+use Rattle.st_run.specs.CommandLine.{Refuses, command_line, root_option, name_operand}
+use Rattle.st_run.proofs.Refusing.{fits, refused, two_ids}
+use Rattle.st_run.proofs.command_line.parse.Goals as goal
+
+pub returns-clause-ok : goal.returns-clause-ok
+returns-clause-ok c =
+    let root_is : rule_of c.action-root.result ≡ root_option = search rules in
+    let names_are : rule_of c.action-names.result ≡ name_operand = search rules in
+    let is : app_of c.in_ok-command.command ≡ command_line = c.in_ok-command.ensures.shape (search rules)
+    ∙ ap₂ with_rule (c.in_ok-arg.ensures.shape (search rules) ∙ ap₂ with_rule c.new-3.ensures.app root_is) names_are in
+    let words = map string_bytes c.args.words.now in
+    let ensures = c.in_ok-try_get_matches_from.ensures in
+    record {
+      whole = sym (ap (λ a. fault_of a words) is) ∙ ensures.kinds (ap is_simple_and_free is);
+      rows_are = (ensures.matches (ap is_simple is)).0 ∙ ap (λ a. matches_of a words) is;
+    }
+
+pub returns-in_err-try_get_matches_from-clause-err : goal.returns-in_err-try_get_matches_from-clause-err
+returns-in_err-try_get_matches_from-clause-err c =
+    let root_is : rule_of c.action-root.result ≡ root_option = search rules in
+    let names_are : rule_of c.action-names.result ≡ name_operand = search rules in
+    let is : app_of c.in_ok-command.command ≡ command_line = c.in_ok-command.ensures.shape (search rules)
+    ∙ ap₂ with_rule (c.in_ok-arg.ensures.shape (search rules) ∙ ap₂ with_rule c.new-3.ensures.app root_is) names_are in
+    let words = map string_bytes c.args.words.now in
+    let fault = c.from_residual-in_err-try_get_matches_from in
+    let p = err_from_is_err_and fault.result fault.ensures.1 in
+    let told = c.in_err-try_get_matches_from.ensures.kinds (ap is_simple_and_free is) in
+    let error = c.in_err-try_get_matches_from.field-0.0 in
+    rw p.1 (subst (Refuses words) (sym p.2) (refused words error (subst (λ a. HasKind (fault_of a words) error) is told)))
+
+pub returns-clause-root : goal.returns-clause-root
+returns-clause-root c =
+    let root = c.action-root.result in
+    let names = c.action-names.result in
+    let root_id : root.id.now ≡ codes "root" = search rules in
+    let names_id : names.id.now ≡ codes "NAME" = search rules in
+    let fit : All FitsChain (root ∷ names ∷ []) = All-cons FitsChain root (names ∷ []) (fits root (codes "root") root_id refl (search rules) (search rules))
+    (All-cons FitsChain names [] (fits names (codes "NAME") names_id refl (search rules) (search rules)) (All-nil FitsChain)) in
+    let given = required_in_chain c.new-3.result c.in_ok-command.command (root ∷ names ∷ []) 0 root c.in_ok-try_get_matches_from.field-0
+    (c.in_ok-arg.field-0, c.in_ok-arg.ensures, (c.in_ok-command.command, c.in_ok-command.ensures, refl))
+    c.new-3.ensures.empty.0 c.new-3.ensures.empty.1 c.new-3.ensures.local c.new-3.ensures.negates
+    fit (two_ids root names root_id names_id) (omega arith) (search rules, search rules, search rules, search rules) c.in_ok-try_get_matches_from.ensures.parsed in
+    subst (λ id. is_some (first_value (found_of c.in_ok-try_get_matches_from.field-0) id) ≡ true) root_id given
