@@ -9,7 +9,7 @@ use Rattle.st_index.proofs.Rising.{rises_around, rises_bounds, rises_join}
 use Rattle.st_ubtree.specs.Nodes.{IsInner, inner_node, page_node}
 use Rattle.st_ubtree.specs.Pages.{PageValue, NodeValue, HeadAt, IsKid, Spans, pages_of, rows_in}
 use Rattle.st_ubtree.specs.Shrinking.{IsNodeOf, IsPageOf, IsKidBeside, Joins, KidsJoin, PagesJoin, Reshapes, pages_beside}
-use Rattle.st_ubtree.proofs.Inside.{rows_join, rows_three}
+use Rattle.st_ubtree.proofs.Inside.{rows_three}
 use Rattle.st_ubtree.proofs.Settling.{kids_start, kids_wide}
 use Rattle.st_ubtree.proofs.Spanning.{pages-append, spans_cut, spans_join}
 use Rattle.st_ubtree.proofs.Splitting.{wide_page, page, rises_wide}

@@ -18,7 +18,7 @@ use Rattle.st_ubtree.specs.Shrinking.{AreWorn, DropsFrom, HasNone, IsWorn, Mends
 use Rattle.st_ubtree.proofs.Inside.{rows_join, rows_three}
 use Rattle.st_ubtree.proofs.Lifting.{head_same, that_kid}
 use Rattle.st_ubtree.proofs.Settling.{kids_start, kids_wide}
-use Rattle.st_ubtree.proofs.Spanning.{Found, found_kid, pages-append, pages_split, spans_bounds, spans_cut, spans_join}
+use Rattle.st_ubtree.proofs.Spanning.{found_kid, pages-append, pages_split, spans_bounds, spans_cut, spans_join}
 use Rattle.st_ubtree.proofs.Splitting.{wide_page, one_rows, page}
 
 module _ {A : Type 0} (period : Period) where

@@ -2,12 +2,11 @@
 use Rattle.std.proofs.Common.{◌≡◌, ℕ, ◌+◌, ◌<◌, ◌≤◌, List, [], ◌∷◌, ◌++◌, length, get_or, take, drop, refl, sym, ap, subst, ◌∙◌, suc, arith, drop-cons, take-append-drop, length-take-le, Option, Some, None}
 use Rattle.std.proofs.lemmas.List.{append-nil}
 use Rattle.std.proofs.lemmas.List.Elements.{All-head, All-cons}
-use Rattle.std.specs.List.{All}
 use Rattle.st_index.specs.Rows.{name_of, EntryValue, Rises, place_of, rows_of}
 use Rattle.st_index.specs.Index.{Adds, IsAbsent}
 use Rattle.st_index.proofs.Putting.{split_read}
 use Rattle.st_index.proofs.Rising.{rises_bounds, rises_around}
-use Rattle.st_ubtree.specs.Pages.{PageValue, NodeValue, Spans, GrowsBy, AreWide, IsFilled, IsKid, rows_in, entries_in}
+use Rattle.st_ubtree.specs.Pages.{PageValue, NodeValue, Spans, GrowsBy, AreWide, IsFilled, IsKid, rows_in}
 use Rattle.st_ubtree.specs.Growing.{PageGrows, Grows}
 use Rattle.st_ubtree.specs.Nodes.{page_node}
 use Rattle.st_key.specs.declared.period.Period.{Period}

@@ -4,7 +4,7 @@ use Rattle.std.specs.List.{All}
 use Rattle.st_key.specs.declared.period.Period.{Period}
 use Rattle.st_index.specs.declared.row.Row.{Row}
 use Rattle.st_index.specs.Rows.{EntryValue, Name, place_of}
-use Rattle.st_index.specs.Index.{Adds, IsAbsent, Swaps}
+use Rattle.st_index.specs.Index.{Adds, IsAbsent}
 use Rattle.st_ubtree.specs.Pages.{PageValue, NodeValue, HeadAt, AreWide, IsKid, Spans, Starts, pages_of, rows_in}
 
 -- the same rows in pages between the same bounds

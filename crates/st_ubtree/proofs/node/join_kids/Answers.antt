@@ -2,7 +2,7 @@ use Rattle.std.proofs.Common.{◌≡◌, ◌≤◌, length, subst, sym, ap, refl
 use Rattle.std.specs.List.{All}
 use Rattle.st_key.specs.Key.{rank}
 use Rattle.st_index.proofs.Climbing.{all_right}
-use Rattle.st_ubtree.specs.Pages.{NodeValue, HeadAt, IsKid, StartsAt, pages_of}
+use Rattle.st_ubtree.specs.Pages.{NodeValue, HeadAt, IsKid}
 use Rattle.st_ubtree.proofs.Settling.{head_there, kids_start, kids_wide}
 use Rattle.st_ubtree.proofs.node.join_kids.Goals as goal
 

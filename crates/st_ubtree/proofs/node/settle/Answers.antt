@@ -1,9 +1,8 @@
 use Rattle.std.proofs.Common.{◌≡◌, length, drop, refl, subst, sym, ap, ◌∙◌, vec_len, arith, rules}
 use Rattle.std.proofs.lemmas.List.{length-take-le, length-drop}
 use Rattle.std.proofs.lemmas.List.Elements.{All-drop}
-use Rattle.std.specs.List.{All}
 use Rattle.st_key.specs.Key.{rank}
-use Rattle.st_ubtree.specs.Pages.{PageValue, NodeValue, AreWide, IsKid, HeadAt, Starts, pages_of, widths_of}
+use Rattle.st_ubtree.specs.Pages.{NodeValue, AreWide, IsKid, HeadAt, Starts, pages_of, widths_of}
 use Rattle.st_ubtree.specs.Splits.{chains_of}
 use Rattle.st_ubtree.specs.Growing.{AreBlank}
 use Rattle.st_ubtree.proofs.Settling.{blank_last, head_there, kids_start, kids_wide}
