@@ -1,12 +1,13 @@
 -- How many keys the pages of a node hold.
 use Rattle.std.proofs.Common.{ℕ, ◌≤◌, [], length, arith}
 use Rattle.std.proofs.lemmas.List.Elements.{All-cons, All-weaker}
+use Rattle.std.specs.List.{All}
 use Rattle.st_ubtree.specs.declared.node.Kids.{Kids}
 use Rattle.st_ubtree.specs.declared.node.Kids.TheVariants.{Page, Inner}
-use Rattle.st_ubtree.specs.Nodes.{IsNode, pages_under, width_of}
-use Rattle.st_ubtree.specs.Pages.{PageValue, IsFilled, pages_of}
+use Rattle.st_ubtree.specs.Nodes.{IsNode, pages_under, width_of, widths_under}
+use Rattle.st_ubtree.specs.Pages.{PageValue, IsFilled, IsWide, pages_of}
 use Rattle.st_ubtree.specs.Trading.{AreFilled}
-use Rattle.st_ubtree.proofs.Settling.{pages_filled}
+use Rattle.st_ubtree.proofs.Settling.{kids_wide}
 use Rattle.st_ubtree.proofs.Splitting.{page}
 
 pub node_filled : {A : Type 0} (first height : ℕ) (kids : Kids A) → IsNode first height kids → AreFilled (pages_under first kids)
@@ -15,7 +16,7 @@ node_filled {A} first height (Page entries) h = record {
   not_less = λ two. absurd (omega (arith, two));
 }
 node_filled {A} first height (Inner kids) h =
-    let filled = pages_filled h.below kids.items h.each in
+    let filled = (kids_wide h.below kids.items h.each).keys in
     record {
       not_more = All-weaker IsFilled (λ (p : PageValue A). length p.entries ≤ 32) (λ p f. f.not_more) (pages_of kids.items) filled;
       not_less = λ two. filled;
@@ -24,3 +25,7 @@ node_filled {A} first height (Inner kids) h =
 pub node_fits : {A : Type 0} (first height : ℕ) (kids : Kids A) → IsNode first height kids → width_of kids ≤ 32
 node_fits first height (Page entries) h = h.not_more
 node_fits first height (Inner kids) h = h.not_more
+
+pub node_wide : {A : Type 0} (first height : ℕ) (kids : Kids A) → IsNode first height kids → All IsWide (widths_under kids)
+node_wide first height (Page entries) h = λ k d l. absurd (omega (arith, l))
+node_wide first height (Inner kids) h = (kids_wide h.below kids.items h.each).nodes

@@ -10,9 +10,9 @@ use Rattle.st_ubtree.specs.Nodes.{IsInner, inner_node, page_node}
 use Rattle.st_ubtree.specs.Pages.{PageValue, NodeValue, HeadAt, IsKid, Spans, pages_of, rows_in}
 use Rattle.st_ubtree.specs.Shrinking.{IsNodeOf, IsPageOf, IsKidBeside, Joins, KidsJoin, PagesJoin, Reshapes, pages_beside}
 use Rattle.st_ubtree.proofs.Inside.{rows_three}
-use Rattle.st_ubtree.proofs.Settling.{kids_start, pages_filled}
+use Rattle.st_ubtree.proofs.Settling.{kids_start, kids_wide}
 use Rattle.st_ubtree.proofs.Spanning.{pages-append, spans_cut, spans_join}
-use Rattle.st_ubtree.proofs.Splitting.{filled_page, page, rises_wide}
+use Rattle.st_ubtree.proofs.Splitting.{wide_page, page, rises_wide}
 
 module _ {A : Type 0} where
   pub reshapes_same : (old new : List (PageValue A)) → new ≡ old → Reshapes old new
@@ -71,7 +71,7 @@ module _ {A : Type 0} where
       let shape = pages_shape old right new r j first second in
       record {
         first = refl;
-        kid = record { same_height = refl; not_less = j.not_less; not_more = j.not_more; starts = (refl, refl); filled = filled_page first new j.not_less j.not_more };
+        kid = record { same_height = refl; not_less = j.not_less; not_more = j.not_more; starts = (refl, refl); filled = wide_page first new j.not_less j.not_more };
         beside = subst (λ n. IsKidBeside n r) (sym z) (beside_page j.rest r j.beside);
         by = subst (λ ps. Reshapes (page first old ∷ ps) (page first new ∷ pages_beside r)) (sym is) shape;
       }
@@ -101,7 +101,7 @@ module _ {A : Type 0} where
       let at = joined_head height first old right new r j head in
       record {
         first = refl;
-        kid = record { same_height = refl; not_less = j.not_less; not_more = j.not_more; starts = kids_start below first new all at; filled = pages_filled below new all };
+        kid = record { same_height = refl; not_less = j.not_less; not_more = j.not_more; starts = kids_start below first new all at; filled = kids_wide below new all };
         beside = kid_beside height j.rest r j.beside;
         by = reshapes_same (pages_of old ++ v.pages) (pages_of new ++ pages_beside r)
             (ap (λ ps. pages_of new ++ ps) (kids_beside height j.rest r j.beside) ∙ sym (pages-append new j.rest) ∙ ap pages_of j.kept ∙ pages-append old right ∙ ap (λ ps. pages_of old ++ ps) (sym is));

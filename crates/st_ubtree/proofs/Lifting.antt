@@ -14,7 +14,7 @@ use Rattle.st_ubtree.specs.Growing.{Grows, IsRoomFor, Settles}
 use Rattle.st_ubtree.specs.Nodes.{IsInner, inner_node}
 use Rattle.st_ubtree.proofs.Spanning.{entries-append, pages-append, pages_split}
 use Rattle.st_ubtree.proofs.Inside.{kid_grows}
-use Rattle.st_ubtree.proofs.Settling.{kids_start, pages_filled}
+use Rattle.st_ubtree.proofs.Settling.{kids_start, kids_wide}
 
 pub insert_after : {X : Type 0} → (xs : List X) (v : X) (ys : List X) (s : X) (j : ℕ) → j ≡ suc (length xs) → insert (xs ++ v ∷ ys) j s ≡ xs ++ v ∷ s ∷ ys
 insert_after xs v ys s j e = ap (λ n. insert (xs ++ v ∷ ys) n s) e ∙ at xs
@@ -96,7 +96,7 @@ module _ {A : Type 0} where
           first = refl;
           height = refl;
           starts = λ s. kids_start below first (set kids i v) all at;
-          widths = (omega (arith, length-set kids i v), omega (arith, length-set kids i v, fits), λ h. pages_filled below (set kids i v) all);
+          widths = (omega (arith, length-set kids i v), omega (arith, length-set kids i v, fits), λ h. kids_wide below (set kids i v) all);
           by = subst (GrowsBy key row (pages_of kids)) (sym (ap pages_of e ∙ pages-append (take i kids) (v ∷ drop (suc i) kids)))
               (kid_grows key row below kids i n kid v.pages each found is l read g.by);
         }
@@ -121,7 +121,7 @@ module _ {A : Type 0} where
             first = refl;
             height = refl;
             starts = λ w. kids_start below first new there at;
-            widths = (omega (arith, wide), (let a = ap length t.0 in let b = t.1 in omega (arith, a, b)), λ w. pages_filled below new there);
+            widths = (omega (arith, wide), (let a = ap length t.0 in let b = t.1 in omega (arith, a, b)), λ w. kids_wide below new there);
             by = subst (λ ks. GrowsBy key row (pages_of kids) (pages_of ks)) (sym (t.0 ∙ e)) by_both;
           }
       grows_settled all new (Some w) e h t =
@@ -135,7 +135,7 @@ module _ {A : Type 0} where
             first = refl;
             height = refl;
             starts = λ z. kids_start below first new low at;
-            widths = (record { same_height = refl; not_less = omega (arith, wide); not_more = omega (arith, wide); starts = kids_start below first new low at; filled = pages_filled below new low }, t.2);
+            widths = (record { same_height = refl; not_less = omega (arith, wide); not_more = omega (arith, wide); starts = kids_start below first new low at; filled = kids_wide below new low }, t.2);
             by = subst (GrowsBy key row (pages_of kids)) (sym joined) (subst (λ ks. GrowsBy key row (pages_of kids) (pages_of ks)) (sym e) by_both);
           }
         where

@@ -1,10 +1,10 @@
 -- Children cut in two.
 use Rattle.std.proofs.Common.{◌≡◌, ℕ, ◌<◌, ◌≤◌, List, [], ◌∷◌, ◌++◌, length, get_or, map, drop, length-append, refl, sym, ap, subst, arith, drop-cons, Vec, vec_capacity}
 use Rattle.std.proofs.lemmas.List.{length-map}
-use Rattle.std.proofs.lemmas.List.Elements.{All-append, All-head, All-tail}
+use Rattle.std.proofs.lemmas.List.Elements.{All-append, All-cons, All-head, All-tail}
 use Rattle.std.specs.List.{All}
 use Rattle.st_index.proofs.Climbing.{all_left, all_right}
-use Rattle.st_ubtree.specs.Pages.{PageValue, NodeValue, IsFilled, IsKid, Starts, StartsAt, HeadAt, pages_of}
+use Rattle.st_ubtree.specs.Pages.{PageValue, NodeValue, AreWide, IsFilled, IsKid, IsWide, Starts, StartsAt, HeadAt, pages_of, widths_of}
 use Rattle.st_ubtree.specs.Splits.{chains_of, chains_over, splits_with}
 use Rattle.st_ubtree.specs.Growing.{AreBlank}
 
@@ -38,6 +38,15 @@ module _ {A : Type 0} where
   pub kids_start : (below first : ℕ) (kids : List (NodeValue A)) → All (IsKid below) kids → HeadAt first kids → Starts first (pages_of kids) (chains_of kids)
   kids_start below first kids each h = (kids_begin below first kids each h, chains_length (length kids) below kids each)
 
-  pub pages_filled : (below : ℕ) (kids : List (NodeValue A)) → All (IsKid below) kids → All IsFilled (pages_of kids)
+  pages_filled : (below : ℕ) (kids : List (NodeValue A)) → All (IsKid below) kids → All IsFilled (pages_of kids)
   pages_filled below [] each = λ k d l. absurd (omega (arith, l))
-  pages_filled below (v ∷ vs) each = All-append IsFilled v.pages (pages_of vs) (All-head (IsKid below) v vs each).filled (pages_filled below vs (All-tail (IsKid below) v vs each))
+  pages_filled below (v ∷ vs) each = All-append IsFilled v.pages (pages_of vs) (All-head (IsKid below) v vs each).filled.keys (pages_filled below vs (All-tail (IsKid below) v vs each))
+
+  nodes_wide : (below : ℕ) (kids : List (NodeValue A)) → All (IsKid below) kids → All IsWide (widths_of kids)
+  nodes_wide below [] each = λ k d l. absurd (omega (arith, l))
+  nodes_wide below (v ∷ vs) each =
+      let kid = All-head (IsKid below) v vs each in
+      All-append IsWide (v.width ∷ v.widths) (widths_of vs) (All-cons IsWide v.width v.widths (record { not_less = kid.not_less; not_more = kid.not_more }) kid.filled.nodes) (nodes_wide below vs (All-tail (IsKid below) v vs each))
+
+  pub kids_wide : (below : ℕ) (kids : List (NodeValue A)) → All (IsKid below) kids → AreWide (pages_of kids) (widths_of kids)
+  kids_wide below kids each = record { keys = pages_filled below kids each; nodes = nodes_wide below kids each }

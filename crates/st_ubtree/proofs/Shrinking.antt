@@ -17,9 +17,9 @@ use Rattle.st_ubtree.specs.Pages.{PageValue, NodeValue, HeadAt, IsKid, Spans, pa
 use Rattle.st_ubtree.specs.Shrinking.{AreWorn, DropsFrom, HasNone, IsWorn, Mends, Reshapes, Shrinks}
 use Rattle.st_ubtree.proofs.Inside.{rows_join, rows_three}
 use Rattle.st_ubtree.proofs.Lifting.{head_same, that_kid}
-use Rattle.st_ubtree.proofs.Settling.{kids_start, pages_filled}
+use Rattle.st_ubtree.proofs.Settling.{kids_start, kids_wide}
 use Rattle.st_ubtree.proofs.Spanning.{found_kid, pages-append, pages_split, spans_bounds, spans_cut, spans_join}
-use Rattle.st_ubtree.proofs.Splitting.{filled_page, one_rows, page}
+use Rattle.st_ubtree.proofs.Splitting.{wide_page, one_rows, page}
 
 module _ {A : Type 0} (period : Period) where
   pub page_rows_below : (lo hi : ℕ) (ps : List (PageValue A)) → Spans period lo hi ps → All (λ r. place_of period r < hi) (rows_in ps)
@@ -46,7 +46,7 @@ module _ {A : Type 0} where
     starts = λ s. s;
     shorter = shorter;
     at_most_one = most;
-    filled = λ h. filled_page first new h (omega (arith, shorter, fits));
+    filled = λ h. wide_page first new h (omega (arith, shorter, fits));
     by = record {
       adds = subst (λ t. Adds row t (rows_in (page first old ∷ []))) (sym (one_rows first new)) (subst (λ t. Adds row (rows_of new) t) (sym (one_rows first old)) adds);
       spans = λ period lo hi h. (h.0, (h.1.0, h.1.1, rising period lo h.1.0 h.1.2, h.1.3));
@@ -142,7 +142,7 @@ module _ {A : Type 0} where
         starts = λ s. kids_start below first new m.each (m.head first (head_there first head));
         shorter = let a = m.shorter in omega (arith, a, length-set kids i v);
         at_most_one = let a = m.at_most_one in omega (arith, a, length-set kids i v);
-        filled = λ h. pages_filled below new m.each;
+        filled = λ h. kids_wide below new m.each;
         by = drops_reshape key row (pages_of kids) (pages_of (set kids i v)) (pages_of new) drops_there m.by;
       }
 

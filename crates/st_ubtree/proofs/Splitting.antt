@@ -2,12 +2,11 @@
 use Rattle.std.proofs.Common.{◌≡◌, ℕ, ◌+◌, ◌<◌, ◌≤◌, List, [], ◌∷◌, ◌++◌, length, get_or, take, drop, refl, sym, ap, subst, ◌∙◌, suc, arith, drop-cons, take-append-drop, length-take-le, Option, Some, None}
 use Rattle.std.proofs.lemmas.List.{append-nil}
 use Rattle.std.proofs.lemmas.List.Elements.{All-head, All-cons}
-use Rattle.std.specs.List.{All}
 use Rattle.st_index.specs.Rows.{name_of, EntryValue, Rises, place_of, rows_of}
 use Rattle.st_index.specs.Index.{Adds, IsAbsent}
 use Rattle.st_index.proofs.Putting.{split_read}
 use Rattle.st_index.proofs.Rising.{rises_bounds, rises_around}
-use Rattle.st_ubtree.specs.Pages.{PageValue, NodeValue, Spans, GrowsBy, IsFilled, IsKid, rows_in}
+use Rattle.st_ubtree.specs.Pages.{PageValue, NodeValue, Spans, GrowsBy, AreWide, IsFilled, IsKid, rows_in}
 use Rattle.st_ubtree.specs.Growing.{PageGrows, Grows}
 use Rattle.st_ubtree.specs.Nodes.{page_node}
 use Rattle.st_key.specs.declared.period.Period.{Period}
@@ -60,18 +59,18 @@ module _ {A : Type 0} where
   page_fits key row old new None h = h.1
   page_fits key row old new (Some s) h = let a = h.0 in omega (arith, a)
 
-  pub filled_page : (first : ℕ) (es : List (EntryValue A)) → 16 ≤ length es → length es ≤ 32 → All IsFilled (page first es ∷ [])
-  filled_page first es a b = All-cons IsFilled (page first es) [] (record { not_less = a; not_more = b }) (λ k d l. absurd (omega (arith, l)))
+  pub wide_page : (first : ℕ) (es : List (EntryValue A)) → 16 ≤ length es → length es ≤ 32 → AreWide (page first es ∷ []) []
+  wide_page first es a b = record { keys = All-cons IsFilled (page first es) [] (record { not_less = a; not_more = b }) (λ k d l. absurd (omega (arith, l))); nodes = λ k d l. absurd (omega (arith, l)) }
 
-  pub filled_more : (first : ℕ) (old new : List (EntryValue A)) → length old ≤ length new → length new ≤ 32 → All IsFilled (page first old ∷ []) → All IsFilled (page first new ∷ [])
-  filled_more first old new a b h = let f = (All-head IsFilled (page first old) [] h).not_less in filled_page first new (omega (arith, a, f)) b
+  pub wider_page : (first : ℕ) (old new : List (EntryValue A)) → length old ≤ length new → length new ≤ 32 → AreWide (page first old ∷ []) [] → AreWide (page first new ∷ []) []
+  wider_page first old new a b h = let f = (All-head IsFilled (page first old) [] h.keys).not_less in wide_page first new (omega (arith, a, f)) b
 
   pub page_node_grows : (key : ℕ) (row : Row A) (first height : ℕ) (old new : List (EntryValue A)) (r : Option (NodeValue A)) → height ≡ 0 → PageGrows key row old new r → Grows key row (page_node first height old) (page_node first height new) r
-  page_node_grows key row first height old new None z h = record { first = refl; height = refl; starts = λ s. s; widths = (h.0, h.1, filled_more first old new h.0 h.1); by = h.2 first }
+  page_node_grows key row first height old new None z h = record { first = refl; height = refl; starts = λ s. s; widths = (h.0, h.1, wider_page first old new h.0 h.1); by = h.2 first }
   page_node_grows key row first height old new (Some s) z h = record {
     first = refl;
     height = refl;
     starts = λ t. t;
-    widths = (record { same_height = refl; not_less = let a = h.0 in omega (arith, a); not_more = let a = h.0 in omega (arith, a); starts = (refl, refl); filled = let a = h.0 in filled_page first new (omega (arith, a)) (omega (arith, a)) }, subst (λ n. IsKid n s) (sym z) h.2);
+    widths = (record { same_height = refl; not_less = let a = h.0 in omega (arith, a); not_more = let a = h.0 in omega (arith, a); starts = (refl, refl); filled = let a = h.0 in wide_page first new (omega (arith, a)) (omega (arith, a)) }, subst (λ n. IsKid n s) (sym z) h.2);
     by = h.3 first;
   }

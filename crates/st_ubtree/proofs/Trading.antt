@@ -15,10 +15,10 @@ use Rattle.st_ubtree.specs.Shrinking.{HasNone}
 use Rattle.st_ubtree.specs.Trading.{Keeps, TradesIn}
 use Rattle.st_ubtree.proofs.Inside.{rows_three}
 use Rattle.st_ubtree.proofs.Lifting.{alone, each_with, head_same, that_kid}
-use Rattle.st_ubtree.proofs.Settling.{kids_start, pages_filled}
+use Rattle.st_ubtree.proofs.Settling.{kids_start, kids_wide}
 use Rattle.st_ubtree.proofs.Shrinking.{none_in_kids, none_in_page}
 use Rattle.st_ubtree.proofs.Spanning.{pages-append, pages_split, spans_cut, spans_join}
-use Rattle.st_ubtree.proofs.Splitting.{filled_more, one_rows, page}
+use Rattle.st_ubtree.proofs.Splitting.{wider_page, one_rows, page}
 
 module _ {A : Type 0} where
   pub page_trades : (key : ℕ) (row : Row A) (first : ℕ) (old new : List (EntryValue A)) (r : Result (Row A) (Row A)) → IfOk r (λ out. Swaps out row (rows_of old) (rows_of new) × (name_of out ≡ name_of row)) → IfOk r (λ out. (period : Period) (lo hi : ℕ) → Rises period lo hi old → place_of period out ≡ key) → ((period : Period) (lo hi : ℕ) → key ≡ place_of period row → Rises period lo hi old → Rises period lo hi new) → IfOk r (λ out. TradesIn key out row (page first old ∷ []) (page first new ∷ []))
@@ -43,7 +43,7 @@ module _ {A : Type 0} where
     height = refl;
     width = e;
     starts = λ s. s;
-    filled = λ h. let f = All-head IsFilled (page first old) [] h in let a = f.not_more in filled_more first old new (omega (arith, e)) (omega (arith, e, a)) h;
+    filled = λ h. let f = All-head IsFilled (page first old) [] h.keys in let a = f.not_more in wider_page first old new (omega (arith, e)) (omega (arith, e, a)) h;
   }
 
   swaps_inside : (out row : Row A) (xs ys zs ws : List (Row A)) → Swaps out row ys zs → Swaps out row (xs ++ (ys ++ ws)) (xs ++ (zs ++ ws))
@@ -104,7 +104,7 @@ module _ {A : Type 0} where
       height = refl;
       width = length-set kids i v;
       starts = λ s. kids_start below first (set kids i v) (kept_all k) (kept_head first k head);
-      filled = λ h. pages_filled below (set kids i v) (kept_all k);
+      filled = λ h. kids_wide below (set kids i v) (kept_all k);
     }
 
     pub kept_inner : (first height capacity : ℕ) → height ≡ below + 1 → HeadAt first kids → 1 ≤ length kids → length kids ≤ 32 → 33 ≤ capacity → Keeps kid v → IsInner first height (set kids i v) capacity

@@ -4,7 +4,7 @@ use Rattle.std.specs.List.{All}
 use Rattle.st_key.specs.declared.period.Period.{Period}
 use Rattle.st_index.specs.declared.row.Row.{Row}
 use Rattle.st_index.specs.Rows.{EntryValue, Rises}
-use Rattle.st_ubtree.specs.Pages.{PageValue, NodeValue, Spans, GrowsBy, IsFilled, IsKid, Starts, pages_of}
+use Rattle.st_ubtree.specs.Pages.{PageValue, NodeValue, Spans, GrowsBy, AreWide, IsKid, Starts, pages_of}
 
 -- an empty list of rows that can hold one more than the key's
 pub record IsRoomFor {A : Type 0} (key : ℕ) (items : List (Row A)) (capacity : ℕ) (es : List (EntryValue A)) : Type 0 where
@@ -40,7 +40,7 @@ pages_with v None = v.pages
 pages_with v (Some s) = v.pages ++ s.pages
 
 abbrev pub WidthsAfter : {A : Type 0} → NodeValue A → NodeValue A → Option (NodeValue A) → Type 0
-WidthsAfter old v None = (old.width ≤ v.width) × (v.width ≤ 32) × (All IsFilled old.pages → All IsFilled v.pages)
+WidthsAfter old v None = (old.width ≤ v.width) × (v.width ≤ 32) × (AreWide old.pages old.widths → AreWide v.pages v.widths)
 WidthsAfter old v (Some s) = IsKid v.height v × IsKid v.height s
 
 pub record Grows {A : Type 0} (key : ℕ) (row : Row A) (old new : NodeValue A) (split : Option (NodeValue A)) : Type 0 where

@@ -4,12 +4,16 @@ use Rattle.std.specs.List.{All}
 use Rattle.st_index.specs.Rows.{EntryValue}
 use Rattle.st_ubtree.specs.declared.node.Kids.{Kids}
 use Rattle.st_ubtree.specs.declared.node.Kids.TheVariants.{Page, Inner}
-use Rattle.st_ubtree.specs.Pages.{PageValue, NodeValue, IsKid, pages_of, HeadAt}
+use Rattle.st_ubtree.specs.Pages.{PageValue, NodeValue, IsKid, pages_of, widths_of, HeadAt}
 use Rattle.st_ubtree.specs.Splits.{chains_of}
 
 abbrev pub width_of : {A : Type 0} → Kids A → ℕ
 width_of (Page entries) = length entries.items
 width_of (Inner kids) = length kids.items
+
+abbrev pub widths_under : {A : Type 0} → Kids A → List ℕ
+widths_under (Page entries) = []
+widths_under (Inner kids) = widths_of kids.items
 
 abbrev pub pages_under : {A : Type 0} → ℕ → Kids A → List (PageValue A)
 pages_under first (Page entries) = record { first = first; entries = entries.items } ∷ []
@@ -20,15 +24,15 @@ chains_under (Page entries) = 1 ∷ []
 chains_under (Inner kids) = chains_of kids.items
 
 abbrev pub node_value : {A : Type 0} → ℕ → ℕ → Kids A → NodeValue A
-node_value first height kids = record { first = first; height = height; width = width_of kids; pages = pages_under first kids; chains = chains_under kids }
+node_value first height kids = record { first = first; height = height; width = width_of kids; widths = widths_under kids; pages = pages_under first kids; chains = chains_under kids }
 
 -- a page alone, as clauses see it
 abbrev pub page_node : {A : Type 0} → ℕ → ℕ → List (EntryValue A) → NodeValue A
-page_node first height es = record { first = first; height = height; width = length es; pages = record { first = first; entries = es } ∷ []; chains = 1 ∷ [] }
+page_node first height es = record { first = first; height = height; width = length es; widths = []; pages = record { first = first; entries = es } ∷ []; chains = 1 ∷ [] }
 
 -- a node over children, as clauses see it
 abbrev pub inner_node : {A : Type 0} → ℕ → ℕ → List (NodeValue A) → NodeValue A
-inner_node first height kids = record { first = first; height = height; width = length kids; pages = pages_of kids; chains = chains_of kids }
+inner_node first height kids = record { first = first; height = height; width = length kids; widths = widths_of kids; pages = pages_of kids; chains = chains_of kids }
 
 pub record IsPage (height len capacity : ℕ) : Type 0 where
   pub lowest : height ≡ 0

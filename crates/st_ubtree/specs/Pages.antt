@@ -11,12 +11,14 @@ pub record PageValue (A : Type 0) : Type 0 where
   pub first : ℕ
   pub entries : List (EntryValue A)
 
--- a node: its first key, its height above the pages, how many entries or children it has, the pages under it, and
--- for each page how many nodes are split where it is: the page, and those over it that are full, one after the other
+-- a node: its first key, its height above the pages, how many entries or children it has, and how many each node under
+-- it has, the pages under it, and for each page how many nodes are split where it is: the page, and those over it that
+-- are full, one after the other
 pub record NodeValue (A : Type 0) : Type 0 where
   pub first : ℕ
   pub height : ℕ
   pub width : ℕ
+  pub widths : List ℕ
   pub pages : List (PageValue A)
   pub chains : List ℕ
 
@@ -45,16 +47,30 @@ pub record IsFilled {A : Type 0} (p : PageValue A) : Type 0 where
   pub not_less : 16 ≤ length p.entries
   pub not_more : length p.entries ≤ 32
 
--- a node under another one has 16 to 32 entries or children
+-- so many entries or children a node that is not the root may have
+pub record IsWide (width : ℕ) : Type 0 where
+  pub not_less : 16 ≤ width
+  pub not_more : width ≤ 32
+
+-- each page and each node under a node has 16 to 32 entries or children
+pub record AreWide {A : Type 0} (pages : List (PageValue A)) (widths : List ℕ) : Type 0 where
+  pub keys : All IsFilled pages
+  pub nodes : All IsWide widths
+
+-- a node under another one has 16 to 32 entries or children, and so has each page and each node under it
 pub record IsKid {A : Type 0} (height : ℕ) (v : NodeValue A) : Type 0 where
   pub same_height : v.height ≡ height
   pub not_less : 16 ≤ v.width
   pub not_more : v.width ≤ 32
   pub starts : Starts v.first v.pages v.chains
-  pub filled : All IsFilled v.pages
+  pub filled : AreWide v.pages v.widths
 
 abbrev pub pages_of : {A : Type 0} → List (NodeValue A) → List (PageValue A)
 pages_of {A} = flat_map (λ (v : NodeValue A). v.pages)
+
+-- how many entries or children each of these nodes has, and each node under them
+abbrev pub widths_of : {A : Type 0} → List (NodeValue A) → List ℕ
+widths_of {A} = flat_map (λ (v : NodeValue A). v.width ∷ v.widths)
 
 abbrev pub HeadAt : {A : Type 0} → ℕ → List (NodeValue A) → Type 0
 HeadAt first [] = ⊥

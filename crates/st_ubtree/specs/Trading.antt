@@ -5,7 +5,7 @@ use Rattle.st_key.specs.declared.period.Period.{Period}
 use Rattle.st_index.specs.declared.row.Row.{Row}
 use Rattle.st_index.specs.Rows.{place_of}
 use Rattle.st_index.specs.Index.{Swaps}
-use Rattle.st_ubtree.specs.Pages.{PageValue, NodeValue, IsFilled, Spans, Starts, rows_in}
+use Rattle.st_ubtree.specs.Pages.{PageValue, NodeValue, AreWide, IsFilled, Spans, Starts, rows_in}
 
 -- new pages hold one row in another's place, both of the key, between the same bounds
 pub record TradesIn {A : Type 0} (key : ℕ) (out row : Row A) (old new : List (PageValue A)) : Type 0 where
@@ -19,7 +19,7 @@ pub record Keeps {A : Type 0} (old new : NodeValue A) : Type 0 where
   pub height : new.height ≡ old.height
   pub width : new.width ≡ old.width
   pub starts : Starts old.first old.pages old.chains → Starts new.first new.pages new.chains
-  pub filled : All IsFilled old.pages → All IsFilled new.pages
+  pub filled : AreWide old.pages old.widths → AreWide new.pages new.widths
 
 -- a page holds at most 32 keys, and at least 16 unless it is the only one
 pub record AreFilled {A : Type 0} (pages : List (PageValue A)) : Type 0 where

@@ -4,7 +4,7 @@ ghost use Rattle.std.specs.List.{All};
 ghost use Rattle.std.specs.List.Sorted.{IsNonDecreasingBy, IsPartitionPoint, IsPartitionedBy};
 ghost use Rattle.st_key.specs.Key.{rank};
 ghost use Rattle.st_index.specs.Rows.{EntryValue, name_of};
-ghost use Rattle.st_ubtree.specs.Pages.{GrowsBy, IsKid, NodeValue, entries_in};
+ghost use Rattle.st_ubtree.specs.Pages.{GrowsBy, IsKid, IsWide, NodeValue, entries_in};
 ghost use Rattle.st_ubtree.specs.Trading.{AreFilled, Keeps, TradesIn};
 ghost use Rattle.st_ubtree.specs.Shrinking.{AreWorn, HasNone, IsWorn, Joins, KidsJoin, Mends, PagesJoin, Shrinks};
 ghost use Rattle.st_ubtree.specs.Growing.{AreAround, AreBlank, AreKids, DoRise, Grows, IsBlankPage, IsLeafIn, IsRoomFor, PageGrows, Settles};
@@ -488,9 +488,10 @@ impl<A: Allocator + Copy> Node<A> {
         }
     }
 
-    /// Shows that the pages hold as many keys as they must.
+    /// Shows that the pages hold as many keys as they must, and the nodes as many children.
     pub fn count_keys(&self)
         ensures keys { AreFilled self.now.pages }
+        ensures nodes { All IsWide self.now.widths }
         ensures not_more { self.now.width ≤ 32 }
     {
         let _kids = &self.kids;

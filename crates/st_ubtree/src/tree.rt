@@ -1,10 +1,11 @@
 //! The tree.
 ghost use Rattle.std.specs.Prelude.{◌≡◌, ◌+◌, ◌<◌, ◌≤◌, ◌++◌, [], length, map, vec_len, IfOk, None};
+ghost use Rattle.std.specs.List.{All};
 ghost use Rattle.st_key.specs.Key.{rank};
 ghost use Rattle.st_index.specs.Rows.{key_end};
 ghost use Rattle.st_ubtree.specs.Growing.{AreAround, AreBlank, IsBlankPage, IsRoomFor};
 ghost use Rattle.st_ubtree.specs.Nodes.{page_node};
-ghost use Rattle.st_ubtree.specs.Pages.{GrowsBy, entries_in, rows_in};
+ghost use Rattle.st_ubtree.specs.Pages.{GrowsBy, IsWide, entries_in, rows_in};
 ghost use Rattle.st_ubtree.specs.Splits.{made_nodes, split_nodes};
 ghost use Rattle.st_ubtree.specs.Trees.{HasTreeRoom, regions_of};
 ghost use Rattle.st_ubtree.specs.Trading.{AreFilled};
@@ -119,9 +120,10 @@ impl<A: Allocator + Copy> UbTree<A> {
     }
 
     /// Shows the bounds: a page holds at most 32 keys, and at least 16 unless it is the only one; an inner
-    /// root has 2 to 32 children.
+    /// root has 2 to 32 children, and each node under the root 16 to 32 (keys, where it is a page).
     pub fn count_keys(&self)
         ensures keys { AreFilled self.now.root.pages }
+        ensures nodes { All IsWide self.now.root.widths }
         ensures children { 1 ≤ self.now.root.height → 2 ≤ self.now.root.width }
         ensures not_more { self.now.root.width ≤ 32 }
     {

@@ -3,7 +3,7 @@ use Rattle.std.specs.List.{All}
 use Rattle.st_key.specs.Key.{rank}
 use Rattle.st_index.proofs.Climbing.{all_right}
 use Rattle.st_ubtree.specs.Pages.{NodeValue, HeadAt, IsKid}
-use Rattle.st_ubtree.proofs.Settling.{head_there, kids_start, pages_filled}
+use Rattle.st_ubtree.proofs.Settling.{head_there, kids_start, kids_wide}
 use Rattle.st_ubtree.proofs.node.join_kids.Goals as goal
 
 pub invariant_of-result : goal.invariant_of-result
@@ -35,5 +35,5 @@ returns-clause-joins g c =
       kept = c.share.ensures.kept;
       not_less = c.share.ensures.left.0;
       not_more = c.share.ensures.left.1;
-      beside = (record { same_height = refl; not_less = wide.0; not_more = wide.1; starts = kids_start i.below (rank c.least.inside.first) rest i.each i.head; filled = pages_filled i.below rest i.each }, refl);
+      beside = (record { same_height = refl; not_less = wide.0; not_more = wide.1; starts = kids_start i.below (rank c.least.inside.first) rest i.each i.head; filled = kids_wide i.below rest i.each }, refl);
     }

@@ -5,7 +5,7 @@ use Rattle.st_index.specs.Rows.{EntryValue}
 use Rattle.st_ubtree.specs.Pages.{NodeValue, IsKid}
 use Rattle.st_ubtree.specs.Growing.{IsBlankPage}
 use Rattle.st_ubtree.specs.Splits.{splits_page}
-use Rattle.st_ubtree.proofs.Splitting.{filled_page, page_grows, page_splits}
+use Rattle.st_ubtree.proofs.Splitting.{wide_page, page_grows, page_splits}
 use Rattle.st_ubtree.proofs.Needing.{page_full}
 use Rattle.st_ubtree.proofs.node.put_in_page.Goals as goal
 
@@ -47,7 +47,7 @@ returns-clause-grows g c =
       not_less = omega (arith, width);
       not_more = omega (arith, width);
       starts = rw c.page.ensures (refl, refl);
-      filled = rw c.page.ensures (filled_page (rank c.least.inside.key) c.split_at-upper.result.items (omega (arith, moved)) (omega (arith, moved)));
+      filled = rw c.page.ensures (wide_page (rank c.least.inside.key) c.split_at-upper.result.items (omega (arith, moved)) (omega (arith, moved)));
     } in (
       kept,
       width,

@@ -1,12 +1,11 @@
 use Rattle.std.proofs.Common.{◌≡◌, length, drop, refl, subst, sym, ap, ◌∙◌, vec_len, arith, rules}
 use Rattle.std.proofs.lemmas.List.{length-take-le, length-drop}
 use Rattle.std.proofs.lemmas.List.Elements.{All-drop}
-use Rattle.std.specs.List.{All}
 use Rattle.st_key.specs.Key.{rank}
-use Rattle.st_ubtree.specs.Pages.{NodeValue, IsFilled, IsKid, HeadAt, Starts, pages_of}
+use Rattle.st_ubtree.specs.Pages.{NodeValue, AreWide, IsKid, HeadAt, Starts, pages_of, widths_of}
 use Rattle.st_ubtree.specs.Splits.{chains_of}
 use Rattle.st_ubtree.specs.Growing.{AreBlank}
-use Rattle.st_ubtree.proofs.Settling.{blank_last, head_there, kids_start, pages_filled}
+use Rattle.st_ubtree.proofs.Settling.{blank_last, head_there, kids_start, kids_wide}
 use Rattle.st_ubtree.proofs.node.settle.Goals as goal
 
 pub invariant_of-result : goal.invariant_of-result
@@ -43,7 +42,7 @@ returns-clause-settles g c =
     let width : length c.split_at-upper.result.items ≡ 17 = ap length is ∙ moved in (
       c.split_at-upper.ensures.kept,
       ap length c.split_at-upper.ensures.kept ∙ length-take-le 16 kids (omega (arith, all)),
-      record { same_height = refl; not_less = omega (arith, width); not_more = omega (arith, width); starts = subst (λ vs. Starts (rank c.least.inside.first) (pages_of vs) (chains_of vs)) (sym is) starts; filled = subst (λ vs. All IsFilled (pages_of vs)) (sym is) (pages_filled c.requires.kids.below (drop 16 kids) (All-drop (IsKid c.requires.kids.below) 16 kids c.requires.kids.each)) },
+      record { same_height = refl; not_less = omega (arith, width); not_more = omega (arith, width); starts = subst (λ vs. Starts (rank c.least.inside.first) (pages_of vs) (chains_of vs)) (sym is) starts; filled = subst (λ vs. AreWide (pages_of vs) (widths_of vs)) (sym is) (kids_wide c.requires.kids.below (drop 16 kids) (All-drop (IsKid c.requires.kids.below) 16 kids c.requires.kids.each)) },
       ap pages_of is,
       all,
     )
