@@ -184,9 +184,9 @@ unfolding reading class_of
 only_reads = refl
 
 -- whoever asks, the normal form is told, and nothing is listed
-label_of_a_stranger : (outcome (with_user (fresh []) [] []) (label "u" "B&A")) ≡ record { reply = Reply.Normal (codes "A&B"); state = with_user (fresh []) [] [] }
+label_without_permissions : (outcome (with_user (fresh []) [] []) (label "u" "B&A")) ≡ record { reply = Reply.Normal (codes "A&B"); state = with_user (fresh []) [] [] }
 unfolding reading class_of
-label_of_a_stranger = refl
+label_without_permissions = refl
 
 -- ---- the constraint
 
