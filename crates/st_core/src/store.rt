@@ -1,6 +1,6 @@
 //! The store: the state, and the requests on it.
-ghost use Rattle.std.specs.Prelude.{◌≡◌, ◌≤◌, ◌++◌, count_by, ◌∷◌, [], true, false, length, map, option_map, IfOk, IfErr, OnOk, OnErr, vec_capacity};
-ghost use Rattle.st_auth.specs.Names.{Refuses};
+ghost use Rattle.std.specs.Prelude.{◌≡◌, None, ◌≤◌, ◌++◌, count_by, ◌∷◌, [], true, false, length, map, option_map, IfOk, IfErr, OnOk, OnErr, vec_capacity};
+ghost use Rattle.st_auth.specs.Names.{Refuses, first_bad};
 ghost use Rattle.st_box.specs.Query.{is_inside};
 ghost use Rattle.circular_buffer.specs.Buffer.{keep_last};
 ghost use Rattle.st_policy.specs.Requests.{name_of, target_of};
@@ -123,6 +123,7 @@ impl<A: Allocator + Copy> Store<A> {
     /// `BadName` where a name is no authorization; it comes before `NoMemory`.
     pub fn open(alloc: A, digest: [u8; 32], auths: &[&str]) -> Result<Store<A>, AuthsFault>
         ensures ok { IfOk result (λ store. store ≡ first_state digest (map (λ name. name.now) auths.now)) }
+        ensures good { OnOk result (first_bad (map (λ name. name.now) auths.now) ≡ None) }
         ensures fault { IfErr result (λ fault. Refuses (map (λ name. name.now) auths.now) fault) }
     {
         let auths = Auths::from_list(alloc, auths)?;

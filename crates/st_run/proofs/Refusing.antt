@@ -1,16 +1,24 @@
--- Command lines that are refused.
+-- The command line: what the code builds, what it reads, and what it refuses.
 use Rattle.std.specs.Prelude.{Option, Some, None, map, option_map, unwrap_or}
 use Rattle.std.specs.Borrow.{Bor}
-use Rattle.std.proofs.Common.{ap, ◌≡◌, ◌∙◌, ◌==◌, ◌&&◌, Bool, T, not, false, length, List, [], ◌∷◌, codes, true, inl, inr, refl, sym, subst, zero, suc, arith}
+use Rattle.std.proofs.Common.{ap, ap₂, ◌≡◌, ◌∙◌, ◌==◌, ◌&&◌, Bool, T, not, false, length, List, [], ◌∷◌, codes, true, inl, inr, refl, sym, subst, zero, suc, arith}
 use Rattle.std.specs.Str.{bytes_eq}
-use Rattle.clap.specs.Built.{FitsChain, HasDistinctIds, IsPlainArg}
+use Rattle.clap.specs.Built.{AddsArg, FitsChain, HasDistinctIds, IsPlainArg}
 use Rattle.clap.specs.declared.builder.arg.Arg.{Arg}
-use Rattle.clap.specs.Words.{HasKind, IsAmong, fault_of, kind_of}
+use Rattle.clap.specs.Words.{HasKind, IsAmong, app_of, fault_of, kind_of, new_app, rule_of, with_rule}
+use Rattle.clap.specs.declared.builder.command.Command.{Command}
 use Rattle.clap.specs.declared.error.Error.{Error}
 use Rattle.clap.specs.declared.error.kind.ErrorKind.{ErrorKind}
 use Rattle.clap.specs.declared.error.kind.ErrorKind.TheVariants.{OutOfMemory}
 use Rattle.st_text.specs.Texts.{Text}
-use Rattle.st_run.specs.CommandLine.{Refuses, as_fault, command_line}
+use Rattle.st_run.specs.CommandLine.{Refuses, as_fault, command_line, name_operand, root_option}
+
+-- the command that the code builds is the one of the definitions
+pub is_command : (start with_root command : Command) (root names : Arg) → app_of start ≡ new_app (codes "st_run")
+    → rule_of root ≡ root_option → rule_of names ≡ name_operand → root.global ≡ false → names.global ≡ false
+    → AddsArg start root with_root → AddsArg with_root names command → app_of command ≡ command_line
+is_command start with_root command root names is root_is names_are root_local names_local first second =
+    second.shape names_local ∙ ap₂ with_rule (first.shape root_local ∙ ap₂ with_rule is root_is) names_are
 
 named : (words : List Text) (kind : ErrorKind) (error : Error) → IsAmong (kind_of error) (fault_of command_line words) → Refuses words (as_fault kind error)
 named words OutOfMemory error h = tt

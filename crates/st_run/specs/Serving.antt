@@ -1,8 +1,9 @@
 -- What a run does, by the status that it gives.
-use Rattle.std.specs.Prelude.{◌≡◌, ◌⊎◌, ℕ, Bool, Option, Result, Ok, Err, List}
+use Rattle.std.specs.Prelude.{◌≡◌, ◌⊎◌, ℕ, Bool, false, Option, None, Result, Ok, Err, List}
 use Rattle.std.specs.declared.alloc.Global.{Global}
 use Rattle.hex.specs.Hex.{decode_sized}
 use Rattle.st_text.specs.Texts.{Text}
+use Rattle.st_auth.specs.Names.{first_bad}
 use Rattle.st_core.specs.State.{State, first_state}
 use Rattle.st_service.specs.Answers.{Answers}
 use Rattle.st_service.specs.Connection.{Served}
@@ -26,10 +27,12 @@ abbrev pub status_given : Result Unit Fault → ℕ
 status_given (Ok done) = 0
 status_given (Err fault) = status_of fault
 
--- the state that a server begins with, whose root has these authorizations and the digest that 64 hexadecimal digits write
+-- the state that a server begins with, whose root has these authorizations, each of them one, and the digest that 64
+-- hexadecimal digits write
 pub record Opens (digits : Text) (names : List Text) (state : State Global) : Type 0 where
   pub digest : List ℕ
   pub written : decode_sized digits 32 ≡ Ok digest
+  pub good : first_bad names ≡ None
   pub is : state ≡ first_state digest names
 
 -- the connection was served, and ended by the status
@@ -49,13 +52,14 @@ pub record IsServed (words : List Text) (left_old left_new held_old held_new : O
   pub serves : Serves before after left_old left_new held_old held_new read_failed status
 
 -- the words are refused, and nothing was read or written
-pub record IsRefused (words : List Text) (left_old left_new held_old held_new : Option (List ℕ)) (status : ℕ) : Type 0 where
+pub record IsRefused (words : List Text) (left_old left_new held_old held_new : Option (List ℕ)) (read_failed : Bool) (status : ℕ) : Type 0 where
   pub fault : Fault
   pub why : Refuses words fault
   pub status_is : status ≡ status_of fault
   pub unread : left_new ≡ left_old
+  pub sound : read_failed ≡ false
   pub unwritten : held_new ≡ held_old
 
 abbrev pub Ran : List Text → Option (List ℕ) → Option (List ℕ) → Option (List ℕ) → Option (List ℕ) → Bool → ℕ → Type 0
 Ran words left_old left_new held_old held_new read_failed status =
-    IsServed words left_old left_new held_old held_new read_failed status ⊎ IsRefused words left_old left_new held_old held_new status
+    IsServed words left_old left_new held_old held_new read_failed status ⊎ IsRefused words left_old left_new held_old held_new read_failed status

@@ -1,20 +1,18 @@
-use Rattle.std.proofs.Common.{rules, ap, ap₂, refl, sym, subst, true, [], ◌∷◌, ◌≡◌, ◌∙◌, arith, codes, map, string_bytes, is_some}
+use Rattle.std.proofs.Common.{rules, ap, refl, sym, subst, true, [], ◌∷◌, ◌≡◌, ◌∙◌, arith, codes, map, string_bytes, is_some}
 use Rattle.std.specs.List.{All}
 use Rattle.std.proofs.lemmas.List.Elements.{All-cons, All-nil}
 use Rattle.std.proofs.lemmas.Result.{err_from_is_err_and}
 use Rattle.clap.specs.Built.{FitsChain}
-use Rattle.clap.specs.Words.{HasKind, app_of, fault_of, first_value, found_of, is_simple, is_simple_and_free, matches_of, rule_of, with_rule}
+use Rattle.clap.specs.Words.{HasKind, fault_of, first_value, found_of, is_simple, is_simple_and_free, matches_of}
 use Rattle.clap.proofs.CallerLemmas.{required_in_chain}
-use Rattle.st_run.specs.CommandLine.{Refuses, command_line, root_option, name_operand}
-use Rattle.st_run.proofs.Refusing.{fits, refused, two_ids}
+use Rattle.st_run.specs.CommandLine.{Refuses}
+use Rattle.st_run.proofs.Refusing.{fits, is_command, refused, two_ids}
 use Rattle.st_run.proofs.command_line.parse.Goals as goal
 
 pub returns-clause-ok : goal.returns-clause-ok
 returns-clause-ok c =
-    let root_is : rule_of c.action-root.result ≡ root_option = search rules in
-    let names_are : rule_of c.action-names.result ≡ name_operand = search rules in
-    let is : app_of c.in_ok-command.command ≡ command_line = c.in_ok-command.ensures.shape (search rules)
-    ∙ ap₂ with_rule (c.in_ok-arg.ensures.shape (search rules) ∙ ap₂ with_rule c.new-3.ensures.app root_is) names_are in
+    let is = is_command c.new-3.result c.in_ok-arg.field-0 c.in_ok-command.command c.action-root.result c.action-names.result c.new-3.ensures.app
+    (search rules) (search rules) (search rules) (search rules) c.in_ok-arg.ensures c.in_ok-command.ensures in
     let words = map string_bytes c.args.words.now in
     let ensures = c.in_ok-try_get_matches_from.ensures in
     record {
@@ -24,10 +22,8 @@ returns-clause-ok c =
 
 pub returns-in_err-try_get_matches_from-clause-err : goal.returns-in_err-try_get_matches_from-clause-err
 returns-in_err-try_get_matches_from-clause-err c =
-    let root_is : rule_of c.action-root.result ≡ root_option = search rules in
-    let names_are : rule_of c.action-names.result ≡ name_operand = search rules in
-    let is : app_of c.in_ok-command.command ≡ command_line = c.in_ok-command.ensures.shape (search rules)
-    ∙ ap₂ with_rule (c.in_ok-arg.ensures.shape (search rules) ∙ ap₂ with_rule c.new-3.ensures.app root_is) names_are in
+    let is = is_command c.new-3.result c.in_ok-arg.field-0 c.in_ok-command.command c.action-root.result c.action-names.result c.new-3.ensures.app
+    (search rules) (search rules) (search rules) (search rules) c.in_ok-arg.ensures c.in_ok-command.ensures in
     let words = map string_bytes c.args.words.now in
     let fault = c.from_residual-in_err-try_get_matches_from in
     let p = err_from_is_err_and fault.result fault.ensures.1 in
