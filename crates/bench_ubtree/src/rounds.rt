@@ -1,10 +1,9 @@
 //! What is timed.
 use rand_core::{Rng, SeedableRng};
 use rand_xoshiro::SplitMix64;
-use st_index::{Row, RowIndex, entries};
+use st_index::{Id, Note, Row, RowIndex, entries};
 use st_key::{Key, Period, Point};
 use st_label::Label;
-use st_text::{Text, Words};
 use st_ubtree::UbTree;
 use std::alloc::{AllocError, Global};
 use std::io;
@@ -46,13 +45,18 @@ pub struct Rounds {
 /// A row with an id of 8 bytes, a label of 3 and no note, or none where the number makes none.
 fn row_of(alloc: Global, number: u64) -> Result<Option<Row>, AllocError> {
     let id = format!(in alloc; "{:08}", number % 100_000_000)?;
-    let (Some(id), Ok(label)) = (Text::new(id.as_str()), Label::parse(alloc, LABEL)) else {
+    let Some(id) = Id::new(alloc, id.as_str())? else {
+        return Ok(None);
+    };
+    let Ok(label) = Label::parse(alloc, LABEL) else {
         return Ok(None);
     };
     let Ok(point) = Point::new(number & 0x1f_ffff, number >> 21 & 0x1f_ffff, number >> 42) else {
         return Ok(None);
     };
-    let note = Words::new(alloc, "")?;
+    let Some(note) = Note::new(alloc, "")? else {
+        return Ok(None);
+    };
     Ok(Some(Row {
         id,
         point,

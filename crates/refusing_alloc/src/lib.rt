@@ -1,9 +1,6 @@
 //! An allocator for tests: it passes each call on to another, and refuses one chosen allocation.
 #![tactic(auto)]
 
-#[cfg(test)]
-mod tests;
-
 use std::alloc::{AllocError, Allocator};
 use std::cell::Cell;
 

@@ -2,3 +2,4 @@ pub mod Places
 pub mod Search
 pub mod Sized
 pub mod Recall
+pub mod Known

@@ -6,6 +6,7 @@ ghost use Rattle.st_auth.specs.Names.{is_name, first_bad, first_missing, Refuses
 ghost use Rattle.st_auth.specs.Order.{IsOrder, name_at as name_of};
 ghost use Rattle.st_auth.specs.declared.auths.AuthsFault.TheVariants.{NoMemory};
 
+use st_label::{Names, Term};
 use st_text::Words;
 use std::alloc::{AllocError, AllocFailed, Allocator, Global};
 use std::marker::Model;
@@ -110,11 +111,12 @@ impl<A: Allocator> Auths<A> {
             .is_ok()
     }
 
-    /// The place of the first of the other's names, in the order given, that this set lacks.
-    pub fn first_missing<B: Allocator>(&self, names: &Auths<B>) -> Option<usize>
-        ensures { result ≡ first_missing self.now names.now }
+    #[tactic(auto, using(crate::proofs::Places::position_map))]
+    /// The place of the first of the names that this set lacks.
+    pub fn first_missing(&self, names: &[&str]) -> Option<usize>
+        ensures { result ≡ first_missing self.now (map (λ name. name.now) names.now) }
     {
-        names.names.iter().position(|name| !self.has(name.as_str()))
+        first_lacked(self, names)
     }
 
     /// The first of the other's names, in the order given, that this set lacks.
@@ -172,6 +174,25 @@ impl<A: Allocator> Auths<A> {
     {
         self.names[index].as_str()
     }
+}
+
+impl<A: Allocator> Names for Auths<A> {
+    ghost use Rattle.st_text.specs.Texts.{is_among};
+
+    ghost among = { λ auths name. is_among auths name };
+
+    fn has_term(&self, term: &Term<'_>) -> bool {
+        self.order
+            .binary_search_by(|place| term.compare(name_at(&self.names, *place)))
+            .is_ok()
+    }
+}
+
+// The place of the first of the names that is not in the set.
+fn first_lacked<A: Allocator>(set: &Auths<A>, names: &[&str]) -> Option<usize>
+    ensures { result ≡ position (λ name. not (is_among set.now name.now)) names.now }
+{
+    names.iter().position(|name| !set.has(*name))
 }
 
 // The first of the names that is not in the set.

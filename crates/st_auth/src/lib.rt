@@ -2,8 +2,7 @@
 #![tactic(auto)]
 
 mod auths;
-#[cfg(test)]
-mod tests;
+mod table;
 mod truth;
 mod verdicts;
 

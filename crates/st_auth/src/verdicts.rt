@@ -8,6 +8,7 @@ ghost use Rattle.st_auth.specs.Remembered.{AreOf, has_text};
 ghost use Rattle.lru.specs.LruCache.{lru_cache, promoted};
 
 use crate::auths::Auths;
+use crate::table::Table;
 use crate::truth::satisfies;
 use lru::{DefaultHasher, LruCache};
 use st_label::Label;
@@ -17,10 +18,13 @@ use std::num::NonZeroUsize;
 
 /// Remembers for one set of authorizations which labels are true for it. It forgets all where it is
 /// asked for another set, and of more labels than it may hold the one that was asked for longest ago.
+/// Labels of at most [`st_text::MAX_SHORT`] bytes are in a table of fixed size, beside those, and take
+/// no memory.
 #[derive(Drop)]
 pub struct Verdicts<A: Allocator = Global> {
     alloc: A,
     auths: Auths<A>,
+    table: Table<A>,
     cache: Cache<A>,
 }
 
@@ -29,11 +33,11 @@ impl<A: Allocator> Model for Verdicts<A> {
 
     ghost Value = { ℕ };
 
-    ghost use Rattle.st_auth.specs.Remembered.{AreOf};
+    ghost use Rattle.st_auth.specs.Remembered.{AreOf, AreKnown};
 
     ghost view = { λ v. v.cache.cap };
 
-    ghost invariant = { λ v. AreOf v.auths v.cache.entries };
+    ghost invariant = { λ v. AreOf v.auths v.cache.entries × AreKnown v.auths v.table.pairs.items };
 }
 
 impl<A: Allocator + Copy> Verdicts<A> {
@@ -44,6 +48,7 @@ impl<A: Allocator + Copy> Verdicts<A> {
         Ok(Verdicts {
             alloc,
             auths: Auths::none(alloc),
+            table: Table::new(alloc)?,
             cache: LruCache::new(alloc, capacity)?,
         })
     }
@@ -58,13 +63,20 @@ impl<A: Allocator + Copy> Verdicts<A> {
             let Ok(copy) = auths.copy_in(self.alloc) else {
                 return satisfies(label, auths);
             };
+            self.table.forget();
             self.cache.clear();
             self.auths = copy;
+        }
+        if let Some(verdict) = self.table.verdict(label.text()) {
+            return verdict;
         }
         if let Some(verdict) = recall(&mut self.cache, label.text()) {
             return verdict;
         }
         let verdict = satisfies(label, auths);
+        if self.table.keep(label.text(), verdict) {
+            return verdict;
+        }
         remember(self.alloc, &mut self.cache, label.text(), verdict);
         verdict
     }

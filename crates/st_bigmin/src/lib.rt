@@ -4,8 +4,6 @@
 mod first;
 mod jump;
 mod run;
-#[cfg(test)]
-mod tests;
 
 pub use first::first_from;
 pub use jump::{bigmin, litmax};

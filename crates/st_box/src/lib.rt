@@ -5,8 +5,6 @@ mod corner;
 pub mod law;
 mod part;
 mod query;
-#[cfg(test)]
-mod tests;
 mod zbox;
 
 pub use corner::Corner;

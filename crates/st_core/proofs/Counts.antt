@@ -1,5 +1,5 @@
 -- Counting rows by a test is counting those that are listed.
-use Rattle.std.proofs.Common.{◌≡◌, ◌+◌, ℕ, suc, List, [], ◌∷◌, Bool, true, false, ◌&&◌, cond, length, filter, map, count_by, refl, sym, ◌∙◌}
+use Rattle.std.proofs.Common.{◌≡◌, List, [], ◌∷◌, Bool, true, false, ◌&&◌, length, filter, count_by, refl, sym, ◌∙◌}
 use Rattle.std.proofs.lemmas.List.Sums.{length-filter}
 use Rattle.st_text.specs.Texts.{Text, same, is_among}
 use Rattle.st_box.specs.declared.query.Query.{Query}

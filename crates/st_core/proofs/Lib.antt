@@ -1,5 +1,11 @@
 pub mod Counts
+pub mod Sorting
+pub mod RowLists
 pub mod Steps
 pub mod Progress
+pub mod Allowed
+mod Worked
 mod WorkedRows
+mod WorkedDirectory
+mod WorkedNamespaces
 mod WorkedTokens

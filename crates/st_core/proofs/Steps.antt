@@ -1,12 +1,12 @@
 -- Steps, by what was found on the way to them.
-use Rattle.std.proofs.Common.{◌≡◌, List, [], ◌∷◌, ◌++◌, Bool, true, false, Option, Some, None, Result, Ok, Err, refl, length}
+use Rattle.std.proofs.Common.{◌≡◌, List, [], ◌∷◌, ◌++◌, true, false, Option, Some, None, Ok, Err, refl, length}
 use Rattle.circular_buffer.specs.Buffer.{keep_last}
 use Rattle.std.proofs.lemmas.List.Sorted.{length_permutation}
 use Rattle.st_text.specs.Texts.{Text, in_order}
 use Rattle.st_text.proofs.Sorted.{in_order-IsPermutation}
 use Rattle.st_policy.specs.declared.refusal.Refusal.{Refusal}
 use Rattle.st_policy.specs.declared.request.Request.{Request}
-use Rattle.st_policy.specs.Requests.{is_change, name_of, target_of}
+use Rattle.st_policy.specs.Requests.{is_change}
 use Rattle.st_policy.specs.Refusals.{number_of}
 use Rattle.st_policy.specs.Policy.{refusal_of, decision}
 use Rattle.st_core.specs.declared.asked.Asked.{Asked}
@@ -14,8 +14,8 @@ use Rattle.st_core.specs.declared.asked.Call.{Call}
 use Rattle.st_core.specs.declared.reply.Reply.{Reply}
 use Rattle.st_core.specs.State.{State}
 use Rattle.st_core.specs.Reads.{shown}
-use Rattle.st_core.specs.Changes.{rows_after}
-use Rattle.st_core.specs.Step.{Outcome, asker_of, asks_for_change, audit_after, step}
+use Rattle.st_core.specs.Changes.{rows_after, directory_after}
+use Rattle.st_core.specs.Step.{Heard, asker_of, asks_for_change, calls_for_change, entry_of, result_of, judge_call, settle, step}
 
 is_refused : (o : Option Refusal) (refusal : Refusal) → decision o ≡ Err refusal → o ≡ Some refusal
 is_refused None refusal e = cc
@@ -30,7 +30,7 @@ module _ {A : Type 0} (s : State A) (asked : Asked A) (asker : Text) (request : 
   pub step_refused : (refusal : Refusal) → decision (refusal_of s.directory asker request) ≡ Err refusal → asks_for_change asked ≡ true
       → step s asked ≡ record {
         reply = Reply.Refused refusal;
-        state = record s { audit = keep_last 1024 (s.audit ++ record { request = name_of request; result = number_of refusal; target = target_of request; user = asker } ∷ []) };
+        state = record s { audit = keep_last 1024 (s.audit ++ entry_of asker request (number_of refusal) ∷ []) };
       }
   step_refused refusal e change =
       let is : is_change request ≡ true = rw good at change in
@@ -38,19 +38,78 @@ module _ {A : Type 0} (s : State A) (asked : Asked A) (asker : Text) (request : 
 
   pub step_allowed : decision (refusal_of s.directory asker request) ≡ Ok tt → asks_for_change asked ≡ true
       → step s asked ≡ record {
-        reply = shown s request;
+        reply = shown s asker request;
         state = record {
-          directory = s.directory;
+          directory = directory_after asker request s.directory;
           rows = rows_after request s.rows;
-          audit = keep_last 1024 (s.audit ++ record { request = name_of request; result = 0; target = target_of request; user = asker } ∷ []);
+          audit = keep_last 1024 (s.audit ++ entry_of asker request 0 ∷ []);
         };
       }
   step_allowed e change =
       let is : is_change request ≡ true = rw good at change in
       rw (heard, good, is_allowed _ e, is) refl
 
-  pub step_shown : decision (refusal_of s.directory asker request) ≡ Ok tt → (step s asked).reply ≡ shown s request
+  pub step_shown : decision (refusal_of s.directory asker request) ≡ Ok tt → (step s asked).reply ≡ shown s asker request
   step_shown e = rw (heard, good, is_allowed _ e) refl
+
+-- what is no change leaves the state as it was
+settled_read : {A : Type 0} (s : State A) (asker : Text) (request : Request A) (o : Option Refusal) → is_change request ≡ false → (settle s (Heard asker request o)).state ≡ s
+settled_read s asker Request.Whoami None e = refl
+settled_read s asker Request.Whoami (Some refusal) e = refl
+settled_read s asker Request.Tables None e = refl
+settled_read s asker Request.Tables (Some refusal) e = refl
+settled_read s asker Request.Users None e = refl
+settled_read s asker Request.Users (Some refusal) e = refl
+settled_read s asker (Request.User user) None e = refl
+settled_read s asker (Request.User user) (Some refusal) e = refl
+settled_read s asker (Request.Grants table) None e = refl
+settled_read s asker (Request.Grants table) (Some refusal) e = refl
+settled_read s asker (Request.NamespaceGrants namespace) None e = refl
+settled_read s asker (Request.NamespaceGrants namespace) (Some refusal) e = refl
+settled_read s asker (Request.Label label) None e = refl
+settled_read s asker (Request.Label label) (Some refusal) e = refl
+settled_read s asker Request.Audit None e = refl
+settled_read s asker Request.Audit (Some refusal) e = refl
+settled_read s asker (Request.Count table query auths) None e = refl
+settled_read s asker (Request.Count table query auths) (Some refusal) e = refl
+settled_read s asker (Request.Put table row) o e = cc
+settled_read s asker (Request.Delete table id label) o e = cc
+settled_read s asker (Request.CreateTable table period) o e = cc
+settled_read s asker (Request.DropTable table) o e = cc
+settled_read s asker (Request.Constraint table on) o e = cc
+settled_read s asker (Request.Period table period) o e = cc
+settled_read s asker (Request.CreateUser user digest auths) o e = cc
+settled_read s asker (Request.DropUser user) o e = cc
+settled_read s asker (Request.Token user digest) o e = cc
+settled_read s asker (Request.Auths user auths) o e = cc
+settled_read s asker (Request.GrantSystem user permission) o e = cc
+settled_read s asker (Request.RevokeSystem user permission) o e = cc
+settled_read s asker (Request.GrantTable table user permission) o e = cc
+settled_read s asker (Request.RevokeTable table user permission) o e = cc
+settled_read s asker (Request.GrantNamespace namespace user permission) o e = cc
+settled_read s asker (Request.RevokeNamespace namespace user permission) o e = cc
+
+judged_read : {A : Type 0} (s : State A) (o : Option Text) (call : Call A) → calls_for_change call ≡ false → (settle s (judge_call s.directory o call)).state ≡ s
+judged_read s None call e = refl
+judged_read s (Some asker) (Call.Bad refusal) e = refl
+judged_read s (Some asker) (Call.Good request) e = settled_read s asker request (refusal_of s.directory asker request) e
+
+pub read_leaves : {A : Type 0} (s : State A) (asked : Asked A) → asks_for_change asked ≡ false → (step s asked).state ≡ s
+read_leaves s asked e = judged_read s (asker_of s.directory asked.token) asked.call e
+
+settled_change : {A : Type 0} (s : State A) (asker : Text) (request : Request A) (o : Option Refusal) → is_change request ≡ true
+    → (settle s (Heard asker request o)).state.audit ≡ keep_last 1024 (s.audit ++ entry_of asker request (result_of o) ∷ [])
+settled_change s asker request None e = rw e refl
+settled_change s asker request (Some refusal) e = rw e refl
+
+-- a change whose token holds is listed
+pub change_listed : {A : Type 0} (s : State A) (asked : Asked A) (asker : Text) (request : Request A)
+    → asker_of s.directory asked.token ≡ Some asker → asked.call ≡ Call.Good request → is_change request ≡ true
+    → (step s asked).state.audit ≡ keep_last 1024 (s.audit ++ entry_of asker request (result_of (refusal_of s.directory asker request)) ∷ [])
+change_listed s asked asker request heard good e = rw (heard, good) (settled_change s asker request (refusal_of s.directory asker request) e)
+
+pub stranger_leaves : {A : Type 0} (s : State A) (asked : Asked A) → asker_of s.directory asked.token ≡ None → (step s asked).state ≡ s
+stranger_leaves s asked heard = rw heard refl
 
 pub length-in_order : {X : Type 0} (key : X → List Text) (xs : List X) → length (in_order key xs) ≡ length xs
 length-in_order key xs = length_permutation xs (in_order key xs) (in_order-IsPermutation key xs)

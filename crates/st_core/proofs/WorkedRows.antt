@@ -1,81 +1,22 @@
--- The definitions on worked examples.
+-- Worked examples of rows: puts, deletes and counts.
 use Rattle.std.proofs.Common.{◌≡◌, ℕ, List, [], ◌∷◌, ◌++◌, Bool, true, false, Some, refl, map}
 use Rattle.std.specs.Prelude.{codes}
 use Prim.Native.String.{String}
-use Rattle.st_text.specs.Texts.{Text}
 use Rattle.st_key.specs.Coordinates.{point_at}
 use Rattle.st_key.specs.Order.{bits_below}
 use Rattle.st_key.specs.declared.period.Period.{Period}
-use Rattle.st_key.specs.declared.point.Point.{Point}
-use Rattle.st_box.specs.declared.query.Query.{Query}
 use Rattle.st_box.specs.Query.{query_of}
 use Rattle.st_label.specs.Machine.{class_of}
 use Rattle.st_label.specs.Reading.{reading}
-use Rattle.st_index.specs.declared.row.Row.{Row}
-use Rattle.st_dir.specs.declared.grant.Scope.TheVariants.{OnTable, OnNamespace}
-use Rattle.st_dir.specs.declared.grant.Scope.{Scope}
+use Rattle.st_dir.specs.declared.grant.Scope.TheVariants.{OnTable}
 use Rattle.st_dir.specs.declared.permission.Permission.{Permission}
 use Rattle.st_policy.specs.declared.denial.Denial.{Denial}
 use Rattle.st_policy.specs.declared.refusal.Refusal.{Refusal}
 use Rattle.st_policy.specs.declared.request.Request.{Request}
-use Rattle.st_core.specs.declared.asked.Call.{Call}
-use Rattle.st_core.specs.declared.audit.Entry.{Entry}
 use Rattle.st_core.specs.declared.reply.Reply.{Reply}
-use Rattle.st_core.specs.State.{State, first_state}
-use Rattle.st_core.specs.Step.{Outcome, judge_call, settle}
-
--- ---- requests of users whose tokens hold
-
-record Said : Type 0 where
-  user : Text
-  request : Request ℕ
-
-abbrev asks : String → Request ℕ → Said
-asks user request = record { user = codes user; request = request }
-
-abbrev outcome : State ℕ → Said → Outcome ℕ
-outcome s said = settle s (judge_call s.directory (Some said.user) (Call.Good said.request))
-
-abbrev after : State ℕ → List Said → State ℕ
-after s [] = s
-after s (said ∷ rest) = after (outcome s said).state rest
-
-abbrev told : State ℕ → Said → Reply ℕ
-told s said = (outcome s said).reply
-
-abbrev all_told : State ℕ → List Said → List (Reply ℕ)
-all_told s [] = []
-all_told s (said ∷ rest) = (outcome s said).reply ∷ all_told (outcome s said).state rest
-
-abbrev texts : List String → List Text
-texts names = map codes names
-
-abbrev here : Point
-here = point_at 1 2 3 refl refl refl
-
-abbrev row : String → Point → String → Row ℕ
-row id point label = record { id = codes id; point = point; label = codes label; note = [] }
-
-abbrev everything : Query
-everything = query_of 0 2097151 0 2097151 0 19818086399 refl refl refl refl refl refl
-
-abbrev put_in : String → String → String → String → Said
-put_in user table id label = asks user (Request.Put (codes table) (row id here label))
-
-abbrev put : String → String → Said
-put id label = put_in "root" "points" id label
-
-abbrev count_in : String → String → List String → Said
-count_in user table auths = asks user (Request.Count (codes table) everything (texts auths))
-
-abbrev count : List String → Said
-count auths = count_in "root" "points" auths
-
-abbrev fresh : List String → State ℕ
-fresh auths = first_state [] (texts auths)
-
-abbrev denied : Denial → Reply ℕ
-denied denial = Reply.Refused (Refusal.Denied denial)
+use Rattle.st_core.specs.State.{State}
+use Rattle.st_core.specs.Changes.{full_name}
+use Rattle.st_core.proofs.Worked.{Said, asks, outcome, after, told, all_told, texts, here, row, put_in, put, count_in, count, fresh, denied, make_table, entry}
 
 -- ---- rows of points, by root
 
@@ -131,6 +72,17 @@ replaced : (after (fresh []) (put "p" "" ∷ asks "root" (Request.Put (codes "po
     ≡ record { table = codes "points"; row = record { id = codes "p"; point = here; label = []; note = codes "n" } } ∷ []
 unfolding reading class_of
 replaced = refl
+
+-- rows stand by their tables' names, their ids and their labels, whatever the order of the puts
+stand_by_name : map full_name (after (fresh []) (make_table "root" "b" ∷ make_table "root" "a" ∷ put_in "root" "b" "p" "" ∷ put_in "root" "a" "q" "" ∷ put_in "root" "a" "p" "B" ∷ put_in "root" "a" "p" "A" ∷ [])).rows
+    ≡ texts ("a" ∷ "p" ∷ "A" ∷ []) ∷ texts ("a" ∷ "p" ∷ "B" ∷ []) ∷ texts ("a" ∷ "q" ∷ "" ∷ []) ∷ texts ("b" ∷ "p" ∷ "" ∷ []) ∷ []
+unfolding reading class_of
+stand_by_name = refl
+
+-- two rows of one id: a delete takes out the one of its label, and a second delete nothing
+deleted : map (λ held. held.row.label) (after (fresh ("A" ∷ [])) (put "p" "B" ∷ put "p" "A" ∷ asks "root" (Request.Delete (codes "points") (codes "p") (codes "A")) ∷ asks "root" (Request.Delete (codes "points") (codes "p") (codes "A")) ∷ [])).rows ≡ codes "B" ∷ []
+unfolding reading class_of
+deleted = refl
 
 -- the last point of space and time
 last_point : told (after (fresh []) (asks "root" (Request.Put (codes "points") (row "p" (point_at 2097151 2097151 19818086399 refl refl refl) "")) ∷ [])) (count []) ≡ Reply.Count 1
@@ -214,36 +166,7 @@ one_of_two : all_told (constrained true (with_user (fresh ("A" ∷ "S" ∷ [])) 
 unfolding reading class_of
 one_of_two = refl
 
--- ---- namespaces
-
--- the tables geo.a and geo.ab, and a grant to u on this scope
-abbrev spaced : Scope → State ℕ
-spaced scope = record (with_user (fresh []) [] []) {
-  directory = record {
-    users = (with_user (fresh []) [] []).directory.users;
-    tables = record { table = codes "geo.a"; constraint = false; period = Period.Week } ∷ record { table = codes "geo.ab"; constraint = false; period = Period.Week } ∷ [];
-    grants = record { user = codes "u"; scope = scope; permission = Permission.Read } ∷ [];
-  };
-}
-
-namespace_grant : all_told (spaced (OnNamespace (codes "geo"))) (count_in "u" "geo.a" [] ∷ count_in "u" "geo.ab" [] ∷ []) ≡ Reply.Count 0 ∷ Reply.Count 0 ∷ []
-unfolding reading class_of
-namespace_grant = refl
-
--- a grant on the first letters of a name gives nothing
-first_letters : all_told (spaced (OnNamespace (codes "ge"))) (count_in "u" "geo.a" [] ∷ []) ≡ denied (Denial.Permission Permission.Read (Some (codes "geo.a"))) ∷ []
-unfolding reading class_of
-first_letters = refl
-
-one_table : all_told (spaced (OnTable (codes "geo.a"))) (count_in "u" "geo.a" [] ∷ count_in "u" "geo.ab" [] ∷ [])
-    ≡ Reply.Count 0 ∷ denied (Denial.Permission Permission.Read (Some (codes "geo.ab"))) ∷ []
-unfolding reading class_of
-one_table = refl
-
 -- ---- the audit listing
-
-abbrev entry : String → ℕ → String → String → Entry
-entry request result target user = record { request = codes request; result = result; target = codes target; user = codes user }
 
 -- changes are listed, whether made or refused, and reads are not
 audited : (after (with_user (fresh []) [] []) (put "p" "" ∷ count [] ∷ put_in "u" "points" "q" "" ∷ put_in "root" "t" "q" "" ∷ count_in "u" "points" [] ∷ [])).audit

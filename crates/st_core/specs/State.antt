@@ -1,12 +1,13 @@
 -- The server's whole state.
-use Rattle.std.specs.Prelude.{ℕ, List, [], ◌∷◌, filter, map}
+use Rattle.std.specs.Prelude.{ℕ, List, [], filter, map}
 use Rattle.st_text.specs.Texts.{Text, same}
 use Rattle.st_dir.specs.Directory.{Directory, first_directory}
 use Rattle.st_index.specs.declared.row.Row.{Row}
 use Rattle.st_core.specs.declared.audit.Entry.{Entry}
 use Rattle.st_core.specs.declared.held.Held.{Held}
 
--- the directory, the rows of all tables, no two of one table, id and label text, and the audit listing
+-- the directory; the rows of all tables, by their tables' names, their ids and their labels, no two of one table, id and label
+-- text; and the audit listing
 pub record State (A : Type 0) : Type 0 where
   pub directory : Directory A
   pub rows : List (Held A)

@@ -16,7 +16,7 @@ use Rattle.st_core.specs.declared.audit.Entry.{Entry}
 use Rattle.st_core.specs.declared.reply.Reply.{Reply}
 use Rattle.st_core.specs.State.{State}
 use Rattle.st_core.specs.Reads.{shown}
-use Rattle.st_core.specs.Changes.{rows_after}
+use Rattle.st_core.specs.Changes.{rows_after, directory_after}
 
 -- ---- the judgement, by the directory alone
 
@@ -41,12 +41,18 @@ judge d asked = judge_call d (asker_of d asked.token) asked.call
 
 -- ---- the step
 
+-- what an entry says of the policy's answer: 0, or the number of the refusal
+abbrev pub result_of : Option Refusal → ℕ
+result_of None = 0
+result_of (Some refusal) = number_of refusal
+
+abbrev pub entry_of : {A : Type 0} → Text → Request A → ℕ → Entry
+entry_of asker request result = record { request = name_of request; result = result; target = target_of request; user = asker }
+
 -- a change whose token holds is listed, and the last 1,024 entries are kept
 abbrev pub audit_after : {A : Type 0} → Text → Request A → ℕ → List Entry → List Entry
 audit_after asker request result entries =
-    if is_change request
-    then keep_last 1024 (entries ++ record { request = name_of request; result = result; target = target_of request; user = asker } ∷ [])
-    else entries
+    if is_change request then keep_last 1024 (entries ++ entry_of asker request result ∷ []) else entries
 
 pub record Outcome (A : Type 0) : Type 0 where
   pub reply : Reply A
@@ -59,9 +65,9 @@ settle s (Heard asker request (Some refusal)) = record {
   state = record s { audit = audit_after asker request (number_of refusal) s.audit };
 }
 settle s (Heard asker request None) = record {
-  reply = shown s request;
+  reply = shown s asker request;
   state = record {
-    directory = s.directory;
+    directory = directory_after asker request s.directory;
     rows = rows_after request s.rows;
     audit = audit_after asker request 0 s.audit;
   };

@@ -1,11 +1,12 @@
 //! The audit listing.
-ghost use Rattle.std.specs.Prelude.{◌≡◌};
+ghost use Rattle.std.specs.Prelude.{◌≡◌, IfOk};
 ghost use Rattle.st_policy.specs.Requests.{name_of, target_of};
 
+use circular_buffer::HeapCircularBuffer;
 use st_dir::Name;
 use st_policy::Request;
-use st_text::Text;
-use std::alloc::Allocator;
+use st_text::{Items, Text};
+use std::alloc::{AllocError, Allocator};
 
 /// How many entries the listing keeps.
 pub const AUDIT_LEN: usize = 1024;
@@ -24,11 +25,11 @@ pub struct Entry {
 }
 
 impl Entry {
-    ghost use Rattle.st_policy.specs.Requests.{target_of};
+    ghost use Rattle.st_core.specs.Step.{entry_of};
 
     /// The entry of a request, with the number of its refusal, or 0.
     pub fn of<A: Allocator>(asker: &Name, request: &Request<A>, number: u8) -> Entry
-        ensures { result ≡ record { request = name_of request.now; result = number; target = target_of request.now; user = asker.now } }
+        ensures { result ≡ entry_of asker.now request.now number }
     {
         Entry {
             request: text_of_name(request),
@@ -37,6 +38,32 @@ impl Entry {
             user: asker.copy(),
         }
     }
+
+    /// An equal entry.
+    pub fn copy(&self) -> Entry
+        ensures { result ≡ self.now }
+    {
+        Entry {
+            request: self.request.copy(),
+            result: self.result,
+            target: self.target.copy(),
+            user: self.user.copy(),
+        }
+    }
+}
+
+// The entries, oldest first.
+pub(crate) fn listing<A: Allocator + Copy>(
+    alloc: A,
+    entries: &HeapCircularBuffer<Entry, A>,
+) -> Result<Items<Entry, A>, AllocError>
+    ensures { IfOk result (λ listed. listed ≡ entries.now.items) }
+{
+    let mut listed = Items::new(alloc);
+    for entry in entries.iter() {
+        listed.push(entry.copy())?;
+    }
+    Ok(listed)
 }
 
 // The name of a request's line.
@@ -53,10 +80,7 @@ fn text_of_name<A: Allocator>(request: &Request<A>) -> Text<16>
 fn text_of_target<A: Allocator>(request: &Request<A>) -> Text<65>
     ensures { result ≡ target_of request.now }
 {
-    if let Some(table) = request.table() {
-        return table.to_text();
-    }
-    match Text::new("") {
+    match Text::new(request.target()) {
         Some(text) => text,
         None => unreachable!(),
     }

@@ -1,10 +1,18 @@
 //! The laws of the server, each the contract of a function that does nothing.
-ghost use Rattle.std.specs.Prelude.{◌≡◌, false};
+ghost use Rattle.std.specs.Prelude.{◌≡◌, ◌++◌, ◌∷◌, [], List, None, Some, true, false};
+ghost use Rattle.circular_buffer.specs.Buffer.{keep_last};
+ghost use Rattle.st_text.specs.Texts.{Text, in_order};
+ghost use Rattle.st_policy.specs.Policy.{refusal_of};
+ghost use Rattle.st_policy.specs.Requests.{is_change, table_of};
+ghost use Rattle.st_policy.specs.declared.request.Request.{Request};
 ghost use Rattle.st_policy.specs.declared.refusal.Refusal.{Refusal};
 ghost use Rattle.st_core.specs.declared.asked.Asked.{Asked as Event};
 ghost use Rattle.st_core.specs.declared.reply.Reply.{Reply};
-ghost use Rattle.st_core.specs.State.{State};
-ghost use Rattle.st_core.specs.Step.{step, asks_for_change};
+ghost use Rattle.st_core.specs.declared.asked.Call.{Call};
+ghost use Rattle.st_core.specs.declared.held.Held.{Held};
+ghost use Rattle.st_core.specs.Changes.{full_name, rows_after};
+ghost use Rattle.st_core.specs.State.{State, rows_of};
+ghost use Rattle.st_core.specs.Step.{asker_of, asks_for_change, entry_of, result_of, step};
 
 use std::alloc::Allocator;
 
@@ -17,4 +25,19 @@ pub fn reads_change_nothing<A: Allocator>()
 pub fn refusals_change_nothing<A: Allocator>()
     ensures { (s : State A) (asked : Event A) (refusal : Refusal) → (step s asked).reply ≡ Reply.Refused refusal
         → ((step s asked).state.directory ≡ s.directory) × ((step s asked).state.rows ≡ s.rows) }
+{}
+
+/// Each change whose token holds is listed, made or refused, and nothing else is: what a stranger asks
+/// changes nothing at all.
+pub fn changes_are_listed<A: Allocator>()
+    ensures listed { (s : State A) (asked : Event A) (asker : Text) (request : Request A)
+        → asker_of s.directory asked.token ≡ Some asker → asked.call ≡ Call.Good request → is_change request ≡ true
+        → (step s asked).state.audit ≡ keep_last 1024 (s.audit ++ entry_of asker request (result_of (refusal_of s.directory asker request)) ∷ []) }
+    ensures strangers { (s : State A) (asked : Event A) → asker_of s.directory asked.token ≡ None → (step s asked).state ≡ s }
+{}
+
+/// A request leaves the rows of each table but its own as they were.
+pub fn other_tables_stay<A: Allocator>()
+    ensures { (request : Request A) (rows : List (Held A)) (table : Text)
+        → in_order full_name rows ≡ rows → (table_of request ≡ Some table → ⊥) → rows_of table (rows_after request rows) ≡ rows_of table rows }
 {}

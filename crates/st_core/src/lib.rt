@@ -1,15 +1,16 @@
 //! The server's state, and what each request does to it and is told.
 #![tactic(auto)]
 
+mod answer;
 mod asked;
 mod audit;
+mod change;
 mod held;
 pub mod law;
 mod reply;
+mod rows;
 mod runs;
 mod store;
-#[cfg(test)]
-mod tests;
 
 pub use asked::{Asked, Call, Token};
 pub use audit::Entry;

@@ -1,5 +1,9 @@
 pub mod Permissions
 pub mod Grants
+pub mod Sorted
+pub mod Order
 pub mod Directory
+pub mod Listings
+pub mod Changes
 pub use Rattle.st_text.specs.Texts
 pub use Rattle.st_text.specs.Names

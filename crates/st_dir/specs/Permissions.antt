@@ -1,5 +1,6 @@
 -- Permissions, by the names of Apache Accumulo.
-use Rattle.std.specs.Prelude.{ℕ, Bool, nat_eq, List, [], ◌∷◌, codes}
+use Rattle.std.specs.Prelude.{ℕ, Bool, nat_eq, List, [], ◌∷◌, codes, filter}
+use Rattle.std.specs.List.{list_any}
 use Rattle.st_dir.specs.declared.permission.Permission.{Permission}
 
 -- the table permissions, in listing order
@@ -27,6 +28,10 @@ place_of Permission.System = 9
 
 abbrev pub same_permission : Permission → Permission → Bool
 same_permission p q = nat_eq (place_of p) (place_of q)
+
+-- the system permissions that are among these, in listing order, each once
+abbrev pub listed : List Permission → List Permission
+listed permissions = filter (λ p. list_any (same_permission p) permissions) system_permissions
 
 -- how requests and replies write it
 abbrev pub name_of : Permission → List ℕ

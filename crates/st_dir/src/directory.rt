@@ -1,33 +1,36 @@
 //! The directory.
 ghost use Rattle.std.specs.Prelude.{◌≡◌, ◌∷◌, [], IfOk, false, codes, option_map};
-ghost use Rattle.std.specs.List.{list_any};
-ghost use Rattle.st_dir.specs.Permissions.{same_permission, system_permissions};
+ghost use Rattle.st_dir.specs.Permissions.{system_permissions};
 ghost use Rattle.st_dir.specs.Grants.{all_on};
-ghost use Rattle.st_dir.specs.declared.grant.Scope.TheVariants.{OnTable};
+ghost use Rattle.st_dir.specs.declared.grant.Scope.TheVariants.{OnTable, OnNamespace};
 ghost use Rattle.st_key.specs.declared.period.Period as Period;
-ghost use Rattle.st_dir.specs.Directory.{user_named, table_named, auths_of, has_secret, has_system, has_table, is_granted, constraint_of, first_directory};
+ghost use Rattle.st_dir.specs.Directory.{user_named, table_named, auths_of, has_secret, has_system, has_table, is_user, is_table, is_granted, constraint_of, first_directory};
 
-use crate::grant::{Grant, Scope};
+use crate::grant::Scope;
+use crate::grants::Grants;
 use crate::name::Name;
 use crate::permission::Permission;
+use crate::system_permissions::SystemPermissions;
 use crate::table::TableInfo;
 use crate::table_name::TableName;
+use crate::tables::Tables;
 use crate::user::User;
+use crate::users::Users;
 use sha2::{Digest, Sha256};
 use st_auth::Auths;
 use st_key::Period;
-use st_text::Items;
 use std::alloc::{AllocError, Allocator, Global};
 use std::marker::Model;
 
-/// The users, the tables and the grants.
+/// The users, the tables and the grants, each searched by halves.
 #[derive(Drop)]
 pub struct Directory<A: Allocator = Global> {
-    users: Items<User<A>, A>,
-    tables: Items<TableInfo, A>,
-    grants: Items<Grant, A>,
+    pub(crate) alloc: A,
+    pub(crate) users: Users<A>,
+    pub(crate) tables: Tables<A>,
+    pub(crate) grants: Grants<A>,
     // The authorizations of who is no user.
-    nobody: Auths<A>,
+    pub(crate) nobody: Auths<A>,
 }
 
 impl<A: Allocator> Model for Directory<A> {
@@ -39,39 +42,6 @@ impl<A: Allocator> Model for Directory<A> {
     ghost view = { λ d. record { users = d.users; tables = d.tables; grants = d.grants } };
 
     ghost invariant = { λ d. d.nobody ≡ [] };
-}
-
-// The permissions on the system, in listing order.
-const SYSTEM_PERMISSIONS: [Permission; 8] = [
-    Permission::CreateTable,
-    Permission::DropTable,
-    Permission::AlterTable,
-    Permission::CreateUser,
-    Permission::DropUser,
-    Permission::AlterUser,
-    Permission::Grant,
-    Permission::System,
-];
-
-// The permissions on a table, in listing order.
-const TABLE_PERMISSIONS: [Permission; 5] = [
-    Permission::Read,
-    Permission::Write,
-    Permission::AlterTable,
-    Permission::Grant,
-    Permission::DropTable,
-];
-
-// Whether a permission is among these.
-fn has_permission(permissions: &[Permission], permission: Permission) -> bool
-    ensures { result ≡ list_any (same_permission permission) permissions.now }
-{
-    for held in permissions {
-        if permission.is_same(*held) {
-            return true;
-        }
-    }
-    false
 }
 
 // The name of the user that a server begins with.
@@ -99,27 +69,25 @@ fn first_users<A: Allocator + Copy>(
     alloc: A,
     digest: [u8; 32],
     auths: Auths<A>,
-) -> Result<Items<User<A>, A>, AllocError>
+) -> Result<Users<A>, AllocError>
     ensures { IfOk result (λ users. users ≡ record { name = codes "root"; digest = digest; auths = auths; permissions = system_permissions } ∷ []) }
 {
-    let mut permissions = Items::new(alloc);
-    permissions.extend(&SYSTEM_PERMISSIONS)?;
-    let mut users = Items::new(alloc);
-    users.push(User {
+    let mut users = Users::new(alloc);
+    users.add(User {
         name: root(),
         digest,
         auths,
-        permissions,
+        permissions: SystemPermissions::all(),
     })?;
     Ok(users)
 }
 
 // The table points, with weeks for bins.
-fn first_tables<A: Allocator + Copy>(alloc: A) -> Result<Items<TableInfo, A>, AllocError>
+fn first_tables<A: Allocator + Copy>(alloc: A) -> Result<Tables<A>, AllocError>
     ensures { IfOk result (λ tables. tables ≡ record { table = codes "points"; constraint = false; period = Period.Week } ∷ []) }
 {
-    let mut tables = Items::new(alloc);
-    tables.push(TableInfo {
+    let mut tables = Tables::new(alloc);
+    tables.add(TableInfo {
         table: points(),
         constraint: false,
         period: Period::Week,
@@ -127,18 +95,13 @@ fn first_tables<A: Allocator + Copy>(alloc: A) -> Result<Items<TableInfo, A>, Al
     Ok(tables)
 }
 
+#[tactic(auto, using(crate::proofs::First::first_in_order))]
 // Each table permission for the user root on the table points.
-fn first_grants<A: Allocator + Copy>(alloc: A) -> Result<Items<Grant, A>, AllocError>
+fn first_grants<A: Allocator + Copy>(alloc: A) -> Result<Grants<A>, AllocError>
     ensures { IfOk result (λ grants. grants ≡ all_on (codes "root") (OnTable (codes "points"))) }
 {
-    let mut grants = Items::new(alloc);
-    for permission in TABLE_PERMISSIONS {
-        grants.push(Grant {
-            user: root(),
-            scope: Scope::OnTable(points()),
-            permission,
-        })?;
-    }
+    let mut grants = Grants::new(alloc);
+    grants.add_all(&root(), &Scope::OnTable(points()))?;
     Ok(grants)
 }
 
@@ -150,6 +113,7 @@ impl<A: Allocator + Copy> Directory<A> {
         ensures { IfOk result (λ directory. directory ≡ first_directory digest auths) }
     {
         Ok(Directory {
+            alloc,
             users: first_users(alloc, digest, auths)?,
             tables: first_tables(alloc)?,
             grants: first_grants(alloc)?,
@@ -163,17 +127,14 @@ impl<A: Allocator> Directory<A> {
     fn user(&self, name: &str) -> Option<&User<A>>
         ensures { option_map (λ user. user.now) result ≡ user_named self.now name.now }
     {
-        self.users.as_slice().iter().find(|user| user.name.is(name))
+        self.users.get(name)
     }
 
     // The table of this name.
     fn table(&self, name: &str) -> Option<&TableInfo>
         ensures { option_map (λ info. info.now) result ≡ table_named self.now name.now }
     {
-        self.tables
-            .as_slice()
-            .iter()
-            .find(|info| info.table.is(name))
+        self.tables.get(name)
     }
 
     /// Whether there is a user of this name whose secret this is: the record keeps its SHA-256
@@ -212,33 +173,54 @@ impl<A: Allocator> Directory<A> {
         ensures { result ≡ has_system self.now user.now permission }
     {
         match self.user(user) {
-            Some(user) => has_permission(user.permissions.as_slice(), permission),
+            Some(user) => user.permissions.has(permission),
             None => false,
         }
     }
 
-    // Whether the user has been granted the permission on the scope itself.
-    fn has_grant(&self, user: &str, scope: &Scope, permission: Permission) -> bool
-        ensures { result ≡ is_granted self.now user.now scope.now permission }
+    /// Whether there is a user of this name.
+    pub fn has_user(&self, name: &str) -> bool
+        ensures { result ≡ is_user self.now name.now }
     {
-        for grant in self.grants.as_slice() {
-            if grant.gives(user, scope, permission) {
-                return true;
-            }
+        self.user(name).is_some()
+    }
+
+    /// Whether there is a table of this name.
+    pub fn has_table(&self, table: &TableName) -> bool
+        ensures { result ≡ is_table self.now table.now }
+    {
+        self.table(table.as_str()).is_some()
+    }
+
+    /// The length of the table's time bins; `None` where there is no such table.
+    pub fn period_of(&self, table: &TableName) -> Option<Period>
+        ensures { result ≡ option_map (λ info. info.period) (table_named self.now table.now) }
+    {
+        match self.table(table.as_str()) {
+            Some(info) => Some(info.period),
+            None => None,
         }
-        false
     }
 
     /// Whether the user has the permission on the table, by a grant on the table or on its namespace.
     pub fn holds_table(&self, user: &str, table: &TableName, permission: Permission) -> bool
         ensures { result ≡ has_table self.now user.now table.now permission }
     {
-        if self.has_grant(user, &Scope::OnTable(table.copy()), permission) {
+        let on_table = Scope::OnTable(table.copy());
+        if self.grants.has(user, &on_table, permission) {
             return true;
         }
         match table.namespace() {
-            Some(namespace) => self.has_grant(user, &Scope::OnNamespace(namespace), permission),
+            Some(namespace) => self.holds_namespace(user, &namespace, permission),
             None => false,
         }
+    }
+
+    /// Whether the user has been granted the permission on the namespace itself.
+    pub fn holds_namespace(&self, user: &str, namespace: &Name, permission: Permission) -> bool
+        ensures { result ≡ is_granted self.now user.now (OnNamespace namespace.now) permission }
+    {
+        let on_namespace = Scope::OnNamespace(namespace.copy());
+        self.grants.has(user, &on_namespace, permission)
     }
 }

@@ -3,8 +3,9 @@ ghost use Rattle.std.specs.Prelude.{◌≡◌};
 
 /// What a user may be allowed, on a table, on a namespace or on the whole system. The names are those
 /// of Apache Accumulo's table and system permissions.
-#[derive(Clone, Copy, PartialEq, Eq, Debug)]
+#[derive(Clone, Copy, PartialEq, Eq, Debug, Default)]
 pub enum Permission {
+    #[default]
     Read,
     Write,
     AlterTable,
@@ -20,7 +21,7 @@ pub enum Permission {
 impl Permission {
     ghost use Rattle.st_dir.specs.Permissions.{place_of, name_of, same_permission};
 
-    fn place(self) -> u8
+    pub(crate) fn place(self) -> u8
         ensures { result ≡ place_of self }
     {
         match self {

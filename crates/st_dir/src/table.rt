@@ -1,4 +1,6 @@
 //! Tables.
+ghost use Rattle.std.specs.Prelude.{◌≡◌};
+
 use crate::table_name::TableName;
 use st_key::Period;
 
@@ -8,4 +10,17 @@ pub struct TableInfo {
     pub table: TableName,
     pub constraint: bool,
     pub period: Period,
+}
+
+impl TableInfo {
+    /// An equal table.
+    pub fn copy(&self) -> TableInfo
+        ensures { result ≡ self.now }
+    {
+        TableInfo {
+            table: self.table.copy(),
+            constraint: self.constraint,
+            period: self.period,
+        }
+    }
 }

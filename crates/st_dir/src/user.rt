@@ -1,9 +1,14 @@
 //! Users.
+ghost use Rattle.std.specs.Prelude.{◌≡◌, IfOk};
+ghost use Rattle.st_text.specs.Texts.{set_of};
+ghost use Rattle.st_dir.specs.Permissions.{listed};
+
+use crate::account::Account;
+use crate::auth_names::each_once;
 use crate::name::Name;
-use crate::permission::Permission;
+use crate::system_permissions::SystemPermissions;
 use st_auth::Auths;
-use st_text::Items;
-use std::alloc::{Allocator, Global};
+use std::alloc::{AllocError, Allocator, Global};
 
 /// A user: the name, the SHA-256 of the secret, the authorizations, and the permissions on the system.
 #[derive(Drop)]
@@ -11,5 +16,30 @@ pub struct User<A: Allocator = Global> {
     pub name: Name,
     pub digest: [u8; 32],
     pub auths: Auths<A>,
-    pub permissions: Items<Permission, A>,
+    pub permissions: SystemPermissions,
+}
+
+impl<A: Allocator + Copy> User<A> {
+    // An equal user, or an error where there is no memory for it.
+    pub(crate) fn copy(&self) -> Result<User<A>, AllocError>
+        ensures { IfOk result (λ user. user ≡ self.now) }
+    {
+        Ok(User {
+            name: self.name.copy(),
+            digest: self.digest,
+            auths: self.auths.copy()?,
+            permissions: self.permissions.copy(),
+        })
+    }
+
+    // What the user is shown of itself and of others.
+    pub(crate) fn account(&self, alloc: A) -> Result<Account<A>, AllocError>
+        ensures { IfOk result (λ account. account ≡ record { user = self.now.name; auths = set_of self.now.auths; permissions = listed self.now.permissions }) }
+    {
+        Ok(Account {
+            user: self.name.copy(),
+            auths: each_once(alloc, &self.auths)?,
+            permissions: self.permissions.listed(alloc)?,
+        })
+    }
 }

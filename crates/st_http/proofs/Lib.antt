@@ -8,5 +8,6 @@ pub mod FirstLemmas
 pub mod ItemLemmas
 pub mod TakeLemmas
 pub mod RouteLemmas
+pub mod LineLemmas
 pub mod TokenLemmas
 pub mod ReplyLemmas

@@ -1,19 +1,18 @@
 -- The line of the table of requests that a method and a target name.
-use Rattle.std.specs.Prelude.{◌≡◌, ℕ, Bool, ◌==◌, if◌then◌else◌, List, [], ◌∷◌, ◌++◌, find, length, take, drop, fold, codes, nat_lt, option_map, Option, Some, None, Result, Ok, Err}
+use Rattle.std.specs.Prelude.{◌≡◌, ℕ, Bool, ◌==◌, if◌then◌else◌, List, [], length, take, drop, fold, codes, nat_lt, option_map, Option, Some, None, Result, Ok, Err}
 use Rattle.std.specs.List.{before_first, after_first, position_or_len}
-use Rattle.std.specs.Str.{str_eq_ignore_ascii_case, bytes_eq}
+use Rattle.std.specs.Str.{str_eq_ignore_ascii_case}
 use Rattle.matchit.specs.Rows.{RowsOf}
 use Rattle.matchit.specs.Seek.{first}
 use Rattle.matchit.specs.Route.{Scan, parse_route}
 use Rattle.matchit.specs.Router.{RouteOf, route_from}
 use Rattle.matchit.specs.Order.{placed}
 use Rattle.matchit.specs.declared.error.InsertError.{InsertError}
-use Rattle.st_http.specs.declared.routes.Path.{Path}
-use Rattle.st_http.specs.declared.routes.Path.TheVariants as paths
+use Rattle.st_http.specs.declared.path.Path.{Path}
 use Rattle.st_http.specs.declared.routes.Line.{Line}
-use Rattle.st_http.specs.declared.routes.Line.TheVariants as lines
 use Rattle.st_http.specs.declared.routes.Route.{Route}
 use Rattle.st_http.specs.declared.routes.Route.TheVariants as answers
+use Rattle.st_http.specs.Paths.{pattern_of, all_paths, lines_of, allow_of, line_of}
 
 -- `/`
 abbrev pub slash : ℕ
@@ -48,26 +47,6 @@ path_of target =
 abbrev pub name_in : List ℕ → List ℕ
 name_in path = before_first (λ b. b == slash) (after_first (λ b. b == slash) (after_first (λ b. b == slash) path))
 
--- how a path of the table is written
-abbrev pub pattern_of : Path → List ℕ
-pattern_of paths.Label = codes "/label"
-pattern_of paths.Count = codes "/tables/{table}/count"
-pattern_of paths.Put = codes "/tables/{table}/put"
-
--- the paths of the table of requests, in its order, each once
-unfoldable pub all_paths : List Path
-all_paths = paths.Label ∷ paths.Count ∷ paths.Put ∷ []
-
--- the methods (RFC 9110, "Methods")
-abbrev pub post : List ℕ
-post = codes "POST"
-
--- the lines of a path, each with its method, in the order DELETE, GET, POST
-abbrev pub lines_of : Path → List (List ℕ × Line)
-lines_of paths.Label = (post, lines.Label) ∷ []
-lines_of paths.Count = (post, lines.Count) ∷ []
-lines_of paths.Put = (post, lines.Put) ∷ []
-
 abbrev pub Rows : Type 0
 Rows = RowsOf (RouteOf Path)
 
@@ -86,16 +65,6 @@ routes = fold with_path [] all_paths
 -- the path of the table that a path is
 abbrev pub path_at : List ℕ → Option Path
 path_at path = option_map (λ route. route.value) (first routes path)
-
--- the methods of these lines, joined by a comma and a space (RFC 9110, "Allow")
-abbrev pub allow_of : List (List ℕ × Line) → List ℕ
-allow_of [] = []
-allow_of (line ∷ []) = line.0
-allow_of (line ∷ other ∷ rest) = line.0 ++ (codes ", " ++ allow_of (other ∷ rest))
-
--- which of the lines has this method
-abbrev pub line_of : List ℕ → List (List ℕ × Line) → Option Line
-line_of method rows = option_map (λ line. line.1) (find (λ line. bytes_eq line.0 method) rows)
 
 -- what a method and a target name
 pub data Routed : Type 0 where

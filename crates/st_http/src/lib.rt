@@ -5,9 +5,8 @@ mod close;
 pub mod fields;
 pub mod head;
 pub mod law;
+mod path;
 pub mod reply;
 pub mod routes;
 pub mod take;
-#[cfg(test)]
-mod tests;
 pub mod token;

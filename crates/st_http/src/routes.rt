@@ -1,20 +1,65 @@
 //! The line of the table of requests that a method and a target name.
 ghost use Rattle.std.specs.Prelude.{◌≡◌, ◌==◌, ◌<◌, codes, take, drop, IfOk, OnOk};
 ghost use Rattle.std.specs.List.{before_first, after_first, position_or_len};
-ghost use Rattle.st_http.specs.Routes.{slash, from_slash, path_of, is_absolute, name_in, routes, path_at, pattern_of, with_path, lines_of, line_of, allow_of, routed, Tells};
+ghost use Rattle.st_http.specs.Routes.{slash, from_slash, path_of, is_absolute, name_in, routes, path_at, with_path, routed, Tells};
 
+use crate::path::{ALL, Path};
 use matchit::Router;
 use std::alloc::{AllocError, Global};
 
 /// A line of the table of requests.
 #[derive(Clone, Copy, Debug, PartialEq, Eq)]
 pub enum Line {
+    /// `GET /whoami`
+    Whoami,
+    /// `GET /tables`
+    Tables,
+    /// `GET /users`
+    Users,
+    /// `GET /users/{user}`
+    User,
+    /// `GET /tables/{table}/grants`
+    Grants,
+    /// `GET /namespaces/{namespace}/grants`
+    NamespaceGrants,
     /// `POST /label`
     Label,
+    /// `GET /audit`
+    Audit,
     /// `POST /tables/{table}/count`
     Count,
     /// `POST /tables/{table}/put`
     Put,
+    /// `POST /tables/{table}/delete`
+    Delete,
+    /// `POST /tables`
+    CreateTable,
+    /// `DELETE /tables/{table}`
+    DropTable,
+    /// `POST /tables/{table}/constraint`
+    Constraint,
+    /// `POST /tables/{table}/period`
+    Period,
+    /// `POST /users`
+    CreateUser,
+    /// `DELETE /users/{user}`
+    DropUser,
+    /// `POST /users/{user}/token`
+    Token,
+    /// `POST /users/{user}/auths`
+    Auths,
+    /// `POST /users/{user}/grant`
+    GrantSystem,
+    /// `POST /users/{user}/revoke`
+    RevokeSystem,
+    /// `POST /tables/{table}/grant`
+    GrantTable,
+    /// `POST /tables/{table}/revoke`
+    RevokeTable,
+    /// `POST /namespaces/{namespace}/grant`
+    GrantNamespace,
+    /// `POST /namespaces/{namespace}/revoke`
+    RevokeNamespace,
 }
 
 /// What a method and a target name.
@@ -26,51 +71,6 @@ pub enum Route<'a> {
     NoRoute,
     /// The path's lines have other methods, those that `allow` lists: the reply's status is 405.
     BadMethod { allow: &'static str },
-}
-
-// A path of the table of requests.
-#[derive(Clone, Copy, Debug, PartialEq, Eq)]
-enum Path {
-    Label,
-    Count,
-    Put,
-}
-
-// The paths of the table of requests, in its order.
-const ALL: [Path; 3] = [Path::Label, Path::Count, Path::Put];
-
-impl Path {
-    // The line of the path that has this method.
-    fn line(self, method: &[u8]) -> Option<Line>
-        ensures { result ≡ line_of method.now (lines_of self) }
-    {
-        match (self, method) {
-            (Path::Label, b"POST") => Some(Line::Label),
-            (Path::Count, b"POST") => Some(Line::Count),
-            (Path::Put, b"POST") => Some(Line::Put),
-            _ => None,
-        }
-    }
-
-    // The methods of its lines.
-    fn allow(self) -> &'static str
-        ensures { result.now ≡ allow_of (lines_of self) }
-    {
-        match self {
-            Path::Label | Path::Count | Path::Put => "POST",
-        }
-    }
-
-    // How the path is written.
-    fn pattern(self) -> &'static str
-        ensures { result.now ≡ pattern_of self }
-    {
-        match self {
-            Path::Label => "/label",
-            Path::Count => "/tables/{table}/count",
-            Path::Put => "/tables/{table}/put",
-        }
-    }
 }
 
 // Adds a path of the table.

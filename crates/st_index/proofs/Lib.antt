@@ -5,3 +5,4 @@ pub mod Putting
 pub mod Taking
 pub mod Scanning
 pub mod Listing
+pub mod Sorting

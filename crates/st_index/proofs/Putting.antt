@@ -1,17 +1,17 @@
 -- Putting a row into its entry, and an entry into a list.
-use Rattle.std.proofs.Common.{◌≡◌, ℕ, ◌+◌, ◌-◌, ◌<◌, ◌≤◌, List, [], ◌∷◌, ◌++◌, length, get_or, set, take, drop, refl, sym, ap, subst, ◌∙◌, suc, zero, arith, rules, append_assoc, length-append, take-append-drop}
-use Rattle.std.proofs.lemmas.List.{set-get_or, set_split, append-nil}
-use Rattle.std.proofs.lemmas.List.Elements.{All-head, All-tail, All-cons, All-append, All-weaker}
+use Rattle.std.proofs.Common.{◌≡◌, ℕ, ◌+◌, ◌<◌, ◌≤◌, List, [], ◌∷◌, ◌++◌, length, get_or, set, take, drop, refl, sym, ap, subst, ◌∙◌, suc, arith, append_assoc, length-append, take-append-drop}
+use Rattle.std.proofs.lemmas.List.{set-get_or, set_split}
+use Rattle.std.proofs.lemmas.List.Elements.{All-cons, All-weaker}
 use Rattle.std.specs.List.{All, insert}
 use Rattle.std.specs.List.Sorted.{IsNonDecreasingBy, IsPartitionPoint}
 use Rattle.std.specs.declared.cmp.Ordering.TheVariants.{Less, Equal, Greater}
 use Rattle.std.specs.Ordering.{nat_cmp, ordering_index}
 use Rattle.std.specs.Cmp.{nat_cmp_total}
-use Rattle.st_index.specs.Rows.{Name, name_of, EntryValue, IsEntry, Rises, Climbs, NamesRise, name_cmp, place_of, rows_of}
+use Rattle.st_index.specs.Rows.{Name, name_of, EntryValue, IsEntry, Rises, NamesRise, name_cmp, place_of, rows_of}
 use Rattle.st_index.specs.Index.{Adds, IsAbsent}
 use Rattle.st_index.proofs.Climbing.{all_left, all_right, all_put, within_take, within_drop, climbs_search, climbs_put}
-use Rattle.st_index.proofs.Rising.{rises_bounds, rises_from, rises_join, rises_around, rises_cut, rises_climbs}
-use Rattle.st_index.proofs.Names.{name_total, name_equal, nat_equal, nat_less_is, nat_greater_is}
+use Rattle.st_index.proofs.Rising.{rises_join, rises_around, rises_cut, rises_climbs}
+use Rattle.st_index.proofs.Names.{name_total, name_equal, nat_less_is, nat_greater_is}
 use Rattle.st_key.specs.declared.period.Period.{Period}
 use Rattle.st_index.specs.declared.row.Row.{Row}
 

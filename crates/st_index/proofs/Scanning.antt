@@ -1,5 +1,5 @@
 -- Entries whose keys rise hold their rows in scan order.
-use Rattle.std.proofs.Common.{◌↔◌, ◌≡◌, ℕ, ◌+◌, ◌*◌, ◌/◌, ◌%◌, ◌^◌, ◌<◌, ◌≤◌, List, [], ◌∷◌, ◌++◌, length, get_or, refl, sym, ap, subst, ◌∙◌, arith, true}
+use Rattle.std.proofs.Common.{◌≡◌, ℕ, ◌+◌, ◌*◌, ◌/◌, ◌%◌, ◌^◌, ◌<◌, ◌≤◌, List, [], ◌∷◌, ◌++◌, get_or, refl, sym, ap, subst, ◌∙◌, arith, true}
 use Rattle.std.proofs.lemmas.List.Elements.{All-append, All-cons, All-head, All-tail}
 use Rattle.std.specs.List.{All}
 use Rattle.std.specs.Prelude.{IsTrue}
@@ -21,13 +21,12 @@ use Rattle.st_key.proofs.MortonLemmas.{joined-lt}
 use Rattle.st_key.proofs.OrderLemmas.{before_by_key}
 use Rattle.st_key.proofs.PeriodLemmas.{period as lengths}
 use Rattle.st_key.proofs.PointLemmas.{before_by_rank, one_point, same_rank}
-use Rattle.st_text.specs.Texts.{Text, comes_before}
+use Rattle.st_text.specs.Texts.{comes_before}
 use Rattle.st_index.specs.declared.row.Row.{Row}
-use Rattle.st_index.specs.Rows.{EntryValue, Name, NamesRise, Rises, name_cmp, name_of, place_of, rows_of}
+use Rattle.st_index.specs.Rows.{EntryValue, NamesRise, Rises, name_cmp, name_of, place_of, rows_of}
 use Rattle.st_index.specs.Index.{IsAbsent}
 use Rattle.st_index.proofs.Climbing.{all_right}
 use Rattle.st_index.specs.Order.{InScanOrder, scan_key}
-use Rattle.st_index.proofs.Rising.{rises_bounds, rises_from}
 use Rattle.st_index.proofs.Taking.{rows_from}
 
 record HasKey (period : Period) (p : Point) : Type 0 where

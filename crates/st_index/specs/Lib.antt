@@ -1,3 +1,4 @@
+pub mod Texts
 pub mod Rows
 pub mod Order
 pub mod Index

@@ -1,5 +1,5 @@
 -- The memory that one more row takes in an index of one list.
-use Rattle.std.specs.Prelude.{◌≡◌, ℕ, ◌+◌, ◌^◌, ◌<◌, List, [], length, vec_capacity}
+use Rattle.std.specs.Prelude.{◌≡◌, ◌+◌, ◌^◌, ◌<◌, [], length, vec_capacity}
 use Rattle.std.specs.List.{All}
 use Rattle.st_index.specs.declared.row.Row.{Row}
 use Rattle.st_index.specs.declared.list_index.ListSpare.{ListSpare}

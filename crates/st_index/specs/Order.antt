@@ -1,5 +1,5 @@
 -- The order of rows in a scan.
-use Rattle.std.specs.Prelude.{ℕ, List, [], ◌∷◌, IsTrue}
+use Rattle.std.specs.Prelude.{List, [], ◌∷◌, IsTrue}
 use Rattle.std.specs.List.{All}
 use Rattle.st_key.specs.declared.period.Period.{Period}
 use Rattle.st_key.specs.Order.{digits_of}

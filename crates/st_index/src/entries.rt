@@ -114,6 +114,7 @@ pub fn swap<A: Allocator + Copy>(
 /// How many rows the key has.
 pub fn count_at<A: Allocator + Copy>(entries: &[Entry<A>], key: Key) -> usize
     ensures value { (period : Period) (lo hi : _) → Rises period lo hi entries.now → All (λ (e : EntryValue A). e.at ≡ rank key → length e.rows ≡ result) entries.now }
+    ensures none { All (λ (e : EntryValue A). e.at ≡ rank key → ⊥) entries.now → result ≡ 0 }
     ensures in_range { result + 1 < 2 ^ 64 }
 {
     match find(entries, key) {

@@ -19,7 +19,7 @@ use std::mem;
 #[derive(Drop)]
 pub struct Entry<A: Allocator = Global> {
     pub key: Key,
-    pub rows: Vec<Row<A>, A>,
+    rows: Vec<Row<A>, A>,
 }
 
 impl<A: Allocator> Model for Entry<A> {
@@ -75,6 +75,13 @@ impl<A: Allocator + Copy> Entry<A> {
             unreachable!()
         };
         self.rows = rows;
+    }
+
+    /// The rows.
+    pub fn rows(&self) -> &[Row<A>]
+        ensures { result.now ≡ self.now.rows }
+    {
+        self.rows.as_slice()
     }
 
     /// How many rows the entry has.

@@ -94,13 +94,13 @@ pub trait RowIndex {
         ensures lawful { IsLawful (period_of self.new) (content self.new) (regions self.new) };
 
     /// Takes out the row of a key, an id and a label's text. `None`, and nothing changed, where no such row
-    /// is held. It takes no memory.
+    /// is held, as at a key past the period's end. It takes no memory.
     fn remove(&mut self, key: Key, id: &str, label: &str) -> Option<Row<Self::Alloc>>
-        requires { rank key < key_end (period_of self.old) }
         ensures some { IfSome result (λ row. Adds row (content self.new) (content self.old)) }
         ensures placed { IfSome result (λ row. place_of (period_of self.old) row ≡ rank key) }
         ensures named { IfSome result (λ row. name_of row ≡ record { id = id.now; label = label.now }) }
         ensures none { IfNone result (content self.new ≡ content self.old) }
+        ensures same_regions { IfNone result (regions self.new ≡ regions self.old) }
         ensures absent { IfNone result (IsAbsent (period_of self.old) (rank key) (record { id = id.now; label = label.now }) (content self.old)) }
         ensures period { period_of self.new ≡ period_of self.old }
         ensures lawful { IsLawful (period_of self.new) (content self.new) (regions self.new) };

@@ -3,14 +3,17 @@
 
 pub mod entries;
 mod entry;
+mod id;
 mod index;
+pub mod law;
 mod list_index;
+mod note;
 pub mod order;
 mod row;
-#[cfg(test)]
-mod tests;
 
 pub use entry::Entry;
+pub use id::{Id, MAX_ID};
 pub use index::{AsRow, Leaf, RowIndex};
 pub use list_index::{ListIndex, ListSpare};
+pub use note::{MAX_NOTE, Note};
 pub use row::Row;

@@ -4,23 +4,24 @@ ghost use Rattle.st_index.specs.Rows.{key_end};
 ghost use Rattle.st_key.specs.Key.{rank};
 ghost use Rattle.st_index.specs.Rows.{name_cmp, name_of, place_of};
 
+use crate::id::Id;
+use crate::note::Note;
 use st_key::{Key, Period, Point};
 use st_label::Label;
-use st_text::{Text, Words};
 use std::alloc::{AllocError, Allocator, Global};
 use std::cmp::Ordering;
 
 /// A labelled point: what a table holds under one id and one label.
 #[derive(Drop)]
 pub struct Row<A: Allocator = Global> {
-    /// The id, of 1 to 64 bytes. With the label's written text it names the row in its table.
-    pub id: Text<64>,
+    /// With the label's written text it names the row in its table.
+    pub id: Id<A>,
     /// Where and when.
     pub point: Point,
     /// Who may see it.
     pub label: Label<A>,
-    /// A text of at most 4,096 bytes.
-    pub note: Words<A>,
+    /// What else is to be kept with the point.
+    pub note: Note<A>,
 }
 
 impl<A: Allocator + Copy> Row<A> {
@@ -29,7 +30,7 @@ impl<A: Allocator + Copy> Row<A> {
         ensures { IfOk result (λ other. other ≡ self.now) }
     {
         Ok(Row {
-            id: self.id.copy(),
+            id: self.id.copy()?,
             point: self.point,
             label: self.label.copy()?,
             note: self.note.copy()?,

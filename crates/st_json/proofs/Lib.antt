@@ -1,6 +1,6 @@
 pub mod Listed
-pub mod Chosen
 pub mod Added
 pub mod Same
+pub mod Chosen
 pub mod OneAnswer
 pub mod Ordered

@@ -1,5 +1,5 @@
 -- A body has one answer.
-use Rattle.std.proofs.Common.{◌≡◌, ◌≢◌, inl, inr, ℕ, List, [], ◌∷◌, Option, Some, Result, Err, refl, sym, ap, ◌∙◌, subst}
+use Rattle.std.proofs.Common.{◌≡◌, ◌≢◌, inl, inr, ℕ, Bool, true, false, List, [], ◌∷◌, Option, Some, Result, Ok, Err, refl, sym, ap, ◌∙◌, subst}
 use Rattle.serde_json.specs.Data.{Data}
 use Rattle.st_label.specs.Reading.{IsLabel}
 use Rattle.st_label.specs.Refusals.{max_len}
@@ -8,22 +8,37 @@ use Rattle.st_label.specs.declared.label.LabelFault.{LabelFault}
 use Rattle.st_label.specs.declared.label.LabelFault.TheVariants as fault
 use Rattle.st_label.proofs.Refused.{not_both, one_fault}
 use Rattle.st_http.specs.declared.routes.Line.{Line}
+use Rattle.st_http.specs.declared.routes.Line.TheVariants as lines
 use Rattle.st_policy.specs.declared.refusal.Refusal.{Refusal}
 use Rattle.st_policy.specs.declared.refusal.Refusal.TheVariants.{BadLabel}
-use Rattle.st_json.specs.declared.field.Bounds.{Bounds}
-use Rattle.st_json.specs.Needs.{Needs, found, missing}
+use Rattle.st_json.specs.declared.value.Bounds.{Bounds}
+use Rattle.st_json.specs.Needs.{Rule, Has, Needs, given, denied}
 use Rattle.st_json.specs.Fields.{HasBox, HasPoint, numbers}
-use Rattle.st_json.specs.Bodies.{NeedsLabel, labelled, refused, RefusesAt, IsQuery, IsTable, AreAuths, IsObject, LabelBody, CountBody, PutBody, Decoded}
+use Rattle.st_json.specs.Rules.{RefusesAt, LabelOf, IsQuery, IsTable, IsOwnName, AreAuths, IsObject}
+use Rattle.st_json.specs.Bodies.{ReadBody, has_body, Made, Decoded}
 use Rattle.st_json.proofs.Same.{same_point, same_query}
 
 abbrev OnlyOne : {B : Type 0} → (B → Type 0) → Type 0
 OnlyOne {B} P = (b c : B) → P b → P c → b ≡ c
 
-one_needs : {B R : Type 0} (refusal : Refusal) (P : B → Type 0) (next : B → Result R Refusal → Type 0) → OnlyOne P → ((b : B) → OnlyOne (next b)) → OnlyOne (Needs refusal P next)
-one_needs refusal P next one rest _ _ (found b x p n) (found c y q m) = rest c x y (subst (λ d. next d x) (one b c p q) n) m
-one_needs refusal P next one rest _ _ (found b x p n) (missing none) = absurd (none b p)
-one_needs refusal P next one rest _ _ (missing none) (found c y q m) = absurd (none c q)
-one_needs refusal P next one rest _ _ (missing none) (missing none') = refl
+-- one value with P, or the refusal
+one_has : {B : Type 0} (refusal : Refusal) (P : B → Type 0) → OnlyOne P → OnlyOne (Has refusal P)
+one_has refusal P one (Ok b) (Ok c) p q = ap Ok (one b c p q)
+one_has refusal P one (Ok b) (Err s) p q = absurd (q.1 b p)
+one_has refusal P one (Err r) (Ok c) p q = absurd (p.1 c q)
+one_has refusal P one (Err r) (Err s) p q = ap Err (p.0 ∙ sym q.0)
+
+abbrev Given : Type 0 → Type 0
+Given B = Result B Refusal
+
+value_of : {B : Type 0} (b c : B) (r s : Given B) → r ≡ Ok b → s ≡ Ok c → r ≡ s → b ≡ c
+value_of b c r s f g same = cc
+
+one_needs : {B R : Type 0} (rule : Rule B) (next : B → Rule R) → OnlyOne rule → ((b : B) → OnlyOne (next b)) → OnlyOne (Needs rule next)
+one_needs rule next one rest _ _ (given b x p n) (given c y q m) = rest c x y (subst (λ d. next d x) (value_of b c (Ok b) (Ok c) refl refl (one (Ok b) (Ok c) p q)) n) m
+one_needs rule next one rest _ _ (given b x p n) (denied s q) = let same : Ok b ≡ Err s = one (Ok b) (Err s) p q in cc
+one_needs rule next one rest _ _ (denied r p) (given c y q m) = let same : Err r ≡ Ok c = one (Err r) (Ok c) p q in cc
+one_needs rule next one rest _ _ (denied r p) (denied s q) = let same : Err r ≡ Err s = one (Err r) (Err s) p q in cc
 
 -- ---- a text is a label, or is refused at one place
 
@@ -50,11 +65,11 @@ one_place text a b x y = sym x.place ∙ ap place_of (one_fault text x.why y.why
 no_place : (text : List ℕ) (at : ℕ) → IsLabel text → Told text at → ⊥
 no_place text at is x = not_both text x.why x.known is x.refuses
 
-one_needs_label : {R : Type 0} (text : List ℕ) (next : Result R Refusal → Type 0) → OnlyOne next → OnlyOne (NeedsLabel text next)
-one_needs_label text next one _ _ (labelled x p n) (labelled y q m) = one x y n m
-one_needs_label text next one _ _ (labelled x p n) (refused at why) = absurd (no_place text at p (told text at why))
-one_needs_label text next one _ _ (refused at why) (labelled y q m) = absurd (no_place text at q (told text at why))
-one_needs_label text next one _ _ (refused at why) (refused at' why') = ap (λ a. Err (BadLabel a)) (one_place text at at' (told text at why) (told text at' why'))
+one_label : (text : List ℕ) → OnlyOne (LabelOf text)
+one_label text (Ok b) (Ok c) p q = ap Ok (p.0 ∙ sym q.0)
+one_label text (Ok b) (Err s) p q = absurd (no_place text q.0 p.1 (told text q.0 q.2))
+one_label text (Err r) (Ok c) p q = absurd (no_place text p.0 q.1 (told text p.0 p.2))
+one_label text (Err r) (Err s) p q = ap Err (p.1 ∙ ap BadLabel (one_place text p.0 q.0 (told text p.0 p.2) (told text q.0 q.2)) ∙ sym q.1)
 
 -- ---- one value of each kind
 
@@ -66,6 +81,9 @@ one_equal u b c p q = p ∙ sym q
 
 one_table : (text : List ℕ) → OnlyOne (IsTable text)
 one_table text b c p q = p.0 ∙ sym q.0
+
+one_name : (text : List ℕ) → OnlyOne (IsOwnName text)
+one_name text b c p q = p.0 ∙ sym q.0
 
 one_set : (names : List (List ℕ)) → OnlyOne (AreAuths names)
 one_set names b c p q = p.0 ∙ sym q.0
@@ -88,21 +106,43 @@ one_point d p q f g = let all : Some (p.x ∷ p.y ∷ p.t ∷ []) ≡ Some (q.x 
 one_object : (body : List ℕ) → OnlyOne (IsObject body)
 one_object body d e f g = let s : Some d ≡ Some e = sym f.1 ∙ g.1 in cc
 
--- ---- the bodies
+-- ---- the fields and what they make
 
-one_label : {A : Type 0} (d : Data) → OnlyOne (LabelBody {A = A} d)
-one_label d = one_needs _ _ _ (one_some _) (λ text. one_needs_label text _ (one_equal _))
+one_field : {U : Type 0} (refusal : Refusal) (o : Option U) → OnlyOne (Has refusal (λ u. o ≡ Some u))
+one_field refusal o = one_has _ _ (one_some o)
 
-one_count : {A : Type 0} (name : List ℕ) (d : Data) → OnlyOne (CountBody {A = A} name d)
-one_count name d =
-    one_needs _ _ _ (one_box d) (λ b. one_needs _ _ _ (one_some _) (λ names. one_needs _ _ _ (one_query b) (λ q. one_needs _ _ _ (one_table name) (λ table. one_needs _ _ _ (one_set names) (λ auths. one_equal _)))))
+one_body : (is_read : Bool) (body : List ℕ) → OnlyOne (ReadBody is_read body)
+one_body true body = one_has _ _ (one_object body)
+one_body false body = one_equal _
 
-one_put : {A : Type 0} (name : List ℕ) (d : Data) → OnlyOne (PutBody {A = A} name d)
-one_put name d =
-    one_needs _ _ _ (one_some _) (λ id. one_needs _ _ _ (one_point d) (λ point. one_needs _ _ _ (one_some _) (λ text. one_needs _ _ _ (one_some _) (λ note.
-    one_needs_label text _ (one_needs _ _ _ (one_table name) (λ table. one_equal _))))))
+-- ---- the lines
+
+one_made : (A : Type 0) (l : Line) (name : List ℕ) (d : Data) → OnlyOne (Made {A = A} l name d)
+one_made A lines.Whoami name d = one_equal _
+one_made A lines.Tables name d = one_equal _
+one_made A lines.Users name d = one_equal _
+one_made A lines.User name d = one_needs _ _ (one_has _ _ (one_name name)) (λ user. one_equal _)
+one_made A lines.Grants name d = one_needs _ _ (one_has _ _ (one_table name)) (λ table. one_equal _)
+one_made A lines.NamespaceGrants name d = one_needs _ _ (one_has _ _ (one_name name)) (λ namespace. one_equal _)
+one_made A lines.Label name d = one_needs _ _ (one_field _ _) (λ text. one_needs _ _ (one_label text) (λ label. one_equal _))
+one_made A lines.Audit name d = one_equal _
+one_made A lines.Count name d = one_needs _ _ (one_has _ _ (one_box d)) (λ bounds. one_needs _ _ (one_field _ _) (λ texts. one_needs _ _ (one_has _ _ (one_query bounds)) (λ query. one_needs _ _ (one_has _ _ (one_table name)) (λ table. one_needs _ _ (one_has _ _ (one_set texts)) (λ auths. one_equal _)))))
+one_made A lines.Put name d = one_needs _ _ (one_field _ _) (λ id. one_needs _ _ (one_has _ _ (one_point d)) (λ point. one_needs _ _ (one_field _ _) (λ text. one_needs _ _ (one_field _ _) (λ note. one_needs _ _ (one_label text) (λ label. one_needs _ _ (one_has _ _ (one_table name)) (λ table. one_equal _))))))
+one_made A lines.Delete name d = one_needs _ _ (one_field _ _) (λ id. one_needs _ _ (one_field _ _) (λ text. one_needs _ _ (one_label text) (λ label. one_needs _ _ (one_has _ _ (one_table name)) (λ table. one_equal _))))
+one_made A lines.CreateTable name d = one_needs _ _ (one_field _ _) (λ text. one_needs _ _ (one_field _ _) (λ period. one_needs _ _ (one_has _ _ (one_table text)) (λ table. one_equal _)))
+one_made A lines.DropTable name d = one_needs _ _ (one_has _ _ (one_table name)) (λ table. one_equal _)
+one_made A lines.Constraint name d = one_needs _ _ (one_field _ _) (λ on. one_needs _ _ (one_has _ _ (one_table name)) (λ table. one_equal _))
+one_made A lines.Period name d = one_needs _ _ (one_field _ _) (λ period. one_needs _ _ (one_has _ _ (one_table name)) (λ table. one_equal _))
+one_made A lines.CreateUser name d = one_needs _ _ (one_field _ _) (λ text. one_needs _ _ (one_field _ _) (λ digest. one_needs _ _ (one_field _ _) (λ texts. one_needs _ _ (one_has _ _ (one_name text)) (λ user. one_needs _ _ (one_has _ _ (one_set texts)) (λ auths. one_equal _)))))
+one_made A lines.DropUser name d = one_needs _ _ (one_has _ _ (one_name name)) (λ user. one_equal _)
+one_made A lines.Token name d = one_needs _ _ (one_field _ _) (λ digest. one_needs _ _ (one_has _ _ (one_name name)) (λ user. one_equal _))
+one_made A lines.Auths name d = one_needs _ _ (one_field _ _) (λ texts. one_needs _ _ (one_has _ _ (one_name name)) (λ user. one_needs _ _ (one_has _ _ (one_set texts)) (λ auths. one_equal _)))
+one_made A lines.GrantSystem name d = one_needs _ _ (one_field _ _) (λ p. one_needs _ _ (one_has _ _ (one_name name)) (λ user. one_equal _))
+one_made A lines.RevokeSystem name d = one_needs _ _ (one_field _ _) (λ p. one_needs _ _ (one_has _ _ (one_name name)) (λ user. one_equal _))
+one_made A lines.GrantTable name d = one_needs _ _ (one_field _ _) (λ text. one_needs _ _ (one_field _ _) (λ p. one_needs _ _ (one_has _ _ (one_table name)) (λ table. one_needs _ _ (one_has _ _ (one_name text)) (λ user. one_equal _))))
+one_made A lines.RevokeTable name d = one_needs _ _ (one_field _ _) (λ text. one_needs _ _ (one_field _ _) (λ p. one_needs _ _ (one_has _ _ (one_table name)) (λ table. one_needs _ _ (one_has _ _ (one_name text)) (λ user. one_equal _))))
+one_made A lines.GrantNamespace name d = one_needs _ _ (one_field _ _) (λ text. one_needs _ _ (one_field _ _) (λ p. one_needs _ _ (one_has _ _ (one_name name)) (λ namespace. one_needs _ _ (one_has _ _ (one_name text)) (λ user. one_equal _))))
+one_made A lines.RevokeNamespace name d = one_needs _ _ (one_field _ _) (λ text. one_needs _ _ (one_field _ _) (λ p. one_needs _ _ (one_has _ _ (one_name name)) (λ namespace. one_needs _ _ (one_has _ _ (one_name text)) (λ user. one_equal _))))
 
 pub one_answer : (A : Type 0) (l : Line) (name body : List ℕ) → OnlyOne (Decoded {A = A} l name body)
-one_answer A Line.Label name body = one_needs _ _ _ (one_object body) one_label
-one_answer A Line.Count name body = one_needs _ _ _ (one_object body) (one_count name)
-one_answer A Line.Put name body = one_needs _ _ _ (one_object body) (one_put name)
+one_answer A l name body = one_needs _ _ (one_body (has_body l) body) (λ d. one_made A l name d)

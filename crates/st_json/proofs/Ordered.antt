@@ -1,11 +1,16 @@
 -- The keys of a reply stand in byte order.
-use Rattle.std.proofs.Common.{◌≡◌, Some, None, true, refl}
+use Rattle.std.proofs.Common.{◌≡◌, ℕ, Bool, true, ◌&&◌, List, [], ◌∷◌, map, Some, None, refl}
+use Rattle.serde_json.specs.Data.{Data, string}
+use Rattle.serde_json.specs.View.{items_of}
+use Rattle.st_dir.specs.declared.account.Account.{Account}
+use Rattle.st_dir.specs.declared.given.Given.{Given}
+use Rattle.st_dir.specs.declared.permission.Permission.{Permission}
 use Rattle.st_policy.specs.declared.denial.Denial.{Denial}
 use Rattle.st_policy.specs.declared.refusal.Refusal.{Refusal}
 use Rattle.st_core.specs.declared.reply.Reply.{Reply}
-use Rattle.st_json.specs.Order.{in_order}
+use Rattle.st_json.specs.Order.{in_order, items_in_order}
 use Rattle.st_json.specs.Refusals.{denial_data, refusal_data}
-use Rattle.st_json.specs.Replies.{reply_data}
+use Rattle.st_json.specs.Replies.{texts_data, permission_data, permissions_data, account_data, table_data, given_data, entry_data, reply_data}
 
 denial_in_order : (d : Denial) → in_order (denial_data d) ≡ true
 denial_in_order Denial.Token = refl
@@ -28,8 +33,34 @@ refusal_in_order (Refusal.NoUser user) = refl
 refusal_in_order (Refusal.TableExists table) = refl
 refusal_in_order (Refusal.UserExists user) = refl
 
+-- ---- lists
+
+both : (a b : Bool) → a ≡ true → b ≡ true → (a && b) ≡ true
+both a b is_a is_b = rw (is_a, is_b) refl
+
+all_in_order : {T : Type 0} (f : T → Data) → ((x : T) → in_order (f x) ≡ true) → (xs : List T) → items_in_order (items_of (map f xs)) ≡ true
+all_in_order f each [] = refl
+all_in_order f each (x ∷ xs) = both _ _ (each x) (all_in_order f each xs)
+
+texts_in_order : (texts : List (List ℕ)) → in_order (texts_data texts) ≡ true
+texts_in_order texts = all_in_order string (λ s. refl) texts
+
+permissions_in_order : (ps : List Permission) → in_order (permissions_data ps) ≡ true
+permissions_in_order ps = all_in_order permission_data (λ p. refl) ps
+
+account_in_order : {A : Type 0} (a : Account A) → in_order (account_data a) ≡ true
+account_in_order a = rw (texts_in_order a.auths, permissions_in_order a.permissions) refl
+
+given_in_order : {A : Type 0} (g : Given A) → in_order (given_data g) ≡ true
+given_in_order g = rw (permissions_in_order g.permissions) refl
+
 pub reply_in_order : {A : Type 0} (r : Reply A) → in_order (reply_data r) ≡ true
 reply_in_order Reply.Accepted = refl
+reply_in_order (Reply.Who account) = account_in_order account
+reply_in_order (Reply.Tables tables) = both _ _ (all_in_order table_data (λ t. refl) tables) refl
+reply_in_order (Reply.Users users) = both _ _ (texts_in_order users) refl
+reply_in_order (Reply.Grants grants) = both _ _ (all_in_order given_data given_in_order grants) refl
 reply_in_order (Reply.Normal label) = refl
 reply_in_order (Reply.Count n) = refl
+reply_in_order (Reply.Audit entries) = both _ _ (all_in_order entry_data (λ e. refl) entries) refl
 reply_in_order (Reply.Refused r) = refusal_in_order r

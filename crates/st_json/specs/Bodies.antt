@@ -1,81 +1,115 @@
--- Which request a body is, and which refusal it meets.
-use Rattle.std.specs.Prelude.{◌≡◌, ◌⊎◌, ℕ, List, IsTrue, IsUtf8, Some, None, Result, Ok, Err}
-use Rattle.serde_json.specs.Data.{Data, Members, object}
-use Rattle.serde_json.specs.Read.{read}
+-- Which request a line, the name in its path and a body make, and which refusal they meet.
+use Rattle.std.specs.Prelude.{◌≡◌, ℕ, List, Bool, true, false, Result, Ok}
+use Rattle.serde_json.specs.Data.{Data, null}
 use Rattle.st_text.specs.Texts.{Text}
-use Rattle.st_text.specs.Names.{is_table_name}
-use Rattle.st_auth.specs.Names.{first_bad}
-use Rattle.st_box.specs.declared.query.Query.{Query}
-use Rattle.st_box.specs.Query as query
-use Rattle.st_label.specs.Reading.{IsLabel}
-use Rattle.st_label.specs.Refusals.{max_len}
-use Rattle.st_label.specs.Faults.{Refuses}
-use Rattle.st_label.specs.declared.label.LabelFault.TheVariants.{BadLabel, TooDeep, TooLong}
-use Rattle.st_policy.specs.declared.field_name.FieldName.TheVariants.{Auths, Box, Id, Label, Note, Point, Table}
+use Rattle.st_policy.specs.declared.field_name.FieldName.TheVariants as names
 use Rattle.st_policy.specs.declared.refusal.Refusal.{Refusal}
-use Rattle.st_policy.specs.declared.refusal.Refusal.TheVariants.{Json, Field, BadBox, BadName}
 use Rattle.st_policy.specs.declared.request.Request.{Request}
-use Rattle.st_policy.specs.declared.request.Request.TheVariants.{Count, Put}
+use Rattle.st_policy.specs.declared.request.Request.TheVariants as requests
 use Rattle.st_http.specs.declared.routes.Line.{Line}
-use Rattle.st_json.specs.declared.field.Bounds.{Bounds}
-use Rattle.st_json.specs.Fields.{HasBox, HasPoint, auths_in, label_in, id_in, note_in}
+use Rattle.st_http.specs.declared.routes.Line.TheVariants as lines
 use Rattle.st_json.specs.Needs.{Needs}
+use Rattle.st_json.specs.Rules.{ObjectOf, TextField, IdField, NoteField, PointField, BoxField, AuthsField, DigestField, OnField, TablePermissionField, SystemPermissionField, PeriodField, NewPeriodField, QueryOf, LabelOf, TableOf, UserOf, NamespaceOf, AuthsOf}
 
 abbrev pub Answer : Type 0 → Type 0
 Answer A = Result (Request A) Refusal
 
--- the query with these six numbers
-abbrev pub IsQuery : Bounds → Query → Type 0
-IsQuery b q = query.Makes b.x0 b.x1 b.y0 b.y1 b.t0 b.t1 q
+-- The answer to a line by its body, whose rules stand in their order. A path without a name has the empty one.
+abbrev pub Made : {A : Type 0} → Line → Text → Data → Answer A → Type 0
+Made lines.Whoami name d = λ answer. answer ≡ Ok requests.Whoami
+Made lines.Tables name d = λ answer. answer ≡ Ok requests.Tables
+Made lines.Users name d = λ answer. answer ≡ Ok requests.Users
+Made lines.User name d = Needs (UserOf name) (λ user answer. answer ≡ Ok (requests.User user))
+Made lines.Grants name d = Needs (TableOf name) (λ table answer. answer ≡ Ok (requests.Grants table))
+Made lines.NamespaceGrants name d = Needs (NamespaceOf name) (λ namespace answer. answer ≡ Ok (requests.NamespaceGrants namespace))
+Made lines.Label name d =
+    Needs (TextField names.Label d) (λ text. Needs (LabelOf text) (λ label answer. answer ≡ Ok (requests.Label label)))
+Made lines.Audit name d = λ answer. answer ≡ Ok requests.Audit
+Made lines.Count name d =
+    Needs (BoxField d) (λ bounds. Needs (AuthsField d) (λ texts.
+    Needs (QueryOf bounds) (λ query. Needs (TableOf name) (λ table. Needs (AuthsOf texts) (λ auths answer.
+    answer ≡ Ok (requests.Count table query auths))))))
+Made lines.Put name d =
+    Needs (IdField d) (λ id. Needs (PointField d) (λ point. Needs (TextField names.Label d) (λ text. Needs (NoteField d) (λ note.
+    Needs (LabelOf text) (λ label. Needs (TableOf name) (λ table answer.
+    answer ≡ Ok (requests.Put table (record { id = id; point = point; label = label; note = note }))))))))
+Made lines.Delete name d =
+    Needs (IdField d) (λ id. Needs (TextField names.Label d) (λ text.
+    Needs (LabelOf text) (λ label. Needs (TableOf name) (λ table answer.
+    answer ≡ Ok (requests.Delete table id label)))))
+Made lines.CreateTable name d =
+    Needs (TextField names.Table d) (λ text. Needs (NewPeriodField d) (λ period.
+    Needs (TableOf text) (λ table answer.
+    answer ≡ Ok (requests.CreateTable table period))))
+Made lines.DropTable name d = Needs (TableOf name) (λ table answer. answer ≡ Ok (requests.DropTable table))
+Made lines.Constraint name d =
+    Needs (OnField d) (λ on. Needs (TableOf name) (λ table answer. answer ≡ Ok (requests.Constraint table on)))
+Made lines.Period name d =
+    Needs (PeriodField d) (λ period. Needs (TableOf name) (λ table answer. answer ≡ Ok (requests.Period table period)))
+Made lines.CreateUser name d =
+    Needs (TextField names.User d) (λ text. Needs (DigestField d) (λ digest. Needs (AuthsField d) (λ texts.
+    Needs (UserOf text) (λ user. Needs (AuthsOf texts) (λ auths answer.
+    answer ≡ Ok (requests.CreateUser user digest auths))))))
+Made lines.DropUser name d = Needs (UserOf name) (λ user answer. answer ≡ Ok (requests.DropUser user))
+Made lines.Token name d =
+    Needs (DigestField d) (λ digest. Needs (UserOf name) (λ user answer. answer ≡ Ok (requests.Token user digest)))
+Made lines.Auths name d =
+    Needs (AuthsField d) (λ texts. Needs (UserOf name) (λ user. Needs (AuthsOf texts) (λ auths answer.
+    answer ≡ Ok (requests.Auths user auths))))
+Made lines.GrantSystem name d =
+    Needs (SystemPermissionField d) (λ p. Needs (UserOf name) (λ user answer. answer ≡ Ok (requests.GrantSystem user p)))
+Made lines.RevokeSystem name d =
+    Needs (SystemPermissionField d) (λ p. Needs (UserOf name) (λ user answer. answer ≡ Ok (requests.RevokeSystem user p)))
+Made lines.GrantTable name d =
+    Needs (TextField names.User d) (λ text. Needs (TablePermissionField d) (λ p.
+    Needs (TableOf name) (λ table. Needs (UserOf text) (λ user answer.
+    answer ≡ Ok (requests.GrantTable table user p)))))
+Made lines.RevokeTable name d =
+    Needs (TextField names.User d) (λ text. Needs (TablePermissionField d) (λ p.
+    Needs (TableOf name) (λ table. Needs (UserOf text) (λ user answer.
+    answer ≡ Ok (requests.RevokeTable table user p)))))
+Made lines.GrantNamespace name d =
+    Needs (TextField names.User d) (λ text. Needs (TablePermissionField d) (λ p.
+    Needs (NamespaceOf name) (λ namespace. Needs (UserOf text) (λ user answer.
+    answer ≡ Ok (requests.GrantNamespace namespace user p)))))
+Made lines.RevokeNamespace name d =
+    Needs (TextField names.User d) (λ text. Needs (TablePermissionField d) (λ p.
+    Needs (NamespaceOf name) (λ namespace. Needs (UserOf text) (λ user answer.
+    answer ≡ Ok (requests.RevokeNamespace namespace user p)))))
 
--- the name of a table that the text is
-abbrev pub IsTable : Text → Text → Type 0
-IsTable text table = (table ≡ text) × IsTrue (is_table_name text)
+-- the body is read; that of a GET or a DELETE is not
+abbrev pub has_body : Line → Bool
+has_body lines.Whoami = false
+has_body lines.Tables = false
+has_body lines.Users = false
+has_body lines.User = false
+has_body lines.Grants = false
+has_body lines.NamespaceGrants = false
+has_body lines.Label = true
+has_body lines.Audit = false
+has_body lines.Count = true
+has_body lines.Put = true
+has_body lines.Delete = true
+has_body lines.CreateTable = true
+has_body lines.DropTable = false
+has_body lines.Constraint = true
+has_body lines.Period = true
+has_body lines.CreateUser = true
+has_body lines.DropUser = false
+has_body lines.Token = true
+has_body lines.Auths = true
+has_body lines.GrantSystem = true
+has_body lines.RevokeSystem = true
+has_body lines.GrantTable = true
+has_body lines.RevokeTable = true
+has_body lines.GrantNamespace = true
+has_body lines.RevokeNamespace = true
 
--- the authorizations that the texts are, where none of them is bad
-abbrev pub AreAuths : List Text → List Text → Type 0
-AreAuths names auths = (auths ≡ names) × (first_bad names ≡ None)
+-- a body that is not read counts as null
+abbrev pub ReadBody : Bool → List ℕ → Result Data Refusal → Type 0
+ReadBody true body = ObjectOf body
+ReadBody false body = λ read. read ≡ Ok null
 
--- The place at which the text is no label: its greatest length, where it is too long.
-abbrev pub RefusesAt : Text → ℕ → Type 0
-RefusesAt text at = Refuses text (BadLabel at) ⊎ (Refuses text (TooDeep at) ⊎ (Refuses text TooLong × (at ≡ max_len)))
-
--- Where the text is a label, the answer goes on; where it is none, the answer is the place that shows it.
-pub data NeedsLabel {R : Type 0} (text : Text) (next : Result R Refusal → Type 0) : Result R Refusal → Type 0 where
-  labelled : (answer : Result R Refusal) → IsLabel text → next answer → NeedsLabel text next answer
-  refused : (at : ℕ) → RefusesAt text at → NeedsLabel text next (Err (Refusal.BadLabel at))
-
-abbrev pub LabelBody : {A : Type 0} → Data → Answer A → Type 0
-LabelBody d =
-    Needs (Field Label) (λ label. label_in d ≡ Some label) (λ label.
-    NeedsLabel label (λ answer.
-    answer ≡ Ok (Request.Label label)))
-
-abbrev pub CountBody : {A : Type 0} → Text → Data → Answer A → Type 0
-CountBody name d =
-    Needs (Field Box) (HasBox d) (λ b.
-    Needs (Field Auths) (λ names. auths_in d ≡ Some names) (λ names.
-    Needs BadBox (IsQuery b) (λ query.
-    Needs (BadName Table) (IsTable name) (λ table.
-    Needs (BadName Auths) (AreAuths names) (λ auths answer.
-    answer ≡ Ok (Count table query auths))))))
-
-abbrev pub PutBody : {A : Type 0} → Text → Data → Answer A → Type 0
-PutBody name d =
-    Needs (Field Id) (λ id. id_in d ≡ Some id) (λ id.
-    Needs (Field Point) (HasPoint d) (λ point.
-    Needs (Field Label) (λ label. label_in d ≡ Some label) (λ label.
-    Needs (Field Note) (λ note. note_in d ≡ Some note) (λ note.
-    NeedsLabel label (
-    Needs (BadName Table) (IsTable name) (λ table answer.
-    answer ≡ Ok (Put table (record { id = id; point = point; label = label; note = note }))))))))
-
--- the body is UTF-8 and reads as this object
-abbrev pub IsObject : List ℕ → Data → Type 0
-IsObject body d = IsUtf8 body × (read body ≡ Some d) × ((ms : Members) × (d ≡ object ms))
-
--- the answer to a line, the name in its path and a body; a path without a name has the empty one
+-- the answer to a line, the name in its path and a body
 abbrev pub Decoded : {A : Type 0} → Line → Text → List ℕ → Answer A → Type 0
-Decoded Line.Label name body = Needs Json (IsObject body) LabelBody
-Decoded Line.Count name body = Needs Json (IsObject body) (CountBody name)
-Decoded Line.Put name body = Needs Json (IsObject body) (PutBody name)
+Decoded line name body = Needs (ReadBody (has_body line) body) (Made line name)

@@ -1,10 +1,16 @@
 -- The fields of a body, an object of JSON (RFC 8259).
-use Rattle.std.specs.Prelude.{◌≡◌, ℕ, List, [], ◌∷◌, codes, nat_le, ◌&&◌, if◌then◌else◌, length, Option, Some, None, option_map, option_and_then}
-use Rattle.serde_json.specs.Data.{Data, Items, no_items, item}
-use Rattle.serde_json.specs.Find.{get, as_number, as_u64, as_str, as_array}
+use Rattle.std.specs.Prelude.{◌≡◌, ℕ, Bool, List, [], ◌∷◌, codes, nat_le, ◌&&◌, if◌then◌else◌, length, find, Option, Some, None, option_map, option_and_then}
+use Rattle.std.specs.Result.{result_ok}
+use Rattle.hex.specs.Hex.{decode_sized}
+use Rattle.serde_json.specs.Data.{Data, null, Items, no_items, item}
+use Rattle.serde_json.specs.Find.{get, as_number, as_u64, as_str, as_bool, as_array}
 use Rattle.st_key.specs.declared.point.Point.{Point}
-use Rattle.st_text.specs.Texts.{Text}
-use Rattle.st_json.specs.declared.field.Bounds.{Bounds}
+use Rattle.st_key.specs.declared.period.Period.{Period}
+use Rattle.st_key.specs.declared.period.Period.TheVariants.{Day, Week}
+use Rattle.st_text.specs.Texts.{Text, same}
+use Rattle.st_dir.specs.Permissions.{name_of}
+use Rattle.st_dir.specs.declared.permission.Permission.{Permission}
+use Rattle.st_json.specs.declared.value.Bounds.{Bounds}
 
 -- a number that is written in digits alone, and is at most 2^64 - 1
 abbrev pub number_of : Data → Option ℕ
@@ -52,9 +58,6 @@ HasPoint d p = numbers_in (codes "point") d ≡ Some (p.x ∷ p.y ∷ p.t ∷ []
 abbrev pub auths_in : Data → Option (List Text)
 auths_in d = texts_in (codes "auths") d
 
-abbrev pub label_in : Data → Option Text
-label_in d = text_in (codes "label") d
-
 -- 1 to 64 bytes
 abbrev pub id_in : Data → Option Text
 id_in d = option_and_then (sized 1 64) (text_in (codes "id") d)
@@ -62,3 +65,35 @@ id_in d = option_and_then (sized 1 64) (text_in (codes "id") d)
 -- at most 4,096 bytes
 abbrev pub note_in : Data → Option Text
 note_in d = option_and_then (sized 0 4096) (text_in (codes "note") d)
+
+-- the 32 bytes that 64 hexadecimal digits of either case write
+abbrev pub digest_in : Data → Option (List ℕ)
+digest_in d = option_and_then (λ s. result_ok (decode_sized s 32)) (text_in (codes "digest") d)
+
+-- true or false
+abbrev pub on_in : Data → Option Bool
+on_in d = option_and_then as_bool (get (codes "on") d)
+
+-- the permission of the list that the text names
+abbrev pub permission_in : List Permission → Data → Option Permission
+permission_in listed d = option_and_then (λ s. find (λ p. same (name_of p) s) listed) (text_in (codes "permission") d)
+
+-- how requests and replies write a period
+abbrev pub period_name : Period → Text
+period_name Day = codes "day"
+period_name Week = codes "week"
+
+abbrev pub period_of : Data → Option Period
+period_of d = option_and_then (λ s. find (λ p. same (period_name p) s) (Day ∷ Week ∷ [])) (as_str d)
+
+abbrev pub period_in : Data → Option Period
+period_in d = option_and_then period_of (get (codes "period") d)
+
+-- the week, where the value is absent or null
+abbrev pub period_or_week : Option Data → Option Period
+period_or_week None = Some Week
+period_or_week (Some null) = Some Week
+period_or_week (Some d) = period_of d
+
+abbrev pub new_period_in : Data → Option Period
+new_period_in d = period_or_week (get (codes "period") d)

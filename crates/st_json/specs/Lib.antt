@@ -1,5 +1,6 @@
 pub mod Fields
 pub mod Needs
+pub mod Rules
 pub mod Bodies
 pub mod Adds
 pub mod Refusals

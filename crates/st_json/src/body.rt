@@ -1,191 +1,104 @@
-//! Requests from bodies, a line at a time.
-ghost use Rattle.std.specs.Prelude.{◌≡◌, ◌⊎◌, ℕ, IfOk, IfErr, map};
-ghost use Rattle.serde_json.specs.Data.{Data};
+//! Requests from bodies.
+ghost use Rattle.std.specs.Prelude.{◌≡◌};
 ghost use Rattle.serde_json.specs.View.{view};
-ghost use Rattle.st_label.specs.Reading.{IsLabel};
-ghost use Rattle.st_policy.specs.declared.refusal.Refusal.TheVariants.{Json, BadLabel};
-ghost use Rattle.st_json.specs.Needs.{Tells, Picks};
-ghost use Rattle.st_json.specs.Bodies.{LabelBody, CountBody, PutBody, IsQuery, IsTable, AreAuths, IsObject, RefusesAt, Decoded};
-ghost use Rattle.st_json.specs.declared.fault.DecodeFault.TheVariants.{Refused, NoMemory};
+ghost use Rattle.st_json.specs.Needs.{Tells, shown};
+ghost use Rattle.st_json.specs.Bodies.{Made, Decoded, ReadBody, has_body};
 
-use crate::fault::DecodeFault::{self, NoMemory, Refused};
-use crate::field::{self, Bounds};
+use crate::fault::DecodeFault;
+use crate::{grants, rows, rule, tables, users};
 use serde_json::Value;
-use st_auth::{Auths, AuthsFault};
-use st_box::Query;
-use st_dir::TableName;
 use st_http::routes::Line;
-use st_index::Row;
-use st_label::{Label, LabelFault, MAX_LEN};
-use st_policy::Refusal::{BadBox, BadLabel, BadName, Field, Json};
-use st_policy::{FieldName, Request};
-use st_text::Words;
-use std::alloc::{AllocError, Allocator, Global};
+use st_policy::Request;
+use std::alloc::{Allocator, Global};
 
-fn query_of(bounds: Bounds) -> Option<Query>
-    ensures { Picks (IsQuery bounds) result }
+// Whether the line's body is read.
+fn has_body(line: Line) -> bool
+    ensures { result ≡ has_body line }
 {
-    let Bounds {
-        x0,
-        x1,
-        y0,
-        y1,
-        t0,
-        t1,
-    } = bounds;
-    Query::new(x0, x1, y0, y1, t0, t1).ok()
-}
-
-fn table_of(name: &str) -> Option<TableName>
-    ensures { Picks (IsTable name.now) result }
-{
-    TableName::new(name).ok()
-}
-
-fn auths_of<A: Allocator + Copy>(alloc: A, names: &[&str]) -> Result<Option<Auths<A>>, AllocError>
-    ensures { IfOk result (Picks (AreAuths (map (λ s. s.now) names.now))) }
-{
-    match Auths::from_list(alloc, names) {
-        Ok(auths) => Ok(Some(auths)),
-        Err(AuthsFault::BadName { .. }) => Ok(None),
-        Err(AuthsFault::NoMemory) => Err(AllocError),
+    match line {
+        Line::Whoami
+        | Line::Tables
+        | Line::Users
+        | Line::User
+        | Line::Grants
+        | Line::NamespaceGrants
+        | Line::Audit
+        | Line::DropTable
+        | Line::DropUser => false,
+        Line::Label
+        | Line::Count
+        | Line::Put
+        | Line::Delete
+        | Line::CreateTable
+        | Line::Constraint
+        | Line::Period
+        | Line::CreateUser
+        | Line::Token
+        | Line::Auths
+        | Line::GrantSystem
+        | Line::RevokeSystem
+        | Line::GrantTable
+        | Line::RevokeTable
+        | Line::GrantNamespace
+        | Line::RevokeNamespace => true,
     }
 }
 
-fn label_of<A: Allocator + Copy>(alloc: A, text: &str) -> Result<Label<A>, DecodeFault>
-    ensures text { IfOk result (λ label. label ≡ text.now) }
-    ensures label { IfOk result (λ label. IsLabel label) }
-    ensures fault { IfErr result (λ e. (e ≡ NoMemory)
-        ⊎ ((at : ℕ) × (e ≡ Refused (BadLabel at)) × RefusesAt text.now at)) }
+// The object that the line's body is, or null where it is not read.
+fn read(global: Global, line: Line, body: &[u8]) -> Result<Value, DecodeFault>
+    ensures { Tells (ReadBody (has_body line) body.now) (shown view result) }
 {
-    match Label::parse(alloc, text) {
-        Ok(label) => Ok(label),
-        Err(LabelFault::BadLabel { at }) => Err(Refused(BadLabel { at: at as u64 })),
-        Err(LabelFault::TooDeep { at }) => Err(Refused(BadLabel { at: at as u64 })),
-        Err(LabelFault::TooLong) => Err(Refused(BadLabel { at: MAX_LEN as u64 })),
-        Err(LabelFault::NoMemory) => Err(NoMemory),
+    if has_body(line) {
+        rule::object(global, body)
+    } else {
+        Ok(Value::Null)
     }
 }
 
-fn label_request<A: Allocator + Copy>(alloc: A, object: &Value) -> Result<Request<A>, DecodeFault>
-    ensures { Tells (LabelBody (view object.now)) result }
-{
-    let Some(written) = field::text(object, "label") else {
-        return Err(Refused(Field {
-            name: FieldName::Label,
-        }));
-    };
-    let label = label_of(alloc, written)?;
-    Ok(Request::Label { label })
-}
-
-fn count<A: Allocator + Copy>(
+// The request of a line by its body.
+fn request<A: Allocator + Copy>(
     alloc: A,
+    line: Line,
     name: &str,
     object: &Value,
 ) -> Result<Request<A>, DecodeFault>
-    ensures { Tells (CountBody name.now (view object.now)) result }
+    ensures { Tells (Made line name.now (view object.now)) result }
 {
-    let Some(bounds) = field::box_bounds(object) else {
-        return Err(Refused(Field {
-            name: FieldName::Box,
-        }));
-    };
-    let Some(names) = field::texts(alloc, object, "auths")? else {
-        return Err(Refused(Field {
-            name: FieldName::Auths,
-        }));
-    };
-    let Some(query) = query_of(bounds) else {
-        return Err(Refused(BadBox));
-    };
-    let Some(table) = table_of(name) else {
-        return Err(Refused(BadName {
-            field: FieldName::Table,
-        }));
-    };
-    let Some(auths) = auths_of(alloc, &names)? else {
-        return Err(Refused(BadName {
-            field: FieldName::Auths,
-        }));
-    };
-    Ok(Request::Count {
-        table,
-        query,
-        auths,
-    })
-}
-
-fn put<A: Allocator + Copy>(alloc: A, name: &str, object: &Value) -> Result<Request<A>, DecodeFault>
-    ensures { Tells (PutBody name.now (view object.now)) result }
-{
-    let Some(id) = field::id(object) else {
-        return Err(Refused(Field {
-            name: FieldName::Id,
-        }));
-    };
-    let Some(point) = field::point(object) else {
-        return Err(Refused(Field {
-            name: FieldName::Point,
-        }));
-    };
-    let Some(text) = field::text(object, "label") else {
-        return Err(Refused(Field {
-            name: FieldName::Label,
-        }));
-    };
-    let Some(note) = field::note(object) else {
-        return Err(Refused(Field {
-            name: FieldName::Note,
-        }));
-    };
-    let label = label_of(alloc, text)?;
-    let Some(table) = table_of(name) else {
-        return Err(Refused(BadName {
-            field: FieldName::Table,
-        }));
-    };
-    let note = Words::new(alloc, note)?;
-    Ok(Request::Put {
-        table,
-        row: Row {
-            id,
-            point,
-            label,
-            note,
-        },
-    })
-}
-
-// The object that a body is.
-fn object_of(global: Global, body: &[u8]) -> Result<Value, DecodeFault>
-    ensures ok { IfOk result (λ v. IsObject body.now (view v)) }
-    ensures fault { IfErr result (λ e. (e ≡ NoMemory)
-        ⊎ ((e ≡ Refused Json) × ((d : Data) → IsObject body.now d → ⊥))) }
-{
-    match Value::from_slice(global, body) {
-        Ok(value) => {
-            if value.is_object() {
-                Ok(value)
-            } else {
-                Err(Refused(Json))
-            }
-        }
-        Err(e) => {
-            if e.is_memory() {
-                Err(NoMemory)
-            } else {
-                Err(Refused(Json))
-            }
-        }
+    match line {
+        Line::Whoami => Ok(Request::Whoami),
+        Line::Tables => Ok(Request::Tables),
+        Line::Users => Ok(Request::Users),
+        Line::User => users::user(name, object),
+        Line::Grants => grants::grants(name, object),
+        Line::NamespaceGrants => grants::namespace_grants(name, object),
+        Line::Label => rows::label(alloc, name, object),
+        Line::Audit => Ok(Request::Audit),
+        Line::Count => rows::count(alloc, name, object),
+        Line::Put => rows::put(alloc, name, object),
+        Line::Delete => rows::delete(alloc, name, object),
+        Line::CreateTable => tables::create_table(name, object),
+        Line::DropTable => tables::drop_table(name, object),
+        Line::Constraint => tables::constraint(name, object),
+        Line::Period => tables::period(name, object),
+        Line::CreateUser => users::create_user(alloc, name, object),
+        Line::DropUser => users::drop_user(name, object),
+        Line::Token => users::token(name, object),
+        Line::Auths => users::auths(alloc, name, object),
+        Line::GrantSystem => grants::grant_system(name, object),
+        Line::RevokeSystem => grants::revoke_system(name, object),
+        Line::GrantTable => grants::grant_table(name, object),
+        Line::RevokeTable => grants::revoke_table(name, object),
+        Line::GrantNamespace => grants::grant_namespace(name, object),
+        Line::RevokeNamespace => grants::revoke_namespace(name, object),
     }
 }
 
 /// The request that a line, the name in its path and a body make (RFC 8259). Its rules come in this
-/// order: the body is an object, its fields are there and of their kinds (in the order of the line's
-/// fields), six numbers make a query, a text is a label, names are names. The first that is not kept
-/// is the refusal. `NoMemory` may come at any place where memory is taken, and then stands in place
-/// of what would have followed.
+/// order: the body is an object, its fields are there, of their kinds and in their ranges (in the order
+/// of the line's fields), six numbers make a query, a text is a label, names are names (the path's, and
+/// then the body's in the order of its fields). The first that is not kept is the refusal. The bodies of
+/// GET and DELETE are not read. `NoMemory` may come at any place where memory is taken, and then stands
+/// in place of what would have followed.
 pub fn decode<A: Allocator + Copy>(
     alloc: A,
     global: Global,
@@ -195,10 +108,6 @@ pub fn decode<A: Allocator + Copy>(
 ) -> Result<Request<A>, DecodeFault>
     ensures { Tells (Decoded line name.now body.now) result }
 {
-    let object = object_of(global, body)?;
-    match line {
-        Line::Label => label_request(alloc, &object),
-        Line::Count => count(alloc, name, &object),
-        Line::Put => put(alloc, name, &object),
-    }
+    let object = read(global, line, body)?;
+    request(alloc, line, name, &object)
 }

@@ -1,137 +1,243 @@
-//! The fields of a body.
-ghost use Rattle.std.specs.Prelude.{◌≡◌, ◌∷◌, [], option_map, map, Some, IfOk, IfSome, IfNone};
-ghost use Rattle.serde_json.specs.View.{view, items_view};
-ghost use Rattle.st_key.specs.declared.point.Point.{Point};
-ghost use Rattle.st_json.specs.Fields.{text_in, list_in, texts_of, texts_in, numbers_of, numbers, id_in, note_in, HasBox, HasPoint};
-ghost use Rattle.st_json.specs.Needs.{Picks};
-ghost use Rattle.st_json.specs.declared.field.Bounds.{Bounds};
+//! The fields of a body: each reader gives the field's value, or the refusal of a body in which it is missing, of another type or
+//! out of range.
+ghost use Rattle.std.specs.Prelude.{◌≡◌, IfOk, map, find, option_map, option_and_then, None};
+ghost use Rattle.std.specs.Result.{result_ok};
+ghost use Rattle.hex.specs.Hex.{decode_sized};
+ghost use Rattle.serde_json.specs.Find.{as_str};
+ghost use Rattle.serde_json.specs.View.{view};
+ghost use Rattle.st_text.specs.Texts.{same};
+ghost use Rattle.st_dir.specs.Permissions.{name_of, table_permissions, system_permissions};
+ghost use Rattle.st_policy.specs.declared.refusal.Refusal.TheVariants.{Field as OfField};
+ghost use Rattle.st_json.specs.Fields.{id_in, note_in, digest_in, on_in, permission_in, period_name, period_of, period_in, new_period_in};
+ghost use Rattle.st_json.specs.Needs.{Has, Tells, shown};
+ghost use Rattle.st_json.specs.Rules.{TextField, IdField, NoteField, PointField, BoxField, AuthsField, DigestField, OnField, TablePermissionField, SystemPermissionField, PeriodField, NewPeriodField};
 
+use crate::fault::DecodeFault::{self, Refused};
+use crate::value::{self, Bounds};
+use hex::FromHex;
 use serde_json::Value;
-use st_key::Point;
-use st_text::Text;
+use st_dir::Permission;
+use st_index::{Id, Note};
+use st_key::{Period, Point};
+use st_policy::FieldName;
+use st_policy::Refusal::Field;
 use std::alloc::{AllocError, Allocator};
 
-// The most bytes of a note.
-const MAX_NOTE: usize = 4096;
+// The permissions on a table, in listing order.
+const TABLE_PERMISSIONS: [Permission; 5] = [
+    Permission::Read,
+    Permission::Write,
+    Permission::AlterTable,
+    Permission::Grant,
+    Permission::DropTable,
+];
 
-/// Six numbers, which need make no query.
-#[derive(Clone, Copy)]
-pub struct Bounds {
-    pub x0: u64,
-    pub x1: u64,
-    pub y0: u64,
-    pub y1: u64,
-    pub t0: u64,
-    pub t1: u64,
-}
+// The permissions on the system, in listing order.
+const SYSTEM_PERMISSIONS: [Permission; 8] = [
+    Permission::CreateTable,
+    Permission::DropTable,
+    Permission::AlterTable,
+    Permission::CreateUser,
+    Permission::DropUser,
+    Permission::AlterUser,
+    Permission::Grant,
+    Permission::System,
+];
 
-pub fn text<'a>(object: &'a Value, name: &str) -> Option<&'a str>
-    ensures { option_map (λ s. s.now) result ≡ text_in name.now (view object.now) }
+// A field's value, or its refusal.
+fn required<T: Drop>(name: FieldName, found: Option<T>) -> Result<T, DecodeFault>
+    ensures { Tells (Has (OfField name) (λ value. found ≡ Some value)) result }
 {
-    object.get(name).and_then(Value::as_str)
-}
-
-fn list<'a>(object: &'a Value, name: &str) -> Option<&'a Vec<Value>>
-    ensures { option_map (λ v. items_view v.now.items) result ≡ list_in name.now (view object.now) }
-{
-    object.get(name).and_then(Value::as_array)
-}
-
-// The texts of a list of texts.
-fn texts_of<'a, A: Allocator + Copy>(
-    alloc: A,
-    items: &'a [Value],
-) -> Result<Option<Vec<&'a str, A>>, AllocError>
-    ensures { IfOk result (λ o. option_map (λ v. map (λ s. s.now) v.items) o ≡ texts_of (items_view items.now)) }
-{
-    let mut texts = Vec::new(alloc);
-    for item in items {
-        let Some(text) = item.as_str() else {
-            return Ok(None);
-        };
-        texts.push(text)?;
+    match found {
+        Some(value) => Ok(value),
+        None => Err(Refused(Field { name })),
     }
-    Ok(Some(texts))
 }
 
-pub fn texts<'a, A: Allocator + Copy>(
-    alloc: A,
-    object: &'a Value,
-    name: &str,
-) -> Result<Option<Vec<&'a str, A>>, AllocError>
-    ensures { IfOk result (λ o. option_map (λ v. map (λ s. s.now) v.items) o ≡ texts_in name.now (view object.now)) }
+/// A text.
+pub fn text<'a>(object: &'a Value, name: FieldName) -> Result<&'a str, DecodeFault>
+    ensures { Tells (TextField name (view object.now)) (shown (λ s. s.now) result) }
 {
-    match list(object, name) {
-        Some(items) => texts_of(alloc, items),
+    match value::text(object, name.name()) {
+        Some(text) => Ok(text),
+        None => Err(Refused(Field { name })),
+    }
+}
+
+fn found_id<A: Allocator + Copy>(alloc: A, object: &Value) -> Result<Option<Id<A>>, AllocError>
+    ensures { IfOk result (λ id. id ≡ id_in (view object.now)) }
+{
+    match value::text(object, "id") {
+        Some(id) => Id::new(alloc, id),
         None => Ok(None),
     }
 }
 
-// The numbers of a list of six.
-fn six(items: &[Value]) -> Option<Bounds>
-    ensures some { IfSome result (λ b. numbers_of (items_view items.now) ≡ Some (numbers b)) }
-    ensures none { IfNone result ((b : Bounds) → numbers_of (items_view items.now) ≡ Some (numbers b) → ⊥) }
+/// 1 to 64 bytes.
+pub fn id<A: Allocator + Copy>(alloc: A, object: &Value) -> Result<Id<A>, DecodeFault>
+    ensures { Tells (IdField (view object.now)) result }
 {
-    let [x0, x1, y0, y1, t0, t1] = items else {
-        return None;
-    };
-    Some(Bounds {
-        x0: x0.as_u64()?,
-        x1: x1.as_u64()?,
-        y0: y0.as_u64()?,
-        y1: y1.as_u64()?,
-        t0: t0.as_u64()?,
-        t1: t1.as_u64()?,
-    })
+    required(FieldName::Id, found_id(alloc, object)?)
 }
 
-pub fn box_bounds(object: &Value) -> Option<Bounds>
-    ensures { Picks (HasBox (view object.now)) result }
+fn found_note<A: Allocator + Copy>(alloc: A, object: &Value) -> Result<Option<Note<A>>, AllocError>
+    ensures { IfOk result (λ note. note ≡ note_in (view object.now)) }
 {
-    six(list(object, "box")?)
-}
-
-// The point at three numbers.
-fn point_at(x: u64, y: u64, t: u64) -> Option<Point>
-    ensures { Picks (λ p. (p.x ≡ x) × (p.y ≡ y) × (p.t ≡ t)) result }
-{
-    Point::new(x, y, t).ok()
-}
-
-// The point of a list of three numbers.
-fn three(items: &[Value]) -> Option<Point>
-    ensures some { IfSome result (λ p. numbers_of (items_view items.now) ≡ Some (p.x ∷ p.y ∷ p.t ∷ [])) }
-    ensures none { IfNone result ((p : Point) → numbers_of (items_view items.now) ≡ Some (p.x ∷ p.y ∷ p.t ∷ []) → ⊥) }
-{
-    let [x, y, t] = items else {
-        return None;
-    };
-    point_at(x.as_u64()?, y.as_u64()?, t.as_u64()?)
-}
-
-pub fn point(object: &Value) -> Option<Point>
-    ensures { Picks (HasPoint (view object.now)) result }
-{
-    three(list(object, "point")?)
-}
-
-pub fn id(object: &Value) -> Option<Text<64>>
-    ensures { result ≡ id_in (view object.now) }
-{
-    let id = text(object, "id")?;
-    if id.is_empty() {
-        return None;
+    match value::text(object, "note") {
+        Some(note) => Note::new(alloc, note),
+        None => Ok(None),
     }
-    Text::new(id)
 }
 
-pub fn note(object: &Value) -> Option<&str>
-    ensures { option_map (λ s. s.now) result ≡ note_in (view object.now) }
+/// At most 4,096 bytes.
+pub fn note<A: Allocator + Copy>(alloc: A, object: &Value) -> Result<Note<A>, DecodeFault>
+    ensures { Tells (NoteField (view object.now)) result }
 {
-    let note = text(object, "note")?;
-    if note.len() <= MAX_NOTE {
-        Some(note)
-    } else {
-        None
+    required(FieldName::Note, found_note(alloc, object)?)
+}
+
+/// Six numbers.
+pub fn bounds(object: &Value) -> Result<Bounds, DecodeFault>
+    ensures { Tells (BoxField (view object.now)) result }
+{
+    match value::box_bounds(object) {
+        Some(bounds) => Ok(bounds),
+        None => Err(Refused(Field {
+            name: FieldName::Box,
+        })),
     }
+}
+
+/// A point.
+pub fn point(object: &Value) -> Result<Point, DecodeFault>
+    ensures { Tells (PointField (view object.now)) result }
+{
+    match value::point(object) {
+        Some(point) => Ok(point),
+        None => Err(Refused(Field {
+            name: FieldName::Point,
+        })),
+    }
+}
+
+/// A list of texts.
+pub fn auths<'a, A: Allocator + Copy>(
+    alloc: A,
+    object: &'a Value,
+) -> Result<Vec<&'a str, A>, DecodeFault>
+    ensures { Tells (AuthsField (view object.now)) (shown (λ v. map (λ s. s.now) v.items) result) }
+{
+    match value::texts(alloc, object, "auths")? {
+        Some(texts) => Ok(texts),
+        None => Err(Refused(Field {
+            name: FieldName::Auths,
+        })),
+    }
+}
+
+// The 32 bytes that the digits write.
+fn bytes_of(digits: &str) -> Option<[u8; 32]>
+    ensures { result ≡ result_ok (decode_sized digits.now 32) }
+{
+    <[u8; 32] as FromHex>::from_hex(digits).ok()
+}
+
+fn digest_in(object: &Value) -> Option<[u8; 32]>
+    ensures { result ≡ digest_in (view object.now) }
+{
+    bytes_of(value::text(object, "digest")?)
+}
+
+/// 64 hexadecimal digits of either case.
+pub fn digest(object: &Value) -> Result<[u8; 32], DecodeFault>
+    ensures { Tells (DigestField (view object.now)) result }
+{
+    required(FieldName::Digest, digest_in(object))
+}
+
+fn on_in(object: &Value) -> Option<bool>
+    ensures { result ≡ on_in (view object.now) }
+{
+    object.get("on")?.as_bool()
+}
+
+/// True or false.
+pub fn on(object: &Value) -> Result<bool, DecodeFault>
+    ensures { Tells (OnField (view object.now)) result }
+{
+    required(FieldName::On, on_in(object))
+}
+
+// The permission of the list that the text names.
+fn named<'a>(listed: &'a [Permission], text: &str) -> Option<&'a Permission>
+    ensures { option_map (λ p. p.now) result ≡ find (λ p. same (name_of p) text.now) listed.now }
+{
+    listed.iter().find(|p| p.name() == text)
+}
+
+// The permission of the list that the field names.
+fn permission_in(listed: &[Permission], object: &Value) -> Option<Permission>
+    ensures { result ≡ permission_in listed.now (view object.now) }
+{
+    named(listed, value::text(object, "permission")?).copied()
+}
+
+/// A permission on a table.
+pub fn table_permission(object: &Value) -> Result<Permission, DecodeFault>
+    ensures { Tells (TablePermissionField (view object.now)) result }
+{
+    required(
+        FieldName::Permission,
+        permission_in(&TABLE_PERMISSIONS, object),
+    )
+}
+
+/// A permission on the system.
+pub fn system_permission(object: &Value) -> Result<Permission, DecodeFault>
+    ensures { Tells (SystemPermissionField (view object.now)) result }
+{
+    required(
+        FieldName::Permission,
+        permission_in(&SYSTEM_PERMISSIONS, object),
+    )
+}
+
+// The period that a value names.
+fn period_of(value: &Value) -> Option<Period>
+    ensures { result ≡ period_of (view value.now) }
+{
+    match value.as_str()? {
+        "day" => Some(Period::Day),
+        "week" => Some(Period::Week),
+        _ => None,
+    }
+}
+
+fn period_in(object: &Value) -> Option<Period>
+    ensures { result ≡ period_in (view object.now) }
+{
+    period_of(object.get("period")?)
+}
+
+/// Day or week.
+pub fn period(object: &Value) -> Result<Period, DecodeFault>
+    ensures { Tells (PeriodField (view object.now)) result }
+{
+    required(FieldName::Period, period_in(object))
+}
+
+fn new_period_in(object: &Value) -> Option<Period>
+    ensures { result ≡ new_period_in (view object.now) }
+{
+    match object.get("period") {
+        None | Some(Value::Null) => Some(Period::Week),
+        Some(value) => period_of(value),
+    }
+}
+
+/// Day or week; week, where it is absent or null.
+pub fn new_period(object: &Value) -> Result<Period, DecodeFault>
+    ensures { Tells (NewPeriodField (view object.now)) result }
+{
+    required(FieldName::Period, new_period_in(object))
 }

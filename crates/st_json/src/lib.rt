@@ -4,11 +4,16 @@
 mod body;
 mod fault;
 mod field;
+mod grants;
 pub mod law;
+mod listing;
 mod refusal;
 mod reply;
-#[cfg(test)]
-mod tests;
+mod rows;
+mod rule;
+mod tables;
+mod users;
+mod value;
 
 pub use body::decode;
 pub use fault::DecodeFault;

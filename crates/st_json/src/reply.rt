@@ -1,13 +1,15 @@
 //! Replies as text.
-ghost use Rattle.std.specs.Prelude.{◌≡◌, ◌∷◌, ◌++◌, [], OnOk, IfOk, codes, true};
+ghost use Rattle.std.specs.Prelude.{◌≡◌, ◌∷◌, ◌++◌, [], OnOk, IfOk, codes, map, true};
 ghost use Rattle.serde_json.specs.Data.{boolean, string};
 ghost use Rattle.st_json.specs.Adds.{tokens_of, Adds};
 ghost use Rattle.st_json.specs.Refusals.{of, nat};
-ghost use Rattle.st_json.specs.Replies.{reply_data, text_of};
+ghost use Rattle.st_json.specs.Replies.{list, texts_data, table_data, given_data, entry_data, reply_data, text_of};
 
+use crate::listing::{write_account, write_entries, write_grants, write_names, write_tables};
 use crate::refusal::{write_number, write_refusal, write_text};
 use json::Writer;
-use st_core::Reply;
+use st_core::{Entry, Reply};
+use st_dir::{Given, Name, TableInfo};
 use std::alloc::{AllocError, Allocator};
 
 fn write_accepted<A: Allocator>(out: &mut Writer<A>) -> Result<(), AllocError>
@@ -35,6 +37,44 @@ fn write_normal<A: Allocator>(out: &mut Writer<A>, label: &str) -> Result<(), Al
     out.end_object()
 }
 
+fn write_table_listing<A: Allocator>(
+    out: &mut Writer<A>,
+    tables: &[TableInfo],
+) -> Result<(), AllocError>
+    ensures { OnOk result (Adds out.old out.new (tokens_of (of ((codes "tables", list (map table_data tables.now)) ∷ [])))) }
+{
+    out.begin_object()?;
+    write_tables(out, "tables", tables)?;
+    out.end_object()
+}
+
+fn write_user_listing<A: Allocator>(out: &mut Writer<A>, users: &[Name]) -> Result<(), AllocError>
+    ensures { OnOk result (Adds out.old out.new (tokens_of (of ((codes "users", texts_data users.now) ∷ [])))) }
+{
+    out.begin_object()?;
+    write_names(out, "users", users)?;
+    out.end_object()
+}
+
+fn write_grant_listing<A: Allocator, B: Allocator>(
+    out: &mut Writer<A>,
+    grants: &[Given<B>],
+) -> Result<(), AllocError>
+    ensures { OnOk result (Adds out.old out.new (tokens_of (of ((codes "grants", list (map given_data grants.now)) ∷ [])))) }
+{
+    out.begin_object()?;
+    write_grants(out, "grants", grants)?;
+    out.end_object()
+}
+
+fn write_audit<A: Allocator>(out: &mut Writer<A>, entries: &[Entry]) -> Result<(), AllocError>
+    ensures { OnOk result (Adds out.old out.new (tokens_of (of ((codes "entries", list (map entry_data entries.now)) ∷ [])))) }
+{
+    out.begin_object()?;
+    write_entries(out, "entries", entries)?;
+    out.end_object()
+}
+
 fn write_reply<A: Allocator, B: Allocator>(
     out: &mut Writer<A>,
     reply: &Reply<B>,
@@ -43,8 +83,13 @@ fn write_reply<A: Allocator, B: Allocator>(
 {
     match reply {
         Reply::Accepted => write_accepted(out),
+        Reply::Who(account) => write_account(out, account),
+        Reply::Tables(tables) => write_table_listing(out, tables.as_slice()),
+        Reply::Users(users) => write_user_listing(out, users.as_slice()),
+        Reply::Grants(grants) => write_grant_listing(out, grants.as_slice()),
         Reply::Normal { label } => write_normal(out, label.text()),
         Reply::Count(count) => write_count(out, *count),
+        Reply::Audit(entries) => write_audit(out, entries.as_slice()),
         Reply::Refused(refusal) => write_refusal(out, refusal),
     }
 }

@@ -7,8 +7,6 @@ mod morton;
 mod period;
 mod place;
 mod point;
-#[cfg(test)]
-mod tests;
 
 pub use key::{Key, comes_before};
 pub use morton::{gather, interleave, spread};

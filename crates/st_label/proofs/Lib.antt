@@ -3,12 +3,16 @@ pub mod Sound
 pub mod Places
 pub mod Seen
 pub mod Steps
+pub mod Passing
+pub mod Truths
+pub mod Judged
 pub mod Chars
 pub mod Refused
 pub mod WorkedLabels
 pub mod Normals
 pub mod Printing
 pub mod Escapes
+pub mod Terms
 pub mod Limits
 pub mod Shrinks
 pub mod Settled

@@ -1,7 +1,9 @@
 pub mod Tree
 pub mod Grammar
 pub mod Refusals
+pub mod Terms
 pub mod Machine
+pub mod Truth
 pub mod Reading
 pub mod Views
 pub mod Faults

@@ -1,8 +1,8 @@
 //! A label: its written text, and what it says.
-ghost use Rattle.std.specs.Prelude.{◌≡◌, ◌↔◌, ◌<◌, ◌≤◌, IfOk, IfErr, IsTrue, length};
+ghost use Rattle.std.specs.Prelude.{◌≡◌, ◌↔◌, ◌<◌, ◌≤◌, IfOk, IfErr, IsTrue, length, string_bytes};
 ghost use Rattle.st_label.specs.Grammar.{Reads};
 ghost use Rattle.st_label.specs.Refusals.{max_len, max_depth};
-ghost use Rattle.st_label.specs.Reading.{reading, IsLabel};
+ghost use Rattle.st_label.specs.Reading.{reading, is_true, IsLabel};
 ghost use Rattle.st_label.specs.Views.{tree_view};
 ghost use Rattle.st_label.specs.declared.label.LabelFault.TheVariants.{NoMemory};
 ghost use Rattle.st_label.specs.Normal.{normal_text};
@@ -11,7 +11,10 @@ ghost use Rattle.st_label.specs.Faults.{Refuses};
 use crate::normal::normal;
 use crate::print::push_tree;
 use crate::reader::{ReadFault, Reader};
+use crate::term::{Names, Nobody};
 use crate::tree::Tree;
+use crate::truth::judge;
+use st_text::CompactText;
 use std::alloc::{AllocError, Allocator, Global};
 use std::marker::Model;
 
@@ -44,26 +47,25 @@ impl From<AllocError> for LabelFault {
 #[derive(Drop)]
 pub struct Label<A: Allocator = Global> {
     alloc: A,
-    text: String<A>,
-    tree: Tree<A>,
+    text: CompactText<A>,
 }
 
 impl<A: Allocator> Model for Label<A> {
-    ghost use Rattle.std.specs.Prelude.{◌≡◌, ℕ, List, string_bytes};
+    ghost use Rattle.std.specs.Prelude.{ℕ, List};
 
     ghost Value = { List ℕ };
 
-    ghost use Rattle.st_label.specs.Reading.{reading, IsLabel};
-    ghost use Rattle.st_label.specs.Views.{tree_view};
+    ghost use Rattle.st_label.specs.Reading.{IsLabel};
 
-    ghost view = { λ l. string_bytes l.text };
+    ghost view = { λ l. l.text };
 
-    ghost invariant = { λ l. IsLabel (string_bytes l.text) × (tree_view l.tree ≡ reading (string_bytes l.text)) };
+    ghost invariant = { λ l. IsLabel l.text };
 }
 
 impl<A: Allocator + Copy> Label<A> {
     /// Reads a label. The grammar is that of Accumulo's column visibilities; between quotes may stand
-    /// any characters, with a backslash before a quote and before a backslash.
+    /// any characters, with a backslash before a quote and before a backslash. A text of at most
+    /// [`st_text::MAX_SHORT`] bytes takes no memory.
     pub fn parse(alloc: A, text: &str) -> Result<Label<A>, LabelFault>
         ensures text { IfOk result (λ label. label ≡ text.now) }
         ensures label { IfOk result (λ _. IsLabel text.now) }
@@ -72,9 +74,11 @@ impl<A: Allocator + Copy> Label<A> {
         if text.len() > MAX_LEN {
             return Err(LabelFault::TooLong);
         }
-        let tree = read(alloc, text)?;
-        let text = String::from_str(alloc, text)?;
-        Ok(Label { alloc, text, tree })
+        if let Err(fault) = judge(text.as_bytes(), &Nobody) {
+            return Err(fault);
+        }
+        let text = CompactText::new(alloc, text)?;
+        Ok(Label { alloc, text })
     }
 
     /// An equal label.
@@ -83,8 +87,7 @@ impl<A: Allocator + Copy> Label<A> {
     {
         Ok(Label {
             alloc: self.alloc,
-            text: String::from_str(self.alloc, self.text.as_str())?,
-            tree: self.tree.copy(self.alloc)?,
+            text: self.text.copy()?,
         })
     }
 
@@ -94,13 +97,10 @@ impl<A: Allocator + Copy> Label<A> {
     pub fn normal(&self) -> Result<Label<A>, AllocError>
         ensures { IfOk result (λ label. label ≡ normal_text self.now) }
     {
-        let tree = normal(self.alloc, &self.tree)?;
-        let mut text = String::new(self.alloc);
-        push_tree(&mut text, &tree)?;
+        let text = normal_form(self.alloc, self.text())?;
         Ok(Label {
             alloc: self.alloc,
-            text,
-            tree,
+            text: CompactText::new(self.alloc, text.as_str())?,
         })
     }
 
@@ -108,10 +108,8 @@ impl<A: Allocator + Copy> Label<A> {
     pub fn is_normal(&self) -> Result<bool, AllocError>
         ensures { IfOk result (λ answer. IsTrue answer ↔ (normal_text self.now ≡ self.now)) }
     {
-        let tree = normal(self.alloc, &self.tree)?;
-        let mut text = String::new(self.alloc);
-        push_tree(&mut text, &tree)?;
-        Ok(text.as_str() == self.text.as_str())
+        let text = normal_form(self.alloc, self.text())?;
+        Ok(text.as_str() == self.text())
     }
 }
 
@@ -120,16 +118,45 @@ impl<A: Allocator> Label<A> {
     pub fn text(&self) -> &str
         ensures value { result.now ≡ self.now }
         ensures label { IsLabel self.now }
+        ensures fits { length result.now ≤ MAX_LEN }
     {
         self.text.as_str()
     }
 
-    /// What the label says.
-    pub fn tree(&self) -> &Tree<A>
-        ensures value { tree_view result.now ≡ reading self.now }
-        ensures label { IsLabel self.now }
+    /// Whether the label is true for the names: the empty label is, a term where its name is one of
+    /// them, an And where all its operands are, and an Or where one is. It takes no memory.
+    pub fn is_true_for<N: Names>(&self, names: &N) -> bool
+        ensures { result ≡ is_true (N.among names.now) self.now }
     {
-        &self.tree
+        match judge(self.text().as_bytes(), names) {
+            Ok(truth) => truth,
+            Err(_) => unreachable!(),
+        }
+    }
+}
+
+// The text of a label's normal form.
+fn normal_form<A: Allocator + Copy>(alloc: A, label: &str) -> Result<String<A>, AllocError>
+    requires { IsLabel label.now }
+    ensures { IfOk result (λ text. string_bytes text ≡ normal_text label.now) }
+{
+    let tree = normal(alloc, &tree_of(alloc, label)?)?;
+    let mut text = String::new(alloc);
+    push_tree(&mut text, &tree)?;
+    Ok(text)
+}
+
+// What a label says.
+fn tree_of<A: Allocator + Copy>(alloc: A, label: &str) -> Result<Tree<A>, AllocError>
+    requires { IsLabel label.now }
+    ensures { IfOk result (λ tree. tree_view tree ≡ reading label.now) }
+{
+    match read(alloc, label) {
+        Ok(tree) => Ok(tree),
+        Err(fault) => match fault {
+            LabelFault::NoMemory => Err(AllocError),
+            _ => unreachable!(),
+        },
     }
 }
 

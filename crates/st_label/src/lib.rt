@@ -7,12 +7,10 @@ pub mod law;
 mod normal;
 mod print;
 mod reader;
+mod term;
 mod tree;
+mod truth;
 
 pub use label::{Label, LabelFault, MAX_LEN};
-pub use print::push_tree;
 pub use reader::MAX_DEPTH;
-pub use tree::{Operator, Tree};
-
-#[cfg(test)]
-mod tests;
+pub use term::{Names, Term};

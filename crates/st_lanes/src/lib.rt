@@ -3,7 +3,5 @@
 
 mod lanes;
 pub mod law;
-#[cfg(test)]
-mod tests;
 
 pub use lanes::{in_box, in_box_mask};

@@ -7,8 +7,6 @@ mod level;
 mod part_plan;
 mod query_plan;
 mod range;
-#[cfg(test)]
-mod tests;
 
 pub use box_plan::plan_box;
 pub use fault::PlanFault;

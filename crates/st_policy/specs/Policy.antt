@@ -1,15 +1,16 @@
 -- Whether a request is allowed. The directory alone decides.
 use Rattle.std.specs.Prelude.{List, [], ◌∷◌, Bool, ◌||◌, not, if◌then◌else◌, Option, Some, None, find, option_map, Result, Ok, Err}
-use Rattle.st_text.specs.Texts.{Text}
+use Rattle.st_text.specs.Texts.{Text, same}
 use Rattle.st_label.specs.Reading.{is_true}
-use Rattle.st_dir.specs.Directory.{Directory, is_table, has_auth, has_table, is_constrained}
+use Rattle.st_dir.specs.Directory.{Directory, is_table, is_user, is_granted, has_auth, has_system, has_table, is_constrained}
+use Rattle.st_dir.specs.declared.grant.Scope.TheVariants.{OnNamespace}
 use Rattle.st_dir.specs.declared.permission.Permission.{Permission}
 use Rattle.st_policy.specs.declared.denial.Denial.{Denial}
 use Rattle.st_policy.specs.declared.refusal.Refusal.{Refusal}
-use Rattle.st_policy.specs.declared.refusal.Refusal.TheVariants.{NoTable, Denied}
+use Rattle.st_policy.specs.declared.refusal.Refusal.TheVariants.{NoTable, NoUser, TableExists, UserExists, Denied}
 use Rattle.st_policy.specs.declared.request.Request.{Request}
-use Rattle.st_policy.specs.declared.request.Request.TheVariants.{Label, Count, Put}
-use Rattle.st_policy.specs.Requests.{table_of, auths_of}
+use Rattle.st_policy.specs.declared.request.Request.TheVariants.{Whoami, Tables, Users, User, Grants, NamespaceGrants, Label, Audit, Count, Put, Delete, CreateTable, DropTable, Constraint, Period, CreateUser, DropUser, Token, Auths, GrantSystem, RevokeSystem, GrantTable, RevokeTable, GrantNamespace, RevokeNamespace}
+use Rattle.st_policy.specs.Requests.{table_of, user_of, auths_of}
 
 abbrev pub first_of : List (Option Refusal) → Option Refusal
 first_of [] = None
@@ -25,6 +26,16 @@ abbrev pub table_exists : {A : Type 0} → Directory A → Option Text → Optio
 table_exists d None = None
 table_exists d (Some table) = unless (is_table d table) (NoTable table)
 
+abbrev pub user_exists : {A : Type 0} → Directory A → Option Text → Option Refusal
+user_exists d None = None
+user_exists d (Some user) = unless (is_user d user) (NoUser user)
+
+-- a table or a user is made under a name that is free
+abbrev pub name_is_free : {A : Type 0} → Directory A → Request A → Option Refusal
+name_is_free d (CreateTable table period) = unless (not (is_table d table)) (TableExists table)
+name_is_free d (CreateUser user digest auths) = unless (not (is_user d user)) (UserExists user)
+name_is_free d _ = None
+
 -- ---- permission
 
 -- what a line needs
@@ -33,36 +44,79 @@ pub data Need : Type 0 where
   Nothing : Need
   -- a permission on the table
   Table : (table : Text) → Permission → Need
+  -- a permission on the system
+  System : Permission → Need
+  -- a permission on the table or on the system
+  TableOrSystem : (table : Text) → Permission → Need
+  -- a permission on the namespace or on the system
+  NamespaceOrSystem : (namespace : Text) → Permission → Need
+  -- to be the user, or a permission on the system
+  OneselfOrSystem : (user : Text) → Permission → Need
 
 abbrev pub need_of : {A : Type 0} → Request A → Need
+need_of Whoami = Nothing
+need_of Tables = Nothing
+need_of Users = Nothing
+need_of (User user) = Nothing
+need_of (Grants table) = Nothing
+need_of (NamespaceGrants namespace) = Nothing
 need_of (Label label) = Nothing
+need_of Audit = System Permission.System
 need_of (Count table query auths) = Table table Permission.Read
 need_of (Put table row) = Table table Permission.Write
+need_of (Delete table id label) = Table table Permission.Write
+need_of (CreateTable table period) = System Permission.CreateTable
+need_of (DropTable table) = TableOrSystem table Permission.DropTable
+need_of (Constraint table on) = TableOrSystem table Permission.AlterTable
+need_of (Period table period) = TableOrSystem table Permission.AlterTable
+need_of (CreateUser user digest auths) = System Permission.CreateUser
+need_of (DropUser user) = System Permission.DropUser
+need_of (Token user digest) = OneselfOrSystem user Permission.AlterUser
+need_of (Auths user auths) = System Permission.AlterUser
+need_of (GrantSystem user permission) = System Permission.Grant
+need_of (RevokeSystem user permission) = System Permission.Grant
+need_of (GrantTable table user permission) = TableOrSystem table Permission.Grant
+need_of (RevokeTable table user permission) = TableOrSystem table Permission.Grant
+need_of (GrantNamespace namespace user permission) = NamespaceOrSystem namespace Permission.Grant
+need_of (RevokeNamespace namespace user permission) = NamespaceOrSystem namespace Permission.Grant
 
+-- where two permissions would do, the denial names the table's or the namespace's
 abbrev pub meets : {A : Type 0} → Directory A → Text → Need → Option Refusal
 meets d asker Nothing = None
 meets d asker (Table table p) = unless (has_table d asker table p) (Denied (Denial.Permission p (Some table)))
+meets d asker (System p) = unless (has_system d asker p) (Denied (Denial.Permission p None))
+meets d asker (TableOrSystem table p) = unless (has_table d asker table p || has_system d asker p) (Denied (Denial.Permission p (Some table)))
+meets d asker (NamespaceOrSystem namespace p) =
+    unless (is_granted d asker (OnNamespace namespace) p || has_system d asker p) (Denied (Denial.NamespacePermission p namespace))
+meets d asker (OneselfOrSystem user p) = unless (same user asker || has_system d asker p) (Denied (Denial.Permission p None))
 
--- ---- authorization and constraint
+-- ---- authorization, constraint, oneself
 
 -- each authorization that is named is the asker's own, or the first that isn't is refused
 abbrev pub auths_are_held : {A : Type 0} → Directory A → Text → List Text → Option Refusal
 auths_are_held d asker auths = option_map (λ name. Denied (Denial.Authorization name)) (find (λ name. not (has_auth d asker name)) auths)
 
 -- in a table with a constraint a put's label is true for all authorizations of the writer (the
--- visibility constraint of Apache Accumulo)
+-- visibility constraint of Apache Accumulo); a delete is not tested
 abbrev pub label_is_met : {A : Type 0} → Directory A → Text → Request A → Option Refusal
 label_is_met d asker (Put table row) = unless (not (is_constrained d table) || is_true (has_auth d asker) row.label) (Denied (Denial.Constraint row.label))
-label_is_met d asker (Label label) = None
-label_is_met d asker (Count table query auths) = None
+label_is_met d asker _ = None
+
+-- nobody drops oneself
+abbrev pub is_not_oneself : {A : Type 0} → Text → Request A → Option Refusal
+is_not_oneself asker (DropUser user) = unless (not (same user asker)) (Denied Denial.OwnSelf)
+is_not_oneself asker _ = None
 
 -- the first refusal that applies, or none
 abbrev pub refusal_of : {A : Type 0} → Directory A → Text → Request A → Option Refusal
 refusal_of d asker request = first_of (
     table_exists d (table_of request)
+    ∷ user_exists d (user_of request)
+    ∷ name_is_free d request
     ∷ meets d asker (need_of request)
     ∷ auths_are_held d asker (auths_of request)
     ∷ label_is_met d asker request
+    ∷ is_not_oneself asker request
     ∷ [])
 
 -- the policy as the code answers it

@@ -6,13 +6,24 @@ use Rattle.st_policy.specs.declared.field_name.FieldName.{FieldName}
 use Rattle.st_policy.specs.declared.refusal.Refusal.{Refusal}
 
 abbrev pub field_text : FieldName → Text
+field_text FieldName.After = codes "after"
 field_text FieldName.Auths = codes "auths"
 field_text FieldName.Box = codes "box"
+field_text FieldName.Budget = codes "budget"
+field_text FieldName.Digest = codes "digest"
 field_text FieldName.Id = codes "id"
 field_text FieldName.Label = codes "label"
+field_text FieldName.Limit = codes "limit"
+field_text FieldName.Namespace = codes "namespace"
 field_text FieldName.Note = codes "note"
+field_text FieldName.Nx = codes "nx"
+field_text FieldName.Ny = codes "ny"
+field_text FieldName.On = codes "on"
+field_text FieldName.Period = codes "period"
+field_text FieldName.Permission = codes "permission"
 field_text FieldName.Point = codes "point"
 field_text FieldName.Table = codes "table"
+field_text FieldName.User = codes "user"
 
 abbrev pub number_of_denial : Denial → ℕ
 number_of_denial Denial.Token = 8

@@ -1,18 +1,39 @@
 //! Requests.
 use st_auth::Auths;
 use st_box::Query;
-use st_dir::TableName;
-use st_index::Row;
+use st_dir::{Name, Permission, TableName};
+use st_index::{Id, Row};
+use st_key::Period;
 use st_label::Label;
 use std::alloc::{Allocator, Global};
 
-/// A request: one variant for each line that is served.
+/// A request: one variant for each line that is served. The lines from `Put` on are changes.
 #[derive(Drop)]
 pub enum Request<A: Allocator = Global> {
+    /// The asker's own account.
+    Whoami,
+    /// The tables.
+    Tables,
+    /// The names of the users.
+    Users,
+    /// A user's account.
+    User {
+        user: Name,
+    },
+    /// Who has been granted what on a table.
+    Grants {
+        table: TableName,
+    },
+    /// Who has been granted what on a namespace.
+    NamespaceGrants {
+        namespace: Name,
+    },
     /// The normal form of a label.
     Label {
         label: Label<A>,
     },
+    /// The changes that were asked for.
+    Audit,
     /// How many rows of a table are inside a query and seen with these authorizations.
     Count {
         table: TableName,
@@ -24,19 +45,108 @@ pub enum Request<A: Allocator = Global> {
         table: TableName,
         row: Row<A>,
     },
+    /// Takes the row of this id and label text out of a table, if there is one.
+    Delete {
+        table: TableName,
+        id: Id<A>,
+        label: Label<A>,
+    },
+    /// Makes an empty table, whose constraint is off, and gives its maker each table permission.
+    CreateTable {
+        table: TableName,
+        period: Period,
+    },
+    /// Takes a table away, with its rows and the grants on it.
+    DropTable {
+        table: TableName,
+    },
+    /// Turns a table's visibility constraint on or off.
+    Constraint {
+        table: TableName,
+        on: bool,
+    },
+    /// Sets the length of a table's time bins.
+    Period {
+        table: TableName,
+        period: Period,
+    },
+    /// Makes a user, who has these authorizations and no permissions.
+    CreateUser {
+        user: Name,
+        /// The SHA-256 of the user's secret.
+        digest: [u8; 32],
+        auths: Auths<A>,
+    },
+    /// Takes a user away, with each grant to it.
+    DropUser {
+        user: Name,
+    },
+    /// Sets the digest of a user's secret.
+    Token {
+        user: Name,
+        /// The SHA-256 of the user's secret.
+        digest: [u8; 32],
+    },
+    /// Sets a user's authorizations.
+    Auths {
+        user: Name,
+        auths: Auths<A>,
+    },
+    /// Gives a user a permission on the system.
+    GrantSystem {
+        user: Name,
+        permission: Permission,
+    },
+    /// Takes a permission on the system from a user.
+    RevokeSystem {
+        user: Name,
+        permission: Permission,
+    },
+    /// Gives a user a permission on a table.
+    GrantTable {
+        table: TableName,
+        user: Name,
+        permission: Permission,
+    },
+    /// Takes a permission on a table from a user.
+    RevokeTable {
+        table: TableName,
+        user: Name,
+        permission: Permission,
+    },
+    /// Gives a user a permission on each table of a namespace.
+    GrantNamespace {
+        namespace: Name,
+        user: Name,
+        permission: Permission,
+    },
+    /// Takes a permission on the tables of a namespace from a user.
+    RevokeNamespace {
+        namespace: Name,
+        user: Name,
+        permission: Permission,
+    },
 }
 
 impl<A: Allocator> Request<A> {
     ghost use Rattle.std.specs.Prelude.{◌≡◌, ◌≤◌, length, option_map};
-    ghost use Rattle.st_policy.specs.Requests.{is_change, name_of, table_of};
+    ghost use Rattle.st_policy.specs.Requests.{is_change, name_of, namespace_of, table_of, target_of, user_of};
 
     /// Whether it changes anything, where it is allowed.
     pub fn is_change(&self) -> bool
         ensures { result ≡ is_change self.now }
     {
         match self {
-            Request::Label { .. } | Request::Count { .. } => false,
-            Request::Put { .. } => true,
+            Request::Whoami
+            | Request::Tables
+            | Request::Users
+            | Request::User { .. }
+            | Request::Grants { .. }
+            | Request::NamespaceGrants { .. }
+            | Request::Label { .. }
+            | Request::Audit
+            | Request::Count { .. } => false,
+            _ => true,
         }
     }
 
@@ -46,20 +156,102 @@ impl<A: Allocator> Request<A> {
         ensures short { length result.now ≤ 16 }
     {
         match self {
+            Request::Whoami => "whoami",
+            Request::Tables => "tables",
+            Request::Users => "users",
+            Request::User { .. } => "user",
+            Request::Grants { .. } => "grants",
+            Request::NamespaceGrants { .. } => "namespace-grants",
             Request::Label { .. } => "label",
+            Request::Audit => "audit",
             Request::Count { .. } => "count",
             Request::Put { .. } => "put",
+            Request::Delete { .. } => "delete",
+            Request::CreateTable { .. } => "create-table",
+            Request::DropTable { .. } => "drop-table",
+            Request::Constraint { .. } => "constraint",
+            Request::Period { .. } => "period",
+            Request::CreateUser { .. } => "create-user",
+            Request::DropUser { .. } => "drop-user",
+            Request::Token { .. } => "token",
+            Request::Auths { .. } => "auths",
+            Request::GrantSystem { .. } => "grant-system",
+            Request::RevokeSystem { .. } => "revoke-system",
+            Request::GrantTable { .. } => "grant-table",
+            Request::RevokeTable { .. } => "revoke-table",
+            Request::GrantNamespace { .. } => "grant-namespace",
+            Request::RevokeNamespace { .. } => "revoke-namespace",
         }
     }
 
-    /// The table that it is about, if it is about one.
+    /// The table that it is about, which must be there, if it is about one.
     pub fn table(&self) -> Option<&TableName>
         ensures { option_map (λ table. table.now) result ≡ table_of self.now }
     {
         match self {
-            Request::Label { .. } => None,
-            Request::Count { table, .. } => Some(table),
-            Request::Put { table, .. } => Some(table),
+            Request::Grants { table }
+            | Request::Count { table, .. }
+            | Request::Put { table, .. }
+            | Request::Delete { table, .. }
+            | Request::DropTable { table }
+            | Request::Constraint { table, .. }
+            | Request::Period { table, .. }
+            | Request::GrantTable { table, .. }
+            | Request::RevokeTable { table, .. } => Some(table),
+            _ => None,
+        }
+    }
+
+    /// The user that it is about, who must be there, if it is about one.
+    pub fn user(&self) -> Option<&Name>
+        ensures { option_map (λ user. user.now) result ≡ user_of self.now }
+    {
+        match self {
+            Request::User { user }
+            | Request::DropUser { user }
+            | Request::Token { user, .. }
+            | Request::Auths { user, .. }
+            | Request::GrantSystem { user, .. }
+            | Request::RevokeSystem { user, .. }
+            | Request::GrantTable { user, .. }
+            | Request::RevokeTable { user, .. }
+            | Request::GrantNamespace { user, .. }
+            | Request::RevokeNamespace { user, .. } => Some(user),
+            _ => None,
+        }
+    }
+
+    /// The namespace that it is about, if it is about one.
+    pub fn namespace(&self) -> Option<&Name>
+        ensures { option_map (λ namespace. namespace.now) result ≡ namespace_of self.now }
+    {
+        match self {
+            Request::NamespaceGrants { namespace }
+            | Request::GrantNamespace { namespace, .. }
+            | Request::RevokeNamespace { namespace, .. } => Some(namespace),
+            _ => None,
+        }
+    }
+
+    /// What an audit entry names: the table, else the namespace, else the user that it is about, else the
+    /// name of the table or the user that it makes, and else nothing.
+    pub fn target(&self) -> &str
+        ensures value { result.now ≡ target_of self.now }
+        ensures short { length result.now ≤ 65 }
+    {
+        if let Some(table) = self.table() {
+            return table.as_str();
+        }
+        if let Some(namespace) = self.namespace() {
+            return namespace.as_str();
+        }
+        if let Some(user) = self.user() {
+            return user.as_str();
+        }
+        match self {
+            Request::CreateTable { table, .. } => table.as_str(),
+            Request::CreateUser { user, .. } => user.as_str(),
+            _ => "",
         }
     }
 }

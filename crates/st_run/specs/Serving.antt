@@ -6,10 +6,10 @@ use Rattle.st_text.specs.Texts.{Text}
 use Rattle.st_auth.specs.Names.{first_bad}
 use Rattle.st_core.specs.State.{State, first_state}
 use Rattle.st_service.specs.Answers.{Answers}
-use Rattle.st_service.specs.Connection.{Served}
-use Rattle.st_service.specs.declared.connection.Ended.{Ended}
-use Rattle.st_service.specs.declared.connection.Ended.TheVariants.{Clean, Closed, Cut, TurnsSpent}
-use Rattle.st_service.specs.declared.connection.IoFault.{IoFault}
+use Rattle.st_connection.specs.Connection.{Served}
+use Rattle.st_connection.specs.declared.connection.Ended.{Ended}
+use Rattle.st_connection.specs.declared.connection.Ended.TheVariants.{Clean, Closed, Cut, TurnsSpent}
+use Rattle.st_connection.specs.declared.connection.IoFault.{IoFault}
 use Rattle.st_run.specs.declared.fault.Fault.{Fault}
 use Rattle.st_run.specs.CommandLine.{Says, Refuses}
 use Rattle.st_run.specs.Status.{status_of}

@@ -1,7 +1,8 @@
 //! The command line `st_run --root DIGEST [NAME]...`.
 ghost use Rattle.std.specs.Prelude.{◌≡◌, IfOk, IfErr, IsSome, codes, map, string_bytes};
-ghost use Rattle.clap.specs.Words.{first_value, found_of};
-ghost use Rattle.st_run.specs.CommandLine.{IsParsed, Says, Refuses};
+ghost use Rattle.clap.specs.Built.{FitsChain, TakesValue};
+ghost use Rattle.clap.specs.Words.{first_value, found_of, rule_of};
+ghost use Rattle.st_run.specs.CommandLine.{IsParsed, Says, Refuses, root_option, name_operand};
 
 use crate::fault::Fault;
 use clap::{Arg, ArgAction, ArgMatches, Command};
@@ -16,19 +17,38 @@ pub struct Words<'a> {
     pub names: Vec<&'a str>,
 }
 
+// The option `--root DIGEST`.
+fn root<'a>(alloc: Global) -> Arg<'a>
+    ensures id { result.id.now ≡ codes "root" }
+    ensures rule { rule_of result ≡ root_option }
+    ensures fits { FitsChain result }
+    ensures takes { TakesValue result }
+{
+    Arg::new(alloc, "root")
+        .long("root")
+        .value_name("DIGEST")
+        .required(true)
+        .action(ArgAction::Set)
+}
+
+// The operands `[NAME]...`.
+fn names<'a>(alloc: Global) -> Arg<'a>
+    ensures id { result.id.now ≡ codes "NAME" }
+    ensures rule { rule_of result ≡ name_operand }
+    ensures fits { FitsChain result }
+{
+    Arg::new(alloc, "NAME").action(ArgAction::Append)
+}
+
 // Reads the words by what a command line may have.
 fn parse<'a>(alloc: Global, words: &'a [String]) -> Result<ArgMatches<'a>, Fault>
     ensures ok { IfOk result (IsParsed (map string_bytes words.now)) }
     ensures root { IfOk result (λ matches. IsSome (first_value (found_of matches) (codes "root"))) }
     ensures err { IfErr result (λ fault. Refuses (map string_bytes words.now) fault) }
 {
-    let root = Arg::new(alloc, "root")
-        .long("root")
-        .value_name("DIGEST")
-        .required(true)
-        .action(ArgAction::Set);
-    let names = Arg::new(alloc, "NAME").action(ArgAction::Append);
-    let command = Command::new(alloc, "st_run").arg(root)?.arg(names)?;
+    let command = Command::new(alloc, "st_run")
+        .arg(root(alloc))?
+        .arg(names(alloc))?;
     Ok(command.try_get_matches_from(words)?)
 }
 

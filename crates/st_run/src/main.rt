@@ -4,10 +4,6 @@
 mod command_line;
 mod fault;
 #[cfg(test)]
-mod label_rows;
-#[cfg(test)]
-mod rows;
-#[cfg(test)]
 mod tests;
 mod words;
 

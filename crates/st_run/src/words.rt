@@ -2,7 +2,7 @@
 ghost use Rattle.std.specs.Prelude.{◌≡◌, Ok, IfOk, IfErr, IsErr, List, false, map, string_bytes};
 ghost use Rattle.hex.specs.Hex.{decode_sized};
 ghost use Rattle.st_service.specs.Answers.{Answers};
-ghost use Rattle.st_service.specs.Connection.{Served};
+ghost use Rattle.st_connection.specs.Connection.{Served};
 ghost use Rattle.st_text.specs.Texts.{Text};
 ghost use Rattle.st_run.specs.CommandLine.{Says, Refuses};
 ghost use Rattle.st_run.specs.Serving.{Serves, Opens, Ran, status_given};

@@ -3,12 +3,12 @@ ghost use Rattle.std.specs.Prelude.{◌≡◌, ◌≢◌, ◌⊎◌};
 ghost use Rattle.st_core.specs.declared.reply.Reply.{Reply as Told};
 ghost use Rattle.st_service.specs.Answers.{Answers, Replied, IsFound, faulty, reply_status, reply_text};
 ghost use Rattle.st_service.specs.Bytes.{bytes_of};
-ghost use Rattle.st_service.specs.Render.{busy_text};
+ghost use Rattle.st_connection.specs.Render.{busy_text};
 
 use crate::answer::Answer;
 use crate::asked::asked_of;
-use crate::replies::Replies;
 use http::StatusCode;
+use st_connection::replies::Replies;
 use st_core::{Reply, Store};
 use st_http::routes::Route;
 use st_http::take::Message;
@@ -39,7 +39,14 @@ fn status_of<A: Allocator>(reply: &Reply<A>) -> StatusCode
     ensures allows { result ≢ 405 }
 {
     match reply {
-        Reply::Accepted | Reply::Normal { .. } | Reply::Count(_) => StatusCode::OK,
+        Reply::Accepted
+        | Reply::Who(_)
+        | Reply::Tables(_)
+        | Reply::Users(_)
+        | Reply::Grants(_)
+        | Reply::Normal { .. }
+        | Reply::Count(_)
+        | Reply::Audit(_) => StatusCode::OK,
         Reply::Refused(refusal) => status(refusal),
     }
 }

@@ -3,13 +3,13 @@ ghost use Rattle.std.specs.Prelude.{◌≡◌, ◌+◌, ◌-◌, ◌^◌, ◌⊎
 ghost use Rattle.std.specs.Io.KnownBytes.{IsAtEnd};
 ghost use Rattle.st_service.specs.Answers.{Answers, Replied};
 ghost use Rattle.st_service.specs.Bytes.{bytes_of};
-ghost use Rattle.st_service.specs.Connection.{Served};
+ghost use Rattle.st_connection.specs.Connection.{Served};
 
 use crate::answer::Answer;
-use crate::connection::{Ended, IoFault, ROOM, serve_connection};
 use crate::desk::Desk;
-use crate::replies::Replies;
-use crate::streams::{Sink, Source};
+use st_connection::connection::{Ended, IoFault, ROOM, serve_connection};
+use st_connection::replies::Replies;
+use st_connection::streams::{Sink, Source};
 use st_core::Store;
 use st_http::routes::Routes;
 use st_http::take::Message;

@@ -12,7 +12,7 @@ use Rattle.std.proofs.lemmas.Cmp.{lists_total, nat_list_cmp_total}
 use Rattle.st_text.specs.Texts.{Text, comes_before, put_in_order, in_order}
 
 -- of two keys at most one comes before the other
-one_before : (a b : List Text) → comes_before a b ≡ true → comes_before b a ≡ false
+pub one_before : (a b : List Text) → comes_before a b ≡ true → comes_before b a ≡ false
 one_before a b h = at (slice_cmp (slice_cmp nat_cmp) a b) (slice_cmp (slice_cmp nat_cmp) b a) ((lists_total nat_list_cmp_total).antisymm b a) h
   where
     at : (o p : Ordering) → p ≡ ordering_reverse o → is_lt o ≡ true → is_lt p ≡ false

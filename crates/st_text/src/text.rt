@@ -41,7 +41,8 @@ impl<const CAP: usize> Text<CAP> {
 
     /// The text.
     pub fn as_str(&self) -> &str
-        ensures { result.now ≡ self.now }
+        ensures value { result.now ≡ self.now }
+        ensures fits { length result.now ≤ CAP }
     {
         self.bytes.as_str()
     }

@@ -4,7 +4,7 @@ use Rattle.std.proofs.lemmas.List.Elements.{All-head, All-tail}
 use Rattle.std.specs.List.{All, Contains}
 use Rattle.st_key.specs.declared.period.Period.{Period}
 use Rattle.st_index.specs.declared.row.Row.{Row}
-use Rattle.st_index.specs.Rows.{EntryValue, Rises, key_end, name_of, place_of, rows_of}
+use Rattle.st_index.specs.Rows.{EntryValue, Name, Rises, key_end, name_of, place_of, rows_of}
 use Rattle.st_index.specs.Index.{Follow, IsAbsent, IsLawful, IsLeafAt, Region, region}
 use Rattle.st_index.proofs.Listing.{adds_length, swaps_length}
 use Rattle.st_ubtree.specs.Shrinking.{DropsFrom}
@@ -115,6 +115,10 @@ module _ {A : Type 0} (period : Period) where
         let l = (h.inside period 0 hi s e).0 in
         subst (λ ps. Contains (regions_of hi ps) (region first last)) (sym h.is)
         (length h.before, regions_longer hi h.before (page first entries) h.after, region_at 0 hi h.before (page first entries) h.after last (region first last) l (h.high period 0 hi s e))
+
+  -- no row stands past the last page
+  pub absent_past : (key hi : ℕ) (name : Name) (ps : List (PageValue A)) → Spans period 0 hi ps → hi ≤ key → IsAbsent period key name (rows_in ps)
+  absent_past key hi name ps s past = λ k d l at named. let low = page_rows_below period 0 hi ps s k d l in omega (arith, low, at, past)
 
   -- a tree that changes
 

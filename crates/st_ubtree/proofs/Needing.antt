@@ -168,6 +168,15 @@ module _ {A : Type 0} where
         (All-append P (entries_in front) (entries_in kid.pages ++ entries_in back) (λ k d m e. let a = low k d m in absurd (omega (arith, a, e, from)))
         (All-append P (entries_in kid.pages) (entries_in back) h (λ k d m e. let a = high k d m in absurd (omega (arith, a, e, to)))))
 
+    -- a key that has no entry under a node has none under the child
+    pub kid_none : All (λ (e : EntryValue A). e.at ≡ key → ⊥) (entries_in (pages_of kids)) → All (λ (e : EntryValue A). e.at ≡ key → ⊥) (entries_in kid.pages)
+    kid_none h =
+        let P : EntryValue A → Type 0 = λ e. e.at ≡ key → ⊥ in
+        let front = pages_of (take i kids) in
+        let back = pages_of (drop (suc i) kids) in
+        let split = ap entries_in (pages_split kids i kid l read) ∙ entries-append front (kid.pages ++ back) ∙ ap (λ es. entries_in front ++ es) (entries-append kid.pages back) in
+        all_left P (entries_in kid.pages) (entries_in back) (all_right P (entries_in front) (entries_in kid.pages ++ entries_in back) (subst (All P) split h))
+
 pub with_full : (width height split : ℕ) → 32 ≤ width → split ≡ height + 1 → splits_with width height split ≡ split + 1
 with_full width height split l e = ap (λ b. if b then split else if eqb split (height + 1) then split + 1 else split) (le-ltb width 32 l) ∙ ap (λ b. if b then split + 1 else split) (eq-eqb split (height + 1) e)
 

@@ -78,6 +78,7 @@ pub struct Needs {
 fn page_needs<A: Allocator + Copy>(entries: &[Entry<A>], key: Key) -> Needs
     requires { DoRise entries.now }
     ensures rows { All (λ (e : EntryValue A). e.at ≡ rank key → length e.rows ≡ result.rows) entries.now }
+    ensures no_rows { All (λ (e : EntryValue A). e.at ≡ rank key → ⊥) entries.now → result.rows ≡ 0 }
     ensures in_range { result.rows + 1 < 2 ^ 64 }
     ensures splits { splits_page entries.now 1 (rank key) ≡ split_nodes result.inners }
 {
@@ -288,6 +289,7 @@ impl<A: Allocator + Copy> Node<A> {
     pub fn needs(&self, key: Key) -> Needs
         requires { AreAround (rank key) self.now.pages }
         ensures rows { All (λ (e : EntryValue A). e.at ≡ rank key → length e.rows ≡ result.rows) (entries_in self.now.pages) }
+        ensures no_rows { All (λ (e : EntryValue A). e.at ≡ rank key → ⊥) (entries_in self.now.pages) → result.rows ≡ 0 }
         ensures in_range { result.rows + 1 < 2 ^ 64 }
         ensures splits { splits self.now (rank key) ≡ split_nodes result.inners }
     {

@@ -40,3 +40,6 @@ loop-level-preserved c =
 
 pub returns-clause-none : goal.returns-clause-none
 returns-clause-none c = jumps.none_above c.args.zbox.now c.args.z c.loop-level.level c.loop-level.invariant (omega arith)
+
+pub loop-level-init : goal.loop-level-init
+loop-level-init c = search rules

@@ -2,7 +2,6 @@ use Rattle.std.proofs.Common.{rules}
 use Rattle.std.proofs.lemmas.Fn.{always_returns_same}
 use Rattle.std.specs.Ordering.{nat_cmp}
 use Rattle.st_key.specs.Key.{rank}
-use Rattle.st_index.specs.declared.row.Row.{Row}
 use Rattle.st_index.specs.Rows.{EntryValue}
 use Rattle.st_index.proofs.entries.find.Goals as goal
 

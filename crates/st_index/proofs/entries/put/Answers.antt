@@ -1,10 +1,9 @@
-use Rattle.std.proofs.Common.{◌≡◌, ℕ, ◌<◌, ◌∷◌, [], length, subst, sym, ap, ◌∙◌, get_or}
-use Rattle.st_index.specs.Rows.{EntryValue, name_of, Rises, rows_of, place_of}
+use Rattle.std.proofs.Common.{◌≡◌, ◌<◌, length, subst, sym, ap, ◌∙◌}
+use Rattle.st_index.specs.Rows.{EntryValue, name_of, rows_of, place_of}
 use Rattle.std.specs.Prelude.{vec_capacity}
 use Rattle.st_key.specs.Key.{rank}
-use Rattle.st_index.specs.Index.{Adds, IsAbsent}
+use Rattle.st_index.specs.Index.{IsAbsent}
 use Rattle.st_index.proofs.Names.{nat_equal}
-use Rattle.st_index.specs.declared.row.Row.{Row}
 use Rattle.st_index.proofs.Putting.{held_added, held_rising, missing_added, missing_rising}
 use Rattle.st_index.proofs.Taking.{missing_key}
 use Rattle.st_index.proofs.entries.put.Goals as goal

@@ -1,9 +1,8 @@
-use Rattle.std.proofs.Common.{◌≡◌, ℕ, ◌<◌, ◌∷◌, [], ◌++◌, length, subst, sym, ap, ◌∙◌, get_or, set, refl, arith, rules}
+use Rattle.std.proofs.Common.{◌≡◌, subst, sym, ap, ◌∙◌}
 use Rattle.st_key.specs.Key.{rank}
-use Rattle.st_index.specs.Rows.{Name, name_of, EntryValue, Rises, rows_of, place_of}
-use Rattle.st_index.specs.Index.{Swaps, IsAbsent}
+use Rattle.st_index.specs.Rows.{name_of, EntryValue, rows_of}
+use Rattle.st_index.specs.Index.{IsAbsent}
 use Rattle.st_index.proofs.Names.{nat_equal}
-use Rattle.st_index.specs.declared.row.Row.{Row}
 use Rattle.st_index.proofs.Taking.{missing_absent, absent_around, swapped_inside, swapped_placed, swapped_entry, changed_rising, around}
 use Rattle.st_index.proofs.entries.swap.Goals as goal
 

@@ -1,14 +1,13 @@
-use Rattle.std.proofs.Common.{◌≡◌, ℕ, ◌<◌, ◌∷◌, [], ◌++◌, length, subst, sym, ap, ◌∙◌, get_or, set, refl, arith, rules}
+use Rattle.std.proofs.Common.{◌≡◌, [], length, subst, sym, ap, ◌∙◌}
 use Rattle.std.proofs.lemmas.List.{nil_from_length}
 use Rattle.std.proofs.lemmas.Bool.{eqb-true, eqb-false}
 use Rattle.std.specs.List.{remove}
 use Rattle.st_key.specs.Key.{rank}
-use Rattle.st_index.specs.Rows.{Name, name_of, EntryValue, Rises, rows_of, place_of}
-use Rattle.st_index.specs.Index.{Adds, IsAbsent}
+use Rattle.st_index.specs.Rows.{EntryValue, rows_of}
+use Rattle.st_index.specs.Index.{IsAbsent}
 use Rattle.st_index.proofs.Names.{nat_equal}
 use Rattle.st_index.proofs.Taking.{missing_absent, absent_around, taken_adds, emptied, emptied_rows, emptied_rising, changed_rising, taken_entry, taken_placed, around}
 use Rattle.st_index.proofs.entries.take.Goals as goal
-use Rattle.st_index.specs.declared.row.Row.{Row}
 use Rattle.st_index.proofs.entries.take.Goals.{then-is_empty, else-is_empty}
 
 pub returns-in_default-clause-absent : goal.returns-in_default-clause-absent

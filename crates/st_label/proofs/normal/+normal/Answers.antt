@@ -1,7 +1,6 @@
 use Rattle.std.proofs.Common.{◌≡◌, length, map, ap, ◌∙◌, sym, arith}
 use Rattle.std.proofs.lemmas.Simd.{map-map}
 use Rattle.std.proofs.lemmas.List.{take_all}
-use Rattle.st_label.specs.Tree as label
 use Rattle.st_label.specs.Normal.{normal, gathered, whole_of}
 use Rattle.st_label.specs.Views.{tree_view, op_view}
 use Rattle.st_label.proofs.Gather.{one_more_normal, level_gathered}

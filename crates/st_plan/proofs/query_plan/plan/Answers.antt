@@ -1,4 +1,4 @@
-use Rattle.std.proofs.Common.{subst, arith}
+use Rattle.std.proofs.Common.{rules, subst, arith}
 use Rattle.st_plan.specs.QueryPlan.{IsQueryPlan, PartPlans}
 use Rattle.st_plan.proofs.QueryPlans.{rising, in_budget, whole, exact, only_query_plan}
 use Rattle.st_plan.proofs.PlanOfLemmas.{is_query_plan_of}
@@ -33,3 +33,6 @@ returns-clause-whole g c k has = whole c.args.budget c.parts-parts.result.items 
 
 pub returns-clause-exact : goal.returns-clause-exact
 returns-clause-exact g c k held = (c.parts-parts.ensures.whole k).0 (exact c.args.budget c.parts-parts.result.items c.in_ok-parts.parts.items k (plans g c) held)
+
+pub returns-clause-budget : goal.returns-clause-budget
+returns-clause-budget g c = search rules

@@ -1,4 +1,4 @@
-use Rattle.std.proofs.Common.{rules, ap, refl, sym, subst, true, [], ◌∷◌, ◌≡◌, ◌∙◌, arith, codes, map, string_bytes, is_some}
+use Rattle.std.proofs.Common.{ap, refl, sym, subst, true, [], ◌∷◌, ◌≡◌, ◌∙◌, arith, map, string_bytes, is_some}
 use Rattle.std.specs.List.{All}
 use Rattle.std.proofs.lemmas.List.Elements.{All-cons, All-nil}
 use Rattle.std.proofs.lemmas.Result.{err_from_is_err_and}
@@ -6,13 +6,13 @@ use Rattle.clap.specs.Built.{FitsChain}
 use Rattle.clap.specs.Words.{HasKind, fault_of, first_value, found_of, is_simple, is_simple_and_free, matches_of}
 use Rattle.clap.proofs.CallerLemmas.{required_in_chain}
 use Rattle.st_run.specs.CommandLine.{Refuses}
-use Rattle.st_run.proofs.Refusing.{fits, is_command, refused, two_ids}
+use Rattle.st_run.proofs.Refusing.{is_command, refused, two_ids}
 use Rattle.st_run.proofs.command_line.parse.Goals as goal
 
 pub returns-clause-ok : goal.returns-clause-ok
 returns-clause-ok c =
-    let is = is_command c.new-3.result c.in_ok-arg.field-0 c.in_ok-command.command c.action-root.result c.action-names.result c.new-3.ensures.app
-    (search rules) (search rules) (search rules) (search rules) c.in_ok-arg.ensures c.in_ok-command.ensures in
+    let is = is_command c.new.result c.in_ok-arg.field-0 c.in_ok-command.command c.root.result c.names.result c.new.ensures.app
+    c.root.ensures.rule c.names.ensures.rule c.root.ensures.fits.1 c.names.ensures.fits.1 c.in_ok-arg.ensures c.in_ok-command.ensures in
     let words = map string_bytes c.args.words.now in
     let ensures = c.in_ok-try_get_matches_from.ensures in
     record {
@@ -22,8 +22,8 @@ returns-clause-ok c =
 
 pub returns-in_err-try_get_matches_from-clause-err : goal.returns-in_err-try_get_matches_from-clause-err
 returns-in_err-try_get_matches_from-clause-err c =
-    let is = is_command c.new-3.result c.in_ok-arg.field-0 c.in_ok-command.command c.action-root.result c.action-names.result c.new-3.ensures.app
-    (search rules) (search rules) (search rules) (search rules) c.in_ok-arg.ensures c.in_ok-command.ensures in
+    let is = is_command c.new.result c.in_ok-arg.field-0 c.in_ok-command.command c.root.result c.names.result c.new.ensures.app
+    c.root.ensures.rule c.names.ensures.rule c.root.ensures.fits.1 c.names.ensures.fits.1 c.in_ok-arg.ensures c.in_ok-command.ensures in
     let words = map string_bytes c.args.words.now in
     let fault = c.from_residual-in_err-try_get_matches_from in
     let p = err_from_is_err_and fault.result fault.ensures.1 in
@@ -33,14 +33,12 @@ returns-in_err-try_get_matches_from-clause-err c =
 
 pub returns-clause-root : goal.returns-clause-root
 returns-clause-root c =
-    let root = c.action-root.result in
-    let names = c.action-names.result in
-    let root_id : root.id.now ≡ codes "root" = search rules in
-    let names_id : names.id.now ≡ codes "NAME" = search rules in
-    let fit : All FitsChain (root ∷ names ∷ []) = All-cons FitsChain root (names ∷ []) (fits root (codes "root") root_id refl (search rules) (search rules))
-    (All-cons FitsChain names [] (fits names (codes "NAME") names_id refl (search rules) (search rules)) (All-nil FitsChain)) in
-    let given = required_in_chain c.new-3.result c.in_ok-command.command (root ∷ names ∷ []) 0 root c.in_ok-try_get_matches_from.field-0
+    let root = c.root.result in
+    let names = c.names.result in
+    let fit : All FitsChain (root ∷ names ∷ []) = All-cons FitsChain root (names ∷ []) c.root.ensures.fits
+    (All-cons FitsChain names [] c.names.ensures.fits (All-nil FitsChain)) in
+    let given = required_in_chain c.new.result c.in_ok-command.command (root ∷ names ∷ []) 0 root c.in_ok-try_get_matches_from.field-0
     (c.in_ok-arg.field-0, c.in_ok-arg.ensures, (c.in_ok-command.command, c.in_ok-command.ensures, refl))
-    c.new-3.ensures.empty.0 c.new-3.ensures.empty.1 c.new-3.ensures.local c.new-3.ensures.negates
-    fit (two_ids root names root_id names_id) (omega arith) (search rules, search rules, search rules, search rules) c.in_ok-try_get_matches_from.ensures.parsed in
-    subst (λ id. is_some (first_value (found_of c.in_ok-try_get_matches_from.field-0) id) ≡ true) root_id given
+    c.new.ensures.empty.0 c.new.ensures.empty.1 c.new.ensures.local c.new.ensures.negates
+    fit (two_ids root names c.root.ensures.id c.names.ensures.id) (omega arith) c.root.ensures.takes c.in_ok-try_get_matches_from.ensures.parsed in
+    subst (λ id. is_some (first_value (found_of c.in_ok-try_get_matches_from.field-0) id) ≡ true) c.root.ensures.id given

@@ -1,6 +1,6 @@
 use Rattle.std.proofs.Common.{rules, ◌≡◌, Some, refl}
 use Rattle.st_core.specs.Step.{asker_of}
-use Rattle.st_core.proofs.Steps.{step_refused, step_allowed}
+use Rattle.st_core.proofs.Steps.{step_refused}
 use Rattle.st_core.proofs.store.Store.change.Goals as goal
 
 pub returns-in-Err-clause-reply : goal.returns-in-Err-clause-reply
@@ -13,16 +13,4 @@ pub returns-in-Err-clause-state : goal.returns-in-Err-clause-state
 returns-in-Err-clause-state g c =
     let heard : asker_of c.args.self.now.directory c.args.asked.now.token ≡ Some c.in-Some.asker.now = search rules in
     let whole = step_refused c.args.self.now c.args.asked.now c.in-Some.asker.now c.in-Good.request heard c.in-Good.is c.in-Err.refusal (search rules) c.requires in
-    rw whole (search rules)
-
-pub returns-clause-reply : goal.returns-clause-reply
-returns-clause-reply g c =
-    let heard : asker_of c.args.self.now.directory c.args.asked.now.token ≡ Some c.in-Some.asker.now = search rules in
-    let whole = step_allowed c.args.self.now c.args.asked.now c.in-Some.asker.now c.in-Good.request heard c.in-Good.is (search rules) c.requires in
-    rw whole (search rules)
-
-pub returns-clause-state : goal.returns-clause-state
-returns-clause-state g c =
-    let heard : asker_of c.args.self.now.directory c.args.asked.now.token ≡ Some c.in-Some.asker.now = search rules in
-    let whole = step_allowed c.args.self.now c.args.asked.now c.in-Some.asker.now c.in-Good.request heard c.in-Good.is (search rules) c.requires in
     rw whole (search rules)

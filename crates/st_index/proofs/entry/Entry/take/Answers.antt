@@ -1,8 +1,6 @@
-use Rattle.std.proofs.Common.{◌≡◌, ℕ, ◌<◌, ◌∷◌, [], ◌++◌, length, subst, sym, ap, ◌∙◌, get_or, refl}
-use Rattle.st_index.specs.Rows.{Name, name_of, EntryValue, NamesRise}
-use Rattle.st_index.specs.Index.{Adds}
+use Rattle.std.proofs.Common.{ap, ◌∙◌}
+use Rattle.st_index.specs.Rows.{name_of}
 use Rattle.st_index.proofs.Names.{name_equal}
-use Rattle.st_index.specs.declared.row.Row.{Row}
 use Rattle.st_index.proofs.Taking.{removed_adds, removed_named, names_missing}
 use Rattle.st_index.proofs.entry.Entry.take.Goals as goal
 

@@ -1,11 +1,9 @@
-use Rattle.std.proofs.Common.{◌≡◌, ℕ, ◌+◌, ◌-◌, ◌<◌, ◌^◌, ◌∷◌, [], ◌++◌, length, subst, sym, ap, ◌∙◌, get_or, refl, arith, rules}
+use Rattle.std.proofs.Common.{◌≡◌, ◌+◌, ◌-◌, [], subst, sym, ap, arith}
 use Rattle.std.proofs.lemmas.List.{append-nil}
 use Rattle.st_key.specs.Key.{rank}
 use Rattle.st_index.specs.ListValue.{ListValue}
-use Rattle.st_index.specs.Rows.{EntryValue, Rises, key_end, name_of, place_of, rows_of}
-use Rattle.st_index.specs.Index.{Adds, Holds, IsAbsent, IsLeafAt, Region, Swaps, region}
-use Rattle.st_index.proofs.Listing.{adds_length, lawful, swaps_length}
-use Rattle.st_index.proofs.Taking.{absent_held}
+use Rattle.st_index.specs.Rows.{Rises, key_end, rows_of}
+use Rattle.st_index.specs.Index.{region}
 use Rattle.st_index.proofs.list_index.ListIndexRowIndex.leaf_at.Goals as goal
 
 pub returns-clause-leaf : goal.returns-clause-leaf

@@ -1,8 +1,7 @@
-use Rattle.std.proofs.Common.{◌≡◌, ℕ, ◌+◌, ◌-◌, ◌<◌, ◌≤◌, ◌^◌, length, subst, sym, ap, ◌∙◌, arith, rules, vec_len, vec_capacity}
+use Rattle.std.proofs.Common.{◌≡◌, ◌+◌, ◌<◌, ◌≤◌, length, arith, rules, vec_len, vec_capacity}
 use Rattle.std.specs.List.{All}
-use Rattle.std.proofs.lemmas.List.Elements.{All-weaker}
 use Rattle.st_key.specs.Key.{rank}
-use Rattle.st_index.specs.Rows.{EntryValue, key_end, place_of, rows_of}
+use Rattle.st_index.specs.Rows.{EntryValue, key_end, rows_of}
 use Rattle.st_index.proofs.list_index.ListIndexRowIndex.prepare.Goals as goal
 
 pub returns : goal.returns

@@ -1,9 +1,8 @@
-use Rattle.std.proofs.Common.{◌≡◌, ℕ, ◌+◌, ◌*◌, ◌/◌, ◌%◌, ◌^◌, sym, ap, ◌∙◌, arith, rules}
+use Rattle.std.proofs.Common.{◌≡◌, ℕ, ◌+◌, ◌*◌, ◌/◌, ◌%◌, ◌^◌, ap, ◌∙◌}
 use Rattle.st_key.specs.declared.period.Period.{Period}
 use Rattle.st_key.specs.Morton.{address_of}
 use Rattle.st_key.specs.Period.{seconds_of}
 use Rattle.st_index.specs.declared.row.Row.{Row}
-use Rattle.st_key.specs.Key.{rank}
 use Rattle.st_index.specs.Rows.{place_of}
 use Rattle.st_index.proofs.row.Row.key.Goals as goal
 

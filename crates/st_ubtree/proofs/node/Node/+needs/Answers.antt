@@ -1,11 +1,13 @@
-use Rattle.std.proofs.Common.{◌≡◌, ◌+◌, ◌-◌, ◌<◌, max, length, subst, sym, ap, ◌∙◌, arith, rules, vec_len, vec_capacity}
+use Rattle.std.proofs.Common.{[], ◌≡◌, ◌+◌, ◌-◌, ◌<◌, max, length, subst, sym, ap, ◌∙◌, arith, rules, vec_len, vec_capacity}
 use Rattle.st_key.specs.Key.{rank}
+use Rattle.st_index.specs.Rows.{EntryValue}
+use Rattle.st_index.proofs.Climbing.{all_left}
 use Rattle.st_ubtree.specs.Growing.{AreAround}
 use Rattle.st_ubtree.specs.Nodes.{IsNode, IsInner, node_value, pages_under}
 use Rattle.st_ubtree.specs.Pages.{NodeValue, pages_of}
 use Rattle.st_ubtree.specs.Splits.{chains_of, split_nodes, splits, splits_in, splits_page, splits_with}
 use Rattle.st_ubtree.proofs.Lifting.{that_kid}
-use Rattle.st_ubtree.proofs.Needing.{kid_around, kid_rows, kid_splits_by, splits_alone}
+use Rattle.st_ubtree.proofs.Needing.{kid_around, kid_none, kid_rows, kid_splits_by, splits_alone}
 use Rattle.st_ubtree.proofs.node.Node.+needs.Goals as goal
 
 pub needs-needs-requires : goal.needs-needs-requires
@@ -40,6 +42,12 @@ returns-in-Page-clause-splits g t c =
     let same : splits c.args.self.now (rank c.args.key) ≡ splits_page c.in-Page.entries.items 1 (rank c.args.key) = ap (λ (v : NodeValue g.row.A.Denot). splits v (rank c.args.key)) (sym c.self.view_is) ∙ ap (λ k. splits (node_value (rank c.self.inside.first) c.self.inside.height k) (rank c.args.key)) c.in-Page.is ∙ splits_alone (rank c.args.key) (rank c.self.inside.first) c.self.inside.height c.in-Page.entries.items in
     same ∙ rw c.deref.ensures.value at c.page_needs.ensures.splits
 
+pub returns-in-Page-clause-no_rows : goal.returns-in-Page-clause-no_rows
+returns-in-Page-clause-no_rows g t c = λ none.
+    let P : EntryValue g.row.A.Denot → Type 0 = λ e. e.at ≡ rank c.args.key → ⊥ in
+    let pages = ap (λ (v : NodeValue g.row.A.Denot). v.pages) (sym c.self.view_is) ∙ ap (pages_under (rank c.self.inside.first)) c.in-Page.is in
+    c.page_needs.ensures.no_rows (rw c.deref.ensures.value (all_left P c.in-Page.entries.items [] (rw pages at none)))
+
 pub returns-in-Inner-clause-rows : goal.returns-in-Inner-clause-rows
 returns-in-Inner-clause-rows g t c =
     let kids = c.in-Inner.kids.items in
@@ -55,6 +63,22 @@ returns-in-Inner-clause-rows g t c =
     let pages : c.args.self.now.pages ≡ pages_of kids = ap (λ (v : NodeValue g.row.A.Denot). v.pages) (sym c.self.view_is) ∙ ap (pages_under (rank c.self.inside.first)) c.in-Inner.is in
     let o = subst (AreAround (rank c.args.key)) pages c.requires in
     rw pages (kid_rows (rank c.args.key) good.below kids i n kid good.each found is l c.index-kid.ensures o c.needs-needs.result.rows c.needs-needs.ensures.rows)
+
+pub returns-in-Inner-clause-no_rows : goal.returns-in-Inner-clause-no_rows
+returns-in-Inner-clause-no_rows g t c = λ none.
+    let kids = c.in-Inner.kids.items in
+    let good : IsInner (rank c.self.inside.first) c.self.inside.height kids (vec_capacity c.in-Inner.kids) = subst (IsNode (rank c.self.inside.first) c.self.inside.height) c.in-Inner.is c.self.invariant in
+    let i = c.max-at.result - 1 in
+    let n = c.count_up_to.result in
+    let m : c.max-at.result ≡ max n 1 = c.max-at.ensures in
+    let is : i + 1 ≡ max n 1 = omega (arith, m) in
+    let found = rw c.deref-in-Inner.ensures.value at c.count_up_to.ensures.place in
+    let bound = rw c.deref-in-Inner.ensures.value at c.count_up_to.ensures.bound in
+    let l : i < length kids = let two = good.not_less in omega (arith, is, bound, two) in
+    let kid = c.index-kid.result.now in
+    let pages : c.args.self.now.pages ≡ pages_of kids = ap (λ (v : NodeValue g.row.A.Denot). v.pages) (sym c.self.view_is) ∙ ap (pages_under (rank c.self.inside.first)) c.in-Inner.is in
+    let o = subst (AreAround (rank c.args.key)) pages c.requires in
+    c.needs-needs.ensures.no_rows (kid_none (rank c.args.key) good.below kids i n kid good.each found is l c.index-kid.ensures o (rw pages at none))
 
 pub returns-in-Inner-clause-splits : goal.returns-in-Inner-clause-splits
 returns-in-Inner-clause-splits g t c =

@@ -1,7 +1,11 @@
-use Rattle.std.proofs.Common.{◌-◌, subst, sym}
+use Rattle.std.proofs.Common.{◌-◌, inl, inr, subst, sym, arith}
+use Rattle.std.proofs.lemmas.Bool.{cases_lt}
 use Rattle.st_key.specs.Key.{rank}
+use Rattle.st_index.specs.Rows.{key_end}
+use Rattle.st_index.specs.Index.{IsAbsent}
+use Rattle.st_ubtree.specs.Pages.{rows_in}
 use Rattle.st_ubtree.specs.Shrinking.{DropsFrom}
-use Rattle.st_ubtree.proofs.Lawful.{lawful_tree, tree_shrinks}
+use Rattle.st_ubtree.proofs.Lawful.{absent_past, lawful_tree, tree_shrinks}
 use Rattle.st_ubtree.proofs.tree.UbTreeRowIndex.remove.Goals as goal
 
 pub returns-in_err-row-clause-lawful : goal.returns-in_err-row-clause-lawful
@@ -11,3 +15,20 @@ pub returns-clause-lawful : goal.returns-clause-lawful
 returns-clause-lawful g c =
     let drops = subst (DropsFrom (rank c.args.key) c.in_ok-row.row c.self.inside.root.pages) (sym c.lower.ensures.pages) c.in_ok-row.ensures.some.by in
     lawful_tree c.self.inside.period c.lower.new.self (c.self.inside.len - 1) (tree_shrinks c.self.inside.period (rank c.args.key) c.in_ok-row.row c.self.inside.root c.lower.new.self c.self.inside.len c.self.invariant c.lower.ensures.wide c.count_keys.ensures.keys drops)
+
+pub returns-in_err-row-clause-absent : goal.returns-in_err-row-clause-absent
+returns-in_err-row-clause-absent g c =
+    let p = c.self.inside.period in
+    let key = rank c.args.key in
+    let pages = c.self.inside.root.pages in
+    let absent : IsAbsent p key (record { id = c.args.id.now; label = c.args.label.now }) (rows_in pages) =
+    elim (cases_lt key (key_end p)) [
+      | inl below ↦ c.in_err-row.ensures.absent p 0 (key_end p) c.self.invariant.spans (omega arith) below
+      | inr past ↦ absent_past p key (key_end p) (record { id = c.args.id.now; label = c.args.label.now }) pages c.self.invariant.spans past
+    ] in
+    rw (c.from_residual.ensures, ← c.self.view_is) absent
+
+pub invariant_of-self-2 : goal.invariant_of-self-2
+invariant_of-self-2 g c =
+    let drops = subst (DropsFrom (rank c.args.key) c.in_ok-row.row c.self.inside.root.pages) (sym c.lower.ensures.pages) c.in_ok-row.ensures.some.by in
+    tree_shrinks c.self.inside.period (rank c.args.key) c.in_ok-row.row c.self.inside.root c.lower.new.self c.self.inside.len c.self.invariant c.lower.ensures.wide c.count_keys.ensures.keys drops

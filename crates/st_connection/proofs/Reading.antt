@@ -1,0 +1,134 @@
+-- The items at the front of a text, and how they stay under more bytes.
+use Rattle.std.proofs.Common.{◌≡◌, ◌≢◌, ◌∙◌, ℕ, ◌+◌, ◌<◌, ◌≤◌, Bool, true, false, List, [], ◌∷◌, ◌++◌, length, refl, sym, ap, subst, arith, length-drop}
+use Rattle.std.proofs.lemmas.List.{drop-append-le}
+use Rattle.std.proofs.lemmas.List.Folds.{list_any-append}
+use Rattle.std.proofs.lemmas.Grind.{common_steps}
+use Rattle.httparse.specs.Grammar.{RequestHead}
+use Rattle.st_http.specs.declared.fields.Reason.{Reason}
+use Rattle.st_http.specs.Fields.{closes_after}
+use Rattle.st_http.specs.First.{First, message, fault, more, IsFirst, fields_of, size_of}
+use Rattle.st_http.specs.Items.{after_message, Items, none, faulty, last, next}
+use Rattle.st_http.proofs.FirstLemmas.{first_unique, first_kept}
+use Rattle.st_http.proofs.ItemLemmas.{message_size}
+use Rattle.st_connection.specs.Items.{closes, after_item, is_closed, Begins}
+
+-- what follows a text follows what its item leaves
+after_grows : (text after : List ℕ) (item : First) → IsFirst text item → item ≢ more → closes item ≡ false
+    → after_item (text ++ after) item ≡ after_item text item ++ after
+after_grows text after (message h body bare) is some stays = drop-append-le (size_of h body) text after (message_size text h body bare is).1
+after_grows text after (fault reason bare) is some stays = cc
+after_grows text after more is some stays = absurd (some refl)
+
+-- an item after which the connection stays takes a byte at least
+after_shorter : (text : List ℕ) (item : First) → IsFirst text item → item ≢ more → closes item ≡ false
+    → length (after_item text item) < length text
+after_shorter text (message h body bare) is some stays =
+    let l = message_size text h body bare is in omega (arith, l.0, l.1, length-drop (size_of h body) text)
+after_shorter text (fault reason bare) is some stays = cc
+after_shorter text more is some stays = absurd (some refl)
+
+first_open : (item : First) (items : List First) → is_closed (item ∷ items) ≡ false → closes item ≡ false
+first_open item items h = grind (arith, common_steps, h)
+
+rest_open : (item : First) (items : List First) → is_closed (item ∷ items) ≡ false → is_closed items ≡ false
+rest_open item items h = grind (arith, common_steps, h)
+
+pub closed_one : (item : First) → is_closed (item ∷ []) ≡ closes item
+closed_one item = grind (arith, common_steps)
+
+pub closed_join : (items others : List First) → is_closed items ≡ false → is_closed (items ++ others) ≡ is_closed others
+closed_join items others o = grind (arith, common_steps, list_any-append closes items others, o)
+
+pub begins_none : (text : List ℕ) → Begins text [] text
+unfolding Begins
+begins_none text = refl
+
+pub begins_one : (text : List ℕ) (item : First) → IsFirst text item → item ≢ more → Begins text (item ∷ []) (after_item text item)
+unfolding Begins
+begins_one text item is some = (is, some, (λ closing. refl), refl)
+
+pub begins_grows : (text : List ℕ) (items : List First) (rest after : List ℕ) → Begins text items rest → is_closed items ≡ false
+    → Begins (text ++ after) items (rest ++ after)
+unfolding Begins
+begins_grows text [] rest after b o = ap (λ (t : List ℕ). t ++ after) b
+begins_grows text (item ∷ items) rest after (is, some, ends, later) o =
+    let tail = begins_grows (after_item text item) items rest after later (rest_open item items o) in
+    let grows = after_grows text after item is some (first_open item items o) in
+    (first_kept text after item some is, some, ends, subst (λ (t : List ℕ). Begins t items (rest ++ after)) (sym grows) tail)
+
+pub begins_join : (text : List ℕ) (items : List First) (rest : List ℕ) (others : List First) (end : List ℕ) → Begins text items rest
+    → is_closed items ≡ false → Begins rest others end → Begins text (items ++ others) end
+unfolding Begins
+begins_join text [] rest others end b o c = subst (λ (t : List ℕ). Begins t others end) b c
+begins_join text (item ∷ items) rest others end (is, some, ends, later) o c =
+    let stays = first_open item items o in
+    (is, some, (λ closing. absurd (let e : closes item ≡ false = stays in cc)), begins_join (after_item text item) items rest others end later (rest_open item items o) c)
+
+-- each item after which the connection stays takes a byte at least
+pub few_items : (text : List ℕ) (items : List First) (rest : List ℕ) → Begins text items rest → is_closed items ≡ false
+    → length items + length rest ≤ length text
+unfolding Begins
+few_items text [] rest b o = omega (arith, ap length b)
+few_items text (item ∷ items) rest (is, some, ends, later) o =
+    let tail = few_items (after_item text item) items rest later (rest_open item items o) in
+    let shorter = after_shorter text item is some (first_open item items o) in omega (arith, tail, shorter)
+
+message_whole : (text : List ℕ) (h : RequestHead) (body : List ℕ) (bare : Bool) (items : List First) (rest : List ℕ)
+    → IsFirst text (message h body bare) → (closes_after h.minor (fields_of h) ≡ true → items ≡ []) → Begins (after_message text h body) items rest
+    → (closes_after h.minor (fields_of h) ≡ false → Items (after_message text h body) items rest) → Items text (message h body bare ∷ items) rest
+unfolding Begins
+message_whole text h body bare items rest is ends later others = go (closes_after h.minor (fields_of h)) refl
+  where
+    single : (after : List First) → after ≡ [] → Begins (after_message text h body) after rest → closes_after h.minor (fields_of h) ≡ true
+        → Items text (message h body bare ∷ after) rest
+    single [] e b closing = subst (λ (t : List ℕ). Items text (message h body bare ∷ []) t) (sym b) (last is closing)
+    single (other ∷ after) e b closing = cc
+
+    go : (t : Bool) → closes_after h.minor (fields_of h) ≡ t → Items text (message h body bare ∷ items) rest
+    go true e = single items (ends e) later e
+    go false e = next is e (others e)
+
+fault_whole : (text : List ℕ) (reason : Reason) (bare : Bool) (items : List First) (rest : List ℕ) → IsFirst text (fault reason bare)
+    → items ≡ [] → Begins text items rest → Items text (fault reason bare ∷ items) rest
+unfolding Begins
+fault_whole text reason bare [] rest is e b = subst (λ (t : List ℕ). Items text (fault reason bare ∷ []) t) (sym b) (faulty is)
+fault_whole text reason bare (other ∷ items) rest is e b = cc
+
+open_after : (item : First) (items : List First) → closes item ≡ false → is_closed items ≡ false → is_closed (item ∷ items) ≡ false
+open_after item items a b = grind (arith, common_steps, a, b)
+
+-- a text that begins with items has these and no more, where one closes or nothing whole follows
+pub items_whole : (text : List ℕ) (items : List First) (rest : List ℕ) → Begins text items rest
+    → (is_closed items ≡ false → IsFirst rest more) → Items text items rest
+unfolding Begins
+items_whole text [] rest b waits = subst (λ (t : List ℕ). Items t [] rest) b (none (waits refl))
+items_whole text (message h body bare ∷ items) rest (is, some, ends, later) waits =
+    message_whole text h body bare items rest is ends later
+    (λ stays. items_whole (after_message text h body) items rest later (λ o. waits (open_after (message h body bare) items stays o)))
+items_whole text (fault reason bare ∷ items) rest (is, some, ends, later) waits = fault_whole text reason bare items rest is (ends refl) later
+items_whole text (more ∷ items) rest (is, some, ends, later) waits = absurd (some refl)
+
+-- an item that closes is the last
+ends_there : (item only : First) (items : List First) → item ≡ only → closes only ≡ true → (closes item ≡ true → items ≡ [])
+    → (others : List First) × (only ∷ [] ≡ (item ∷ items) ++ others)
+ends_there item only items e closing ends =
+    let n : items ≡ [] = ends (ap closes e ∙ closing) in ([], ap (λ (i : First). i ∷ []) (sym e) ∙ ap (λ (l : List First). item ∷ (l ++ [])) (sym n))
+
+front_of : {text : List ℕ} {all : List First} {end : List ℕ} → Items text all end → (items : List First) (rest : List ℕ) → Begins text items rest
+    → (others : List First) × (all ≡ items ++ others)
+unfolding Begins
+front_of {text} {all} {end} q [] rest b = (all, refl)
+front_of (none {text} f) (item ∷ items) rest (is, some, ends, later) = absurd (some (first_unique text item more is f))
+front_of (faulty {text} {reason} {bare} f) (item ∷ items) rest (is, some, ends, later) =
+    ends_there item (fault reason bare) items (first_unique text item (fault reason bare) is f) refl ends
+front_of (last {text} {h} {body} {bare} f closing) (item ∷ items) rest (is, some, ends, later) =
+    ends_there item (message h body bare) items (first_unique text item (message h body bare) is f) closing ends
+front_of (next {text} {h} {body} {bare} {items = tail_items} f stays tail) (item ∷ items) rest (is, some, ends, later) =
+    let e : item ≡ message h body bare = first_unique text item (message h body bare) is f in
+    let tail_begins : Begins (after_message text h body) items rest = subst (λ (i : First). Begins (after_item text i) items rest) e later in
+    let r = front_of {text = after_message text h body} tail items rest tail_begins in
+    (r.0, ap (λ (i : First). i ∷ tail_items) (sym e) ∙ ap (λ (l : List First). item ∷ l) r.1)
+
+pub begins_front : (text : List ℕ) (items all : List First) (rest end : List ℕ) → Begins text items rest → Items text all end
+    → (others : List First) × (all ≡ items ++ others)
+begins_front text items all rest end b q = front_of q items rest b

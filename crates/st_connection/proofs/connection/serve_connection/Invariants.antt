@@ -1,0 +1,17 @@
+use Rattle.std.proofs.Common.{◌≡◌, ◌+◌, ◌-◌, ◌^◌, ◌<◌, ◌≤◌, false, length, take, min}
+use Rattle.st_connection.proofs.Turns.{Serving}
+use Rattle.st_connection.proofs.connection.serve_connection.Given as goal
+
+abbrev pub invariant-reads : goal.invariant-reads
+invariant-reads g l =
+    let left = g.R.Source.left in
+    let held = g.W.Sink.held in
+    let reads = g.R.Source.reads in
+    record {
+      serving : Serving g.X.Replies.answers l.initial.answerer l.answerer (take l.filled l.buffer) (left l.initial.reader) (left l.reader) (held l.initial.writer) (held l.writer) l.written l.turn;
+      within : l.filled ≤ length l.buffer;
+      reader_sound : g.R.Source.has_failed l.reader ≡ false;
+      writer_sound : g.W.Sink.has_failed l.writer ≡ false;
+      no_reads : l.turn ≡ 0 → reads l.reader ≡ reads l.initial.reader;
+      reads : 0 < l.turn → reads l.reader ≡ min (reads l.initial.reader + l.turn) (2 ^ 64 - 1);
+    }

@@ -1,0 +1,5 @@
+mod Keys
+mod Sorted
+mod First
+mod Sets
+mod Laws

@@ -1,0 +1,13 @@
+//! What a user has been given.
+use crate::name::Name;
+use crate::permission::Permission;
+use st_text::Items;
+use std::alloc::{Allocator, Global};
+
+/// A user and the table permissions that it has been granted on a table or a namespace, in listing
+/// order.
+#[derive(Drop)]
+pub struct Given<A: Allocator = Global> {
+    pub user: Name,
+    pub permissions: Items<Permission, A>,
+}

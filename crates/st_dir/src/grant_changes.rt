@@ -1,0 +1,133 @@
+//! Changes of grants on tables and namespaces.
+ghost use Rattle.std.specs.Prelude.{◌≡◌, true, false, Ok, Err, IfErr, IsOk, OnOk, OnErr};
+ghost use Rattle.st_dir.specs.Changes.{granted, revoked};
+ghost use Rattle.st_dir.specs.Directory.{is_user, is_table};
+ghost use Rattle.st_dir.specs.declared.fault.DirectoryFault.TheVariants.{NoUser, NoTable, NoMemory};
+ghost use Rattle.st_dir.specs.declared.grant.Scope.TheVariants.{OnTable, OnNamespace};
+
+use crate::directory::Directory;
+use crate::fault::DirectoryFault;
+use crate::grant::{Grant, Scope};
+use crate::name::Name;
+use crate::permission::Permission;
+use crate::table_name::TableName;
+use std::alloc::Allocator;
+
+impl<A: Allocator> Directory<A> {
+    // Gives a user that is there a permission on a scope.
+    fn grant(
+        &mut self,
+        user: &Name,
+        scope: Scope,
+        permission: Permission,
+    ) -> Result<(), DirectoryFault>
+        ensures no_user { is_user self.old user.now ≡ false → result ≡ Err NoUser }
+        ensures fault { is_user self.old user.now ≡ true → IfErr result (λ fault. fault ≡ NoMemory) }
+        ensures ok { OnOk result (self.new ≡ granted user.now scope permission self.old) }
+        ensures err { OnErr result (self.new ≡ self.old) }
+    {
+        if !self.has_user(user.as_str()) {
+            return Err(DirectoryFault::NoUser);
+        }
+        let grant = Grant {
+            user: user.copy(),
+            scope,
+            permission,
+        };
+        match self.grants.add(grant) {
+            Ok(()) => Ok(()),
+            Err(_) => Err(DirectoryFault::NoMemory),
+        }
+    }
+
+    // Takes a permission on a scope from a user that is there.
+    fn revoke(
+        &mut self,
+        user: &Name,
+        scope: Scope,
+        permission: Permission,
+    ) -> Result<(), DirectoryFault>
+        ensures no_user { is_user self.old user.now ≡ false → result ≡ Err NoUser }
+        ensures there { is_user self.old user.now ≡ true → IsOk result }
+        ensures ok { OnOk result (self.new ≡ revoked user.now scope permission self.old) }
+        ensures err { OnErr result (self.new ≡ self.old) }
+    {
+        if !self.has_user(user.as_str()) {
+            return Err(DirectoryFault::NoUser);
+        }
+        self.grants.remove(user.as_str(), &scope, permission);
+        Ok(())
+    }
+
+    /// Gives the user a permission on the table. `NoTable` comes before `NoUser`, and that before
+    /// `NoMemory`; an error leaves the directory as it was.
+    pub fn grant_table(
+        &mut self,
+        table: &TableName,
+        user: &Name,
+        permission: Permission,
+    ) -> Result<(), DirectoryFault>
+        ensures no_table { is_table self.old table.now ≡ false → result ≡ Err NoTable }
+        ensures no_user { is_table self.old table.now ≡ true → is_user self.old user.now ≡ false → result ≡ Err NoUser }
+        ensures fault { is_table self.old table.now ≡ true → is_user self.old user.now ≡ true → IfErr result (λ fault. fault ≡ NoMemory) }
+        ensures ok { OnOk result (self.new ≡ granted user.now (OnTable table.now) permission self.old) }
+        ensures err { OnErr result (self.new ≡ self.old) }
+    {
+        if !self.has_table(table) {
+            return Err(DirectoryFault::NoTable);
+        }
+        self.grant(user, Scope::OnTable(table.copy()), permission)
+    }
+
+    /// Takes a permission on the table itself from the user; grants on its namespace stay. `NoTable`
+    /// comes before `NoUser`; an error leaves the directory as it was.
+    pub fn revoke_table(
+        &mut self,
+        table: &TableName,
+        user: &Name,
+        permission: Permission,
+    ) -> Result<(), DirectoryFault>
+        ensures no_table { is_table self.old table.now ≡ false → result ≡ Err NoTable }
+        ensures no_user { is_table self.old table.now ≡ true → is_user self.old user.now ≡ false → result ≡ Err NoUser }
+        ensures there { is_table self.old table.now ≡ true → is_user self.old user.now ≡ true → IsOk result }
+        ensures ok { OnOk result (self.new ≡ revoked user.now (OnTable table.now) permission self.old) }
+        ensures err { OnErr result (self.new ≡ self.old) }
+    {
+        if !self.has_table(table) {
+            return Err(DirectoryFault::NoTable);
+        }
+        self.revoke(user, Scope::OnTable(table.copy()), permission)
+    }
+
+    /// Gives the user a permission on each table of the namespace, also on those made later. `NoUser`
+    /// comes before `NoMemory`; an error leaves the directory as it was.
+    pub fn grant_namespace(
+        &mut self,
+        namespace: &Name,
+        user: &Name,
+        permission: Permission,
+    ) -> Result<(), DirectoryFault>
+        ensures no_user { is_user self.old user.now ≡ false → result ≡ Err NoUser }
+        ensures fault { is_user self.old user.now ≡ true → IfErr result (λ fault. fault ≡ NoMemory) }
+        ensures ok { OnOk result (self.new ≡ granted user.now (OnNamespace namespace.now) permission self.old) }
+        ensures err { OnErr result (self.new ≡ self.old) }
+    {
+        self.grant(user, Scope::OnNamespace(namespace.copy()), permission)
+    }
+
+    /// Takes a permission on the namespace from the user; grants on its tables stay. `NoUser` where
+    /// there is no such user.
+    pub fn revoke_namespace(
+        &mut self,
+        namespace: &Name,
+        user: &Name,
+        permission: Permission,
+    ) -> Result<(), DirectoryFault>
+        ensures no_user { is_user self.old user.now ≡ false → result ≡ Err NoUser }
+        ensures there { is_user self.old user.now ≡ true → IsOk result }
+        ensures ok { OnOk result (self.new ≡ revoked user.now (OnNamespace namespace.now) permission self.old) }
+        ensures err { OnErr result (self.new ≡ self.old) }
+    {
+        self.revoke(user, Scope::OnNamespace(namespace.copy()), permission)
+    }
+}

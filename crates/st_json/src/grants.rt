@@ -1,0 +1,97 @@
+//! The lines about what is granted.
+ghost use Rattle.serde_json.specs.View.{view};
+ghost use Rattle.st_http.specs.declared.routes.Line.TheVariants as lines;
+ghost use Rattle.st_json.specs.Needs.{Tells};
+ghost use Rattle.st_json.specs.Bodies.{Made};
+
+use crate::fault::DecodeFault;
+use crate::{field, rule};
+use serde_json::Value;
+use st_policy::{FieldName, Request};
+use std::alloc::Allocator;
+
+pub fn grants<A: Allocator>(name: &str, object: &Value) -> Result<Request<A>, DecodeFault>
+    ensures { Tells (Made lines.Grants name.now (view object.now)) result }
+{
+    let table = rule::table(name)?;
+    Ok(Request::Grants { table })
+}
+
+pub fn namespace_grants<A: Allocator>(name: &str, object: &Value) -> Result<Request<A>, DecodeFault>
+    ensures { Tells (Made lines.NamespaceGrants name.now (view object.now)) result }
+{
+    let namespace = rule::namespace(name)?;
+    Ok(Request::NamespaceGrants { namespace })
+}
+
+pub fn grant_system<A: Allocator>(name: &str, object: &Value) -> Result<Request<A>, DecodeFault>
+    ensures { Tells (Made lines.GrantSystem name.now (view object.now)) result }
+{
+    let permission = field::system_permission(object)?;
+    let user = rule::user(name)?;
+    Ok(Request::GrantSystem { user, permission })
+}
+
+pub fn revoke_system<A: Allocator>(name: &str, object: &Value) -> Result<Request<A>, DecodeFault>
+    ensures { Tells (Made lines.RevokeSystem name.now (view object.now)) result }
+{
+    let permission = field::system_permission(object)?;
+    let user = rule::user(name)?;
+    Ok(Request::RevokeSystem { user, permission })
+}
+
+pub fn grant_table<A: Allocator>(name: &str, object: &Value) -> Result<Request<A>, DecodeFault>
+    ensures { Tells (Made lines.GrantTable name.now (view object.now)) result }
+{
+    let text = field::text(object, FieldName::User)?;
+    let permission = field::table_permission(object)?;
+    let table = rule::table(name)?;
+    let user = rule::user(text)?;
+    Ok(Request::GrantTable {
+        table,
+        user,
+        permission,
+    })
+}
+
+pub fn revoke_table<A: Allocator>(name: &str, object: &Value) -> Result<Request<A>, DecodeFault>
+    ensures { Tells (Made lines.RevokeTable name.now (view object.now)) result }
+{
+    let text = field::text(object, FieldName::User)?;
+    let permission = field::table_permission(object)?;
+    let table = rule::table(name)?;
+    let user = rule::user(text)?;
+    Ok(Request::RevokeTable {
+        table,
+        user,
+        permission,
+    })
+}
+
+pub fn grant_namespace<A: Allocator>(name: &str, object: &Value) -> Result<Request<A>, DecodeFault>
+    ensures { Tells (Made lines.GrantNamespace name.now (view object.now)) result }
+{
+    let text = field::text(object, FieldName::User)?;
+    let permission = field::table_permission(object)?;
+    let namespace = rule::namespace(name)?;
+    let user = rule::user(text)?;
+    Ok(Request::GrantNamespace {
+        namespace,
+        user,
+        permission,
+    })
+}
+
+pub fn revoke_namespace<A: Allocator>(name: &str, object: &Value) -> Result<Request<A>, DecodeFault>
+    ensures { Tells (Made lines.RevokeNamespace name.now (view object.now)) result }
+{
+    let text = field::text(object, FieldName::User)?;
+    let permission = field::table_permission(object)?;
+    let namespace = rule::namespace(name)?;
+    let user = rule::user(text)?;
+    Ok(Request::RevokeNamespace {
+        namespace,
+        user,
+        permission,
+    })
+}

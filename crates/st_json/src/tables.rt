@@ -1,0 +1,43 @@
+//! The lines about tables.
+ghost use Rattle.serde_json.specs.View.{view};
+ghost use Rattle.st_http.specs.declared.routes.Line.TheVariants as lines;
+ghost use Rattle.st_json.specs.Needs.{Tells};
+ghost use Rattle.st_json.specs.Bodies.{Made};
+
+use crate::fault::DecodeFault;
+use crate::{field, rule};
+use serde_json::Value;
+use st_policy::{FieldName, Request};
+use std::alloc::Allocator;
+
+pub fn create_table<A: Allocator>(name: &str, object: &Value) -> Result<Request<A>, DecodeFault>
+    ensures { Tells (Made lines.CreateTable name.now (view object.now)) result }
+{
+    let text = field::text(object, FieldName::Table)?;
+    let period = field::new_period(object)?;
+    let table = rule::table(text)?;
+    Ok(Request::CreateTable { table, period })
+}
+
+pub fn drop_table<A: Allocator>(name: &str, object: &Value) -> Result<Request<A>, DecodeFault>
+    ensures { Tells (Made lines.DropTable name.now (view object.now)) result }
+{
+    let table = rule::table(name)?;
+    Ok(Request::DropTable { table })
+}
+
+pub fn constraint<A: Allocator>(name: &str, object: &Value) -> Result<Request<A>, DecodeFault>
+    ensures { Tells (Made lines.Constraint name.now (view object.now)) result }
+{
+    let on = field::on(object)?;
+    let table = rule::table(name)?;
+    Ok(Request::Constraint { table, on })
+}
+
+pub fn period<A: Allocator>(name: &str, object: &Value) -> Result<Request<A>, DecodeFault>
+    ensures { Tells (Made lines.Period name.now (view object.now)) result }
+{
+    let period = field::period(object)?;
+    let table = rule::table(name)?;
+    Ok(Request::Period { table, period })
+}

@@ -1,0 +1,112 @@
+//! Values of a body's fields.
+ghost use Rattle.std.specs.Prelude.{◌≡◌, ◌∷◌, [], option_map, map, Some, IfOk, IfSome, IfNone};
+ghost use Rattle.serde_json.specs.View.{view, items_view};
+ghost use Rattle.st_key.specs.declared.point.Point.{Point};
+ghost use Rattle.st_json.specs.Fields.{text_in, list_in, texts_of, texts_in, numbers_of, numbers, HasBox, HasPoint};
+ghost use Rattle.st_json.specs.Needs.{Picks};
+ghost use Rattle.st_json.specs.declared.value.Bounds.{Bounds};
+
+use serde_json::Value;
+use st_key::Point;
+use std::alloc::{AllocError, Allocator};
+
+/// Six numbers, which need make no query.
+#[derive(Clone, Copy)]
+pub struct Bounds {
+    pub x0: u64,
+    pub x1: u64,
+    pub y0: u64,
+    pub y1: u64,
+    pub t0: u64,
+    pub t1: u64,
+}
+
+pub fn text<'a>(object: &'a Value, name: &str) -> Option<&'a str>
+    ensures { option_map (λ s. s.now) result ≡ text_in name.now (view object.now) }
+{
+    object.get(name).and_then(Value::as_str)
+}
+
+fn list<'a>(object: &'a Value, name: &str) -> Option<&'a Vec<Value>>
+    ensures { option_map (λ v. items_view v.now.items) result ≡ list_in name.now (view object.now) }
+{
+    object.get(name).and_then(Value::as_array)
+}
+
+// The texts of a list of texts.
+fn texts_of<'a, A: Allocator + Copy>(
+    alloc: A,
+    items: &'a [Value],
+) -> Result<Option<Vec<&'a str, A>>, AllocError>
+    ensures { IfOk result (λ o. option_map (λ v. map (λ s. s.now) v.items) o ≡ texts_of (items_view items.now)) }
+{
+    let mut texts = Vec::new(alloc);
+    for item in items {
+        let Some(text) = item.as_str() else {
+            return Ok(None);
+        };
+        texts.push(text)?;
+    }
+    Ok(Some(texts))
+}
+
+pub fn texts<'a, A: Allocator + Copy>(
+    alloc: A,
+    object: &'a Value,
+    name: &str,
+) -> Result<Option<Vec<&'a str, A>>, AllocError>
+    ensures { IfOk result (λ o. option_map (λ v. map (λ s. s.now) v.items) o ≡ texts_in name.now (view object.now)) }
+{
+    match list(object, name) {
+        Some(items) => texts_of(alloc, items),
+        None => Ok(None),
+    }
+}
+
+// The numbers of a list of six.
+fn six(items: &[Value]) -> Option<Bounds>
+    ensures some { IfSome result (λ b. numbers_of (items_view items.now) ≡ Some (numbers b)) }
+    ensures none { IfNone result ((b : Bounds) → numbers_of (items_view items.now) ≡ Some (numbers b) → ⊥) }
+{
+    let [x0, x1, y0, y1, t0, t1] = items else {
+        return None;
+    };
+    Some(Bounds {
+        x0: x0.as_u64()?,
+        x1: x1.as_u64()?,
+        y0: y0.as_u64()?,
+        y1: y1.as_u64()?,
+        t0: t0.as_u64()?,
+        t1: t1.as_u64()?,
+    })
+}
+
+pub fn box_bounds(object: &Value) -> Option<Bounds>
+    ensures { Picks (HasBox (view object.now)) result }
+{
+    six(list(object, "box")?)
+}
+
+// The point at three numbers.
+fn point_at(x: u64, y: u64, t: u64) -> Option<Point>
+    ensures { Picks (λ p. (p.x ≡ x) × (p.y ≡ y) × (p.t ≡ t)) result }
+{
+    Point::new(x, y, t).ok()
+}
+
+// The point of a list of three numbers.
+fn three(items: &[Value]) -> Option<Point>
+    ensures some { IfSome result (λ p. numbers_of (items_view items.now) ≡ Some (p.x ∷ p.y ∷ p.t ∷ [])) }
+    ensures none { IfNone result ((p : Point) → numbers_of (items_view items.now) ≡ Some (p.x ∷ p.y ∷ p.t ∷ []) → ⊥) }
+{
+    let [x, y, t] = items else {
+        return None;
+    };
+    point_at(x.as_u64()?, y.as_u64()?, t.as_u64()?)
+}
+
+pub fn point(object: &Value) -> Option<Point>
+    ensures { Picks (HasPoint (view object.now)) result }
+{
+    three(list(object, "point")?)
+}

@@ -1,0 +1,225 @@
+//! Whether a label is true, by one pass over its text that takes no memory.
+ghost use Rattle.std.specs.Prelude.{◌≡◌, ◌<◌, ◌≤◌, ◌≢◌, ◌^◌, ℕ, IfOk, IfErr, Ok, Err, Some, None, true, false, length, reverse, [], slice_index_or, take};
+ghost use Rattle.st_label.specs.Machine.{class_of as class_at};
+ghost use Rattle.st_label.specs.Views.{class_view};
+ghost use Rattle.st_label.specs.Refusals.{max_len};
+ghost use Rattle.st_label.specs.Reading.{is_true, IsLabel};
+ghost use Rattle.st_label.specs.Faults.{Refuses};
+ghost use Rattle.st_label.specs.Truth.{joins, sign_truth, level_truth, pass_done, pass_start, pass_step, pass_truth, Passes, IsPlaced};
+
+use crate::class::{Class, class_of};
+use crate::label::LabelFault;
+use crate::reader::MAX_DEPTH;
+use crate::term::{Names, Term};
+use crate::tree::Operator;
+use arrayvec::ArrayVec;
+
+// A level so far: no unit, or units with an operator behind each, and what they come to.
+#[derive(Clone, Copy)]
+enum Level {
+    Free,
+    Joined(Operator, bool),
+}
+
+impl Default for Level {
+    fn default() -> Level {
+        Level::Free
+    }
+}
+
+// The unit so far, by the place of its first byte, or what it comes to.
+#[derive(Clone, Copy)]
+enum Part {
+    Start,
+    Word(usize),
+    Quoted(usize),
+    Escape(usize),
+    Done(bool),
+}
+
+// Why a byte is not taken.
+#[derive(Drop)]
+enum Stop {
+    NotViable,
+    TooDeep,
+}
+
+// Reads a label byte by byte.
+#[derive(Drop)]
+struct Pass {
+    outer: ArrayVec<Level, MAX_DEPTH>,
+    level: Level,
+    unit: Part,
+}
+
+type Outer = ArrayVec<Level, MAX_DEPTH>;
+
+// A reader with these parts.
+fn pass_at(outer: Outer, level: Level, unit: Part) -> Result<Pass, Stop>
+    ensures { result ≡ Ok (record { outer = outer; level = level; unit = unit }) }
+{
+    Ok(Pass { outer, level, unit })
+}
+
+impl Pass {
+    fn new() -> Pass
+        ensures outer { result.outer.items ≡ [] }
+        ensures level { result.level ≡ Level.Free }
+        ensures unit { result.unit ≡ Part.Start }
+    {
+        Pass {
+            outer: ArrayVec::new(),
+            level: Level::Free,
+            unit: Part::Start,
+        }
+    }
+
+    // The reader behind one more byte, which stands at this place.
+    fn step<N: Names>(self, names: &N, text: &[u8], at: usize) -> Result<Pass, Stop>
+        requires inside { at < length text.now }
+        requires placed { IsPlaced self.unit at }
+        ensures { Passes (λ room. pass_step room (N.among names.now) text.now at (reverse self.outer.items) self.level self.unit (class_at (slice_index_or text.now at 0))) result }
+    {
+        let Pass { outer, level, unit } = self;
+        let class = class_of(text[at] as char);
+        match unit {
+            Part::Start => start(outer, level, at, class),
+            Part::Word(from) => match class {
+                Class::Plain => pass_at(outer, level, Part::Word(from)),
+                _ => {
+                    let truth = names.has_term(&Term::word(&text[from..at]));
+                    behind(outer, level, truth, class)
+                }
+            },
+            Part::Quoted(from) => match class {
+                Class::Quote => {
+                    if from == at {
+                        return Err(Stop::NotViable);
+                    }
+                    let truth = names.has_term(&Term::quoted(&text[from..at]));
+                    pass_at(outer, level, Part::Done(truth))
+                }
+                Class::Backslash => pass_at(outer, level, Part::Escape(from)),
+                _ => pass_at(outer, level, Part::Quoted(from)),
+            },
+            Part::Escape(from) => match class {
+                Class::Quote | Class::Backslash => pass_at(outer, level, Part::Quoted(from)),
+                _ => Err(Stop::NotViable),
+            },
+            Part::Done(truth) => behind(outer, level, truth, class),
+        }
+    }
+
+    // What the whole text comes to.
+    fn finish<N: Names>(self, names: &N, text: &[u8]) -> Option<bool>
+        requires { IsPlaced self.unit (length text.now) }
+        ensures { result ≡ pass_truth (N.among names.now) text.now (reverse self.outer.items) self.level self.unit }
+    {
+        let Pass { outer, level, unit } = self;
+        if !outer.is_empty() {
+            return None;
+        }
+        match unit {
+            Part::Start => match level {
+                Level::Free => Some(true),
+                Level::Joined(_, _) => None,
+            },
+            Part::Word(from) => Some(closed(level, names.has_term(&Term::word(&text[from..])))),
+            Part::Quoted(_) | Part::Escape(_) => None,
+            Part::Done(truth) => Some(closed(level, truth)),
+        }
+    }
+}
+
+/// Whether a text is true for the names, or why it is no label. It takes no memory.
+pub(crate) fn judge<N: Names>(text: &[u8], names: &N) -> Result<bool, LabelFault>
+    requires { length text.now ≤ max_len }
+    ensures label { IfOk result (λ _. IsLabel text.now) }
+    ensures truth { IfOk result (λ truth. truth ≡ is_true (N.among names.now) text.now) }
+    ensures fault { IfErr result (λ fault. Refuses text.now fault) }
+    ensures memory { result ≢ Err LabelFault.NoMemory }
+{
+    let mut pass = Pass::new();
+    for at in 0..text.len() {
+        pass = match pass.step(names, text, at) {
+            Ok(next) => next,
+            Err(Stop::NotViable) => return Err(LabelFault::BadLabel { at }),
+            Err(Stop::TooDeep) => return Err(LabelFault::TooDeep { at }),
+        };
+    }
+    match pass.finish(names, text) {
+        Some(truth) => Ok(truth),
+        None => Err(LabelFault::BadLabel { at: text.len() }),
+    }
+}
+
+// A unit begins.
+fn start(mut outer: Outer, level: Level, at: usize, class: Class) -> Result<Pass, Stop>
+    requires { at < 2 ^ 63 }
+    ensures { Passes (λ room. pass_start room (reverse outer.items) level at (class_view class)) result }
+{
+    match class {
+        Class::Plain => pass_at(outer, level, Part::Word(at)),
+        Class::Quote => pass_at(outer, level, Part::Quoted(at + 1)),
+        Class::Open => {
+            if outer.len() >= MAX_DEPTH {
+                return Err(Stop::TooDeep);
+            }
+            outer.push(level);
+            pass_at(outer, Level::Free, Part::Start)
+        }
+        _ => Err(Stop::NotViable),
+    }
+}
+
+// What comes behind a whole unit.
+fn behind(mut outer: Outer, level: Level, truth: bool, class: Class) -> Result<Pass, Stop>
+    ensures { Passes (λ room. pass_done (reverse outer.items) level truth (class_view class)) result }
+{
+    match class {
+        Class::Sign(operator) => match joined(operator, level, truth) {
+            Some(level) => pass_at(outer, level, Part::Start),
+            None => Err(Stop::NotViable),
+        },
+        Class::Close => match outer.pop() {
+            Some(around) => pass_at(outer, around, Part::Done(closed(level, truth))),
+            None => Err(Stop::NotViable),
+        },
+        _ => Err(Stop::NotViable),
+    }
+}
+
+// The level so far with one more unit and the operator behind it.
+fn joined(operator: Operator, level: Level, truth: bool) -> Option<Level>
+    ensures { result ≡ sign_truth operator level truth }
+{
+    match level {
+        Level::Free => Some(Level::Joined(operator, truth)),
+        Level::Joined(first, so_far) => {
+            if first != operator {
+                return None;
+            }
+            Some(Level::Joined(operator, join(operator, so_far, truth)))
+        }
+    }
+}
+
+// What two operands come to.
+fn join(operator: Operator, one: bool, other: bool) -> bool
+    ensures { result ≡ joins operator one other }
+{
+    match operator {
+        Operator::All => one && other,
+        Operator::Any => one || other,
+    }
+}
+
+// The level with its last unit.
+fn closed(level: Level, truth: bool) -> bool
+    ensures { result ≡ level_truth level truth }
+{
+    match level {
+        Level::Free => truth,
+        Level::Joined(operator, so_far) => join(operator, so_far, truth),
+    }
+}

@@ -1,0 +1,125 @@
+-- Entries whose keys rise, and their rows.
+use Rattle.std.proofs.Common.{◌≡◌, ℕ, ◌+◌, ◌<◌, ◌≤◌, List, [], ◌∷◌, ◌++◌, filter, refl, sym, ap, subst, ◌∙◌, arith, append_assoc, IsTrue}
+use Rattle.std.proofs.lemmas.Grind.{flat_map-append}
+use Rattle.std.proofs.lemmas.List.Elements.{All-append, All-cons, All-head, All-nil, All-tail, filter-append}
+use Rattle.std.specs.List.{All}
+use Rattle.st_key.specs.declared.period.Period.{Period}
+use Rattle.st_box.specs.declared.query.Query.{Query}
+use Rattle.st_index.specs.declared.row.Row.{Row}
+use Rattle.st_index.specs.Rows.{EntryValue, IsEntry, Rises, place_of, rows_of}
+use Rattle.st_scan.specs.Rows.{has_row}
+use Rattle.st_scan.specs.Walks.{IsNextEntry, SkipsTo}
+use Rattle.st_scan.proofs.Filters.{filter_all, filter_none}
+
+pub all_left : {X : Type 0} (P : X → Type 0) (xs ys : List X) → All P (xs ++ ys) → All P xs
+all_left P [] ys h = All-nil P
+all_left P (x ∷ xs) ys h = All-cons P x xs (All-head P x (xs ++ ys) h) (all_left P xs ys (All-tail P x (xs ++ ys) h))
+
+pub all_right : {X : Type 0} (P : X → Type 0) (xs ys : List X) → All P (xs ++ ys) → All P ys
+all_right P [] ys h = h
+all_right P (x ∷ xs) ys h = all_right P xs ys (All-tail P x (xs ++ ys) h)
+
+module _ {A : Type 0} where
+  pub rows-append : (xs ys : List (EntryValue A)) → rows_of (xs ++ ys) ≡ rows_of xs ++ rows_of ys
+  rows-append xs ys = flat_map-append (λ (e : EntryValue A). e.rows) xs ys
+
+  -- the rows of the entries passed, and then those of the entry
+  pub rows_around : (xs : List (EntryValue A)) (e : EntryValue A) (ys : List (EntryValue A)) → rows_of (xs ++ e ∷ ys) ≡ rows_of xs ++ (e.rows ++ rows_of ys)
+  rows_around xs e ys = rows-append xs (e ∷ ys)
+
+module _ {A : Type 0} (period : Period) where
+  pub keyed : (lo hi : ℕ) (es : List (EntryValue A)) → Rises period lo hi es → All (IsEntry period) es
+  keyed lo hi [] h = All-nil (IsEntry period)
+  keyed lo hi (e ∷ es) h = All-cons (IsEntry period) e es h.1 (keyed (e.at + 1) hi es h.2)
+
+  pub rises_le : (lo hi : ℕ) (es : List (EntryValue A)) → Rises period lo hi es → lo ≤ hi
+  rises_le lo hi [] h = h
+  rises_le lo hi (e ∷ es) h = omega (arith, h.0, rises_le (e.at + 1) hi es h.2)
+
+  pub rises_lower : (low lo hi : ℕ) (es : List (EntryValue A)) → low ≤ lo → Rises period lo hi es → Rises period low hi es
+  rises_lower low lo hi [] le h = omega (arith, le, h)
+  rises_lower low lo hi (e ∷ es) le h = (omega (arith, le, h.0), h.1, h.2)
+
+  pub entries_from : (lo hi : ℕ) (es : List (EntryValue A)) → Rises period lo hi es → All (λ e. lo ≤ e.at) es
+  entries_from lo hi [] h = All-nil _
+  entries_from lo hi (e ∷ es) h = All-cons (λ f. lo ≤ f.at) e es h.0 (entries_from lo hi es (rises_lower lo (e.at + 1) hi es (omega (arith, h.0)) h.2))
+
+  pub entries_below : (lo hi : ℕ) (es : List (EntryValue A)) → Rises period lo hi es → All (λ e. e.at < hi) es
+  entries_below lo hi [] h = All-nil _
+  entries_below lo hi (e ∷ es) h = All-cons (λ f. f.at < hi) e es (omega (arith, rises_le (e.at + 1) hi es h.2)) (entries_below (e.at + 1) hi es h.2)
+
+  -- what holds of the entries' places holds of their rows'
+  pub rows_all : (P : ℕ → Type 0) (es : List (EntryValue A)) → All (IsEntry period) es → All (λ e. P e.at) es → All (λ row. P (place_of period row)) (rows_of es)
+  rows_all P [] k h = All-nil _
+  rows_all P (e ∷ es) k h =
+      let entry : IsEntry period e = All-head (IsEntry period) e es k in
+      let here : P e.at = All-head (λ f. P f.at) e es h in
+      All-append (λ row. P (place_of period row)) e.rows (rows_of es)
+      (λ j d l. subst P (sym (entry.placed j d l)) here)
+      (rows_all P es (All-tail (IsEntry period) e es k) (All-tail (λ f. P f.at) e es h))
+
+-- the entries passed so far, none of them inside the query
+pub record Passed {A : Type 0} (q : Query) (entries ahead : List (EntryValue A)) : Type 0 where
+  pub passed : List (EntryValue A)
+  pub is : entries ≡ passed ++ ahead
+  pub outside : filter (has_row q) (rows_of passed) ≡ []
+
+module _ {A : Type 0} (q : Query) where
+  pub pass_none : (entries : List (EntryValue A)) → Passed q entries entries
+  pass_none entries = record { passed = []; is = refl; outside = refl }
+
+  pub pass_more : (entries : List (EntryValue A)) (e : EntryValue A) (rest : List (EntryValue A)) → Passed q entries (e ∷ rest) → All (λ row. IsTrue (has_row q row) → ⊥) e.rows → Passed q entries rest
+  pass_more entries e rest p out = record {
+    passed = p.passed ++ e ∷ [];
+    is = p.is ∙ sym (append_assoc p.passed (e ∷ []) rest);
+    outside =
+        ap (filter (has_row q)) (rows_around p.passed e [])
+        ∙ filter-append (has_row q) (rows_of p.passed) (e.rows ++ [])
+        ∙ ap (λ xs. xs ++ filter (has_row q) (e.rows ++ [])) p.outside
+        ∙ filter-append (has_row q) e.rows []
+        ∙ ap (λ xs. xs ++ []) (filter_none (has_row q) e.rows out);
+  }
+
+-- the entries skipped so far, all of them before a place
+pub record Skipped {A : Type 0} (start : ℕ) (entries ahead : List (EntryValue A)) : Type 0 where
+  pub skipped : List (EntryValue A)
+  pub is : entries ≡ skipped ++ ahead
+  pub before : All (λ e. e.at < start) skipped
+
+module _ {A : Type 0} (start : ℕ) where
+  pub skip_none : (entries : List (EntryValue A)) → Skipped start entries entries
+  skip_none entries = record { skipped = []; is = refl; before = All-nil _ }
+
+  pub skip_more : (entries : List (EntryValue A)) (e : EntryValue A) (rest : List (EntryValue A)) → Skipped start entries (e ∷ rest) → e.at < start → Skipped start entries rest
+  skip_more entries e rest s low = record {
+    skipped = s.skipped ++ e ∷ [];
+    is = s.is ∙ sym (append_assoc s.skipped (e ∷ []) rest);
+    before = All-append (λ f. f.at < start) s.skipped (e ∷ []) s.before (All-cons (λ f. f.at < start) e [] low (All-nil _));
+  }
+
+module _ {A : Type 0} (period : Period) where
+  pub rises_right : (lo hi : ℕ) (xs ys : List (EntryValue A)) → Rises period lo hi (xs ++ ys) → Rises period lo hi ys
+  rises_right lo hi [] ys h = h
+  rises_right lo hi (x ∷ xs) ys h = rises_lower period lo (x.at + 1) hi ys (omega (arith, h.0)) (rises_right (x.at + 1) hi xs ys h.2)
+
+  pub skips_end : (start lo hi : ℕ) (entries : List (EntryValue A)) → Skipped start entries [] → SkipsTo start entries []
+  skips_end start lo hi entries s = record { skipped = s.skipped; is = s.is; before = s.before; after = All-nil _ }
+
+  pub skips_at : (start lo hi : ℕ) (entries : List (EntryValue A)) (e : EntryValue A) (rest : List (EntryValue A)) → Skipped start entries (e ∷ rest) → start ≤ e.at → Rises period lo hi entries → SkipsTo start entries (e ∷ rest)
+  skips_at start lo hi entries e rest s le h =
+      let r = rises_right lo hi s.skipped (e ∷ rest) (subst (Rises period lo hi) s.is h) in
+      let later = entries_from period (e.at + 1) hi rest r.2 in
+      record {
+        skipped = s.skipped;
+        is = s.is;
+        before = s.before;
+        after = All-cons (λ f. start ≤ f.at) e rest le (λ j d l. let a = later j d l in omega (arith, a, le));
+      }
+
+  pub skips_none : (start lo hi : ℕ) (entries : List (EntryValue A)) → start ≤ lo → Rises period lo hi entries → SkipsTo start entries entries
+  skips_none start lo hi entries le h = record {
+    skipped = [];
+    is = refl;
+    before = All-nil _;
+    after = λ j d l. let a = entries_from period lo hi entries h j d l in omega (arith, a, le);
+  }

@@ -1,0 +1,10 @@
+pub mod Filters
+pub mod Keys
+pub mod Entries
+pub mod Regions
+pub mod Steps
+pub mod Visible
+pub mod ExactRanges
+pub mod Positions
+pub mod Past
+pub mod Filling

@@ -1,0 +1,32 @@
+-- Rows inside a query that are visible, and those that are seen.
+use Rattle.std.proofs.Common.{◌≡◌, ℕ, ◌+◌, ◌<◌, ◌≤◌, List, [], ◌∷◌, length, filter, Bool, true, false, cond, ◌&&◌, refl, sym, ap, ◌∙◌, arith}
+use Rattle.st_box.specs.declared.query.Query.{Query}
+use Rattle.st_index.specs.declared.row.Row.{Row}
+use Rattle.st_text.specs.Texts.{Text}
+use Rattle.st_scan.specs.Rows.{has_row}
+use Rattle.st_scan.specs.Seen.{is_seen, is_visible, seen}
+
+pub filter_le : {X : Type 0} (p : X → Bool) (xs : List X) → length (filter p xs) ≤ length xs
+filter_le p [] = omega arith
+filter_le p (x ∷ xs) = elim (p x) as (λ b. length (cond b (x ∷ filter p xs) (filter p xs)) ≤ length (x ∷ xs)) [
+  | true ↦ omega (arith, filter_le p xs)
+  | false ↦ omega (arith, filter_le p xs)
+]
+
+-- a filter of a filter
+twice : {X : Type 0} (p q : X → Bool) (b c : Bool) (x : X) (xs : List X) → filter p (cond b (x ∷ xs) xs) ≡ cond (b && p x) (x ∷ filter p xs) (filter p xs)
+twice p q true c x xs = refl
+twice p q false c x xs = refl
+
+pub filter_twice : {X : Type 0} (p q : X → Bool) (xs : List X) → filter p (filter q xs) ≡ filter (λ x. q x && p x) xs
+filter_twice p q [] = refl
+filter_twice p q (x ∷ xs) = twice p q (q x) (p x) x (filter q xs) ∙ ap (λ ys. cond (q x && p x) (x ∷ ys) ys) (filter_twice p q xs)
+
+pub visible_seen : {A : Type 0} (q : Query) (auths : List Text) (content : List (Row A)) → filter (is_visible auths) (filter (has_row q) content) ≡ seen q auths content
+visible_seen q auths content = filter_twice (is_visible auths) (has_row q) content
+
+pub keep : {X : Type 0} (p : X → Bool) (x : X) (xs : List X) → p x ≡ true → filter p (x ∷ xs) ≡ x ∷ filter p xs
+keep p x xs h = ap (λ b. cond b (x ∷ filter p xs) (filter p xs)) h
+
+pub omit : {X : Type 0} (p : X → Bool) (x : X) (xs : List X) → p x ≡ false → filter p (x ∷ xs) ≡ filter p xs
+omit p x xs h = ap (λ b. cond b (x ∷ filter p xs) (filter p xs)) h

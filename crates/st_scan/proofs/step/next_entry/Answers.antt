@@ -1,0 +1,38 @@
+use Rattle.std.proofs.Common.{◌≡◌, ◌++◌, ◌∷◌, refl, sym, ap, subst, ◌∙◌, arith, IsTrue}
+use Rattle.std.proofs.lemmas.List.Elements.{All-head}
+use Rattle.std.proofs.Math.Bool.{true≢false}
+use Rattle.std.specs.List.{All}
+use Rattle.st_index.specs.Rows.{IsEntry}
+use Rattle.st_scan.specs.Rows.{has_row}
+use Rattle.st_scan.proofs.Keys.{by_key, has_by_row}
+use Rattle.st_scan.proofs.Entries.{Passed, all_right, pass_more}
+use Rattle.st_scan.proofs.step.next_entry.Given.{Over}
+use Rattle.st_scan.proofs.step.next_entry.Goals as goal
+
+pub returns-then-has_key-clause-some : goal.returns-then-has_key-clause-some
+returns-then-has_key-clause-some g c =
+    let q = c.args.query.now in
+    let w = c.args.period in
+    let is = c.in-Some.ensures.cases.0 in
+    let p = subst (Passed q c.args.entries.now) is c.loop-entry.invariant in
+    let entry = All-head (IsEntry w) _ _ (all_right (IsEntry w) p.passed _ (subst (All (IsEntry w)) p.is c.requires.keyed)) in
+    let has = c.has_key.ensures.0 c.if-has_key.true in
+    record {
+      passed = p.passed;
+      entry = c.in-Some.entry.now;
+      is = p.is;
+      rows_are = c.rows_in.ensures;
+      outside = p.outside;
+      inside = λ k d l. by_key w q _ _ (entry.placed k d l ∙ sym c.key_of.ensures) has;
+      some = λ e. entry.held (sym c.rows_in.ensures ∙ e);
+    }
+
+pub loop-entry-preserved : goal.loop-entry-preserved
+loop-entry-preserved g c =
+    let q = c.args.query.now in
+    let w = c.args.period in
+    let is = c.in-Some.ensures.cases.0 in
+    let p = subst (Passed q c.args.entries.now) is c.loop-entry.invariant in
+    let entry = All-head (IsEntry w) _ _ (all_right (IsEntry w) p.passed _ (subst (All (IsEntry w)) p.is c.requires.keyed)) in
+    pass_more q c.args.entries.now _ _ p
+    (λ k d l inside. true≢false (sym (c.has_key.ensures.1 (has_by_row w q _ _ (entry.placed k d l ∙ sym c.key_of.ensures) inside)) ∙ c.if-has_key.false))

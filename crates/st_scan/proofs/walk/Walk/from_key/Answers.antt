@@ -1,0 +1,27 @@
+use Rattle.std.proofs.Common.{◌≡◌, ◌<◌, ◌≤◌, ◌^◌, ◌∙◌, length, sym, ap, subst, arith}
+use Rattle.st_key.specs.Key.{rank}
+use Rattle.st_index.specs.Index.{Follow}
+use Rattle.st_index.specs.Rows.{key_end}
+use Rattle.st_scan.specs.Rows.{has_row_from}
+use Rattle.st_scan.specs.Walks.{AreExact, IsExactFor}
+use Rattle.st_scan.proofs.Steps.{begin}
+use Rattle.st_scan.proofs.Visible.{filter_le}
+use Rattle.st_scan.proofs.walk.Walk.from_key.Goals as goal
+
+pub invariant_of-result : goal.invariant_of-result
+invariant_of-result g c =
+    let q = c.args.query.now in
+    let same = sym c.period.ensures.value in
+    let regions = g.I.RowIndex.regions c.args.index.now in
+    record {
+      same_period = c.period.ensures.value;
+      exact = λ k held. subst (λ p. IsExactFor p q c.args.plan.now) same c.requires.exact k (c.ranges_of.ensures k held);
+      follow = subst (λ p. Follow 0 (key_end p) regions) same c.period.ensures.lawful.follow;
+      few = c.period.ensures.lawful.regions_count;
+      at = begin c.period.result q regions (rank c.args.from) (subst (λ p. rank c.args.from ≤ key_end p) same c.requires.in_period);
+    }
+
+pub returns-clause-few : goal.returns-clause-few
+returns-clause-few g c =
+    let le = filter_le (has_row_from c.period.result c.args.query.now (rank c.args.from)) (g.I.RowIndex.content c.args.index.now) in
+    omega (arith, le, c.period.ensures.lawful.count)

@@ -1,0 +1,5 @@
+pub mod Pages
+pub mod Regions
+pub mod Rows
+pub mod Seen
+pub mod Walks

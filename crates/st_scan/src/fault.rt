@@ -1,0 +1,35 @@
+//! Why a scan shows nothing.
+
+use std::alloc::{AllocError, AllocFailed};
+
+/// Why a scan shows nothing.
+#[derive(Clone, Copy, PartialEq, Eq, Debug)]
+pub enum ScanFault {
+    /// The limit of a page is not 1 to 1,000.
+    BadLimit,
+    /// A grid has not 1 to 32 columns and 1 to 32 lines.
+    BadGrid,
+    NoMemory,
+}
+
+impl From<AllocError> for ScanFault {
+    ghost use Rattle.std.specs.Prelude.{◌≡◌};
+    ghost use Rattle.st_scan.specs.declared.fault.ScanFault.TheVariants.{NoMemory};
+
+    ghost from_gives = { λ _ e. e ≡ NoMemory };
+
+    fn from(_e: AllocError) -> ScanFault {
+        ScanFault::NoMemory
+    }
+}
+
+impl<T: Drop> From<AllocFailed<T>> for ScanFault {
+    ghost use Rattle.std.specs.Prelude.{◌≡◌};
+    ghost use Rattle.st_scan.specs.declared.fault.ScanFault.TheVariants.{NoMemory};
+
+    ghost from_gives = { λ _ e. e ≡ NoMemory };
+
+    fn from(_e: AllocFailed<T>) -> ScanFault {
+        ScanFault::NoMemory
+    }
+}

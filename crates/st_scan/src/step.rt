@@ -1,0 +1,175 @@
+//! The steps of a walk.
+ghost use Rattle.std.specs.Prelude.{◌≡◌, ◌↔◌, ℕ, ◌<◌, ◌^◌, [], filter, length, IsTrue, IfSome, IfNone};
+ghost use Rattle.std.specs.List.{All};
+ghost use Rattle.st_key.specs.declared.key.Key.{Key};
+ghost use Rattle.st_key.specs.declared.period.Period.{Period};
+ghost use Rattle.st_key.specs.Key.{rank};
+ghost use Rattle.st_box.specs.Query.{HasKey};
+ghost use Rattle.st_index.specs.Index.{Follow};
+ghost use Rattle.st_index.specs.Rows.{IsEntry, Rises, key_end, rows_of};
+ghost use Rattle.st_scan.specs.Rows.{has_row};
+ghost use Rattle.st_scan.specs.Walks.{AreExact, IsNextEntry, IsOver, IsPosition, Opens, SkipsTo, Steps, left_of, place_at};
+
+use crate::exact::is_exact;
+use crate::part_ranges::PartRanges;
+use crate::position::Position;
+use st_bigmin::first_from;
+use st_box::Query;
+use st_index::{Entry, Row, RowIndex};
+use st_key::{Key, Period};
+use std::alloc::Allocator;
+
+/// The rows of an entry.
+fn rows_in<A: Allocator + Copy>(entry: &Entry<A>) -> &[Row<A>]
+    ensures { result.now ≡ entry.now.rows }
+{
+    entry.rows()
+}
+
+/// The key of an entry.
+fn key_of<A: Allocator + Copy>(entry: &Entry<A>) -> Key
+    ensures { rank result ≡ entry.now.at }
+{
+    entry.key
+}
+
+/// Whether the key is that of a point inside the query. A key of an exact range is not tested.
+fn has_key(query: &Query, period: Period, parts: &[PartRanges], key: Key) -> bool
+    requires { AreExact period query.now parts.now }
+    ensures { IsTrue result ↔ HasKey query.now period key }
+{
+    is_exact(parts, key) || query.has_key(key, period)
+}
+
+/// The rows of the first entry that is inside the query, and the entries after it.
+pub(crate) fn next_entry<'a, A: Allocator + Copy>(
+    query: &Query,
+    period: Period,
+    parts: &[PartRanges],
+    entries: &'a [Entry<A>],
+) -> Option<(&'a [Row<A>], &'a [Entry<A>])>
+    requires exact { AreExact period query.now parts.now }
+    requires keyed { All (IsEntry period) entries.now }
+    ensures some { IfSome result (λ found. IsNextEntry query.now entries.now found.0.now found.1.now) }
+    ensures none { IfNone result (filter (has_row query.now) (rows_of entries.now) ≡ []) }
+{
+    let mut ahead = entries;
+    while let Some((entry, rest)) = ahead.split_first() {
+        ahead = rest;
+        if has_key(query, period, parts, key_of(entry)) {
+            return Some((rows_in(entry), rest));
+        }
+    }
+    None
+}
+
+/// The entries that remain after those before a key.
+fn skip_to<A: Allocator + Copy>(entries: &[Entry<A>], from: Key) -> &[Entry<A>]
+    ensures { (period : Period) (lo hi : ℕ) → Rises period lo hi entries.now → SkipsTo (rank from) entries.now result.now }
+{
+    let mut ahead = entries;
+    while let Some((entry, rest)) = ahead.split_first() {
+        if key_of(entry).is_before(from) {
+            ahead = rest;
+        } else {
+            return ahead;
+        }
+    }
+    ahead
+}
+
+/// Those of the entries of a region, which begins at its first key, that do not come before a key.
+fn entries_from<A: Allocator + Copy>(entries: &[Entry<A>], first: Key, from: Key) -> &[Entry<A>]
+    ensures { (period : Period) (hi : ℕ) → Rises period (rank first) hi entries.now → SkipsTo (rank from) entries.now result.now }
+{
+    if first.is_before(from) {
+        skip_to(entries, from)
+    } else {
+        entries
+    }
+}
+
+/// The entries of the first region from a key on that meets the query, and the first key after it.
+fn open_next<'a, I: RowIndex>(
+    index: &'a I,
+    query: &Query,
+    period: Period,
+    from: Key,
+) -> Option<(&'a [Entry<I::Alloc>], Option<Key>)>
+    requires { period ≡ I.period_of index.now }
+    ensures some { IfSome result (λ opened. Opens period query.now (I.content index.now) (I.regions index.now) (rank from) opened.0.now (place_at period opened.1)) }
+    ensures none { IfNone result ((k : Key) → HasKey query.now period k → rank k < rank from) }
+{
+    let Some(key) = first_from(query, from, period) else {
+        return None;
+    };
+    let leaf = index.leaf_at(key);
+    let entries = entries_from(leaf.entries, leaf.first, from);
+    Some((entries, leaf.last.after(period)))
+}
+
+/// The position in the next region that meets the query.
+fn enter_region<'a, I: RowIndex>(
+    index: &'a I,
+    query: &Query,
+    period: Period,
+    at: Position<'a, I::Alloc>,
+) -> Option<Position<'a, I::Alloc>>
+    requires period { period ≡ I.period_of index.now }
+    requires at { IsPosition period query.now (I.regions index.now) at }
+    requires rows { at.rows.now ≡ [] }
+    requires entries { filter (has_row query.now) (rows_of at.entries.now) ≡ [] }
+    requires few { length (I.regions index.now) < 2 ^ 64 }
+    requires follow { Follow 0 (key_end period) (I.regions index.now) }
+    ensures some { IfSome result (Steps period query.now (I.content index.now) (I.regions index.now) at.entry) }
+    ensures none { IfNone result (IsOver period query.now (I.content index.now) (I.regions index.now) at.entry) }
+{
+    let Some(from) = at.next else {
+        return None;
+    };
+    let Some((entries, next)) = open_next(index, query, period, from) else {
+        return None;
+    };
+    Some(Position {
+        entries,
+        next,
+        opened: at.opened + 1,
+        ..at
+    })
+}
+
+/// The position at the next rows of the query, where those of the last entry are all given. It has no
+/// rows where none is left.
+pub(crate) fn forward<'a, I: RowIndex>(
+    index: &'a I,
+    query: &Query,
+    period: Period,
+    parts: &[PartRanges],
+    from: Position<'a, I::Alloc>,
+) -> Position<'a, I::Alloc>
+    requires period { period ≡ I.period_of index.now }
+    requires exact { AreExact period query.now parts.now }
+    requires at { IsPosition period query.now (I.regions index.now) from }
+    requires few { length (I.regions index.now) < 2 ^ 64 }
+    requires follow { Follow 0 (key_end period) (I.regions index.now) }
+    ensures at { IsPosition period query.now (I.regions index.now) result }
+    ensures start { result.start ≡ from.entry.start }
+    ensures left { left_of period query.now (I.content index.now) result ≡ left_of period query.now (I.content index.now) from.entry }
+    ensures over { result.rows.now ≡ [] → IsOver period query.now (I.content index.now) (I.regions index.now) result }
+{
+    let mut at = from;
+    'regions: while at.rows.is_empty() {
+        if let Some((rows, entries)) = next_entry(query, period, parts, at.entries) {
+            return Position {
+                rows,
+                entries,
+                ..at
+            };
+        }
+        match enter_region(index, query, period, at) {
+            Some(next) => at = next,
+            None => return at,
+        }
+    }
+    at
+}

@@ -1,0 +1,24 @@
+use Rattle.std.proofs.Common.{◌≡◌, cond, ℕ, List, Some, sym, ap, ◌∙◌, subst}
+use Rattle.st_index.specs.Order.{InScanOrder}
+use Rattle.st_index.specs.declared.row.Row.{Row}
+use Rattle.st_index.specs.Rows.{Name, name_of, place_of}
+use Rattle.st_table.specs.Names.{IsTied, joined, key_at, same_text}
+use Rattle.st_table.proofs.Tying.{tied_put}
+use Rattle.st_table.proofs.table.Table.put.Goals as goal
+
+pub invariant_of-self-2 : goal.invariant_of-self-2
+invariant_of-self-2 g c =
+    let period = g.I.RowIndex.period_of c.self.inside.index in
+    let rows = g.I.RowIndex.content c.self.inside.index in
+    let more = c.put.new.self in
+    let new = g.I.RowIndex.content c.put_at.new.index in
+    let row : Row g.row.I-Alloc.Denot = c.args.row.now in
+    let id = c.as_str.ensures.value in
+    let label = c.text.ensures.value in
+    let name : record { id = c.as_str.result.now; label = c.text.result.now } ≡ name_of row = λ i. record { id = id i; label = label i } in
+    subst (λ p. IsTied p more new) (sym c.put_at.ensures.period)
+    (tied_put period c.self.inside.keys more c.key-key.result row rows new
+    (subst (λ p. InScanOrder p rows) c.period.ensures.value (subst (λ p. InScanOrder p rows) (sym c.period.ensures.value) c.period.ensures.lawful.in_order))
+    (c.key-key.ensures.value ∙ ap (λ p. place_of p row) c.period.ensures.value) c.put_at.ensures.rows
+    (subst (λ (own : Name). (other : Name) → key_at more other ≡ cond (same_text (joined own) (joined other)) (Some c.key-key.result) (key_at c.self.inside.keys other)) name c.in_ok-before.ensures.updates)
+    c.self.invariant)

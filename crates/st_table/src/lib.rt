@@ -1,0 +1,10 @@
+//! Rows of one table: an index of them, and a map from their names to their keys.
+#![tactic(auto)]
+
+pub mod law;
+mod moving;
+mod names;
+mod row_name;
+mod table;
+
+pub use table::Table;

@@ -1,0 +1,155 @@
+//! Tables.
+ghost use Rattle.std.specs.Prelude.{◌≡◌, ◌↔◌, ◌<◌, ◌≤◌, ◌⊎◌, [], length, map, option_copied, OnOk, OnErr, IsOk, IfOk, IfErr};
+ghost use Rattle.st_key.specs.declared.period.Period.{Period};
+ghost use Rattle.st_text.specs.Texts.{in_order};
+ghost use Rattle.st_index.specs.Order.{InScanOrder, scan_key};
+ghost use Rattle.st_index.specs.Rows.{name_of};
+ghost use Rattle.st_scan.specs.Pages.{IsPage, seen_after};
+ghost use Rattle.st_scan.specs.Seen.{seen};
+ghost use Rattle.st_scan.specs.declared.fault.ScanFault.TheVariants.{BadGrid, BadLimit};
+ghost use Rattle.st_table.specs.Table.{HasEachOnce, IsFound, with_row, without};
+
+use crate::moving::copy_rows;
+use crate::names::KeysByName;
+use st_auth::Auths;
+use st_box::Query;
+use st_index::{AsRow, Row, RowIndex, order};
+use st_key::{Key, Period, Place};
+use st_scan::{Page, ScanFault};
+use std::alloc::{AllocError, Allocator};
+use std::cmp::Ordering;
+use std::marker::Model;
+
+/// The rows of one table.
+#[derive(Drop)]
+pub struct Table<I: RowIndex> {
+    index: I,
+    keys: KeysByName<I::Alloc>,
+}
+
+impl<I: RowIndex> Model for Table<I> {
+    ghost use Rattle.st_table.specs.Table.{TableValue};
+    ghost use Rattle.st_table.specs.Names.{IsTied};
+
+    ghost Value = { TableValue I.Alloc };
+
+    ghost view = { λ t. record { period = I.period_of t.index; rows = I.content t.index } };
+
+    ghost invariant = { λ t. IsTied (I.period_of t.index) t.keys (I.content t.index) };
+}
+
+// Puts a row into an index in place of the one of its name, which stands at this key, if there is one.
+fn put_at<I: RowIndex>(
+    index: &mut I,
+    before: Option<Key>,
+    row: &Row<I::Alloc>,
+    own: I::Row,
+    spare: I::Spare,
+)
+    requires same { I.Row.value own ≡ row.now }
+    requires room { I.has_room index.old row.now spare }
+    requires found { IsFound (I.period_of index.old) before (name_of row.now) (I.content index.old) }
+    ensures rows { I.content index.new ≡ with_row (I.period_of index.old) row.now (I.content index.old) }
+    ensures period { I.period_of index.new ≡ I.period_of index.old }
+{
+    let key = row.key(index.period());
+    let Some(old) = before else {
+        index.insert(own, spare);
+        return;
+    };
+    match order::compare(old, key) {
+        Ordering::Equal => {
+            let _ = index.replace(own);
+        }
+        _ => {
+            index.insert(own, spare);
+            let _ = index.remove(old, row.id.as_str(), row.label.text());
+        }
+    }
+}
+
+impl<I: RowIndex + Drop> Table<I> {
+    /// A table over an index of no rows, or an error where there is no memory for its map of names.
+    pub fn new(alloc: I::Alloc, index: I) -> Result<Table<I>, AllocError>
+        requires { I.content index ≡ [] }
+        ensures { IfOk result (λ table. table ≡ record { period = I.period_of index; rows = [] }) }
+    {
+        Ok(Table {
+            index,
+            keys: KeysByName::new(alloc)?,
+        })
+    }
+
+    /// Moves the rows into an index of no rows, whose period becomes the table's. On a want of memory nothing is changed.
+    pub fn rebuild(&mut self, index: I) -> Result<(), AllocError>
+        requires { I.content index ≡ [] }
+        ensures ok { OnOk result (self.new ≡ record { period = I.period_of index; rows = in_order (scan_key (I.period_of index)) self.old.rows }) }
+        ensures err { OnErr result (self.new ≡ self.old) }
+    {
+        let alloc = self.keys.alloc();
+        let mut table = Table::new(alloc, index)?;
+        copy_rows(alloc, &self.index, &mut table)?;
+        *self = table;
+        Ok(())
+    }
+}
+
+impl<I: RowIndex> Table<I> {
+    /// The period of the table's keys.
+    pub fn period(&self) -> Period
+        ensures value { result ≡ self.now.period }
+        ensures in_order { InScanOrder self.now.period self.now.rows }
+        ensures each_once { HasEachOnce self.now.rows }
+    {
+        self.index.period()
+    }
+
+    /// Puts a copy of a row in place of the row of its id and its label's text, wherever that one stands. On a want of memory nothing
+    /// is changed.
+    pub fn put(&mut self, row: &Row<I::Alloc>) -> Result<(), AllocError>
+        ensures ok { OnOk result (self.new ≡ record self.old { rows = with_row self.old.period row.now self.old.rows }) }
+        ensures err { OnErr result (self.new ≡ self.old) }
+    {
+        let key = row.key(self.index.period());
+        let own = I::Row::copy_of(row)?;
+        let spare = self.index.prepare(row)?;
+        let before = self.keys.put(row.id.as_str(), row.label.text(), key)?;
+        put_at(&mut self.index, before, row, own, spare);
+        Ok(())
+    }
+
+    /// Takes out the row of this id and this label's text, if there is one. It takes no memory.
+    pub fn delete(&mut self, id: &str, label: &str)
+        ensures { self.new ≡ record self.old { rows = without id.now label.now self.old.rows } }
+    {
+        let Some(key) = self.keys.take(id, label) else {
+            return;
+        };
+        let _ = self.index.remove(key, id, label);
+    }
+
+    /// How many rows are inside the query and have a label that the authorizations satisfy.
+    pub fn count<B: Allocator>(&self, query: &Query, auths: &Auths<B>) -> Result<u64, AllocError>
+        ensures { IfOk result (λ count. count ≡ length (seen query.now auths.now self.now.rows)) }
+    {
+        st_scan::count(self.keys.alloc(), &self.index, query, auths)
+    }
+
+    /// The first rows, at most `limit` of them, that are inside the query, have a label that the authorizations satisfy, and come
+    /// after a place, if one is given; and whether more follow. The place need name no row. `BadLimit` where the limit is not 1 to
+    /// 1,000.
+    pub fn page<B: Allocator, C: Allocator + Copy>(
+        &self,
+        query: &Query,
+        auths: &Auths<B>,
+        after: Option<&Place<C>>,
+        limit: usize,
+    ) -> Result<Page<'_, I::Alloc>, ScanFault>
+        ensures page { IfOk result (λ page. IsPage limit (seen_after self.now.period query.now auths.now (option_copied after.entry) self.now.rows) (map (λ row. row.now) page.rows.items) page.more) }
+        ensures limit { IsOk result → (1 ≤ limit) × (limit ≤ 1000) }
+        ensures bad_limit { IfErr result (λ fault. fault ≡ BadLimit ↔ ((limit ≡ 0) ⊎ (1000 < limit))) }
+        ensures no_grid { IfErr result (λ fault. fault ≡ BadGrid → ⊥) }
+    {
+        st_scan::page(self.keys.alloc(), &self.index, query, auths, after, limit)
+    }
+}

@@ -1,0 +1,17 @@
+//! Tests of texts, labels, authorizations, the directory and the policy.
+#![tactic(auto)]
+
+#[cfg(test)]
+mod authorizations;
+#[cfg(test)]
+mod directories;
+#[cfg(test)]
+mod labels;
+#[cfg(test)]
+mod names;
+#[cfg(test)]
+mod policies;
+#[cfg(test)]
+mod requests;
+#[cfg(test)]
+mod texts;
