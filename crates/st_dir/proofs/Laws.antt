@@ -1,10 +1,9 @@
 -- What a grant on a namespace does, and whom the listing of grants names.
-use Rattle.std.proofs.Common.{◌≡◌, List, [], ◌∷◌, map, Bool, true, false, ◌&&◌, ◌||◌, if◌then◌else◌, Option, Some, None, refl, sym, ap, subst, ◌∙◌}
+use Rattle.std.proofs.Common.{◌≡◌, List, [], ◌∷◌, map, Bool, true, false, ◌&&◌, ◌||◌, Option, Some, None, refl, sym, ap, ◌∙◌}
 use Rattle.std.specs.List.{list_any}
 use Rattle.std.specs.Option.{option_map_or}
-use Rattle.st_text.specs.Names.{namespace_of}
-use Rattle.st_text.specs.Texts.{Text, same, in_order}
-use Rattle.st_text.proofs.Same.{same-eq, same-refl}
+use Rattle.st_text.specs.Texts.{Text, same}
+use Rattle.st_text.proofs.Same.{same-eq}
 use Rattle.st_dir.specs.Changes.{with_grant}
 use Rattle.st_dir.specs.Grants.{same_grant, same_scope}
 use Rattle.st_dir.specs.Directory.{Directory}
@@ -14,7 +13,6 @@ use Rattle.st_dir.specs.declared.given.Given.{Given}
 use Rattle.st_dir.specs.Permissions.{same_permission}
 use Rattle.st_dir.specs.declared.grant.Grant.{Grant}
 use Rattle.st_dir.specs.declared.grant.Scope.{Scope}
-use Rattle.st_dir.specs.declared.grant.Scope.TheVariants.{OnTable, OnNamespace}
 use Rattle.st_dir.proofs.Keys.{grant_own}
 use Rattle.st_dir.proofs.Sets.{any_order}
 use Rattle.st_dir.proofs.Sorted.{clash}

@@ -1,5 +1,5 @@
-mod Keys
-mod Sorted
+pub mod Keys
+pub mod Sorted
 mod First
 mod Sets
 mod Laws

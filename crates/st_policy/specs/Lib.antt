@@ -1,4 +1,6 @@
 pub mod Requests
 pub mod Refusals
 pub mod Policy
+pub mod Entries
+pub mod Periods
 pub use Rattle.st_dir.specs.Directory

@@ -9,7 +9,7 @@ use Rattle.st_policy.specs.declared.denial.Denial.{Denial}
 use Rattle.st_policy.specs.declared.refusal.Refusal.{Refusal}
 use Rattle.st_policy.specs.declared.refusal.Refusal.TheVariants.{NoTable, NoUser, TableExists, UserExists, Denied}
 use Rattle.st_policy.specs.declared.request.Request.{Request}
-use Rattle.st_policy.specs.declared.request.Request.TheVariants.{Whoami, Tables, Users, User, Grants, NamespaceGrants, Label, Audit, Count, Put, Delete, CreateTable, DropTable, Constraint, Period, CreateUser, DropUser, Token, Auths, GrantSystem, RevokeSystem, GrantTable, RevokeTable, GrantNamespace, RevokeNamespace}
+use Rattle.st_policy.specs.declared.request.Request.TheVariants.{Whoami, Tables, Users, User, Grants, NamespaceGrants, Label, Audit, Get, Scan, Count, Grid, Plan, Put, Delete, CreateTable, DropTable, Constraint, Period, CreateUser, DropUser, Token, Auths, GrantSystem, RevokeSystem, GrantTable, RevokeTable, GrantNamespace, RevokeNamespace}
 use Rattle.st_policy.specs.Requests.{table_of, user_of, auths_of}
 
 abbrev pub first_of : List (Option Refusal) → Option Refusal
@@ -62,7 +62,11 @@ need_of (Grants table) = Nothing
 need_of (NamespaceGrants namespace) = Nothing
 need_of (Label label) = Nothing
 need_of Audit = System Permission.System
+need_of (Get table id auths) = Table table Permission.Read
+need_of (Scan table query auths limit after) = Table table Permission.Read
 need_of (Count table query auths) = Table table Permission.Read
+need_of (Grid table query auths columns lines) = Table table Permission.Read
+need_of (Plan table query budget) = Table table Permission.Read
 need_of (Put table row) = Table table Permission.Write
 need_of (Delete table id label) = Table table Permission.Write
 need_of (CreateTable table period) = System Permission.CreateTable

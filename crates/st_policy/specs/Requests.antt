@@ -2,7 +2,7 @@
 use Rattle.std.specs.Prelude.{Bool, true, false, List, [], ◌∷◌, Option, Some, None, codes}
 use Rattle.st_text.specs.Texts.{Text}
 use Rattle.st_policy.specs.declared.request.Request.{Request}
-use Rattle.st_policy.specs.declared.request.Request.TheVariants.{Whoami, Tables, Users, User, Grants, NamespaceGrants, Label, Audit, Count, Put, Delete, CreateTable, DropTable, Constraint, Period, CreateUser, DropUser, Token, Auths, GrantSystem, RevokeSystem, GrantTable, RevokeTable, GrantNamespace, RevokeNamespace}
+use Rattle.st_policy.specs.declared.request.Request.TheVariants.{Whoami, Tables, Users, User, Grants, NamespaceGrants, Label, Audit, Get, Scan, Count, Grid, Plan, Put, Delete, CreateTable, DropTable, Constraint, Period, CreateUser, DropUser, Token, Auths, GrantSystem, RevokeSystem, GrantTable, RevokeTable, GrantNamespace, RevokeNamespace}
 
 -- the name of the line, by which the audit listing writes it
 abbrev pub name_of : {A : Type 0} → Request A → Text
@@ -14,7 +14,11 @@ name_of (Grants table) = codes "grants"
 name_of (NamespaceGrants namespace) = codes "namespace-grants"
 name_of (Label label) = codes "label"
 name_of Audit = codes "audit"
+name_of (Get table id auths) = codes "get"
+name_of (Scan table query auths limit after) = codes "scan"
 name_of (Count table query auths) = codes "count"
+name_of (Grid table query auths columns lines) = codes "grid"
+name_of (Plan table query budget) = codes "plan"
 name_of (Put table row) = codes "put"
 name_of (Delete table id label) = codes "delete"
 name_of (CreateTable table period) = codes "create-table"
@@ -42,7 +46,11 @@ is_change (Grants table) = false
 is_change (NamespaceGrants namespace) = false
 is_change (Label label) = false
 is_change Audit = false
+is_change (Get table id auths) = false
+is_change (Scan table query auths limit after) = false
 is_change (Count table query auths) = false
+is_change (Grid table query auths columns lines) = false
+is_change (Plan table query budget) = false
 is_change (Put table row) = true
 is_change (Delete table id label) = true
 is_change (CreateTable table period) = true
@@ -70,7 +78,11 @@ table_of (Grants table) = Some table
 table_of (NamespaceGrants namespace) = None
 table_of (Label label) = None
 table_of Audit = None
+table_of (Get table id auths) = Some table
+table_of (Scan table query auths limit after) = Some table
 table_of (Count table query auths) = Some table
+table_of (Grid table query auths columns lines) = Some table
+table_of (Plan table query budget) = Some table
 table_of (Put table row) = Some table
 table_of (Delete table id label) = Some table
 table_of (CreateTable table period) = None
@@ -98,7 +110,11 @@ namespace_of (Grants table) = None
 namespace_of (NamespaceGrants namespace) = Some namespace
 namespace_of (Label label) = None
 namespace_of Audit = None
+namespace_of (Get table id auths) = None
+namespace_of (Scan table query auths limit after) = None
 namespace_of (Count table query auths) = None
+namespace_of (Grid table query auths columns lines) = None
+namespace_of (Plan table query budget) = None
 namespace_of (Put table row) = None
 namespace_of (Delete table id label) = None
 namespace_of (CreateTable table period) = None
@@ -126,7 +142,11 @@ user_of (Grants table) = None
 user_of (NamespaceGrants namespace) = None
 user_of (Label label) = None
 user_of Audit = None
+user_of (Get table id auths) = None
+user_of (Scan table query auths limit after) = None
 user_of (Count table query auths) = None
+user_of (Grid table query auths columns lines) = None
+user_of (Plan table query budget) = None
 user_of (Put table row) = None
 user_of (Delete table id label) = None
 user_of (CreateTable table period) = None
@@ -154,7 +174,11 @@ new_name_of (Grants table) = None
 new_name_of (NamespaceGrants namespace) = None
 new_name_of (Label label) = None
 new_name_of Audit = None
+new_name_of (Get table id auths) = None
+new_name_of (Scan table query auths limit after) = None
 new_name_of (Count table query auths) = None
+new_name_of (Grid table query auths columns lines) = None
+new_name_of (Plan table query budget) = None
 new_name_of (Put table row) = None
 new_name_of (Delete table id label) = None
 new_name_of (CreateTable table period) = Some table
@@ -182,7 +206,11 @@ auths_of (Grants table) = []
 auths_of (NamespaceGrants namespace) = []
 auths_of (Label label) = []
 auths_of Audit = []
+auths_of (Get table id auths) = auths
+auths_of (Scan table query auths limit after) = auths
 auths_of (Count table query auths) = auths
+auths_of (Grid table query auths columns lines) = auths
+auths_of (Plan table query budget) = []
 auths_of (Put table row) = []
 auths_of (Delete table id label) = []
 auths_of (CreateTable table period) = []

@@ -88,7 +88,11 @@ fn permits<A: Allocator>(
         | Request::NamespaceGrants { .. }
         | Request::Label { .. } => Ok(()),
         Request::Audit => on_system(directory, asker, Permission::System),
-        Request::Count { table, .. } => on_table(directory, asker, table, Permission::Read),
+        Request::Get { table, .. }
+        | Request::Scan { table, .. }
+        | Request::Count { table, .. }
+        | Request::Grid { table, .. }
+        | Request::Plan { table, .. } => on_table(directory, asker, table, Permission::Read),
         Request::Put { table, .. } | Request::Delete { table, .. } => {
             on_table(directory, asker, table, Permission::Write)
         }
@@ -129,7 +133,10 @@ fn holds_auths<A: Allocator>(
     ensures { result ≡ decision (auths_are_held directory.now asker.now (auths_of request.now)) }
 {
     match request {
-        Request::Count { auths, .. } => match lacking(directory, asker, auths) {
+        Request::Get { auths, .. }
+        | Request::Scan { auths, .. }
+        | Request::Count { auths, .. }
+        | Request::Grid { auths, .. } => match lacking(directory, asker, auths) {
             Some(name) => Err(Refusal::Denied(Denial::Authorization { name })),
             None => Ok(()),
         },

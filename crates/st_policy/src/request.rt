@@ -1,9 +1,10 @@
 //! Requests.
+use crate::limits::{Budget, Limit, Side};
 use st_auth::Auths;
 use st_box::Query;
 use st_dir::{Name, Permission, TableName};
 use st_index::{Id, Row};
-use st_key::Period;
+use st_key::{Period, Place};
 use st_label::Label;
 use std::alloc::{Allocator, Global};
 
@@ -34,11 +35,40 @@ pub enum Request<A: Allocator = Global> {
     },
     /// The changes that were asked for.
     Audit,
+    /// The rows of a table under an id that are seen with these authorizations.
+    Get {
+        table: TableName,
+        id: Id<A>,
+        auths: Auths<A>,
+    },
+    /// The first rows of a table that are inside a query, seen with these authorizations and after a
+    /// place, if one is given, in scan order.
+    Scan {
+        table: TableName,
+        query: Query,
+        auths: Auths<A>,
+        limit: Limit,
+        after: Option<Place<A>>,
+    },
     /// How many rows of a table are inside a query and seen with these authorizations.
     Count {
         table: TableName,
         query: Query,
         auths: Auths<A>,
+    },
+    /// How many such rows are in each field of a grid over the query's box.
+    Grid {
+        table: TableName,
+        query: Query,
+        auths: Auths<A>,
+        columns: Side,
+        lines: Side,
+    },
+    /// The plan of a query: the ranges of its keys.
+    Plan {
+        table: TableName,
+        query: Query,
+        budget: Budget,
     },
     /// Puts a row into a table, in place of the row of the same id and label text, if there is one.
     Put {
@@ -145,7 +175,11 @@ impl<A: Allocator> Request<A> {
             | Request::NamespaceGrants { .. }
             | Request::Label { .. }
             | Request::Audit
-            | Request::Count { .. } => false,
+            | Request::Get { .. }
+            | Request::Scan { .. }
+            | Request::Count { .. }
+            | Request::Grid { .. }
+            | Request::Plan { .. } => false,
             _ => true,
         }
     }
@@ -164,7 +198,11 @@ impl<A: Allocator> Request<A> {
             Request::NamespaceGrants { .. } => "namespace-grants",
             Request::Label { .. } => "label",
             Request::Audit => "audit",
+            Request::Get { .. } => "get",
+            Request::Scan { .. } => "scan",
             Request::Count { .. } => "count",
+            Request::Grid { .. } => "grid",
+            Request::Plan { .. } => "plan",
             Request::Put { .. } => "put",
             Request::Delete { .. } => "delete",
             Request::CreateTable { .. } => "create-table",
@@ -190,7 +228,11 @@ impl<A: Allocator> Request<A> {
     {
         match self {
             Request::Grants { table }
+            | Request::Get { table, .. }
+            | Request::Scan { table, .. }
             | Request::Count { table, .. }
+            | Request::Grid { table, .. }
+            | Request::Plan { table, .. }
             | Request::Put { table, .. }
             | Request::Delete { table, .. }
             | Request::DropTable { table }

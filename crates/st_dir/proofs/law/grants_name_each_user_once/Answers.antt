@@ -1,4 +1,4 @@
-use Rattle.std.proofs.Common.{rules, ◌≡◌, map, filter, sym, subst}
+use Rattle.std.proofs.Common.{map, filter, sym, subst}
 use Rattle.st_dir.specs.Grants.{same_scope}
 use Rattle.st_dir.specs.Sorted.{Rises, name_key}
 use Rattle.st_dir.proofs.Laws.{named_back}

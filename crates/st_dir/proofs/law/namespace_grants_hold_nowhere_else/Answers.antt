@@ -1,4 +1,4 @@
-use Rattle.std.proofs.Common.{rules, ◌≡◌, ◌||◌, Some, refl, ap, ◌∙◌}
+use Rattle.std.proofs.Common.{◌||◌, Some, refl, ap, ◌∙◌}
 use Rattle.std.specs.List.{list_any}
 use Rattle.st_text.specs.Names.{namespace_of}
 use Rattle.st_dir.specs.Changes.{with_grant}
