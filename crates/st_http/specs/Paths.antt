@@ -16,7 +16,11 @@ pattern_of paths.Grants = codes "/tables/{table}/grants"
 pattern_of paths.NamespaceGrants = codes "/namespaces/{namespace}/grants"
 pattern_of paths.Label = codes "/label"
 pattern_of paths.Audit = codes "/audit"
+pattern_of paths.Get = codes "/tables/{table}/get"
+pattern_of paths.Scan = codes "/tables/{table}/scan"
 pattern_of paths.Count = codes "/tables/{table}/count"
+pattern_of paths.Grid = codes "/tables/{table}/grid"
+pattern_of paths.Plan = codes "/tables/{table}/plan"
 pattern_of paths.Put = codes "/tables/{table}/put"
 pattern_of paths.Delete = codes "/tables/{table}/delete"
 pattern_of paths.Table = codes "/tables/{table}"
@@ -35,7 +39,7 @@ pattern_of paths.RevokeNamespace = codes "/namespaces/{namespace}/revoke"
 unfoldable pub all_paths : List Path
 all_paths =
     paths.Whoami ∷ paths.Tables ∷ paths.Users ∷ paths.User ∷ paths.Grants ∷ paths.NamespaceGrants ∷ paths.Label ∷ paths.Audit
-    ∷ paths.Count ∷ paths.Put ∷ paths.Delete ∷ paths.Table ∷ paths.Constraint ∷ paths.Period ∷ paths.Token ∷ paths.Auths
+    ∷ paths.Get ∷ paths.Scan ∷ paths.Count ∷ paths.Grid ∷ paths.Plan ∷ paths.Put ∷ paths.Delete ∷ paths.Table ∷ paths.Constraint ∷ paths.Period ∷ paths.Token ∷ paths.Auths
     ∷ paths.GrantSystem ∷ paths.RevokeSystem ∷ paths.GrantTable ∷ paths.RevokeTable ∷ paths.GrantNamespace ∷ paths.RevokeNamespace ∷ []
 
 -- the methods (RFC 9110, "Methods")
@@ -58,7 +62,11 @@ lines_of paths.Grants = (get, lines.Grants) ∷ []
 lines_of paths.NamespaceGrants = (get, lines.NamespaceGrants) ∷ []
 lines_of paths.Label = (post, lines.Label) ∷ []
 lines_of paths.Audit = (get, lines.Audit) ∷ []
+lines_of paths.Get = (post, lines.Get) ∷ []
+lines_of paths.Scan = (post, lines.Scan) ∷ []
 lines_of paths.Count = (post, lines.Count) ∷ []
+lines_of paths.Grid = (post, lines.Grid) ∷ []
+lines_of paths.Plan = (post, lines.Plan) ∷ []
 lines_of paths.Put = (post, lines.Put) ∷ []
 lines_of paths.Delete = (post, lines.Delete) ∷ []
 lines_of paths.Table = (delete, lines.DropTable) ∷ []

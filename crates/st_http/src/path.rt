@@ -16,9 +16,11 @@ pub(crate) enum Path {
     NamespaceGrants,
     Label,
     Audit,
-    // Here come `get` and `scan`.
+    Get,
+    Scan,
     Count,
-    // Here come `grid` and `plan`.
+    Grid,
+    Plan,
     Put,
     Delete,
     Table,
@@ -35,7 +37,7 @@ pub(crate) enum Path {
 }
 
 /// The paths of the table of requests, in its order.
-pub(crate) const ALL: [Path; 22] = [
+pub(crate) const ALL: [Path; 26] = [
     Path::Whoami,
     Path::Tables,
     Path::Users,
@@ -44,7 +46,11 @@ pub(crate) const ALL: [Path; 22] = [
     Path::NamespaceGrants,
     Path::Label,
     Path::Audit,
+    Path::Get,
+    Path::Scan,
     Path::Count,
+    Path::Grid,
+    Path::Plan,
     Path::Put,
     Path::Delete,
     Path::Table,
@@ -81,7 +87,11 @@ impl Path {
             Path::NamespaceGrants => &[("GET", Line::NamespaceGrants)],
             Path::Label => &[("POST", Line::Label)],
             Path::Audit => &[("GET", Line::Audit)],
+            Path::Get => &[("POST", Line::Get)],
+            Path::Scan => &[("POST", Line::Scan)],
             Path::Count => &[("POST", Line::Count)],
+            Path::Grid => &[("POST", Line::Grid)],
+            Path::Plan => &[("POST", Line::Plan)],
             Path::Put => &[("POST", Line::Put)],
             Path::Delete => &[("POST", Line::Delete)],
             Path::Table => &[("DELETE", Line::DropTable)],
@@ -118,7 +128,11 @@ impl Path {
             Path::Whoami | Path::Grants | Path::NamespaceGrants | Path::Audit => "GET",
             Path::Table => "DELETE",
             Path::Label
+            | Path::Get
+            | Path::Scan
             | Path::Count
+            | Path::Grid
+            | Path::Plan
             | Path::Put
             | Path::Delete
             | Path::Constraint
@@ -147,7 +161,11 @@ impl Path {
             Path::NamespaceGrants => "/namespaces/{namespace}/grants",
             Path::Label => "/label",
             Path::Audit => "/audit",
+            Path::Get => "/tables/{table}/get",
+            Path::Scan => "/tables/{table}/scan",
             Path::Count => "/tables/{table}/count",
+            Path::Grid => "/tables/{table}/grid",
+            Path::Plan => "/tables/{table}/plan",
             Path::Put => "/tables/{table}/put",
             Path::Delete => "/tables/{table}/delete",
             Path::Table => "/tables/{table}",

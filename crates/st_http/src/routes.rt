@@ -26,8 +26,16 @@ pub enum Line {
     Label,
     /// `GET /audit`
     Audit,
+    /// `POST /tables/{table}/get`
+    Get,
+    /// `POST /tables/{table}/scan`
+    Scan,
     /// `POST /tables/{table}/count`
     Count,
+    /// `POST /tables/{table}/grid`
+    Grid,
+    /// `POST /tables/{table}/plan`
+    Plan,
     /// `POST /tables/{table}/put`
     Put,
     /// `POST /tables/{table}/delete`
