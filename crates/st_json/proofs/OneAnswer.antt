@@ -1,6 +1,8 @@
 -- A body has one answer.
-use Rattle.std.proofs.Common.{◌≡◌, ◌≢◌, inl, inr, ℕ, Bool, true, false, List, [], ◌∷◌, Option, Some, Result, Ok, Err, refl, sym, ap, ◌∙◌, subst}
-use Rattle.serde_json.specs.Data.{Data}
+use Rattle.std.proofs.Common.{◌≡◌, ◌≢◌, inl, inr, ℕ, Bool, true, false, List, [], ◌∷◌, codes, Option, Some, None, Result, Ok, Err, refl, sym, ap, ◌∙◌, subst}
+use Rattle.serde_json.specs.Data.{Data, null}
+use Rattle.serde_json.specs.Find.{get}
+use Rattle.st_key.specs.declared.place.Place.{Place}
 use Rattle.st_label.specs.Reading.{IsLabel}
 use Rattle.st_label.specs.Refusals.{max_len}
 use Rattle.st_label.specs.Faults.{Refuses}
@@ -13,10 +15,10 @@ use Rattle.st_policy.specs.declared.refusal.Refusal.{Refusal}
 use Rattle.st_policy.specs.declared.refusal.Refusal.TheVariants.{BadLabel}
 use Rattle.st_json.specs.declared.value.Bounds.{Bounds}
 use Rattle.st_json.specs.Needs.{Rule, Has, Needs, given, denied}
-use Rattle.st_json.specs.Fields.{HasBox, HasPoint, numbers}
+use Rattle.st_json.specs.Fields.{HasBox, HasPoint, IsPlace, IsLeftOut, HasAfter, text_in, numbers}
 use Rattle.st_json.specs.Rules.{RefusesAt, LabelOf, IsQuery, IsTable, IsOwnName, AreAuths, IsObject}
 use Rattle.st_json.specs.Bodies.{ReadBody, has_body, Made, Decoded}
-use Rattle.st_json.proofs.Same.{same_point, same_query}
+use Rattle.st_json.proofs.Same.{same_point, same_place, same_query}
 
 abbrev OnlyOne : {B : Type 0} → (B → Type 0) → Type 0
 OnlyOne {B} P = (b c : B) → P b → P c → b ≡ c
@@ -103,6 +105,31 @@ one_box d b c p q =
 one_point : (d : Data) → OnlyOne (HasPoint d)
 one_point d p q f g = let all : Some (p.x ∷ p.y ∷ p.t ∷ []) ≡ Some (q.x ∷ q.y ∷ q.t ∷ []) = sym f ∙ g in same_point p q (cc) (cc) (cc)
 
+one_place_of : {A : Type 0} (d : Data) → OnlyOne (IsPlace {A = A} d)
+one_place_of d p q f g =
+    let point : p.point ≡ q.point = one_point d p.point q.point f.point g.point in
+    let id : p.id ≡ q.id = one_some _ p.id q.id f.id g.id in
+    let label : p.label ≡ q.label = one_some _ p.label q.label f.label g.label in
+    same_place p q point id label
+
+-- what is left out is no place
+no_place_left : {A : Type 0} (d value : Data) (p : Place A) → IsLeftOut (codes "after") d → get (codes "after") d ≡ Some value → IsPlace value p → ⊥
+no_place_left d value p (inl absent) there is = let both : Some value ≡ None = sym there ∙ absent in cc
+no_place_left d value p (inr null_there) there is =
+    let both : Some value ≡ Some null = sym there ∙ null_there in
+    let same : value ≡ null = cc in
+    let id : text_in (codes "id") null ≡ Some p.id = subst (λ v. text_in (codes "id") v ≡ Some p.id) same is.id in
+    cc
+
+one_after : {A : Type 0} (d : Data) → OnlyOne (HasAfter {A = A} d)
+one_after d None None f g = refl
+one_after d None (Some q) f g = absurd (no_place_left d g.0 q f g.1 g.2)
+one_after d (Some p) None f g = absurd (no_place_left d f.0 p g f.1 f.2)
+one_after d (Some p) (Some q) f g =
+    let both : Some f.0 ≡ Some g.0 = sym f.1 ∙ g.1 in
+    let same : f.0 ≡ g.0 = cc in
+    ap Some (one_place_of g.0 p q (subst (λ v. IsPlace v p) same f.2) g.2)
+
 one_object : (body : List ℕ) → OnlyOne (IsObject body)
 one_object body d e f g = let s : Some d ≡ Some e = sym f.1 ∙ g.1 in cc
 
@@ -126,7 +153,11 @@ one_made A lines.Grants name d = one_needs _ _ (one_has _ _ (one_table name)) (�
 one_made A lines.NamespaceGrants name d = one_needs _ _ (one_has _ _ (one_name name)) (λ namespace. one_equal _)
 one_made A lines.Label name d = one_needs _ _ (one_field _ _) (λ text. one_needs _ _ (one_label text) (λ label. one_equal _))
 one_made A lines.Audit name d = one_equal _
+one_made A lines.Get name d = one_needs _ _ (one_field _ _) (λ id. one_needs _ _ (one_field _ _) (λ texts. one_needs _ _ (one_has _ _ (one_table name)) (λ table. one_needs _ _ (one_has _ _ (one_set texts)) (λ auths. one_equal _))))
+one_made A lines.Scan name d = one_needs _ _ (one_has _ _ (one_box d)) (λ bounds. one_needs _ _ (one_field _ _) (λ texts. one_needs _ _ (one_field _ _) (λ limit. one_needs _ _ (one_has _ _ (one_after d)) (λ after. one_needs _ _ (one_has _ _ (one_query bounds)) (λ query. one_needs _ _ (one_has _ _ (one_table name)) (λ table. one_needs _ _ (one_has _ _ (one_set texts)) (λ auths. one_equal _)))))))
 one_made A lines.Count name d = one_needs _ _ (one_has _ _ (one_box d)) (λ bounds. one_needs _ _ (one_field _ _) (λ texts. one_needs _ _ (one_has _ _ (one_query bounds)) (λ query. one_needs _ _ (one_has _ _ (one_table name)) (λ table. one_needs _ _ (one_has _ _ (one_set texts)) (λ auths. one_equal _)))))
+one_made A lines.Grid name d = one_needs _ _ (one_has _ _ (one_box d)) (λ bounds. one_needs _ _ (one_field _ _) (λ texts. one_needs _ _ (one_field _ _) (λ columns. one_needs _ _ (one_field _ _) (λ rows. one_needs _ _ (one_has _ _ (one_query bounds)) (λ query. one_needs _ _ (one_has _ _ (one_table name)) (λ table. one_needs _ _ (one_has _ _ (one_set texts)) (λ auths. one_equal _)))))))
+one_made A lines.Plan name d = one_needs _ _ (one_has _ _ (one_box d)) (λ bounds. one_needs _ _ (one_field _ _) (λ budget. one_needs _ _ (one_has _ _ (one_query bounds)) (λ query. one_needs _ _ (one_has _ _ (one_table name)) (λ table. one_equal _))))
 one_made A lines.Put name d = one_needs _ _ (one_field _ _) (λ id. one_needs _ _ (one_has _ _ (one_point d)) (λ point. one_needs _ _ (one_field _ _) (λ text. one_needs _ _ (one_field _ _) (λ note. one_needs _ _ (one_label text) (λ label. one_needs _ _ (one_has _ _ (one_table name)) (λ table. one_equal _))))))
 one_made A lines.Delete name d = one_needs _ _ (one_field _ _) (λ id. one_needs _ _ (one_field _ _) (λ text. one_needs _ _ (one_label text) (λ label. one_needs _ _ (one_has _ _ (one_table name)) (λ table. one_equal _))))
 one_made A lines.CreateTable name d = one_needs _ _ (one_field _ _) (λ text. one_needs _ _ (one_field _ _) (λ period. one_needs _ _ (one_has _ _ (one_table text)) (λ table. one_equal _)))

@@ -1,7 +1,8 @@
 -- Points and queries with the same numbers are the same.
-use Rattle.std.proofs.Common.{◌≡◌, ℕ, ◌^◌, ◌<◌, ◌≤◌, ap, ◌∙◌, subst}
+use Rattle.std.proofs.Common.{◌≡◌, ℕ, List, ◌^◌, ◌<◌, ◌≤◌, ap, ◌∙◌, subst}
 use Rattle.std.proofs.Props.{props}
 use Rattle.st_key.specs.declared.point.Point.{Point}
+use Rattle.st_key.specs.declared.place.Place.{Place}
 use Rattle.st_box.specs.declared.query.Query.{Query}
 
 abbrev make : (x y t : ℕ) → x < 2 ^ 21 → y < 2 ^ 21 → t < 19818086400 → Point
@@ -22,6 +23,12 @@ same_point p q ex ey et =
     let with_y : Y q.y = subst Y ey (λ fy. with_x q.x_in_range ∙ ap (λ f. make q.x p.y p.t q.x_in_range f p.t_in_range) (lt_prop _ _ p.y_in_range fy)) in
     let with_t : T q.t = subst T et (λ ft. with_y q.y_in_range ∙ ap (λ f. make q.x q.y p.t q.x_in_range q.y_in_range f) (lt_prop _ _ p.t_in_range ft)) in
     with_t q.t_in_range
+
+pub same_place : {A : Type 0} (p q : Place A) → p.point ≡ q.point → p.id ≡ q.id → p.label ≡ q.label → p ≡ q
+same_place {A} p q ep ei el =
+    let make : Point → List ℕ → List ℕ → Place A = λ point id label. record { point = point; id = id; label = label } in
+    let whole : make p.point p.id p.label ≡ make q.point q.id q.label = rw (ep, ei, el) in
+    whole
 
 -- the facts of a query
 record Fits (x0 x1 y0 y1 t0 t1 : ℕ) : Type 0 where

@@ -9,7 +9,7 @@ use Rattle.st_policy.specs.declared.request.Request.TheVariants as requests
 use Rattle.st_http.specs.declared.routes.Line.{Line}
 use Rattle.st_http.specs.declared.routes.Line.TheVariants as lines
 use Rattle.st_json.specs.Needs.{Needs}
-use Rattle.st_json.specs.Rules.{ObjectOf, TextField, IdField, NoteField, PointField, BoxField, AuthsField, DigestField, OnField, TablePermissionField, SystemPermissionField, PeriodField, NewPeriodField, QueryOf, LabelOf, TableOf, UserOf, NamespaceOf, AuthsOf}
+use Rattle.st_json.specs.Rules.{ObjectOf, TextField, IdField, NoteField, PointField, BoxField, AuthsField, DigestField, OnField, TablePermissionField, SystemPermissionField, PeriodField, NewPeriodField, LimitField, SideField, BudgetField, AfterField, QueryOf, LabelOf, TableOf, UserOf, NamespaceOf, AuthsOf}
 
 abbrev pub Answer : Type 0 → Type 0
 Answer A = Result (Request A) Refusal
@@ -25,10 +25,27 @@ Made lines.NamespaceGrants name d = Needs (NamespaceOf name) (λ namespace answe
 Made lines.Label name d =
     Needs (TextField names.Label d) (λ text. Needs (LabelOf text) (λ label answer. answer ≡ Ok (requests.Label label)))
 Made lines.Audit name d = λ answer. answer ≡ Ok requests.Audit
+Made lines.Get name d =
+    Needs (IdField d) (λ id. Needs (AuthsField d) (λ texts.
+    Needs (TableOf name) (λ table. Needs (AuthsOf texts) (λ auths answer.
+    answer ≡ Ok (requests.Get table id auths)))))
+Made lines.Scan name d =
+    Needs (BoxField d) (λ bounds. Needs (AuthsField d) (λ texts. Needs (LimitField d) (λ limit. Needs (AfterField d) (λ after.
+    Needs (QueryOf bounds) (λ query. Needs (TableOf name) (λ table. Needs (AuthsOf texts) (λ auths answer.
+    answer ≡ Ok (requests.Scan table query auths limit after))))))))
 Made lines.Count name d =
     Needs (BoxField d) (λ bounds. Needs (AuthsField d) (λ texts.
     Needs (QueryOf bounds) (λ query. Needs (TableOf name) (λ table. Needs (AuthsOf texts) (λ auths answer.
     answer ≡ Ok (requests.Count table query auths))))))
+Made lines.Grid name d =
+    Needs (BoxField d) (λ bounds. Needs (AuthsField d) (λ texts.
+    Needs (SideField names.Nx d) (λ columns. Needs (SideField names.Ny d) (λ rows.
+    Needs (QueryOf bounds) (λ query. Needs (TableOf name) (λ table. Needs (AuthsOf texts) (λ auths answer.
+    answer ≡ Ok (requests.Grid table query auths columns rows))))))))
+Made lines.Plan name d =
+    Needs (BoxField d) (λ bounds. Needs (BudgetField d) (λ budget.
+    Needs (QueryOf bounds) (λ query. Needs (TableOf name) (λ table answer.
+    answer ≡ Ok (requests.Plan table query budget)))))
 Made lines.Put name d =
     Needs (IdField d) (λ id. Needs (PointField d) (λ point. Needs (TextField names.Label d) (λ text. Needs (NoteField d) (λ note.
     Needs (LabelOf text) (λ label. Needs (TableOf name) (λ table answer.
@@ -87,7 +104,11 @@ has_body lines.Grants = false
 has_body lines.NamespaceGrants = false
 has_body lines.Label = true
 has_body lines.Audit = false
+has_body lines.Get = true
+has_body lines.Scan = true
 has_body lines.Count = true
+has_body lines.Grid = true
+has_body lines.Plan = true
 has_body lines.Put = true
 has_body lines.Delete = true
 has_body lines.CreateTable = true

@@ -1,5 +1,5 @@
 -- The fields of a body, an object of JSON (RFC 8259).
-use Rattle.std.specs.Prelude.{◌≡◌, ℕ, Bool, List, [], ◌∷◌, codes, nat_le, ◌&&◌, if◌then◌else◌, length, find, Option, Some, None, option_map, option_and_then}
+use Rattle.std.specs.Prelude.{◌≡◌, ◌⊎◌, ℕ, Bool, List, [], ◌∷◌, codes, nat_le, ◌&&◌, if◌then◌else◌, length, find, Option, Some, None, option_map, option_and_then}
 use Rattle.std.specs.Result.{result_ok}
 use Rattle.hex.specs.Hex.{decode_sized}
 use Rattle.serde_json.specs.Data.{Data, null, Items, no_items, item}
@@ -7,9 +7,11 @@ use Rattle.serde_json.specs.Find.{get, as_number, as_u64, as_str, as_bool, as_ar
 use Rattle.st_key.specs.declared.point.Point.{Point}
 use Rattle.st_key.specs.declared.period.Period.{Period}
 use Rattle.st_key.specs.declared.period.Period.TheVariants.{Day, Week}
+use Rattle.st_key.specs.declared.place.Place.{Place}
 use Rattle.st_text.specs.Texts.{Text, same}
 use Rattle.st_dir.specs.Permissions.{name_of}
 use Rattle.st_dir.specs.declared.permission.Permission.{Permission}
+use Rattle.st_policy.specs.Periods.{period_name}
 use Rattle.st_json.specs.declared.value.Bounds.{Bounds}
 
 -- a number that is written in digits alone, and is at most 2^64 - 1
@@ -41,6 +43,14 @@ numbers_in name d = option_and_then numbers_of (list_in name d)
 -- the text, where its bytes are that many
 abbrev pub sized : ℕ → ℕ → Text → Option Text
 sized least most s = if nat_le least (length s) && nat_le (length s) most then Some s else None
+
+-- the number, where it is in the range
+abbrev pub ranged : ℕ → ℕ → ℕ → Option ℕ
+ranged least most n = if nat_le least n && nat_le n most then Some n else None
+
+-- the number of this name, where it is in the range
+abbrev pub number_in : ℕ → ℕ → Text → Data → Option ℕ
+number_in least most name d = option_and_then (ranged least most) (option_and_then number_of (get name d))
 
 -- ---- the fields by name
 
@@ -78,11 +88,6 @@ on_in d = option_and_then as_bool (get (codes "on") d)
 abbrev pub permission_in : List Permission → Data → Option Permission
 permission_in listed d = option_and_then (λ s. find (λ p. same (name_of p) s) listed) (text_in (codes "permission") d)
 
--- how requests and replies write a period
-abbrev pub period_name : Period → Text
-period_name Day = codes "day"
-period_name Week = codes "week"
-
 abbrev pub period_of : Data → Option Period
 period_of d = option_and_then (λ s. find (λ p. same (period_name p) s) (Day ∷ Week ∷ [])) (as_str d)
 
@@ -97,3 +102,30 @@ period_or_week (Some d) = period_of d
 
 abbrev pub new_period_in : Data → Option Period
 new_period_in d = period_or_week (get (codes "period") d)
+
+-- 1 to 1,000
+abbrev pub limit_in : Data → Option ℕ
+limit_in d = number_in 1 1000 (codes "limit") d
+
+-- 1 to 32, under one of two names
+abbrev pub side_in : Text → Data → Option ℕ
+side_in name d = number_in 1 32 name d
+
+-- 1 to 64
+abbrev pub budget_in : Data → Option ℕ
+budget_in d = number_in 1 64 (codes "budget") d
+
+-- an object with a point, an id and a label, which are texts of any kind
+pub record IsPlace {A : Type 0} (d : Data) (place : Place A) : Type 0 where
+  pub point : HasPoint d place.point
+  pub id : text_in (codes "id") d ≡ Some place.id
+  pub label : text_in (codes "label") d ≡ Some place.label
+
+-- the field is absent or null
+abbrev pub IsLeftOut : Text → Data → Type 0
+IsLeftOut name d = (get name d ≡ None) ⊎ (get name d ≡ Some null)
+
+-- the place that the field is, or none, where it is left out
+abbrev pub HasAfter : {A : Type 0} → Data → Option (Place A) → Type 0
+HasAfter d None = IsLeftOut (codes "after") d
+HasAfter d (Some place) = (value : Data) × (get (codes "after") d ≡ Some value) × IsPlace value place

@@ -1,5 +1,5 @@
 -- The rules of bodies, one by one.
-use Rattle.std.specs.Prelude.{◌≡◌, ◌⊎◌, ℕ, Bool, List, IsTrue, IsUtf8, Some, None, Result, Ok, Err}
+use Rattle.std.specs.Prelude.{◌≡◌, ◌⊎◌, ℕ, Bool, List, IsTrue, IsUtf8, Option, Some, None, Result, Ok, Err}
 use Rattle.serde_json.specs.Data.{Data, Members, object}
 use Rattle.serde_json.specs.Read.{read}
 use Rattle.st_text.specs.Texts.{Text}
@@ -9,6 +9,7 @@ use Rattle.st_box.specs.declared.query.Query.{Query}
 use Rattle.st_box.specs.Query as query
 use Rattle.st_key.specs.declared.point.Point.{Point}
 use Rattle.st_key.specs.declared.period.Period.{Period}
+use Rattle.st_key.specs.declared.place.Place.{Place}
 use Rattle.st_label.specs.Reading.{IsLabel}
 use Rattle.st_label.specs.Refusals.{max_len}
 use Rattle.st_label.specs.Faults.{Refuses}
@@ -21,7 +22,7 @@ use Rattle.st_policy.specs.declared.field_name.FieldName.TheVariants as names
 use Rattle.st_policy.specs.declared.refusal.Refusal.{Refusal}
 use Rattle.st_policy.specs.declared.refusal.Refusal.TheVariants.{Json, Field, BadBox, BadLabel, BadName}
 use Rattle.st_json.specs.declared.value.Bounds.{Bounds}
-use Rattle.st_json.specs.Fields.{HasBox, HasPoint, text_in, auths_in, id_in, note_in, digest_in, on_in, permission_in, period_in, new_period_in}
+use Rattle.st_json.specs.Fields.{HasBox, HasPoint, text_in, auths_in, id_in, note_in, digest_in, on_in, permission_in, period_in, new_period_in, limit_in, side_in, budget_in, HasAfter}
 use Rattle.st_json.specs.Needs.{Rule, Has}
 
 -- the body is UTF-8 and reads as this object
@@ -71,6 +72,20 @@ PeriodField d = Has (Field names.Period) (λ period. period_in d ≡ Some period
 -- the period of a new table, which may be left out
 abbrev pub NewPeriodField : Data → Rule Period
 NewPeriodField d = Has (Field names.Period) (λ period. new_period_in d ≡ Some period)
+
+abbrev pub LimitField : Data → Rule ℕ
+LimitField d = Has (Field names.Limit) (λ limit. limit_in d ≡ Some limit)
+
+-- the columns or the lines of a grid
+abbrev pub SideField : FieldName → Data → Rule ℕ
+SideField name d = Has (Field name) (λ side. side_in (field_text name) d ≡ Some side)
+
+abbrev pub BudgetField : Data → Rule ℕ
+BudgetField d = Has (Field names.Budget) (λ budget. budget_in d ≡ Some budget)
+
+-- the place after which a page begins, which may be left out
+abbrev pub AfterField : {A : Type 0} → Data → Rule (Option (Place A))
+AfterField d = Has (Field names.After) (HasAfter d)
 
 -- ---- what numbers and texts make
 

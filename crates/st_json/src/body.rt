@@ -5,7 +5,7 @@ ghost use Rattle.st_json.specs.Needs.{Tells, shown};
 ghost use Rattle.st_json.specs.Bodies.{Made, Decoded, ReadBody, has_body};
 
 use crate::fault::DecodeFault;
-use crate::{grants, rows, rule, tables, users};
+use crate::{grants, grids, plans, rows, rule, scans, tables, users};
 use serde_json::Value;
 use st_http::routes::Line;
 use st_policy::Request;
@@ -26,7 +26,11 @@ fn has_body(line: Line) -> bool
         | Line::DropTable
         | Line::DropUser => false,
         Line::Label
+        | Line::Get
+        | Line::Scan
         | Line::Count
+        | Line::Grid
+        | Line::Plan
         | Line::Put
         | Line::Delete
         | Line::CreateTable
@@ -73,7 +77,11 @@ fn request<A: Allocator + Copy>(
         Line::NamespaceGrants => grants::namespace_grants(name, object),
         Line::Label => rows::label(alloc, name, object),
         Line::Audit => Ok(Request::Audit),
+        Line::Get => rows::get(alloc, name, object),
+        Line::Scan => scans::scan(alloc, name, object),
         Line::Count => rows::count(alloc, name, object),
+        Line::Grid => grids::grid(alloc, name, object),
+        Line::Plan => plans::plan(name, object),
         Line::Put => rows::put(alloc, name, object),
         Line::Delete => rows::delete(alloc, name, object),
         Line::CreateTable => tables::create_table(name, object),

@@ -8,7 +8,7 @@ ghost use Rattle.serde_json.specs.View.{view};
 ghost use Rattle.st_text.specs.Texts.{same};
 ghost use Rattle.st_dir.specs.Permissions.{name_of, table_permissions, system_permissions};
 ghost use Rattle.st_policy.specs.declared.refusal.Refusal.TheVariants.{Field as OfField};
-ghost use Rattle.st_json.specs.Fields.{id_in, note_in, digest_in, on_in, permission_in, period_name, period_of, period_in, new_period_in};
+ghost use Rattle.st_json.specs.Fields.{id_in, note_in, digest_in, on_in, permission_in, period_of, period_in, new_period_in};
 ghost use Rattle.st_json.specs.Needs.{Has, Tells, shown};
 ghost use Rattle.st_json.specs.Rules.{TextField, IdField, NoteField, PointField, BoxField, AuthsField, DigestField, OnField, TablePermissionField, SystemPermissionField, PeriodField, NewPeriodField};
 
@@ -45,7 +45,7 @@ const SYSTEM_PERMISSIONS: [Permission; 8] = [
 ];
 
 // A field's value, or its refusal.
-fn required<T: Drop>(name: FieldName, found: Option<T>) -> Result<T, DecodeFault>
+pub(crate) fn required<T: Drop>(name: FieldName, found: Option<T>) -> Result<T, DecodeFault>
     ensures { Tells (Has (OfField name) (λ value. found ≡ Some value)) result }
 {
     match found {

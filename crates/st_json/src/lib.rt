@@ -1,21 +1,21 @@
-//! Bodies of requests and replies as JSON (RFC 8259).
+//! Requests from bodies of JSON (RFC 8259).
 #![tactic(auto)]
 
 mod body;
 mod fault;
 mod field;
 mod grants;
+mod grids;
 pub mod law;
-mod listing;
-mod refusal;
-mod reply;
+mod place;
+mod plans;
 mod rows;
 mod rule;
+mod scans;
+mod sizes;
 mod tables;
 mod users;
 mod value;
 
 pub use body::decode;
 pub use fault::DecodeFault;
-pub use refusal::status;
-pub use reply::{encode, encode_into};

@@ -23,6 +23,20 @@ pub fn label<A: Allocator + Copy>(
     Ok(Request::Label { label })
 }
 
+pub fn get<A: Allocator + Copy>(
+    alloc: A,
+    name: &str,
+    object: &Value,
+) -> Result<Request<A>, DecodeFault>
+    ensures { Tells (Made lines.Get name.now (view object.now)) result }
+{
+    let id = field::id(alloc, object)?;
+    let texts = field::auths(alloc, object)?;
+    let table = rule::table(name)?;
+    let auths = rule::auths(alloc, texts)?;
+    Ok(Request::Get { table, id, auths })
+}
+
 pub fn count<A: Allocator + Copy>(
     alloc: A,
     name: &str,

@@ -1,8 +1,9 @@
 //! Values of a body's fields.
-ghost use Rattle.std.specs.Prelude.{◌≡◌, ◌∷◌, [], option_map, map, Some, IfOk, IfSome, IfNone};
+ghost use Rattle.std.specs.Prelude.{◌≡◌, ◌∷◌, [], option_map, option_and_then, map, Some, IfOk, IfSome, IfNone};
+ghost use Rattle.serde_json.specs.Find.{get};
 ghost use Rattle.serde_json.specs.View.{view, items_view};
 ghost use Rattle.st_key.specs.declared.point.Point.{Point};
-ghost use Rattle.st_json.specs.Fields.{text_in, list_in, texts_of, texts_in, numbers_of, numbers, HasBox, HasPoint};
+ghost use Rattle.st_json.specs.Fields.{text_in, number_of, list_in, texts_of, texts_in, numbers_of, numbers, HasBox, HasPoint};
 ghost use Rattle.st_json.specs.Needs.{Picks};
 ghost use Rattle.st_json.specs.declared.value.Bounds.{Bounds};
 
@@ -25,6 +26,12 @@ pub fn text<'a>(object: &'a Value, name: &str) -> Option<&'a str>
     ensures { option_map (λ s. s.now) result ≡ text_in name.now (view object.now) }
 {
     object.get(name).and_then(Value::as_str)
+}
+
+pub fn number(object: &Value, name: &str) -> Option<u64>
+    ensures { result ≡ option_and_then number_of (get name.now (view object.now)) }
+{
+    object.get(name).and_then(Value::as_u64)
 }
 
 fn list<'a>(object: &'a Value, name: &str) -> Option<&'a Vec<Value>>

@@ -12,8 +12,20 @@ returns-in-NamespaceGrants g c = rw c.in-NamespaceGrants.is c.namespace_grants.e
 pub returns-in-Label : goal.returns-in-Label
 returns-in-Label g c = rw c.in-Label.is c.label.ensures
 
+pub returns-in-Get : goal.returns-in-Get
+returns-in-Get g c = rw c.in-Get.is c.get.ensures
+
+pub returns-in-Scan : goal.returns-in-Scan
+returns-in-Scan g c = rw c.in-Scan.is c.scan.ensures
+
 pub returns-in-Count : goal.returns-in-Count
 returns-in-Count g c = rw c.in-Count.is c.count.ensures
+
+pub returns-in-Grid : goal.returns-in-Grid
+returns-in-Grid g c = rw c.in-Grid.is c.grid.ensures
+
+pub returns-in-Plan : goal.returns-in-Plan
+returns-in-Plan g c = rw c.in-Plan.is c.plan.ensures
 
 pub returns-in-Put : goal.returns-in-Put
 returns-in-Put g c = rw c.in-Put.is c.put.ensures

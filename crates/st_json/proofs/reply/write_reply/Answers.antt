@@ -1,8 +1,0 @@
-use Rattle.std.proofs.Common.{rules}
-use Rattle.st_json.proofs.reply.write_reply.Goals as goal
-
-pub returns-in-Count : goal.returns-in-Count
-returns-in-Count g c = search rules
-
-pub returns-in-Normal : goal.returns-in-Normal
-returns-in-Normal g c = search rules

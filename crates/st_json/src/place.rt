@@ -1,0 +1,65 @@
+//! The field that says where a page begins.
+ghost use Rattle.std.specs.Prelude.{◌≡◌, IfOk};
+ghost use Rattle.serde_json.specs.View.{view};
+ghost use Rattle.st_json.specs.Fields.{IsPlace, HasAfter};
+ghost use Rattle.st_json.specs.Needs.{Tells, Picks};
+ghost use Rattle.st_json.specs.Rules.{AfterField};
+
+use crate::fault::DecodeFault::{self, Refused};
+use crate::value;
+use serde_json::Value;
+use st_key::Place;
+use st_policy::FieldName;
+use st_policy::Refusal::Field;
+use st_text::Words;
+use std::alloc::{AllocError, Allocator};
+
+// The place that an object is.
+fn place_of<A: Allocator + Copy>(alloc: A, value: &Value) -> Result<Option<Place<A>>, AllocError>
+    ensures { IfOk result (Picks (IsPlace (view value.now))) }
+{
+    let Some(point) = value::point(value) else {
+        return Ok(None);
+    };
+    let Some(id) = value::text(value, "id") else {
+        return Ok(None);
+    };
+    let Some(label) = value::text(value, "label") else {
+        return Ok(None);
+    };
+    Ok(Some(Place {
+        point,
+        id: Words::new(alloc, id)?,
+        label: Words::new(alloc, label)?,
+    }))
+}
+
+fn after_in<A: Allocator + Copy>(
+    alloc: A,
+    object: &Value,
+) -> Result<Option<Option<Place<A>>>, AllocError>
+    ensures { IfOk result (Picks (HasAfter (view object.now))) }
+{
+    let Some(value) = object.get("after") else {
+        return Ok(Some(None));
+    };
+    if value.is_null() {
+        return Ok(Some(None));
+    }
+    match place_of(alloc, value)? {
+        Some(place) => Ok(Some(Some(place))),
+        None => Ok(None),
+    }
+}
+
+/// A place: a point, an id and a label, which are texts of any kind; none, where the field is absent or null.
+pub fn after<A: Allocator + Copy>(alloc: A, object: &Value) -> Result<Option<Place<A>>, DecodeFault>
+    ensures { Tells (AfterField (view object.now)) result }
+{
+    match after_in(alloc, object)? {
+        Some(after) => Ok(after),
+        None => Err(Refused(Field {
+            name: FieldName::After,
+        })),
+    }
+}

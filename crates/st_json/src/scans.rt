@@ -1,0 +1,34 @@
+//! The line that shows rows by pages.
+ghost use Rattle.serde_json.specs.View.{view};
+ghost use Rattle.st_http.specs.declared.routes.Line.TheVariants as lines;
+ghost use Rattle.st_json.specs.Needs.{Tells};
+ghost use Rattle.st_json.specs.Bodies.{Made};
+
+use crate::fault::DecodeFault;
+use crate::{field, place, rule, sizes};
+use serde_json::Value;
+use st_policy::Request;
+use std::alloc::Allocator;
+
+pub fn scan<A: Allocator + Copy>(
+    alloc: A,
+    name: &str,
+    object: &Value,
+) -> Result<Request<A>, DecodeFault>
+    ensures { Tells (Made lines.Scan name.now (view object.now)) result }
+{
+    let bounds = field::bounds(object)?;
+    let texts = field::auths(alloc, object)?;
+    let limit = sizes::limit(object)?;
+    let after = place::after(alloc, object)?;
+    let query = rule::query(bounds)?;
+    let table = rule::table(name)?;
+    let auths = rule::auths(alloc, texts)?;
+    Ok(Request::Scan {
+        table,
+        query,
+        auths,
+        limit,
+        after,
+    })
+}

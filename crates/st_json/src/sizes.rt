@@ -1,0 +1,52 @@
+//! The fields that say how much is asked for.
+ghost use Rattle.std.specs.Prelude.{◌≡◌};
+ghost use Rattle.serde_json.specs.View.{view};
+ghost use Rattle.st_policy.specs.Refusals.{field_text};
+ghost use Rattle.st_json.specs.Fields.{limit_in, side_in, budget_in};
+ghost use Rattle.st_json.specs.Needs.{Tells};
+ghost use Rattle.st_json.specs.Rules.{LimitField, SideField, BudgetField};
+
+use crate::fault::DecodeFault;
+use crate::field::required;
+use crate::value;
+use serde_json::Value;
+use st_policy::{Budget, FieldName, Limit, Side};
+
+fn limit_in(object: &Value) -> Option<Limit>
+    ensures { result ≡ limit_in (view object.now) }
+{
+    Limit::new(value::number(object, "limit")?)
+}
+
+/// 1 to 1,000 rows.
+pub fn limit(object: &Value) -> Result<Limit, DecodeFault>
+    ensures { Tells (LimitField (view object.now)) result }
+{
+    required(FieldName::Limit, limit_in(object))
+}
+
+fn side_in(object: &Value, name: FieldName) -> Option<Side>
+    ensures { result ≡ side_in (field_text name) (view object.now) }
+{
+    Side::new(value::number(object, name.name())?)
+}
+
+/// 1 to 32 columns or lines.
+pub fn side(object: &Value, name: FieldName) -> Result<Side, DecodeFault>
+    ensures { Tells (SideField name (view object.now)) result }
+{
+    required(name, side_in(object, name))
+}
+
+fn budget_in(object: &Value) -> Option<Budget>
+    ensures { result ≡ budget_in (view object.now) }
+{
+    Budget::new(value::number(object, "budget")?)
+}
+
+/// 1 to 64 ranges.
+pub fn budget(object: &Value) -> Result<Budget, DecodeFault>
+    ensures { Tells (BudgetField (view object.now)) result }
+{
+    required(FieldName::Budget, budget_in(object))
+}

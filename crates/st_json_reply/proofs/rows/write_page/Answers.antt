@@ -1,0 +1,9 @@
+use Rattle.std.proofs.Common.{[], ◌∷◌}
+use Rattle.json.specs.Token.{begin_object, end_object}
+use Rattle.st_json_reply.proofs.Added.{added, added_then, then_last}
+use Rattle.st_json_reply.proofs.rows.write_page.Goals as goal
+
+pub returns : goal.returns
+returns g c =
+    then_last _ _ _ _ _ end_object (λ last. added_then _ _ _ _ _ (added _ _ (begin_object ∷ []) c.in_ok-begin_object.ensures.room.0 c.in_ok-begin_object.ensures.ok)
+    (added_then _ _ _ _ _ c.in_ok-write_next.ensures (added_then _ _ _ _ _ c.in_ok-write_list.ensures last))) c.end_object.ensures
