@@ -1,6 +1,6 @@
 //! The rows of one key.
 ghost use Rattle.std.specs.Prelude.{◌≡◌, ◌+◌, ◌<◌, ◌==◌, ◌^◌, [], ◌∷◌, length, vec_capacity, IfSome, IfNone, IfOk, OnErr};
-ghost use Rattle.std.specs.List.{All};
+ghost use Rattle.std.specs.List.{All, Contains};
 ghost use Rattle.std.specs.List.Sorted.{IsSearchInRange, IsBinarySearchResult};
 ghost use Rattle.st_key.specs.declared.period.Period.{Period};
 ghost use Rattle.st_index.specs.declared.row.Row.{Row};
@@ -97,6 +97,17 @@ impl<A: Allocator + Copy> Entry<A> {
         ensures { result ≡ (length self.now.rows == 0) }
     {
         self.rows.is_empty()
+    }
+
+    /// The row of this name.
+    pub fn get(&self, id: &str, label: &str) -> Option<&Row<A>>
+        ensures some { IfSome result (λ row. Contains self.now.rows row.now × ((name_of row.now) ≡ record { id = id.now; label = label.now })) }
+        ensures absent { IfNone result (NamesRise self.now.rows → All (λ (r : Row A). (name_of r) ≡ record { id = id.now; label = label.now } → ⊥) self.now.rows) }
+    {
+        match find_name(&self.rows, id, label) {
+            Ok(i) => Some(&self.rows[i]),
+            Err(_) => None,
+        }
     }
 
     /// Takes out the row of this name.

@@ -5,11 +5,9 @@ ghost use Rattle.st_plan.specs.QueryPlan.{is_exact};
 ghost use Rattle.st_plan.specs.Range.{is_exact_in};
 
 use crate::range::Range;
-use arrayvec::ArrayVec;
 use st_key::Key;
 use st_text::Items;
 use std::alloc::{Allocator, Global};
-use std::default::MadeWith;
 use std::marker::Model;
 
 /// Bins that follow each other, and the ranges of addresses that hold a query in each of them, in
@@ -21,20 +19,10 @@ pub struct PartPlan<A: Allocator = Global> {
     pub ranges: Items<Range, A>,
 }
 
-impl<A: Allocator + Copy> MadeWith<A> for PartPlan<A> {
-    fn made_with(alloc: A) -> PartPlan<A> {
-        PartPlan {
-            bin_lo: 0,
-            bin_hi: 0,
-            ranges: Items::new(alloc),
-        }
-    }
-}
-
 /// The plan of a query: the ranges of its keys, for each part of its span.
 #[derive(Drop)]
 pub struct Plan<A: Allocator = Global> {
-    pub(crate) parts: ArrayVec<PartPlan<A>, 3, A>,
+    pub(crate) parts: Items<PartPlan<A>, A>,
 }
 
 impl<A: Allocator> Model for Plan<A> {
@@ -43,7 +31,7 @@ impl<A: Allocator> Model for Plan<A> {
 
     ghost Value = { List (PartPlan A) };
 
-    ghost view = { λ p. p.parts.items };
+    ghost view = { λ p. p.parts };
 }
 
 impl<A: Allocator> PartPlan<A> {
@@ -67,7 +55,7 @@ impl<A: Allocator> PartPlan<A> {
     }
 }
 
-impl<A: Allocator + Copy> Plan<A> {
+impl<A: Allocator> Plan<A> {
     /// The parts, in rising order.
     pub fn parts(&self) -> &[PartPlan<A>]
         ensures { result.now ≡ self.now }

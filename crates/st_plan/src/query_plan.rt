@@ -10,7 +10,6 @@ ghost use Rattle.st_plan.specs.QueryPlan.{AreInBudget, AreRising, IsPartPlan, Is
 use crate::box_plan::plan_box;
 use crate::fault::PlanFault;
 use crate::part_plan::{PartPlan, Plan};
-use arrayvec::ArrayVec;
 use st_box::{Part, Query};
 use st_key::Period;
 use st_text::Items;
@@ -38,14 +37,13 @@ fn plan_parts<A: Allocator + Copy>(
     alloc: A,
     parts: &[Part],
     budget: u32,
-) -> Result<ArrayVec<PartPlan<A>, 3, A>, AllocError>
-    requires some { 0 < budget }
-    requires few { length parts.now ≤ 3 }
-    ensures { IfOk result (λ v. PartPlans budget parts.now v.items) }
+) -> Result<Items<PartPlan<A>, A>, AllocError>
+    requires { 0 < budget }
+    ensures { IfOk result (PartPlans budget parts.now) }
 {
-    let mut plans = ArrayVec::new_in(alloc);
+    let mut plans = Items::new(alloc);
     for part in parts {
-        plans.push(plan_part(alloc, part, budget)?);
+        plans.push(plan_part(alloc, part, budget)?)?;
     }
     Ok(plans)
 }

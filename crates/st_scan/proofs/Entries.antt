@@ -5,11 +5,10 @@ use Rattle.std.proofs.lemmas.List.Elements.{All-append, All-cons, All-head, All-
 use Rattle.std.specs.List.{All}
 use Rattle.st_key.specs.declared.period.Period.{Period}
 use Rattle.st_box.specs.declared.query.Query.{Query}
-use Rattle.st_index.specs.declared.row.Row.{Row}
 use Rattle.st_index.specs.Rows.{EntryValue, IsEntry, Rises, place_of, rows_of}
 use Rattle.st_scan.specs.Rows.{has_row}
-use Rattle.st_scan.specs.Walks.{IsNextEntry, SkipsTo}
-use Rattle.st_scan.proofs.Filters.{filter_all, filter_none}
+use Rattle.st_scan.specs.Walks.{SkipsTo}
+use Rattle.st_scan.proofs.Filters.{filter_none}
 
 pub all_left : {X : Type 0} (P : X → Type 0) (xs ys : List X) → All P (xs ++ ys) → All P xs
 all_left P [] ys h = All-nil P

@@ -4,10 +4,9 @@ use Rattle.std.proofs.lemmas.Bool.{cases_lt}
 use Rattle.std.specs.Prelude.{IfSome, IfNone, Option, Some, None}
 use Rattle.st_bigmin.specs.First.{IsAtOrAfter}
 use Rattle.st_scan.specs.Walks.{place_at}
-use Rattle.std.proofs.Common.{inl, inr, Bool, false, ◌≡◌, ◌↔◌, ℕ, ◌+◌, ◌*◌, ◌/◌, ◌%◌, ◌^◌, ◌<◌, ◌≤◌, refl, sym, ◌∙◌, subst, arith, IsTrue}
+use Rattle.std.proofs.Common.{inl, inr, Bool, false, ◌≡◌, ◌↔◌, ℕ, ◌/◌, ◌%◌, ◌<◌, ◌≤◌, refl, sym, ◌∙◌, subst, arith, IsTrue}
 use Rattle.st_key.specs.declared.key.Key.{Key}
 use Rattle.st_key.specs.declared.period.Period.{Period}
-use Rattle.st_key.specs.declared.point.Point.{Point}
 use Rattle.st_key.specs.Key.{IsBefore, IsKeyOf, rank}
 use Rattle.st_key.specs.Morton.{address_of}
 use Rattle.st_key.specs.Period.{seconds_of, bins_of}

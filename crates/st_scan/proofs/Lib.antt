@@ -6,5 +6,6 @@ pub mod Steps
 pub mod Visible
 pub mod ExactRanges
 pub mod Positions
+pub mod Fields
 pub mod Past
 pub mod Filling

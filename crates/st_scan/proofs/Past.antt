@@ -1,6 +1,5 @@
 -- Rows after a place.
-use Rattle.std.proofs.Common.{◌≡◌, ℕ, ◌+◌, ◌<◌, ◌≤◌, List, [], ◌∷◌, ◌++◌, length, filter, map, get_or, Bool, true, false, ◌&&◌, Option, Some, None, nat_le, take, inl, inr, refl, sym, ap, subst, ◌∙◌, arith, IsTrue}
-use Rattle.std.proofs.Math.Bool.{true≢false}
+use Rattle.std.proofs.Common.{◌≡◌, ◌<◌, List, filter, get_or, Bool, true, false, ◌&&◌, Option, Some, None, inl, inr, refl, sym, ap, subst, ◌∙◌, arith}
 use Rattle.std.specs.Cmp.{tied_itself}
 use Rattle.std.specs.Cmp.Lexicographic.{slice_cmp, nat_list_cmp_total}
 use Rattle.std.specs.Ordering.{nat_cmp, is_lt, ordering_then, ordering_reverse}
@@ -24,7 +23,7 @@ use Rattle.st_index.specs.Rows.{place_of}
 use Rattle.st_text.specs.Texts.{Text, comes_before}
 use Rattle.st_scan.specs.Pages.{IsStart, is_past, is_shown, place_key, seen_after}
 use Rattle.st_scan.specs.Rows.{has_row_from}
-use Rattle.st_scan.specs.Seen.{is_seen, is_visible, seen}
+use Rattle.st_scan.specs.Seen.{is_seen, is_visible}
 use Rattle.st_scan.proofs.Filters.{filter_same, not_true}
 use Rattle.st_scan.proofs.Keys.{row_key}
 use Rattle.st_scan.proofs.Steps.{from_high, from_low}

@@ -1,8 +1,8 @@
 -- Steps of a walk.
-use Rattle.std.proofs.Common.{◌≡◌, ◌↔◌, ℕ, ◌+◌, ◌^◌, ◌<◌, ◌≤◌, ◌⊎◌, List, [], ◌∷◌, ◌++◌, length, filter, get_or, inl, inr, refl, sym, ap, subst, ◌∙◌, arith, append_assoc, append-nil, true, false, Bool, ◌&&◌, IsTrue, nat_le}
+use Rattle.std.proofs.Common.{◌≡◌, ◌↔◌, ℕ, ◌+◌, ◌^◌, ◌<◌, ◌≤◌, List, [], ◌∷◌, ◌++◌, length, filter, get_or, inl, inr, refl, sym, ap, subst, ◌∙◌, arith, append_assoc, true, false, Bool, ◌&&◌, IsTrue, nat_le}
 use Rattle.std.proofs.Math.Bool.{true≢false}
 use Rattle.std.proofs.lemmas.Bool.{cases_lt, leb-true, le-leb}
-use Rattle.std.proofs.lemmas.List.Elements.{All-append, All-head, All-nil, All-tail, filter-append}
+use Rattle.std.proofs.lemmas.List.Elements.{All-head, All-nil, All-tail, filter-append}
 use Rattle.std.specs.List.{All}
 use Rattle.st_key.specs.declared.key.Key.{Key}
 use Rattle.st_key.specs.declared.period.Period.{Period}
@@ -12,10 +12,10 @@ use Rattle.st_box.specs.Query.{HasKey, is_inside}
 use Rattle.st_index.specs.declared.row.Row.{Row}
 use Rattle.st_index.specs.Index.{Follow, Region}
 use Rattle.st_index.specs.Rows.{EntryValue, IsEntry, Rises, key_end, place_of, rows_of}
-use Rattle.st_scan.specs.Regions.{Count, IsIn, Meets}
+use Rattle.st_scan.specs.Regions.{Count, Meets}
 use Rattle.st_scan.specs.Rows.{has_row, has_row_from}
 use Rattle.st_scan.specs.Walks.{IsAt, IsNextEntry, MeetsBefore, MeetsUpTo, Opens, left_at}
-use Rattle.st_scan.proofs.Filters.{filter_all, filter_none, filter_same, not_true}
+use Rattle.st_scan.proofs.Filters.{filter_all, filter_none, filter_same}
 use Rattle.st_scan.proofs.Keys.{row_has, row_key}
 use Rattle.st_scan.proofs.Entries.{all_left, all_right, entries_below, entries_from, keyed, rises_right, rows-append, rows_all, rows_around}
 use Rattle.st_scan.proofs.Regions.{apart, count_iff, count_le, count_more, count_none, lies}

@@ -1,10 +1,10 @@
 -- Rows inside a query that are visible, and those that are seen.
-use Rattle.std.proofs.Common.{◌≡◌, ℕ, ◌+◌, ◌<◌, ◌≤◌, List, [], ◌∷◌, length, filter, Bool, true, false, cond, ◌&&◌, refl, sym, ap, ◌∙◌, arith}
+use Rattle.std.proofs.Common.{◌≡◌, ◌≤◌, List, [], ◌∷◌, length, filter, Bool, true, false, cond, ◌&&◌, refl, ap, ◌∙◌, arith}
 use Rattle.st_box.specs.declared.query.Query.{Query}
 use Rattle.st_index.specs.declared.row.Row.{Row}
 use Rattle.st_text.specs.Texts.{Text}
 use Rattle.st_scan.specs.Rows.{has_row}
-use Rattle.st_scan.specs.Seen.{is_seen, is_visible, seen}
+use Rattle.st_scan.specs.Seen.{is_visible, seen}
 
 pub filter_le : {X : Type 0} (p : X → Bool) (xs : List X) → length (filter p xs) ≤ length xs
 filter_le p [] = omega arith

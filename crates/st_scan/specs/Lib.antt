@@ -1,3 +1,4 @@
+pub mod Grids
 pub mod Pages
 pub mod Regions
 pub mod Rows

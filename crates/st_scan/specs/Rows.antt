@@ -1,5 +1,5 @@
 -- Rows inside a query.
-use Rattle.std.specs.Prelude.{ℕ, ◌≤◌, List, Bool, ◌&&◌, filter, nat_le}
+use Rattle.std.specs.Prelude.{ℕ, Bool, ◌&&◌, nat_le}
 use Rattle.st_key.specs.declared.period.Period.{Period}
 use Rattle.st_box.specs.declared.query.Query.{Query}
 use Rattle.st_box.specs.Query.{is_inside}

@@ -1,5 +1,5 @@
 -- What a scan shows.
-use Rattle.std.specs.Prelude.{ℕ, List, Bool, ◌&&◌, filter}
+use Rattle.std.specs.Prelude.{List, Bool, ◌&&◌, filter}
 use Rattle.st_text.specs.Texts.{Text, is_among}
 use Rattle.st_label.specs.Reading.{is_true}
 use Rattle.st_box.specs.declared.query.Query.{Query}

@@ -2,6 +2,7 @@
 #![tactic(auto)]
 
 mod after;
+mod cells;
 mod exact;
 mod fault;
 mod page_rows;
@@ -13,6 +14,7 @@ mod step;
 mod tally;
 mod walk;
 
+pub use cells::{MAX_SHARES, grid};
 pub use fault::ScanFault;
 pub use page_rows::Page;
 pub use pages::{MAX_ROWS, page};

@@ -3,6 +3,9 @@ mod Replacing
 mod Tying
 mod Resorting
 mod Rebuilding
-mod Reading
+pub mod Reading
 pub mod Storing
-mod Getting
+pub mod Getting
+mod Labelling
+mod ByLabel
+mod Finding

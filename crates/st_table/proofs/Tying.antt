@@ -43,7 +43,7 @@ split_at (x ∷ xs) (y ∷ ys) vs ws e h = at (cons_parts h) (split_at xs ys vs 
     at : (x ≡ y) × (xs ++ vs ≡ ys ++ ws) → (xs ≡ ys) × (vs ≡ ws) → (x ∷ xs ≡ y ∷ ys) × (vs ≡ ws)
     at heads tails = (λ i. heads.0 i ∷ tails.0 i, tails.1)
 
-bytes_same : (xs ys : Text) → same_text xs ys ≡ true → xs ≡ ys
+pub bytes_same : (xs ys : Text) → same_text xs ys ≡ true → xs ≡ ys
 bytes_same xs ys h = at (slice_cmp nat_cmp xs ys) refl h
   where
     at : (o : Ordering) → slice_cmp nat_cmp xs ys ≡ o → is_eq o ≡ true → xs ≡ ys

@@ -2,6 +2,7 @@
 #![tactic(auto)]
 
 pub mod law;
+mod lookup;
 mod moving;
 mod names;
 mod row_name;

@@ -1,13 +1,15 @@
 //! The keys of a table's rows, by the names of the rows.
-ghost use Rattle.std.specs.Prelude.{◌≡◌, [], true, cond, Option, Some, None, IfOk, OnOk, OnErr};
+ghost use Rattle.std.specs.Prelude.{◌≡◌, [], ◌∷◌, true, cond, Option, Some, None, IfOk, IfSome, IfNone, OnOk, OnErr};
 ghost use Rattle.st_key.specs.declared.key.Key.{Key as Place};
 ghost use Rattle.st_index.specs.Rows.{Name};
+ghost use Rattle.st_table.specs.Labels.{AreLabelsOf};
 ghost use Rattle.st_table.specs.Names.{joined, is_short, key_at, same_text};
 
-use crate::row_name::{RowName, join};
+use crate::row_name::{Joined, RowName, join};
 use st_key::Key;
 use std::alloc::{AllocError, Allocator};
 use std::collections::BTreeMap;
+use std::collections::btree_map::Range;
 use std::marker::Model;
 
 /// A map from the names of rows to their keys. It has room for one name of its own, by which it is looked up without memory.
@@ -75,8 +77,52 @@ impl<A: Allocator + Copy> KeysByName<A> {
         keys.remove(&*room)
     }
 
+    /// The labels of an id's names, by their bytes. `None` where the id is longer than that of any row, so that it has none.
+    pub fn labels_of(&self, id: &str) -> Result<Option<Labels<'_, A>>, AllocError>
+        ensures some { IfOk result (λ found. IfSome found (AreLabelsOf id.now self.now)) }
+        ensures none { IfOk result (λ found. IfNone found (AreLabelsOf id.now self.now [])) }
+    {
+        let KeysByName { alloc, keys, .. } = self;
+        let Some(beginning) = join(id, "") else {
+            return Ok(None);
+        };
+        let from = RowName::new(*alloc, beginning.as_str())?;
+        let names = keys.range(from..);
+        Ok(Some(Labels { names, beginning }))
+    }
+
     /// The allocator of the map.
     pub fn alloc(&self) -> A {
         self.alloc
+    }
+}
+
+/// The labels of the names of one id that are still to be given, by their bytes, and the keys of these names.
+#[derive(Drop)]
+pub struct Labels<'a, A: Allocator> {
+    names: Range<'a, RowName<A>, Key>,
+    beginning: Joined,
+}
+
+impl<'a, A: Allocator> Model for Labels<'a, A> {
+    ghost use Rattle.std.specs.Prelude.{List};
+    ghost use Rattle.st_key.specs.declared.key.Key.{Key as Place};
+    ghost use Rattle.st_text.specs.Texts.{Text};
+    ghost use Rattle.st_table.specs.Labels.{labels_in};
+
+    ghost Value = { List (Text × Place) };
+
+    ghost view = { λ s. labels_in s.beginning.bytes s.names };
+}
+
+impl<'a, A: Allocator> Labels<'a, A> {
+    /// The next label, and the key of its name.
+    pub fn next(&mut self) -> Option<(&'a str, Key)>
+        ensures some { IfSome result (λ next. self.old ≡ (next.0.now, next.1) ∷ self.new) }
+        ensures none { IfNone result (self.old ≡ []) }
+    {
+        let (name, key) = self.names.next()?;
+        let label = name.as_str().strip_prefix(self.beginning.as_str())?;
+        Some((label, *key))
     }
 }

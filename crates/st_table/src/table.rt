@@ -4,11 +4,13 @@ ghost use Rattle.st_key.specs.declared.period.Period.{Period};
 ghost use Rattle.st_text.specs.Texts.{in_order};
 ghost use Rattle.st_index.specs.Order.{InScanOrder, scan_key};
 ghost use Rattle.st_index.specs.Rows.{name_of};
+ghost use Rattle.st_scan.specs.Grids.{grid_of};
 ghost use Rattle.st_scan.specs.Pages.{IsPage, seen_after};
-ghost use Rattle.st_scan.specs.Seen.{seen};
+ghost use Rattle.st_scan.specs.Seen.{is_visible, seen};
 ghost use Rattle.st_scan.specs.declared.fault.ScanFault.TheVariants.{BadGrid, BadLimit};
-ghost use Rattle.st_table.specs.Table.{HasEachOnce, IsFound, with_row, without};
+ghost use Rattle.st_table.specs.Table.{HasEachOnce, IsFound, rows_by_label, with_row, without};
 
+use crate::lookup::rows_under;
 use crate::moving::copy_rows;
 use crate::names::KeysByName;
 use st_auth::Auths;
@@ -128,6 +130,23 @@ impl<I: RowIndex> Table<I> {
         let _ = self.index.remove(key, id, label);
     }
 
+    /// The rows of an id whose labels the authorizations satisfy, by the bytes of their labels. An error where there is no memory for
+    /// their list.
+    pub fn get<B: Allocator>(
+        &self,
+        id: &str,
+        auths: &Auths<B>,
+    ) -> Result<Vec<&Row<I::Alloc>, I::Alloc>, AllocError>
+        ensures { IfOk result (λ rows. map (λ row. row.now) rows.items ≡ rows_by_label id.now (is_visible auths.now) self.now.rows) }
+    {
+        let alloc = self.keys.alloc();
+        let found = self.keys.labels_of(id)?;
+        let Some(mut labels) = found else {
+            return Ok(Vec::new(alloc));
+        };
+        rows_under(alloc, &self.index, id, &mut labels, auths)
+    }
+
     /// How many rows are inside the query and have a label that the authorizations satisfy.
     pub fn count<B: Allocator>(&self, query: &Query, auths: &Auths<B>) -> Result<u64, AllocError>
         ensures { IfOk result (λ count. count ≡ length (seen query.now auths.now self.now.rows)) }
@@ -151,5 +170,24 @@ impl<I: RowIndex> Table<I> {
         ensures no_grid { IfErr result (λ fault. fault ≡ BadGrid → ⊥) }
     {
         st_scan::page(self.keys.alloc(), &self.index, query, auths, after, limit)
+    }
+
+    /// How many rows that are inside the query, and have a label that the authorizations satisfy, are in each field of a grid of so many
+    /// columns and lines over the query's box, line by line. `BadGrid` where there are not 1 to 32 columns and 1 to 32 lines.
+    pub fn grid<B: Allocator>(
+        &self,
+        query: &Query,
+        auths: &Auths<B>,
+        columns: usize,
+        lines: usize,
+    ) -> Result<Vec<u64, I::Alloc>, ScanFault>
+        ensures grid { IfOk result (λ grid. grid.items ≡ grid_of query.now columns lines (seen query.now auths.now self.now.rows)) }
+        ensures columns { IsOk result → (1 ≤ columns) × (columns ≤ 32) }
+        ensures lines { IsOk result → (1 ≤ lines) × (lines ≤ 32) }
+        ensures bad_grid { IfErr result (λ fault. fault ≡ BadGrid ↔ ((columns ≡ 0) ⊎ (32 < columns) ⊎ (lines ≡ 0) ⊎ (32 < lines))) }
+        ensures no_limit { IfErr result (λ fault. fault ≡ BadLimit → ⊥) }
+    {
+        let alloc = self.keys.alloc();
+        st_scan::grid(alloc, &self.index, query, auths, columns, lines)
     }
 }

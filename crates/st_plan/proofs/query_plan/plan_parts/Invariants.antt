@@ -1,7 +1,7 @@
-use Rattle.std.proofs.Common.{◌≡◌, length, take}
+use Rattle.std.proofs.Common.{take}
 use Rattle.st_plan.specs.QueryPlan.{PartPlans}
 use Rattle.st_plan.proofs.query_plan.plan_parts.Given as goal
 
 -- the parts that have come have their plans
 abbrev pub invariant-loop-part : goal.invariant-loop-part
-invariant-loop-part g l = PartPlans l.budget (take l.part-index l.parts) l.plans.items × (length l.plans.items ≡ l.part-index)
+invariant-loop-part g l = PartPlans l.budget (take l.part-index l.parts) l.plans

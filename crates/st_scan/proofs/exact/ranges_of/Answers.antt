@@ -1,4 +1,4 @@
-use Rattle.std.proofs.Common.{◌≡◌, ◌∷◌, ◌++◌, ◌<◌, ◌&&◌, [], inl, inr, length, get_or, nat_le, true, refl, sym, ap, subst, ◌∙◌, arith}
+use Rattle.std.proofs.Common.{◌≡◌, ◌∷◌, ◌++◌, ◌<◌, ◌&&◌, [], inl, inr, length, get_or, nat_le, true, subst, arith}
 use Rattle.std.specs.List.{list_any}
 use Rattle.st_plan.specs.Range.{is_exact_in}
 use Rattle.st_scan.specs.Walks.{has_exact}

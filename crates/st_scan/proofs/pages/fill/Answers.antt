@@ -1,2 +1,0 @@
-use Rattle.std.proofs.Common.{◌≡◌, ap, subst, ◌∙◌}
-use Rattle.st_scan.proofs.pages.fill.Goals as goal

@@ -1,4 +1,4 @@
-use Rattle.std.proofs.Common.{◌≡◌, ◌+◌, ◌<◌, Some, refl, sym, ap, subst, ◌∙◌, arith}
+use Rattle.std.proofs.Common.{◌+◌, ◌<◌, refl, sym, ap, subst, ◌∙◌, arith}
 use Rattle.st_key.specs.declared.key.Key.{Key}
 use Rattle.st_key.specs.Key.{rank}
 use Rattle.st_box.specs.Query.{HasKey}

@@ -1,4 +1,3 @@
-use Rattle.std.proofs.Common.{◌≡◌, ◌≤◌, arith, refl}
 use Rattle.st_key.specs.Key.{rank}
 use Rattle.st_scan.proofs.Keys.{not_before}
 use Rattle.st_scan.proofs.Entries.{skips_none}

@@ -1,8 +1,7 @@
-use Rattle.std.proofs.Common.{◌≡◌, ◌∙◌, sym}
+use Rattle.std.proofs.Common.{◌∙◌, sym}
 use Rattle.std.proofs.lemmas.Bool.{eqb-true}
 use Rattle.st_scan.proofs.Filters.{no_items}
 use Rattle.st_scan.proofs.Positions.{entered_at, entered_left}
-use Rattle.st_scan.proofs.step.forward.Given.{Over}
 use Rattle.st_scan.proofs.step.forward.Goals as goal
 
 pub returns-in-Some-clause-at : goal.returns-in-Some-clause-at

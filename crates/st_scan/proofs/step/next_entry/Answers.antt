@@ -1,12 +1,10 @@
-use Rattle.std.proofs.Common.{◌≡◌, ◌++◌, ◌∷◌, refl, sym, ap, subst, ◌∙◌, arith, IsTrue}
+use Rattle.std.proofs.Common.{sym, subst, ◌∙◌}
 use Rattle.std.proofs.lemmas.List.Elements.{All-head}
 use Rattle.std.proofs.Math.Bool.{true≢false}
 use Rattle.std.specs.List.{All}
 use Rattle.st_index.specs.Rows.{IsEntry}
-use Rattle.st_scan.specs.Rows.{has_row}
 use Rattle.st_scan.proofs.Keys.{by_key, has_by_row}
 use Rattle.st_scan.proofs.Entries.{Passed, all_right, pass_more}
-use Rattle.st_scan.proofs.step.next_entry.Given.{Over}
 use Rattle.st_scan.proofs.step.next_entry.Goals as goal
 
 pub returns-then-has_key-clause-some : goal.returns-then-has_key-clause-some

@@ -1,7 +1,6 @@
-use Rattle.std.proofs.Common.{◌≡◌, ◌++◌, ◌+◌, refl, sym, ap, subst, ◌∙◌, arith}
+use Rattle.std.proofs.Common.{◌+◌, sym, subst}
 use Rattle.st_key.specs.Key.{rank}
 use Rattle.st_index.specs.Index.{IsLeafAt, region}
-use Rattle.st_scan.specs.Walks.{place_at}
 use Rattle.st_scan.proofs.Keys.{after_place, from_rank, rank_before, rank_from}
 use Rattle.st_scan.proofs.Regions.{is_in}
 use Rattle.st_scan.proofs.step.open_next.Goals as goal

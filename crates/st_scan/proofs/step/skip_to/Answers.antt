@@ -1,4 +1,4 @@
-use Rattle.std.proofs.Common.{◌≡◌, ◌≤◌, ◌<◌, refl, sym, ap, subst, ◌∙◌, arith}
+use Rattle.std.proofs.Common.{◌≤◌, ◌<◌, sym, subst}
 use Rattle.st_key.specs.Key.{rank}
 use Rattle.st_scan.specs.Walks.{SkipsTo}
 use Rattle.st_scan.proofs.Keys.{not_before, rank_before}

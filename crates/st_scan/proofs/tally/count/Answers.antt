@@ -1,4 +1,4 @@
-use Rattle.std.proofs.Common.{◌≡◌, ◌∙◌, ap, length, filter}
+use Rattle.std.proofs.Common.{◌∙◌, ap, length, filter}
 use Rattle.st_scan.specs.Seen.{is_visible}
 use Rattle.st_scan.proofs.Visible.{visible_seen}
 use Rattle.st_scan.proofs.tally.count.Goals as goal

@@ -1,4 +1,4 @@
-use Rattle.std.proofs.Common.{◌≡◌, ◌+◌, ◌∷◌, length, filter, sym, ap, ◌∙◌, arith}
+use Rattle.std.proofs.Common.{length, filter, sym, ap, ◌∙◌, arith}
 use Rattle.st_scan.specs.Seen.{is_visible}
 use Rattle.st_scan.proofs.Visible.{filter_le, keep}
 use Rattle.st_scan.proofs.tally.count_visible.Goals as goal

@@ -1,4 +1,4 @@
-use Rattle.std.proofs.Common.{◌≡◌, OnOk, sym, ap, ◌∙◌, subst, arith}
+use Rattle.std.proofs.Common.{◌≡◌, OnOk, sym, ap, ◌∙◌, subst}
 use Rattle.st_box.specs.Query.{HasKey}
 use Rattle.st_text.specs.Texts.{in_order}
 use Rattle.st_index.specs.Order.{scan_key}
@@ -8,7 +8,7 @@ use Rattle.st_table.proofs.moving.copy_rows.Goals as goal
 
 pub new-walk-requires : goal.new-walk-requires
 new-walk-requires g c =
-    (omega arith, λ k held. subst (λ p. HasKey c.everywhere-query.result p k) c.period.ensures.value (c.in-Ok.ensures.exact k held))
+    record { exact = λ k held. subst (λ p. HasKey c.everywhere-query.result p k) c.period.ensures.value (c.in-Ok.ensures.exact k held) }
 
 pub put_all-requires-clause-once : goal.put_all-requires-clause-once
 put_all-requires-clause-once g c =

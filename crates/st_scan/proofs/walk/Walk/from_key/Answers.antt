@@ -1,9 +1,9 @@
-use Rattle.std.proofs.Common.{◌≡◌, ◌<◌, ◌≤◌, ◌^◌, ◌∙◌, length, sym, ap, subst, arith}
+use Rattle.std.proofs.Common.{◌≤◌, sym, subst, arith}
 use Rattle.st_key.specs.Key.{rank}
 use Rattle.st_index.specs.Index.{Follow}
 use Rattle.st_index.specs.Rows.{key_end}
 use Rattle.st_scan.specs.Rows.{has_row_from}
-use Rattle.st_scan.specs.Walks.{AreExact, IsExactFor}
+use Rattle.st_scan.specs.Walks.{IsExactFor}
 use Rattle.st_scan.proofs.Steps.{begin}
 use Rattle.st_scan.proofs.Visible.{filter_le}
 use Rattle.st_scan.proofs.walk.Walk.from_key.Goals as goal

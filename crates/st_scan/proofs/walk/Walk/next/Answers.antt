@@ -1,10 +1,10 @@
-use Rattle.std.proofs.Common.{◌≡◌, ◌∙◌, sym, ap, subst}
+use Rattle.std.proofs.Common.{◌∙◌, sym, ap, subst}
 use Rattle.st_key.specs.Key.{rank}
 use Rattle.st_index.specs.Rows.{place_of}
 use Rattle.st_scan.specs.Regions.{Count, Meets}
 use Rattle.st_scan.specs.Walks.{AreExact, MeetsUpTo}
 use Rattle.st_scan.proofs.Filters.{no_items}
-use Rattle.st_scan.proofs.Positions.{given_at, given_left, given_opened}
+use Rattle.st_scan.proofs.Positions.{given_at, given_opened}
 use Rattle.st_scan.proofs.walk.Walk.next.Goals as goal
 
 pub forward-at-requires-clause-exact : goal.forward-at-requires-clause-exact
