@@ -1,5 +1,6 @@
-pub mod Counts
-pub mod Sorting
+pub mod Shelving
+pub mod Headings
+pub mod Pages
 pub mod RowLists
 pub mod Steps
 pub mod Progress

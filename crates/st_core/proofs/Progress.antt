@@ -4,7 +4,7 @@ use Rattle.std.specs.Prelude.{slice_index_or}
 use Rattle.std.proofs.Math.Seq.{drop-cons}
 use Rattle.std.proofs.lemmas.List.{append-nil, append_assoc, drop_all}
 use Rattle.st_core.specs.declared.asked.Asked.{Asked}
-use Rattle.st_core.specs.declared.reply.Reply.{Reply}
+use Rattle.st_policy.specs.declared.reply.Reply.{Reply}
 use Rattle.st_core.specs.State.{State}
 use Rattle.st_core.specs.Step.{step, replies, after}
 

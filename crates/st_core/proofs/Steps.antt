@@ -8,14 +8,15 @@ use Rattle.st_policy.specs.declared.refusal.Refusal.{Refusal}
 use Rattle.st_policy.specs.declared.request.Request.{Request}
 use Rattle.st_policy.specs.Requests.{is_change}
 use Rattle.st_policy.specs.Refusals.{number_of}
+use Rattle.st_policy.specs.Entries.{entry_of}
 use Rattle.st_policy.specs.Policy.{refusal_of, decision}
 use Rattle.st_core.specs.declared.asked.Asked.{Asked}
 use Rattle.st_core.specs.declared.asked.Call.{Call}
-use Rattle.st_core.specs.declared.reply.Reply.{Reply}
+use Rattle.st_policy.specs.declared.reply.Reply.{Reply}
 use Rattle.st_core.specs.State.{State}
 use Rattle.st_core.specs.Reads.{shown}
 use Rattle.st_core.specs.Changes.{rows_after, directory_after}
-use Rattle.st_core.specs.Step.{Heard, asker_of, asks_for_change, calls_for_change, entry_of, result_of, judge_call, settle, step}
+use Rattle.st_core.specs.Step.{Heard, asker_of, asks_for_change, calls_for_change, result_of, judge_call, settle, step}
 
 is_refused : (o : Option Refusal) (refusal : Refusal) → decision o ≡ Err refusal → o ≡ Some refusal
 is_refused None refusal e = cc
@@ -49,6 +50,9 @@ module _ {A : Type 0} (s : State A) (asked : Asked A) (asker : Text) (request : 
       let is : is_change request ≡ true = rw good at change in
       rw (heard, good, is_allowed _ e, is) refl
 
+  pub told_refused : (refusal : Refusal) → decision (refusal_of s.directory asker request) ≡ Err refusal → (step s asked).reply ≡ Reply.Refused refusal
+  told_refused refusal e = rw (heard, good, is_refused _ _ e) refl
+
   pub step_shown : decision (refusal_of s.directory asker request) ≡ Ok tt → (step s asked).reply ≡ shown s asker request
   step_shown e = rw (heard, good, is_allowed _ e) refl
 
@@ -70,8 +74,16 @@ settled_read s asker (Request.Label label) None e = refl
 settled_read s asker (Request.Label label) (Some refusal) e = refl
 settled_read s asker Request.Audit None e = refl
 settled_read s asker Request.Audit (Some refusal) e = refl
+settled_read s asker (Request.Get table id auths) None e = refl
+settled_read s asker (Request.Get table id auths) (Some refusal) e = refl
+settled_read s asker (Request.Scan table query auths limit after) None e = refl
+settled_read s asker (Request.Scan table query auths limit after) (Some refusal) e = refl
 settled_read s asker (Request.Count table query auths) None e = refl
 settled_read s asker (Request.Count table query auths) (Some refusal) e = refl
+settled_read s asker (Request.Grid table query auths columns lines) None e = refl
+settled_read s asker (Request.Grid table query auths columns lines) (Some refusal) e = refl
+settled_read s asker (Request.Plan table query budget) None e = refl
+settled_read s asker (Request.Plan table query budget) (Some refusal) e = refl
 settled_read s asker (Request.Put table row) o e = cc
 settled_read s asker (Request.Delete table id label) o e = cc
 settled_read s asker (Request.CreateTable table period) o e = cc

@@ -14,8 +14,8 @@ use Rattle.st_policy.specs.declared.denial.Denial.{Denial}
 use Rattle.st_policy.specs.declared.refusal.Refusal.{Refusal}
 use Rattle.st_policy.specs.declared.request.Request.{Request}
 use Rattle.st_core.specs.declared.asked.Call.{Call}
-use Rattle.st_core.specs.declared.audit.Entry.{Entry}
-use Rattle.st_core.specs.declared.reply.Reply.{Reply}
+use Rattle.st_policy.specs.declared.entry.Entry.{Entry}
+use Rattle.st_policy.specs.declared.reply.Reply.{Reply}
 use Rattle.st_core.specs.State.{State, first_state}
 use Rattle.st_core.specs.Step.{Outcome, judge_call, settle}
 

@@ -9,7 +9,7 @@ use Rattle.st_dir.specs.declared.permission.Permission.{Permission}
 use Rattle.st_policy.specs.declared.denial.Denial.{Denial}
 use Rattle.st_policy.specs.declared.refusal.Refusal.{Refusal}
 use Rattle.st_policy.specs.declared.request.Request.{Request}
-use Rattle.st_core.specs.declared.reply.Reply.{Reply}
+use Rattle.st_policy.specs.declared.reply.Reply.{Reply}
 use Rattle.st_core.proofs.Worked.{asks, after, told, all_told, texts, put_in, count_in, count, fresh, denied, make_user, make_table, drop_table, grant, lacks, entry}
 
 -- ---- listings

@@ -4,7 +4,7 @@ use Rattle.std.specs.Prelude.{codes}
 use Rattle.st_dir.specs.declared.permission.Permission.{Permission}
 use Rattle.st_policy.specs.declared.denial.Denial.{Denial}
 use Rattle.st_policy.specs.declared.request.Request.{Request}
-use Rattle.st_core.specs.declared.reply.Reply.{Reply}
+use Rattle.st_policy.specs.declared.reply.Reply.{Reply}
 use Rattle.st_core.proofs.Worked.{asks, after, all_told, count_in, fresh, denied, make_user, make_table, drop_table, grant, grant_namespace, lacks}
 
 -- a grant on a namespace holds for its tables, those made later too, and for no other

@@ -13,9 +13,9 @@ use Rattle.st_dir.specs.declared.permission.Permission.{Permission}
 use Rattle.st_policy.specs.declared.denial.Denial.{Denial}
 use Rattle.st_policy.specs.declared.refusal.Refusal.{Refusal}
 use Rattle.st_policy.specs.declared.request.Request.{Request}
-use Rattle.st_core.specs.declared.reply.Reply.{Reply}
+use Rattle.st_policy.specs.declared.reply.Reply.{Reply}
 use Rattle.st_core.specs.State.{State}
-use Rattle.st_core.specs.Changes.{full_name}
+use Rattle.st_table.specs.Rows.{full_name}
 use Rattle.st_core.proofs.Worked.{Said, asks, outcome, after, told, all_told, texts, here, row, put_in, put, count_in, count, fresh, denied, make_table, entry}
 
 -- ---- rows of points, by root

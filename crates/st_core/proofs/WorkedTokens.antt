@@ -13,7 +13,7 @@ use Rattle.st_policy.specs.declared.request.Request.{Request}
 use Rattle.st_core.specs.declared.asked.Asked.{Asked}
 use Rattle.st_core.specs.declared.asked.Call.{Call}
 use Rattle.st_core.specs.declared.asked.Token.{Token}
-use Rattle.st_core.specs.declared.reply.Reply.{Reply}
+use Rattle.st_policy.specs.declared.reply.Reply.{Reply}
 use Rattle.st_core.specs.State.{State, first_state}
 use Rattle.st_core.specs.Step.{replies, after}
 

@@ -1,32 +1,14 @@
 -- What changes do to the rows and to the directory.
-use Rattle.std.specs.Prelude.{List, [], ◌∷◌, Bool, ◌&&◌, not, filter}
-use Rattle.st_text.specs.Texts.{Text, same, in_order}
+use Rattle.std.specs.Prelude.{List}
+use Rattle.st_text.specs.Texts.{Text}
 use Rattle.st_dir.specs.Directory.{Directory}
 use Rattle.st_dir.specs.Changes.{table_added, table_dropped, constraint_set, period_set, user_added, user_dropped, digest_set, auths_set, system_granted, system_revoked, granted, revoked}
 use Rattle.st_dir.specs.declared.grant.Scope.TheVariants.{OnTable, OnNamespace}
 use Rattle.st_policy.specs.declared.request.Request.{Request}
-use Rattle.st_policy.specs.declared.request.Request.TheVariants.{Whoami, Tables, Users, User, Grants, NamespaceGrants, Label, Audit, Count, Put, Delete, CreateTable, DropTable, Constraint, Period, CreateUser, DropUser, Token, Auths, GrantSystem, RevokeSystem, GrantTable, RevokeTable, GrantNamespace, RevokeNamespace}
-use Rattle.st_core.specs.declared.held.Held.{Held}
+use Rattle.st_policy.specs.declared.request.Request.TheVariants.{Whoami, Tables, Users, User, Grants, NamespaceGrants, Label, Audit, Get, Scan, Count, Grid, Plan, Put, Delete, CreateTable, DropTable, Constraint, Period, CreateUser, DropUser, Token, Auths, GrantSystem, RevokeSystem, GrantTable, RevokeTable, GrantNamespace, RevokeNamespace}
+use Rattle.st_table.specs.Rows.{Held, put_row, without_row, without_table}
 
 -- ---- the rows
-
--- rows stand by the bytes of their tables' names, then by those of their ids and of their labels' texts
-abbrev pub full_name : {A : Type 0} → Held A → List Text
-full_name held = held.table ∷ held.row.id ∷ held.row.label ∷ []
-
--- a row of a table is named by its id and its label's text
-abbrev pub is_named : {A : Type 0} → (table id label : Text) → Held A → Bool
-is_named table id label held = same held.table table && same held.row.id id && same held.row.label label
-
-abbrev pub without_row : {A : Type 0} → (table id label : Text) → List (Held A) → List (Held A)
-without_row table id label rows = filter (λ held. not (is_named table id label held)) rows
-
-abbrev pub without_table : {A : Type 0} → (table : Text) → List (Held A) → List (Held A)
-without_table table rows = filter (λ held. not (same held.table table)) rows
-
--- a put replaces the row of the same table, id and label text
-abbrev pub put_row : {A : Type 0} → Held A → List (Held A) → List (Held A)
-put_row held rows = in_order full_name (held ∷ without_row held.table held.row.id held.row.label rows)
 
 -- what each line does to the rows
 abbrev pub rows_after : {A : Type 0} → Request A → List (Held A) → List (Held A)
@@ -38,7 +20,11 @@ rows_after (Grants table) rows = rows
 rows_after (NamespaceGrants namespace) rows = rows
 rows_after (Label label) rows = rows
 rows_after Audit rows = rows
+rows_after (Get table id auths) rows = rows
+rows_after (Scan table query auths limit after) rows = rows
 rows_after (Count table query auths) rows = rows
+rows_after (Grid table query auths columns lines) rows = rows
+rows_after (Plan table query budget) rows = rows
 rows_after (Put table row) rows = put_row (record { table = table; row = row }) rows
 rows_after (Delete table id label) rows = without_row table id label rows
 rows_after (CreateTable table period) rows = rows
@@ -68,7 +54,11 @@ directory_after asker (Grants table) d = d
 directory_after asker (NamespaceGrants namespace) d = d
 directory_after asker (Label label) d = d
 directory_after asker Audit d = d
+directory_after asker (Get table id auths) d = d
+directory_after asker (Scan table query auths limit after) d = d
 directory_after asker (Count table query auths) d = d
+directory_after asker (Grid table query auths columns lines) d = d
+directory_after asker (Plan table query budget) d = d
 directory_after asker (Put table row) d = d
 directory_after asker (Delete table id label) d = d
 directory_after asker (CreateTable table period) d = table_added table asker period d

@@ -1,4 +1,6 @@
 pub mod State
+pub mod Tables
+pub mod Shelves
 pub mod Reads
 pub mod Changes
 pub mod Step

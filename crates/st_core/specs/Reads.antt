@@ -1,39 +1,41 @@
 -- What reads show.
-use Rattle.std.specs.Prelude.{Bool, ◌&&◌, List, [], ◌∷◌, length, filter}
+use Rattle.std.specs.Prelude.{ℕ, Bool, ◌&&◌, List, [], ◌∷◌, length, filter, take, nat_lt}
 use Rattle.std.specs.Option.{option_map_or}
 use Rattle.st_text.specs.Texts.{Text, same, is_among, in_order}
-use Rattle.st_key.specs.declared.period.Period.{Period}
-use Rattle.st_key.specs.Order.{digits_of}
 use Rattle.st_box.specs.declared.query.Query.{Query}
 use Rattle.st_box.specs.Query.{is_inside}
 use Rattle.st_label.specs.Reading.{is_true}
 use Rattle.st_label.specs.Normal.{normal_text}
+use Rattle.st_plan.specs.PlanOf.{plan_of}
+use Rattle.st_index.specs.Order.{scan_key}
 use Rattle.st_index.specs.declared.row.Row.{Row}
+use Rattle.st_scan.specs.Grids.{grid_of}
+use Rattle.st_scan.specs.Pages.{is_past}
 use Rattle.st_dir.specs.Directory.{Directory, period_of}
 use Rattle.st_dir.specs.Listings.{who, users_of, tables_of, grants_on}
 use Rattle.st_dir.specs.declared.grant.Scope.TheVariants.{OnTable, OnNamespace}
 use Rattle.st_policy.specs.declared.refusal.Refusal.{Refusal}
 use Rattle.st_policy.specs.declared.request.Request.{Request}
-use Rattle.st_core.specs.declared.held.Held.{Held}
-use Rattle.st_core.specs.declared.reply.Reply.{Reply}
-use Rattle.st_core.specs.State.{State, rows_of}
+use Rattle.st_table.specs.Rows.{Held, rows_of}
+use Rattle.st_policy.specs.declared.reply.Reply.{Reply}
+use Rattle.st_core.specs.State.{State}
 
 -- the rows of the table that pass the test and whose label is true for the authorizations
 abbrev pub rows_that : {A : Type 0} → (Row A → Bool) → Text → List Text → List (Held A) → List (Row A)
 rows_that test table auths rows = filter (λ row. test row && is_true (is_among auths) row.label) (rows_of table rows)
 
--- whether a row is in the table, inside the query and seen with the authorizations
-abbrev pub is_seen : {A : Type 0} → Text → Query → List Text → Held A → Bool
-is_seen table query auths held = same held.table table && (is_inside query held.row.point && is_true (is_among auths) held.row.label)
-
--- rows are scanned in the order of these: by the point's digits, then by the id's bytes, then by the label's
-abbrev pub scan_key : {A : Type 0} → Period → Row A → List Text
-scan_key period row = digits_of period row.point ∷ row.id ∷ row.label ∷ []
-
 -- the seen rows of the table inside the query, in scan order
 abbrev pub seen : {A : Type 0} → State A → Text → Query → List Text → List (Row A)
 seen s table query auths =
     in_order (scan_key (period_of s.directory table)) (rows_that (λ row. is_inside query row.point) table auths s.rows)
+
+-- the first rows, and whether more follow
+abbrev pub page_of : {A : Type 0} → ℕ → List (Row A) → Reply A
+page_of limit rows = Reply.Page (take limit rows) (nat_lt limit (length rows))
+
+-- the seen rows of the table with the id, by the bytes of their labels
+abbrev pub rows_named : {A : Type 0} → State A → Text → Text → List Text → List (Row A)
+rows_named s table id auths = in_order (λ row. row.label ∷ []) (rows_that (λ row. same row.id id) table auths s.rows)
 
 -- a user's account, where there is such a user
 abbrev pub account : {A : Type 0} → Directory A → Text → Reply A
@@ -49,7 +51,12 @@ shown s asker (Request.Grants table) = Reply.Grants (grants_on s.directory (OnTa
 shown s asker (Request.NamespaceGrants namespace) = Reply.Grants (grants_on s.directory (OnNamespace namespace))
 shown s asker (Request.Label label) = Reply.Normal (normal_text label)
 shown s asker Request.Audit = Reply.Audit s.audit
+shown s asker (Request.Get table id auths) = Reply.Rows (rows_named s table id auths)
+shown s asker (Request.Scan table query auths limit after) =
+    page_of limit (filter (is_past (period_of s.directory table) after) (seen s table query auths))
 shown s asker (Request.Count table query auths) = Reply.Count (length (seen s table query auths))
+shown s asker (Request.Grid table query auths columns lines) = Reply.Grid (grid_of query columns lines (seen s table query auths))
+shown s asker (Request.Plan table query budget) = Reply.Plan (plan_of (period_of s.directory table) query budget)
 shown s asker (Request.Put table row) = Reply.Accepted
 shown s asker (Request.Delete table id label) = Reply.Accepted
 shown s asker (Request.CreateTable table period) = Reply.Accepted

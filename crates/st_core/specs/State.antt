@@ -1,10 +1,9 @@
 -- The server's whole state.
-use Rattle.std.specs.Prelude.{ℕ, List, [], filter, map}
-use Rattle.st_text.specs.Texts.{Text, same}
+use Rattle.std.specs.Prelude.{ℕ, List, []}
+use Rattle.st_text.specs.Texts.{Text}
 use Rattle.st_dir.specs.Directory.{Directory, first_directory}
-use Rattle.st_index.specs.declared.row.Row.{Row}
-use Rattle.st_core.specs.declared.audit.Entry.{Entry}
-use Rattle.st_core.specs.declared.held.Held.{Held}
+use Rattle.st_policy.specs.declared.entry.Entry.{Entry}
+use Rattle.st_table.specs.Rows.{Held}
 
 -- the directory; the rows of all tables, by their tables' names, their ids and their labels, no two of one table, id and label
 -- text; and the audit listing
@@ -12,10 +11,6 @@ pub record State (A : Type 0) : Type 0 where
   pub directory : Directory A
   pub rows : List (Held A)
   pub audit : List Entry
-
--- the rows of a table
-abbrev pub rows_of : {A : Type 0} → Text → List (Held A) → List (Row A)
-rows_of table rows = map (λ held. held.row) (filter (λ held. same held.table table) rows)
 
 -- the state that a server begins with
 abbrev pub first_state : {A : Type 0} → List ℕ → List Text → State A

@@ -6,14 +6,15 @@ use Rattle.st_dir.specs.Directory.{Directory, has_secret}
 use Rattle.st_policy.specs.declared.denial.Denial.{Denial}
 use Rattle.st_policy.specs.declared.refusal.Refusal.{Refusal}
 use Rattle.st_policy.specs.declared.request.Request.{Request}
-use Rattle.st_policy.specs.Requests.{is_change, name_of, target_of}
+use Rattle.st_policy.specs.Entries.{entry_of}
+use Rattle.st_policy.specs.Requests.{is_change}
 use Rattle.st_policy.specs.Refusals.{number_of}
 use Rattle.st_policy.specs.Policy.{refusal_of}
 use Rattle.st_core.specs.declared.asked.Asked.{Asked}
 use Rattle.st_core.specs.declared.asked.Call.{Call}
 use Rattle.st_core.specs.declared.asked.Token.{Token}
-use Rattle.st_core.specs.declared.audit.Entry.{Entry}
-use Rattle.st_core.specs.declared.reply.Reply.{Reply}
+use Rattle.st_policy.specs.declared.entry.Entry.{Entry}
+use Rattle.st_policy.specs.declared.reply.Reply.{Reply}
 use Rattle.st_core.specs.State.{State}
 use Rattle.st_core.specs.Reads.{shown}
 use Rattle.st_core.specs.Changes.{rows_after, directory_after}
@@ -45,9 +46,6 @@ judge d asked = judge_call d (asker_of d asked.token) asked.call
 abbrev pub result_of : Option Refusal → ℕ
 result_of None = 0
 result_of (Some refusal) = number_of refusal
-
-abbrev pub entry_of : {A : Type 0} → Text → Request A → ℕ → Entry
-entry_of asker request result = record { request = name_of request; result = result; target = target_of request; user = asker }
 
 -- a change whose token holds is listed, and the last 1,024 entries are kept
 abbrev pub audit_after : {A : Type 0} → Text → Request A → ℕ → List Entry → List Entry

@@ -6,15 +6,14 @@ ghost use Rattle.st_dir.specs.declared.grant.Scope.TheVariants.{OnTable};
 ghost use Rattle.st_policy.specs.Policy.{refusal_of};
 ghost use Rattle.st_policy.specs.Requests.{is_change};
 ghost use Rattle.st_core.specs.Reads.{account, shown};
-ghost use Rattle.st_core.specs.declared.reply.Reply as Reply;
+ghost use Rattle.st_policy.specs.declared.reply.Reply as Reply;
 ghost use Rattle.st_core.specs.Step.{asks_for_change, step};
 
 use crate::asked::{Asked, Call};
 use crate::audit;
-use crate::reply::Reply;
 use crate::store::{Store, asker};
 use st_dir::{Directory, DirectoryFault, Name, TableName};
-use st_policy::{Denial, Refusal, Request, decide};
+use st_policy::{Denial, Refusal, Reply, Request, decide};
 use std::alloc::{AllocError, Allocator};
 
 // A user's account, where there is such a user.
@@ -65,11 +64,33 @@ impl<A: Allocator + Copy> Store<A> {
                 label: label.normal()?,
             }),
             Request::Audit => Ok(Reply::Audit(audit::listing(self.allocator(), &self.audit)?)),
+            Request::Get { table, id, auths } => {
+                Ok(Reply::Rows(self.get(table, id.as_str(), auths)?))
+            }
+            Request::Scan {
+                table,
+                query,
+                auths,
+                limit,
+                after,
+            } => self.page(table, query, auths, *limit, after),
             Request::Count {
                 table,
                 query,
                 auths,
-            } => Ok(Reply::Count(self.rows.count(table, query, auths))),
+            } => Ok(Reply::Count(self.count(table, query, auths)?)),
+            Request::Grid {
+                table,
+                query,
+                auths,
+                columns,
+                lines,
+            } => Ok(Reply::Grid(self.grid(table, query, auths, *columns, *lines)?)),
+            Request::Plan {
+                table,
+                query,
+                budget,
+            } => Ok(Reply::Plan(self.plan(table, query, *budget)?)),
             _ => unreachable!(),
         }
     }

@@ -7,10 +7,9 @@ ghost use Rattle.st_core.specs.Changes.{rows_after, directory_after};
 ghost use Rattle.st_core.specs.Step.{asks_for_change, step};
 
 use crate::asked::{Asked, Call};
-use crate::reply::Reply;
 use crate::store::{Store, asker};
 use st_dir::{Directory, DirectoryFault, Name};
-use st_policy::{Denial, Refusal, Request, decide};
+use st_policy::{Denial, Refusal, Reply, Request, decide};
 use std::alloc::{AllocError, Allocator};
 
 // What is allowed can fail for want of memory alone.
@@ -27,7 +26,7 @@ fn made(outcome: Result<(), DirectoryFault>) -> Result<(), AllocError>
 }
 
 // What is allowed and takes no memory cannot fail.
-fn done(outcome: Result<(), DirectoryFault>) -> Result<(), AllocError>
+pub(crate) fn done(outcome: Result<(), DirectoryFault>) -> Result<(), AllocError>
     requires { IsOk outcome }
     ensures { result ≡ Ok tt }
 {
@@ -40,7 +39,7 @@ fn done(outcome: Result<(), DirectoryFault>) -> Result<(), AllocError>
 #[tactic(auto, using(crate::proofs::Allowed::allowed_table, crate::proofs::Allowed::allowed_user, crate::proofs::Allowed::allowed_new_table, crate::proofs::Allowed::allowed_new_user))]
 // Makes the change that a request makes to the directory, or leaves it as it was where there is no
 // memory for it.
-fn change_directory<A: Allocator + Copy>(
+pub(crate) fn change_directory<A: Allocator + Copy>(
     directory: &mut Directory<A>,
     asker: &Name,
     request: &Request<A>,
@@ -108,16 +107,14 @@ impl<A: Allocator + Copy> Store<A> {
         ensures err { OnErr result (self.new ≡ self.old) }
     {
         match request {
-            Request::Put { table, row } => self.rows.put(table, row),
+            Request::Put { table, row } => self.put(table, row),
             Request::Delete { table, id, label } => {
-                self.rows.delete(table.as_str(), id.as_str(), label.text());
+                self.delete(table, id.as_str(), label.text());
                 Ok(())
             }
-            Request::DropTable { table } => {
-                change_directory(&mut self.directory, asker, request)?;
-                self.rows.drop_table(table.as_str());
-                Ok(())
-            }
+            Request::CreateTable { table, period } => self.create_table(asker, table, *period),
+            Request::DropTable { table } => self.drop_table(table),
+            Request::Period { table, period } => self.set_period(table, *period),
             _ => change_directory(&mut self.directory, asker, request),
         }
     }

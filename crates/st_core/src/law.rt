@@ -2,17 +2,18 @@
 ghost use Rattle.std.specs.Prelude.{◌≡◌, ◌++◌, ◌∷◌, [], List, None, Some, true, false};
 ghost use Rattle.circular_buffer.specs.Buffer.{keep_last};
 ghost use Rattle.st_text.specs.Texts.{Text, in_order};
+ghost use Rattle.st_policy.specs.Entries.{entry_of};
 ghost use Rattle.st_policy.specs.Policy.{refusal_of};
 ghost use Rattle.st_policy.specs.Requests.{is_change, table_of};
 ghost use Rattle.st_policy.specs.declared.request.Request.{Request};
 ghost use Rattle.st_policy.specs.declared.refusal.Refusal.{Refusal};
 ghost use Rattle.st_core.specs.declared.asked.Asked.{Asked as Event};
-ghost use Rattle.st_core.specs.declared.reply.Reply.{Reply};
+ghost use Rattle.st_policy.specs.declared.reply.Reply.{Reply};
 ghost use Rattle.st_core.specs.declared.asked.Call.{Call};
-ghost use Rattle.st_core.specs.declared.held.Held.{Held};
-ghost use Rattle.st_core.specs.Changes.{full_name, rows_after};
-ghost use Rattle.st_core.specs.State.{State, rows_of};
-ghost use Rattle.st_core.specs.Step.{asker_of, asks_for_change, entry_of, result_of, step};
+ghost use Rattle.st_table.specs.Rows.{Held, full_name, rows_of};
+ghost use Rattle.st_core.specs.Changes.{rows_after};
+ghost use Rattle.st_core.specs.State.{State};
+ghost use Rattle.st_core.specs.Step.{asker_of, asks_for_change, result_of, step};
 
 use std::alloc::Allocator;
 

@@ -3,8 +3,8 @@ ghost use Rattle.std.specs.Prelude.{◌≡◌, ◌≤◌, length, take, IfOk, On
 ghost use Rattle.st_core.specs.Step.{replies, after};
 
 use crate::asked::Asked;
-use crate::reply::Reply;
 use crate::store::Store;
+use st_policy::Reply;
 use std::alloc::{AllocError, Allocator};
 
 /// The replies to a list of requests, one after another. Room for the replies is made first. On a

@@ -1,39 +1,61 @@
 //! The store: the state, and the requests on it.
-ghost use Rattle.std.specs.Prelude.{◌≡◌, None, ◌++◌, ◌∷◌, [], map, option_map, IfOk, IfErr, OnOk, OnErr};
+ghost use Rattle.std.specs.Prelude.{◌≡◌, None, codes, ◌++◌, ◌∷◌, [], map, option_map, IfOk, IfErr, OnOk, OnErr};
 ghost use Rattle.st_auth.specs.Names.{Refuses, first_bad};
 ghost use Rattle.circular_buffer.specs.Buffer.{keep_last};
+ghost use Rattle.st_key.specs.declared.period.Period.TheVariants.{Week};
+ghost use Rattle.st_policy.specs.Entries.{entry_of};
 ghost use Rattle.st_core.specs.State.{first_state};
-ghost use Rattle.st_core.specs.Step.{asker_of, entry_of, step};
+ghost use Rattle.st_core.specs.Step.{asker_of, step};
 
 use crate::asked::Asked;
-use crate::audit::{AUDIT_LEN, Entry};
-use crate::reply::Reply;
-use crate::rows::Rows;
+use crate::audit::AUDIT_LEN;
+use crate::tables::Tables;
 use circular_buffer::HeapCircularBuffer;
 use st_auth::{Auths, AuthsFault};
-use st_dir::{Directory, Name};
-use st_policy::Request;
+use st_dir::{Directory, Name, TableName};
+use st_key::Period;
+use st_policy::{Entry, Reply, Request};
 use std::alloc::{AllocError, Allocator, Global};
 use std::marker::Model;
 
 /// The directory, the rows of each table, and the audit listing.
 #[derive(Drop)]
-pub struct Store<A: Allocator = Global> {
-    alloc: A,
+pub struct Store<A: Allocator + Copy = Global> {
+    pub(crate) alloc: A,
     pub(crate) directory: Directory<A>,
-    pub(crate) rows: Rows<A>,
+    pub(crate) tables: Tables<A>,
     pub(crate) audit: HeapCircularBuffer<Entry, A>,
 }
 
-impl<A: Allocator> Model for Store<A> {
+impl<A: Allocator + Copy> Model for Store<A> {
     ghost use Rattle.std.specs.Prelude.{◌≡◌};
     ghost use Rattle.st_core.specs.State.{State};
+    ghost use Rattle.st_core.specs.Tables.{headings_of};
 
     ghost Value = { State A };
 
-    ghost view = { λ s. record { directory = s.directory; rows = s.rows; audit = s.audit.items } };
+    ghost view = { λ s. record { directory = s.directory; rows = s.tables.rows; audit = s.audit.items } };
 
-    ghost invariant = { λ s. s.audit.capacity ≡ 1024 };
+    ghost invariant = { λ s. (s.audit.capacity ≡ 1024) × (s.tables.headings ≡ headings_of s.directory.tables) };
+}
+
+// The table points, without rows, with weeks for bins.
+fn first_tables<A: Allocator + Copy>(alloc: A) -> Result<Tables<A>, AllocError>
+    ensures { IfOk result (λ tables. tables ≡ record { headings = record { table = codes "points"; period = Week } ∷ []; rows = [] }) }
+{
+    let mut tables = Tables::new(alloc);
+    tables.add(alloc, &points(), Period::Week)?;
+    Ok(tables)
+}
+
+// The name of the table that a server begins with.
+fn points() -> TableName
+    ensures { result ≡ codes "points" }
+{
+    match TableName::new("points") {
+        Ok(name) => name,
+        Err(_) => unreachable!(),
+    }
 }
 
 // The user of a token that holds.
@@ -68,7 +90,7 @@ impl<A: Allocator + Copy> Store<A> {
         Ok(Store {
             alloc,
             directory: Directory::new(alloc, digest, auths)?,
-            rows: Rows::new(alloc),
+            tables: first_tables(alloc)?,
             audit: HeapCircularBuffer::with_capacity(alloc, AUDIT_LEN)?,
         })
     }

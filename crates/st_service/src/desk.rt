@@ -1,6 +1,6 @@
 //! A store, and what answers messages over it.
 ghost use Rattle.std.specs.Prelude.{◌≡◌, ◌≢◌, ◌⊎◌};
-ghost use Rattle.st_core.specs.declared.reply.Reply.{Reply as Told};
+ghost use Rattle.st_policy.specs.declared.reply.Reply.{Reply as Told};
 ghost use Rattle.st_service.specs.Answers.{Answers, Replied, IsFound, faulty, reply_status, reply_text};
 ghost use Rattle.st_service.specs.Bytes.{bytes_of};
 ghost use Rattle.st_connection.specs.Render.{busy_text};
@@ -12,19 +12,19 @@ use st_connection::replies::Replies;
 use st_core::{Reply, Store};
 use st_http::routes::Route;
 use st_http::take::Message;
-use st_json::{encode, status};
+use st_json_reply::{encode, status};
 use std::alloc::{AllocError, Allocator, Global};
 use std::marker::Model;
 
 // A store, and the allocators for what is asked of it and told.
 #[derive(Drop)]
-pub(crate) struct Desk<A: Allocator = Global> {
+pub(crate) struct Desk<A: Allocator + Copy = Global> {
     alloc: A,
     global: Global,
     store: Store<A>,
 }
 
-impl<A: Allocator> Model for Desk<A> {
+impl<A: Allocator + Copy> Model for Desk<A> {
     ghost use Rattle.st_core.specs.State.{State};
 
     ghost Value = { State A };
@@ -45,7 +45,11 @@ fn status_of<A: Allocator>(reply: &Reply<A>) -> StatusCode
         | Reply::Users(_)
         | Reply::Grants(_)
         | Reply::Normal { .. }
+        | Reply::Rows(_)
+        | Reply::Page { .. }
         | Reply::Count(_)
+        | Reply::Grid(_)
+        | Reply::Plan(_)
         | Reply::Audit(_) => StatusCode::OK,
         Reply::Refused(refusal) => status(refusal),
     }

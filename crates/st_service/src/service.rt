@@ -18,13 +18,13 @@ use std::marker::Model;
 
 /// A store that is asked over connections, one after another. Contracts see it as the store's state.
 #[derive(Drop)]
-pub struct Service<A: Allocator = Global> {
+pub struct Service<A: Allocator + Copy = Global> {
     routes: Routes,
     buffer: Vec<u8, A>,
     desk: Desk<A>,
 }
 
-impl<A: Allocator> Model for Service<A> {
+impl<A: Allocator + Copy> Model for Service<A> {
     ghost use Rattle.std.specs.Prelude.{◌≤◌, length};
     ghost use Rattle.st_core.specs.State.{State};
 
