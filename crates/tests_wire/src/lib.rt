@@ -1,24 +1,12 @@
-//! Tests of the wire: HTTP, JSON, the server's state, and the service of a connection.
+//! Tests of the server: the service of a connection from bytes to bytes, and its state.
 #![tactic(auto)]
 
 #[cfg(test)]
-mod bodies;
-#[cfg(test)]
-mod body_sizes;
-#[cfg(test)]
 mod changes;
-#[cfg(test)]
-mod connections;
 #[cfg(test)]
 mod exchanges;
 #[cfg(test)]
 mod frames;
-#[cfg(test)]
-mod framing;
-#[cfg(test)]
-mod heads;
-#[cfg(test)]
-mod json_replies;
 #[cfg(test)]
 mod labels;
 #[cfg(test)]
@@ -26,17 +14,23 @@ mod narrow;
 #[cfg(test)]
 mod refusals;
 #[cfg(test)]
-mod routing;
+mod rows_get;
+#[cfg(test)]
+mod rows_grid;
+#[cfg(test)]
+mod rows_period;
+#[cfg(test)]
+mod rows_plan;
+#[cfg(test)]
+mod rows_scan;
+#[cfg(test)]
+mod rows_users;
 #[cfg(test)]
 mod runs;
 #[cfg(test)]
 mod serving;
 #[cfg(test)]
-mod sizes;
-#[cfg(test)]
 mod tables;
-#[cfg(test)]
-mod tokens;
 #[cfg(test)]
 mod turns;
 #[cfg(test)]

@@ -52,7 +52,8 @@ fn outcome_of(
 }
 
 // How many of the runs, with each growth refused in turn, had no memory for an answer. None where a run came to
-// anything but that, no service, or, once no growth is left to refuse, the answers of ample memory.
+// anything but that, no service, or the answers of ample memory, which it must come to once no growth is left to
+// refuse. A remembered verdict does without its memory.
 fn busy_runs(
     heap: &Refusing<Global>,
     global: Global,
@@ -72,9 +73,9 @@ fn busy_runs(
             };
         }
         match outcome {
-            Outcome::Unopened => {}
+            Outcome::Unopened | Outcome::Ample => {}
             Outcome::Busy => runs = runs.wrapping_add(1),
-            Outcome::Ample | Outcome::Wrong => return None,
+            Outcome::Wrong => return None,
         }
     }
     None

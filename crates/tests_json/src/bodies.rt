@@ -1,10 +1,9 @@
 //! Bodies of requests, and what is told of each.
 
 use crate::json_replies::is_written;
-use st_core::Reply;
 use st_http::routes::Line;
 use st_json::{DecodeFault, decode};
-use st_policy::Request;
+use st_policy::{Reply, Request};
 use std::alloc::Global;
 
 // The reply to a body: its refusal, or that it was accepted.

@@ -5,7 +5,7 @@ use st_http::take::Take;
 use std::alloc::Global;
 
 // Methods and targets, and what they name.
-const ROUTES: [(&str, &str, Route<'static>); 18] = [
+const ROUTES: [(&str, &str, Route<'static>); 23] = [
     ("POST", "/label", Route::Found(Line::Label, "")),
     ("POST", "/label?x", Route::Found(Line::Label, "")),
     ("GET", "/label", Route::BadMethod { allow: "POST" }),
@@ -46,6 +46,31 @@ const ROUTES: [(&str, &str, Route<'static>); 18] = [
     (
         "post",
         "/tables/points/put",
+        Route::BadMethod { allow: "POST" },
+    ),
+    (
+        "POST",
+        "/tables/points/get",
+        Route::Found(Line::Get, "points"),
+    ),
+    (
+        "POST",
+        "/tables/points/scan",
+        Route::Found(Line::Scan, "points"),
+    ),
+    (
+        "POST",
+        "/tables/points/grid",
+        Route::Found(Line::Grid, "points"),
+    ),
+    (
+        "POST",
+        "/tables/points/plan",
+        Route::Found(Line::Plan, "points"),
+    ),
+    (
+        "GET",
+        "/tables/points/scan",
         Route::BadMethod { allow: "POST" },
     ),
     ("POST", "/tables/", Route::NoRoute),

@@ -1,11 +1,10 @@
 //! Replies as JSON, and the status of each.
 
 use http::StatusCode;
-use st_core::Reply;
 use st_dir::{Name, Permission, TableName};
-use st_json::{encode, encode_into, status};
+use st_json_reply::{encode, encode_into, status};
 use st_label::Label;
-use st_policy::{Denial, Refusal};
+use st_policy::{Denial, Refusal, Reply};
 use st_text::Text;
 use std::alloc::Global;
 

@@ -1,0 +1,15 @@
+//! Tests of HTTP: heads, routes, tokens, the limits of a message, and the loop of a connection.
+#![tactic(auto)]
+
+#[cfg(test)]
+mod connections;
+#[cfg(test)]
+mod framing;
+#[cfg(test)]
+mod heads;
+#[cfg(test)]
+mod routing;
+#[cfg(test)]
+mod sizes;
+#[cfg(test)]
+mod tokens;

@@ -1,0 +1,108 @@
+//! Calls of a table, with each growth refused in turn.
+
+use crate::tabling::{Said, WHOLE, query_of, row_of, table_of, told};
+use refusing_alloc::Refusing;
+use st_auth::Auths;
+use st_index::Row;
+use st_table::Table;
+use st_ubtree::UbTree;
+use std::alloc::{Allocator, Global};
+
+const ROWS: [Said; 3] = [
+    ("p", "A", [0, 0, 0]),
+    ("p", "B", [1, 0, 0]),
+    ("q", "", [2, 0, 0]),
+];
+
+#[derive(Clone, Copy)]
+enum Call {
+    Put,
+    Get,
+    Page,
+    Grid,
+}
+
+impl Call {
+    // Whether it is answered only where each growth is found. A page and a grid do without remembered verdicts.
+    fn needs_all(self) -> bool {
+        match self {
+            Call::Put | Call::Get => true,
+            Call::Page | Call::Grid => false,
+        }
+    }
+}
+
+// Makes a call. Whether it is answered.
+fn answers<A: Allocator + Copy>(
+    alloc: Global,
+    table: &mut Table<UbTree<A>>,
+    row: &Row<A>,
+    call: Call,
+) -> Option<bool> {
+    let auths = Auths::from_list(alloc, &["A", "B"]).ok()?;
+    let query = query_of(WHOLE)?;
+    Some(match call {
+        Call::Put => table.put(row).is_ok(),
+        Call::Get => table.get("p", &auths).is_ok(),
+        Call::Page => table
+            .page::<Global, Global>(&query, &auths, None, 2)
+            .is_ok(),
+        Call::Grid => table.grid(&query, &auths, 2, 2).is_ok(),
+    })
+}
+
+// All that a table holds.
+fn held<A: Allocator + Copy>(alloc: Global, table: &Table<UbTree<A>>) -> Option<String> {
+    let auths = Auths::from_list(alloc, &["A", "B"]).ok()?;
+    let page = table
+        .page::<Global, Global>(&query_of(WHOLE)?, &auths, None, 1_000)
+        .ok()?;
+    told(alloc, page.rows.as_slice())
+}
+
+// Refuses each growth of a call in turn; the table is over the heap that refuses. Gives how many there are, if no refused call changes the table, and none that needs all
+// its growths is answered.
+fn growths<B: Allocator, A: Allocator + Copy>(
+    heap: &Refusing<B>,
+    over: A,
+    alloc: Global,
+    call: Call,
+    said: Said,
+) -> Option<u64> {
+    let mut table = table_of(over, &ROWS)?;
+    let row = row_of(over, said)?;
+    let before = held(alloc, &table)?;
+    for n in 1..100u64 {
+        heap.arm(n);
+        let is_answered = answers(alloc, &mut table, &row, call)?;
+        if heap.is_armed() {
+            heap.arm(0);
+            return is_answered.then_some(n - 1);
+        }
+        if is_answered && call.needs_all() || held(alloc, &table)?.as_str() != before.as_str() {
+            return None;
+        }
+    }
+    None
+}
+
+// Whether a call grows, and each refusal leaves all as it was.
+fn is_safe(alloc: Global, call: Call, said: Said) -> bool {
+    let heap = Refusing::new(alloc);
+    growths(&heap, &heap, alloc, call, said).is_some_and(|count| count > 0)
+}
+
+#[test]
+fn each_growth_refused(rt: HostRuntime) {
+    let long = "an id of more than 15 bytes";
+    for said in [
+        ("r", "A", [1, 0, 0]),
+        ("p", "A", [9, 9, 9]),
+        (long, "A&B", [0; 3]),
+    ] {
+        assert!(rt; is_safe(rt.alloc(), Call::Put, said));
+    }
+    for call in [Call::Get, Call::Page, Call::Grid] {
+        assert!(rt; is_safe(rt.alloc(), call, ("r", "A", [1, 0, 0])));
+    }
+}

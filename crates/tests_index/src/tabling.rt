@@ -1,0 +1,115 @@
+//! Tables made of short lists of rows, and what their reads show as text.
+
+use st_auth::Auths;
+use st_box::Query;
+use st_index::{Id, Note, Row};
+use st_key::{Period, Place, Point};
+use st_label::Label;
+use st_table::Table;
+use st_text::Words;
+use st_ubtree::UbTree;
+use std::alloc::{Allocator, Global};
+
+/// What a test says of a row: its id, its label, and its point.
+pub type Said = (&'static str, &'static str, [u64; 3]);
+
+/// A row without a note.
+pub fn row_of<A: Allocator + Copy>(alloc: A, (id, label, point): Said) -> Option<Row<A>> {
+    let [x, y, t] = point;
+    Some(Row {
+        id: Id::new(alloc, id).ok()??,
+        point: Point::new(x, y, t).ok()?,
+        label: Label::parse(alloc, label).ok()?,
+        note: Note::new(alloc, "").ok()??,
+    })
+}
+
+/// A table of no rows over a UB-tree.
+pub fn empty<A: Allocator + Copy>(alloc: A, period: Period) -> Option<Table<UbTree<A>>> {
+    let tree = UbTree::new(alloc, period).ok()?;
+    Table::new(alloc, tree).ok()
+}
+
+/// Puts a row without a note into a table.
+pub fn put<A: Allocator + Copy>(alloc: A, table: &mut Table<UbTree<A>>, said: Said) -> Option<()> {
+    let row = row_of(alloc, said)?;
+    table.put(&row).ok()
+}
+
+/// A week table of these rows.
+pub fn table_of<A: Allocator + Copy>(alloc: A, rows: &[Said]) -> Option<Table<UbTree<A>>> {
+    let mut table = empty(alloc, Period::Week)?;
+    for said in rows {
+        put(alloc, &mut table, *said)?;
+    }
+    Some(table)
+}
+
+/// The query of a box.
+pub fn query_of([x0, x1, y0, y1, t0, t1]: [u64; 6]) -> Option<Query> {
+    Query::new(x0, x1, y0, y1, t0, t1).ok()
+}
+
+/// The box of all points.
+pub const WHOLE: [u64; 6] = [0, 2_097_151, 0, 2_097_151, 0, 19_818_086_399];
+
+/// A line for each row: its id, label, point and note.
+pub fn told<A: Allocator + Copy>(alloc: Global, rows: &[&Row<A>]) -> Option<String> {
+    let mut lines = String::new(alloc);
+    for row in rows {
+        let (id, label, point) = (row.id.as_str(), row.label.text(), row.point);
+        let (x, y, t) = (point.x(), point.y(), point.t());
+        write!(lines, "{id} {label} {x} {y} {t}{}\n", row.note.as_str()).ok()?;
+    }
+    Some(lines)
+}
+
+/// What a get shows.
+pub fn got(alloc: Global, table: &Table<UbTree>, id: &str, auths: &[&str]) -> Option<String> {
+    let auths = Auths::from_list(alloc, auths).ok()?;
+    let rows = table.get(id, &auths).ok()?;
+    told(alloc, rows.as_slice())
+}
+
+/// What a count of a box shows.
+pub fn counted(
+    alloc: Global,
+    table: &Table<UbTree>,
+    asked: [u64; 6],
+    auths: &[&str],
+) -> Option<u64> {
+    let auths = Auths::from_list(alloc, auths).ok()?;
+    table.count(&query_of(asked)?, &auths).ok()
+}
+
+/// A place, which need name no row.
+pub fn place_of(alloc: Global, id: &str, label: &str, [x, y, t]: [u64; 3]) -> Option<Place> {
+    Some(Place {
+        point: Point::new(x, y, t).ok()?,
+        id: Words::new(alloc, id).ok()?,
+        label: Words::new(alloc, label).ok()?,
+    })
+}
+
+/// What a page of a box shows after a place, and whether more follow.
+pub fn paged(
+    alloc: Global,
+    table: &Table<UbTree>,
+    auths: &[&str],
+    after: Option<&Place>,
+    limit: usize,
+) -> Option<(String, bool)> {
+    let auths = Auths::from_list(alloc, auths).ok()?;
+    let page = table.page(&query_of(WHOLE)?, &auths, after, limit).ok()?;
+    Some((told(alloc, page.rows.as_slice())?, page.more))
+}
+
+/// Whether the text is this one.
+pub fn is_text(text: Option<String>, wanted: &str) -> bool {
+    text.is_some_and(|text| text.as_str() == wanted)
+}
+
+/// Whether the page is this one.
+pub fn is_page(page: Option<(String, bool)>, wanted: &str, more: bool) -> bool {
+    page.is_some_and(|(text, follow)| text.as_str() == wanted && follow == more)
+}

@@ -1,0 +1,119 @@
+//! Walks over the regions of a UB-tree.
+
+use crate::putting::put_at;
+use crate::tabling::query_of;
+use st_index::{Leaf, Row, RowIndex};
+use st_key::{Key, Period};
+use st_plan::plan;
+use st_scan::Walk;
+use st_ubtree::UbTree;
+use std::alloc::{AllocError, Global};
+use std::cell::Cell;
+
+// An index that counts the calls of `leaf_at`.
+#[derive(Drop)]
+struct Counted<I: RowIndex> {
+    index: I,
+    calls: Cell<u64>,
+}
+
+impl<I: RowIndex> RowIndex for Counted<I> {
+    type Alloc = I::Alloc;
+
+    type Row = I::Row;
+
+    type Spare = I::Spare;
+
+    ghost period_of = { λ s. I.period_of s.index };
+
+    ghost content = { λ s. I.content s.index };
+
+    ghost regions = { λ s. I.regions s.index };
+
+    ghost has_room = { λ s. I.has_room s.index };
+
+    fn period(&self) -> Period {
+        self.index.period()
+    }
+
+    fn leaf_at(&self, key: Key) -> Leaf<'_, I::Alloc> {
+        self.calls.set(self.calls.get().saturating_add(1));
+        self.index.leaf_at(key)
+    }
+
+    fn prepare(&self, row: &Row<I::Alloc>) -> Result<I::Spare, AllocError> {
+        self.index.prepare(row)
+    }
+
+    fn insert(&mut self, row: I::Row, spare: I::Spare) {
+        self.index.insert(row, spare)
+    }
+
+    fn remove(&mut self, key: Key, id: &str, label: &str) -> Option<Row<I::Alloc>> {
+        self.index.remove(key, id, label)
+    }
+
+    fn replace(&mut self, row: I::Row) -> Row<I::Alloc> {
+        self.index.replace(row)
+    }
+}
+
+// A tree of 33 rows on one line: two regions, the first of which has the keys of x 0 to 15.
+fn tree(alloc: Global) -> Option<UbTree> {
+    let mut tree = UbTree::new(alloc, Period::Week).ok()?;
+    for x in 0..33 {
+        put_at(&mut tree, alloc, x, ("a", ""), "")?;
+    }
+    Some(tree)
+}
+
+// What a walk did: the rows that it gave, and the regions that it opened.
+#[derive(Clone, Copy, PartialEq, Eq, Debug)]
+struct Steps {
+    rows: u64,
+    opened: u64,
+}
+
+// Takes so many steps of a walk over a box.
+fn take_steps<I: RowIndex>(alloc: Global, index: &I, asked: [u64; 6], count: u64) -> Option<Steps> {
+    let query = query_of(asked)?;
+    let Ok(ranges) = plan(alloc, &query, 16, index.period()) else {
+        return None;
+    };
+    let mut walk = Walk::new(index, &query, &ranges);
+    let mut rows = 0u64;
+    for _ in 0..count {
+        if walk.next().is_some() {
+            rows = rows.wrapping_add(1);
+        }
+    }
+    let opened = walk.opened();
+    Some(Steps { rows, opened })
+}
+
+// What a walk over that tree did, and how often it called `leaf_at`.
+fn walked(alloc: Global, asked: [u64; 6], count: u64) -> Option<(Steps, u64)> {
+    let index = Counted {
+        index: tree(alloc)?,
+        calls: Cell::new(0),
+    };
+    let steps = take_steps(alloc, &index, asked, count)?;
+    Some((steps, index.calls.get()))
+}
+
+#[test]
+fn counted_leaves(rt: HostRuntime) {
+    for (asked, count, rows, opened) in [
+        ([0, 3, 0, 0, 0, 0], 5, 4, 1),
+        ([0, 0, 1, 1, 0, 0], 1, 0, 1),
+        ([15, 16, 1, 1, 0, 0], 1, 0, 2),
+        ([0, 32, 0, 0, 0, 0], 0, 0, 0),
+        ([0, 32, 0, 0, 0, 0], 1, 1, 1),
+        ([0, 32, 0, 0, 0, 0], 16, 16, 1),
+        ([0, 32, 0, 0, 0, 0], 17, 17, 2),
+        ([0, 32, 0, 0, 0, 0], 40, 33, 2),
+    ] {
+        let wanted = (Steps { rows, opened }, opened);
+        assert_eq!(rt; walked(rt.alloc(), asked, count), Some(wanted));
+    }
+}
