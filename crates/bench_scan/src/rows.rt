@@ -1,0 +1,98 @@
+//! Rows to be put into a table.
+use crate::numbers::Numbers;
+use st_index::{Id, Note, Row};
+use st_key::Point;
+use st_label::Label;
+use std::alloc::{AllocError, Global};
+
+/// The authorizations that each count asks for.
+pub const HELD: [&str; 4] = ["A", "B", "D", "G"];
+
+/// The seconds of four weeks.
+pub const SPAN: u64 = 4 * 604_800;
+
+/// The labels of rows without a pattern. Eleven of the sixteen are satisfied by those authorizations.
+fn label_at(number: u64) -> &'static str {
+    match number % 16 {
+        0 => "A&B",
+        1 => "A|B",
+        2 => "A|C",
+        3 => "B|C",
+        4 => "A&D",
+        5 => "B&D",
+        6 => "A|D",
+        7 => "A&G",
+        8 => "D|G",
+        9 => "D|E",
+        10 => "G|H",
+        11 => "A&C",
+        12 => "C|E",
+        13 => "E&F",
+        14 => "G&H",
+        _ => "C&E",
+    }
+}
+
+/// A row without a note, or none where the words make none.
+fn row_of(
+    alloc: Global,
+    id: &str,
+    place: [u64; 3],
+    label: &str,
+) -> Result<Option<Row>, AllocError> {
+    let [x, y, t] = place;
+    let Some(id) = Id::new(alloc, id)? else {
+        return Ok(None);
+    };
+    let Ok(label) = Label::parse(alloc, label) else {
+        return Ok(None);
+    };
+    let Ok(point) = Point::new(x, y, t) else {
+        return Ok(None);
+    };
+    let Some(note) = Note::new(alloc, "")? else {
+        return Ok(None);
+    };
+    Ok(Some(Row {
+        id,
+        point,
+        label,
+        note,
+    }))
+}
+
+/// The row of this number, at a place without a pattern: an id of 8 bytes, and a label of 3.
+pub fn next_row(
+    alloc: Global,
+    numbers: &mut Numbers,
+    number: u64,
+) -> Result<Option<Row>, AllocError> {
+    let id = format!(in alloc; "{:08}", number % 100_000_000)?;
+    let x = numbers.below(Point::SIDE);
+    let y = numbers.below(Point::SIDE);
+    let t = numbers.below(SPAN);
+    let label = label_at(numbers.below(16));
+    row_of(alloc, id.as_str(), [x, y, t], label)
+}
+
+/// The row of a line `id,x,y,t,label`.
+pub fn row_in(alloc: Global, line: &str) -> Result<Option<Row>, AllocError> {
+    let mut words = line.split(',');
+    let Some(id) = words.next() else {
+        return Ok(None);
+    };
+    let mut place = [0; 3];
+    for part in &mut place {
+        *part = number_of(words.next());
+    }
+    let label = words.next().unwrap_or("");
+    row_of(alloc, id, place, label)
+}
+
+/// The number that a word says, and 0 where there is none.
+pub fn number_of(word: Option<&str>) -> u64 {
+    match word {
+        Some(word) => word.parse().unwrap_or(0),
+        None => 0,
+    }
+}

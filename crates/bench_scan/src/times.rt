@@ -1,0 +1,161 @@
+//! What is timed.
+use crate::boxes::{Asked, Size};
+use crate::numbers::Numbers;
+use crate::rows::{HELD, next_row, row_in};
+use st_auth::Auths;
+use st_index::Row;
+use st_key::{Period, Place};
+use st_table::Table;
+use st_ubtree::UbTree;
+use std::alloc::{AllocError, Global};
+use std::io;
+use std::time::Instant;
+
+// How many rows a page has.
+const LIMIT: usize = 100;
+
+/// How long calls took, in nanoseconds, and how many rows they showed.
+#[derive(Drop)]
+pub struct Times {
+    pub each: Vec<u64>,
+    pub rows: u64,
+}
+
+impl Times {
+    fn new(alloc: Global) -> Times {
+        Times {
+            each: Vec::new(alloc),
+            rows: 0,
+        }
+    }
+
+    /// Adds a call that began then.
+    fn add(&mut self, rt: &HostRuntime, start: Instant, rows: u64) -> io::Result<()> {
+        let nanoseconds = start.elapsed(rt)?.as_nanos();
+        self.each
+            .push(u64::try_from(nanoseconds).unwrap_or(u64::MAX))?;
+        self.rows = self.rows.wrapping_add(rows);
+        Ok(())
+    }
+
+    /// The middle one of the times.
+    pub fn middle(&mut self) -> io::Result<u64> {
+        self.each.sort()?;
+        match self.each.get(self.each.len() / 2) {
+            Some(nanoseconds) => Ok(*nanoseconds),
+            None => Ok(0),
+        }
+    }
+}
+
+/// A table of rows, and the authorizations for which its rows are counted.
+#[derive(Drop)]
+pub struct Bench {
+    alloc: Global,
+    table: Table<UbTree>,
+    auths: Auths,
+}
+
+impl Bench {
+    /// A table of no rows.
+    pub fn new(alloc: Global) -> Result<Bench, AllocError> {
+        let auths = match Auths::from_list(alloc, &HELD) {
+            Ok(auths) => auths,
+            Err(_) => Auths::none(alloc),
+        };
+        let tree = UbTree::new(alloc, Period::Week)?;
+        let table = Table::new(alloc, tree)?;
+        Ok(Bench {
+            alloc,
+            table,
+            auths,
+        })
+    }
+
+    /// Puts in so many rows at places without a pattern, numbered from here on.
+    pub fn fill(&mut self, numbers: &mut Numbers, from: u64, count: u64) -> Result<(), AllocError> {
+        for number in 0..count {
+            let row = next_row(self.alloc, numbers, from.wrapping_add(number))?;
+            if let Some(row) = row {
+                self.table.put(&row)?;
+            }
+        }
+        Ok(())
+    }
+
+    /// Puts in the rows of a text's lines.
+    pub fn fill_from(&mut self, text: &str) -> Result<(), AllocError> {
+        for line in text.lines() {
+            if let Some(row) = row_in(self.alloc, line)? {
+                self.table.put(&row)?;
+            }
+        }
+        Ok(())
+    }
+
+    /// Times a count of each of the boxes that are of this size.
+    pub fn counts(&self, rt: &HostRuntime, boxes: &[Asked], size: Size) -> io::Result<Times> {
+        let mut times = Times::new(self.alloc);
+        for asked in boxes {
+            if asked.size == size {
+                let start = Instant::now(rt)?;
+                let rows = self.table.count(&asked.query, &self.auths)?;
+                times.add(rt, start, rows)?;
+            }
+        }
+        Ok(times)
+    }
+
+    /// Times a page of 100 rows of each of the boxes that are of this size.
+    pub fn pages(&self, rt: &HostRuntime, boxes: &[Asked], size: Size) -> io::Result<Times> {
+        let mut times = Times::new(self.alloc);
+        for asked in boxes {
+            if asked.size == size {
+                let start = Instant::now(rt)?;
+                let rows = self.first_rows(asked)?;
+                times.add(rt, start, rows)?;
+            }
+        }
+        Ok(times)
+    }
+
+    /// How many rows the first page of a box has.
+    fn first_rows(&self, asked: &Asked) -> Result<u64, AllocError> {
+        let after: Option<&Place<Global>> = None;
+        match self.table.page(&asked.query, &self.auths, after, LIMIT) {
+            Ok(page) => Ok(page.rows.len() as u64),
+            Err(_) => Err(AllocError),
+        }
+    }
+
+    /// Times the put of each of these rows.
+    pub fn puts(&mut self, rt: &HostRuntime, rows: &[Row]) -> io::Result<u64> {
+        let start = Instant::now(rt)?;
+        put_all(&mut self.table, rows)?;
+        let nanoseconds = u64::try_from(start.elapsed(rt)?.as_nanos()).unwrap_or(u64::MAX);
+        Ok(nanoseconds / (rows.len() as u64).max(1))
+    }
+}
+
+/// So many rows at places without a pattern, numbered from here on.
+pub fn rows_of(
+    alloc: Global,
+    numbers: &mut Numbers,
+    from: u64,
+    count: u64,
+) -> Result<Vec<Row>, AllocError> {
+    let mut rows = Vec::new(alloc);
+    for number in 0..count {
+        if let Some(row) = next_row(alloc, numbers, from.wrapping_add(number))? {
+            rows.push(row)?;
+        }
+    }
+    Ok(rows)
+}
+
+fn put_all(table: &mut Table<UbTree>, rows: &[Row]) -> Result<(), AllocError> {
+    for row in rows {
+        table.put(row)?;
+    }
+    Ok(())
+}
