@@ -2,4 +2,3 @@ pub mod Places
 pub mod Search
 pub mod Sized
 pub mod Recall
-pub mod Known

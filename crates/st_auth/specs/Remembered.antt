@@ -4,7 +4,7 @@ use Rattle.std.specs.List.{All}
 use Rattle.st_label.specs.Reading.{is_true}
 use Rattle.st_text.specs.Texts.{Text, is_among}
 use Rattle.st_auth.specs.declared.table.Known.{Known}
-use Rattle.st_auth.specs.declared.table.Pair.{Pair}
+use Rattle.lru.specs.LruCache.{LruCache}
 
 -- Each is whether the label is true for the set.
 abbrev pub AreOf : {A : Type 0} → List Text → List (String A × Bool) → Type 0
@@ -14,10 +14,11 @@ AreOf {A} names entries = (text : String A) (verdict : Bool) → Contains entrie
 abbrev pub has_text : {A : Type 0} → List ℕ → String A → Bool
 has_text text key = bytes_eq text (string_bytes key)
 
--- what a slot holds is whether its label is true for the set
-abbrev pub IsKnown : List Text → Option Known → Type 0
-IsKnown names None = Unit {0}
-IsKnown names (Some known) = known.verdict ≡ is_true (is_among names) known.text
+-- and so is each that a cache remembers, if there is one
+abbrev pub AreHeld : {A : Type 0} → List Text → Option (LruCache (String A) Bool) → Type 0
+AreHeld names None = Unit {0}
+AreHeld names (Some cache) = AreOf names cache.entries
 
-abbrev pub AreKnown : List Text → List Pair → Type 0
-AreKnown names pairs = All (λ pair. IsKnown names pair.newer × IsKnown names pair.older) pairs
+-- each known label's verdict is whether it is true for the set
+abbrev pub AreKnown : List Text → List Known → Type 0
+AreKnown names known = All (λ (k : Known). k.verdict ≡ is_true (is_among names) k.text) known

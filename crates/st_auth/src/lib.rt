@@ -2,10 +2,13 @@
 #![tactic(auto)]
 
 mod auths;
+mod long_labels;
+mod set_verdicts;
 mod table;
 mod truth;
 mod verdicts;
 
 pub use auths::{Auths, AuthsFault, MAX_NAME};
+pub use set_verdicts::SetVerdicts;
 pub use truth::satisfies;
 pub use verdicts::Verdicts;

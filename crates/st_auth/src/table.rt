@@ -1,14 +1,20 @@
 //! Verdicts on short labels.
-ghost use Rattle.std.specs.Prelude.{◌≡◌, ◌<◌, List, IfOk, IfSome};
+ghost use Rattle.std.specs.Prelude.{◌≡◌, ◌<◌, List, IfSome};
 ghost use Rattle.st_label.specs.Reading.{is_true};
 ghost use Rattle.st_text.specs.Texts.{Text, is_among};
-ghost use Rattle.st_auth.specs.Remembered.{IsKnown, AreKnown};
+ghost use Rattle.st_auth.specs.Remembered.{AreKnown};
 
+use crate::auths::Auths;
+use crate::truth::satisfies;
+use st_label::Label;
 use st_text::{MAX_SHORT, ShortText};
-use std::alloc::{AllocError, Allocator};
+use std::alloc::Allocator;
 
-// How many pairs of labels there is room for.
-const PAIRS: usize = 64;
+// How many places there are.
+const PLACES: usize = 64;
+
+// At how many places after each other a label may be.
+const STEPS: usize = 4;
 
 // A label's text and whether it is true.
 #[derive(Drop)]
@@ -17,115 +23,114 @@ struct Known {
     verdict: bool,
 }
 
-// The labels of one place, the newer first.
-#[derive(Drop)]
-struct Pair {
-    newer: Option<Known>,
-    older: Option<Known>,
-}
-
-/// Remembers which labels of at most [`MAX_SHORT`] bytes are true, of those of one place the two that
-/// were told last. It takes memory only when it is made.
+/// Remembers which labels of at most [`MAX_SHORT`] bytes are true. Where a label finds no free place, it
+/// takes that of another. It takes memory with the first label.
 #[derive(Drop)]
 pub struct Table<A: Allocator> {
-    pairs: Vec<Pair, A>,
+    // Which of the known labels is at each place. At a free place it is none of them.
+    places: [u8; PLACES],
+    known: Vec<Known, A>,
 }
 
 impl<A: Allocator> Table<A> {
-    pub fn new(alloc: A) -> Result<Table<A>, AllocError>
-        ensures { IfOk result (λ table. (names : List Text) → AreKnown names table.pairs.items) }
+    pub fn new(alloc: A) -> Table<A>
+        ensures { (names : List Text) → AreKnown names result.known.items }
     {
-        let mut pairs = Vec::with_capacity(alloc, PAIRS)?;
-        fill(&mut pairs)?;
-        Ok(Table { pairs })
+        Table {
+            places: [u8::MAX; PLACES],
+            known: Vec::new(alloc),
+        }
     }
 
     /// Forgets all.
     pub fn forget(&mut self)
-        ensures { (names : List Text) → AreKnown names self.new.pairs.items }
+        ensures { (names : List Text) → AreKnown names self.new.known.items }
     {
-        self.pairs.clear();
-        let _filled = fill(&mut self.pairs);
+        self.places = [u8::MAX; PLACES];
+        self.known.clear();
     }
 
-    /// The verdict on a label, where it is remembered.
-    pub fn verdict(&self, text: &str) -> Option<bool>
-        ensures { (names : List Text) → AreKnown names self.now.pairs.items → IfSome result (λ verdict. verdict ≡ is_true (is_among names) text.now) }
+    /// Whether the label is true for the set, where its text is short.
+    pub fn ask<B: Allocator, C: Allocator>(
+        &mut self,
+        label: &Label<B>,
+        auths: &Auths<C>,
+    ) -> Option<bool>
+        requires known { AreKnown auths.now self.old.known.items }
+        ensures value { IfSome result (λ verdict. verdict ≡ is_true (is_among auths.now) label.now) }
+        ensures known { AreKnown auths.now self.new.known.items }
     {
-        if text.len() > MAX_SHORT {
+        if label.text().len() > MAX_SHORT {
             return None;
         }
-        let place = place_of(text);
-        if place >= self.pairs.len() {
-            return None;
+        if let Some(verdict) = self.verdict(label.text()) {
+            return Some(verdict);
         }
-        match verdict_of(&self.pairs[place].newer, text) {
-            Some(verdict) => Some(verdict),
-            None => verdict_of(&self.pairs[place].older, text),
-        }
+        let verdict = satisfies(label, auths);
+        self.keep(label.text(), verdict);
+        Some(verdict)
     }
 
-    /// Remembers the verdict on a label, where its text is short. It answers whether it is.
-    pub fn keep(&mut self, text: &str, verdict: bool) -> bool
-        ensures { (names : List Text) → verdict ≡ is_true (is_among names) text.now → AreKnown names self.old.pairs.items → AreKnown names self.new.pairs.items }
+    // The verdict on a label, where it is remembered.
+    fn verdict(&self, text: &str) -> Option<bool>
+        ensures { (names : List Text) → AreKnown names self.now.known.items → IfSome result (λ verdict. verdict ≡ is_true (is_among names) text.now) }
     {
-        let Some(text) = ShortText::new(text) else {
-            return false;
+        let first = place_of(text);
+        for step in 0..STEPS {
+            let number = self.places[(first + step) % PLACES];
+            let Some(known) = self.known.get(number as usize) else {
+                return None;
+            };
+            if known.text.is(text) {
+                return Some(known.verdict);
+            }
+        }
+        None
+    }
+
+    // Remembers the verdict on a label, where its text is short and there is memory for it.
+    fn keep(&mut self, text: &str, verdict: bool)
+        ensures { (names : List Text) → verdict ≡ is_true (is_among names) text.now → AreKnown names self.old.known.items → AreKnown names self.new.known.items }
+    {
+        let Some(short) = ShortText::new(text) else {
+            return;
         };
-        let place = place_of(text.as_str());
-        if place < self.pairs.len() {
-            let older = copy_of(&self.pairs[place].newer);
-            let newer = Some(Known { text, verdict });
-            self.pairs[place] = Pair { newer, older };
+        let place = self.place_for(text);
+        let number = self.places[place] as usize;
+        let count = self.known.len();
+        let known = Known {
+            text: short,
+            verdict,
+        };
+        if number < count {
+            self.known[number] = known;
+        } else if count < PLACES && self.known.push(known).is_ok() {
+            self.places[place] = count as u8;
         }
-        true
+    }
+
+    // The first free place of those that a label may have, or the first of them.
+    fn place_for(&self, text: &str) -> usize
+        ensures { result < PLACES }
+    {
+        let first = place_of(text);
+        for step in 0..STEPS {
+            let place = (first + step) % PLACES;
+            if self.places[place] as usize >= self.known.len() {
+                return place;
+            }
+        }
+        first
     }
 }
 
-// Puts empty pairs at the end.
-fn fill<A: Allocator>(pairs: &mut Vec<Pair, A>) -> Result<(), AllocError>
-    ensures { (names : List Text) → AreKnown names pairs.old.items → AreKnown names pairs.new.items }
-{
-    for _ in 0..PAIRS {
-        pairs.push(Pair {
-            newer: None,
-            older: None,
-        })?;
-    }
-    Ok(())
-}
-
-// The place of a label's text, by its hash (FNV-1a).
+// The first place of a label's text, by its hash (FNV-1a).
 fn place_of(text: &str) -> usize
-    ensures { result < PAIRS }
+    ensures { result < PLACES }
 {
     let mut hash: u32 = 2166136261;
     for b in text.as_bytes() {
         hash = (hash ^ *b as u32).wrapping_mul(16777619);
     }
     ((hash ^ (hash >> 16)) % 64) as usize
-}
-
-fn verdict_of(slot: &Option<Known>, text: &str) -> Option<bool>
-    ensures { (names : List Text) → IsKnown names slot.now → IfSome result (λ verdict. verdict ≡ is_true (is_among names) text.now) }
-{
-    let Some(known) = slot else {
-        return None;
-    };
-    if !known.text.is(text) {
-        return None;
-    }
-    Some(known.verdict)
-}
-
-fn copy_of(slot: &Option<Known>) -> Option<Known>
-    ensures { result ≡ slot.now }
-{
-    match slot {
-        Some(known) => Some(Known {
-            text: known.text.copy(),
-            verdict: known.verdict,
-        }),
-        None => None,
-    }
 }

@@ -9,6 +9,8 @@ use Rattle.st_box.specs.Query.{HasKey}
 use Rattle.st_plan.specs.declared.part_plan.PartPlan.{PartPlan}
 use Rattle.st_plan.specs.QueryPlan.{is_exact}
 use Rattle.st_plan.specs.Range.{is_exact_in}
+use Rattle.st_scan.specs.declared.own_plan.OwnPlan.{OwnPlan}
+use Rattle.st_scan.specs.declared.own_plan.OwnPlan.TheVariants.{Due, Made, Never}
 use Rattle.st_scan.specs.declared.part_ranges.PartRanges.{PartRanges}
 use Rattle.st_index.specs.declared.row.Row.{Row}
 use Rattle.st_index.specs.Index.{Follow, IsLeafAt, Region}
@@ -37,6 +39,12 @@ has_exact k p = nat_le p.bin_lo k.bin && nat_le k.bin p.bin_hi && list_any (is_e
 -- each key that the parts have in an exact range is the query's
 abbrev pub AreExact : Period → Query → List PartRanges → Type 0
 AreExact period q parts = (k : Key) → IsTrue (list_any (has_exact k) parts) → HasKey q period k
+
+-- and so is each of those of the plan that a walk has made for itself
+abbrev pub IsOwnExact : {A : Type 0} → Period → Query → OwnPlan A → Type 0
+IsOwnExact period q (Due _) = Unit {0}
+IsOwnExact period q (Made plan) = IsExactFor period q plan
+IsOwnExact period q Never = Unit {0}
 
 -- the place of a key, or the end of all keys
 abbrev pub place_at : Period → Option Key → ℕ
@@ -117,9 +125,10 @@ pub record SkipsTo {A : Type 0} (start : ℕ) (entries rest : List (EntryValue A
   pub after : All (λ e. start ≤ e.at) rest
 
 -- what holds of a walk's parts
-pub record IsWalk {A : Type 0} (index_period : Period) (regions : List Region) (period : Period) (q : Query) (parts : List PartRanges) (p : Position A) : Type 0 where
+pub record IsWalk {A : Type 0} (index_period : Period) (regions : List Region) (period : Period) (q : Query) (parts : List PartRanges) (own : OwnPlan A) (p : Position A) : Type 0 where
   pub same_period : period ≡ index_period
   pub exact : AreExact period q parts
+  pub own_exact : IsOwnExact period q own
   pub follow : Follow 0 (key_end period) regions
   pub few : length regions < 2 ^ 64
   pub at : IsPosition period q regions p

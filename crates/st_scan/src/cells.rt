@@ -8,12 +8,12 @@ ghost use Rattle.st_scan.specs.Rows.{has_row};
 ghost use Rattle.st_scan.specs.Seen.{is_visible, seen};
 
 use crate::fault::ScanFault;
-use crate::prepare::{plan_for, verdicts_for};
+use crate::prepare::verdicts_for;
 use crate::walk::Walk;
-use st_auth::{Auths, Verdicts};
+use st_auth::{Auths, SetVerdicts};
 use st_box::Query;
 use st_index::RowIndex;
-use st_key::Point;
+use st_key::{Key, Point};
 use std::alloc::Allocator;
 
 /// The most columns of a grid, and the most lines.
@@ -50,8 +50,7 @@ fn field_at(query: &Query, nx: u32, ny: u32, point: &Point) -> usize
 /// Counts the visible rows that a walk still gives in the fields that they are in.
 fn count_fields<I: RowIndex, B: Allocator>(
     walk: &mut Walk<'_, '_, I>,
-    verdicts: &mut Verdicts<I::Alloc>,
-    auths: &Auths<B>,
+    verdicts: &mut SetVerdicts<'_, I::Alloc, B>,
     query: &Query,
     nx: u32,
     ny: u32,
@@ -65,10 +64,10 @@ fn count_fields<I: RowIndex, B: Allocator>(
     requires empty { All (λ n. n ≡ 0) counts.old }
     requires few { length walk.old.left < 2 ^ 64 }
     requires inside { All (λ row. IsTrue (has_row query.now row)) walk.old.left }
-    ensures { AreCounts query.now nx ny (filter (is_visible auths.now) walk.old.left) counts.new }
+    ensures { AreCounts query.now nx ny (filter (is_visible verdicts.old) walk.old.left) counts.new }
 {
     'rows: while let Some(row) = walk.next() {
-        if verdicts.ask(&row.label, auths) {
+        if verdicts.ask(&row.label) {
             let field = field_at(query, nx, ny, &row.point);
             counts[field] += 1;
         }
@@ -95,14 +94,12 @@ pub fn grid<I: RowIndex, B: Allocator>(
     if columns == 0 || columns > MAX_SHARES || lines == 0 || lines > MAX_SHARES {
         return Err(ScanFault::BadGrid);
     }
-    let plan = plan_for(&alloc, index, query)?;
-    let mut verdicts = verdicts_for(alloc)?;
+    let mut verdicts = verdicts_for(alloc, auths);
     let mut counts = vec![in alloc; 0u64; columns * lines]?;
-    let mut walk = Walk::new(index, query, &plan);
+    let mut walk = Walk::with_own_plan(alloc, index, query, Key::FIRST);
     count_fields(
         &mut walk,
         &mut verdicts,
-        auths,
         query,
         columns as u32,
         lines as u32,

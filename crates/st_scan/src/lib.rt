@@ -5,6 +5,7 @@ mod after;
 mod cells;
 mod exact;
 mod fault;
+mod own_plan;
 mod page_rows;
 mod pages;
 mod part_ranges;

@@ -6,9 +6,9 @@ ghost use Rattle.st_scan.specs.Pages.{IsPage, is_shown, seen_after};
 use crate::after::{is_past, start_of};
 use crate::fault::ScanFault;
 use crate::page_rows::Page;
-use crate::prepare::{plan_for, verdicts_for};
+use crate::prepare::verdicts_for;
 use crate::walk::Walk;
-use st_auth::{Auths, Verdicts};
+use st_auth::{Auths, SetVerdicts};
 use st_box::Query;
 use st_index::RowIndex;
 use st_key::{Period, Place};
@@ -21,18 +21,17 @@ pub const MAX_ROWS: usize = 1000;
 fn fill<'a, I: RowIndex, B: Allocator, C: Allocator + Copy>(
     alloc: I::Alloc,
     walk: &mut Walk<'a, '_, I>,
-    verdicts: &mut Verdicts<I::Alloc>,
-    auths: &Auths<B>,
+    verdicts: &mut SetVerdicts<'_, I::Alloc, B>,
     period: Period,
     after: Option<&Place<C>>,
     limit: usize,
 ) -> Result<Page<'a, I::Alloc>, ScanFault>
-    ensures page { IfOk result (λ page. IsPage limit (filter (is_shown period (option_copied after.entry) auths.now) walk.old.left) (map (λ row. row.now) page.rows.items) page.more) }
+    ensures page { IfOk result (λ page. IsPage limit (filter (is_shown period (option_copied after.entry) verdicts.old) walk.old.left) (map (λ row. row.now) page.rows.items) page.more) }
     ensures no_memory { IfErr result (λ fault. fault ≡ NoMemory) }
 {
     let mut rows = Vec::new(alloc);
     'rows: while let Some(row) = walk.next() {
-        if is_past(after, row, period) && verdicts.ask(&row.label, auths) {
+        if is_past(after, row, period) && verdicts.ask(&row.label) {
             if rows.len() == limit {
                 return Ok(Page { rows, more: true });
             }
@@ -62,8 +61,7 @@ pub fn page<'a, I: RowIndex, B: Allocator, C: Allocator + Copy>(
         return Err(ScanFault::BadLimit);
     }
     let period = index.period();
-    let plan = plan_for(&alloc, index, query)?;
-    let mut verdicts = verdicts_for(alloc)?;
-    let mut walk = Walk::from_key(index, query, &plan, start_of(after, period));
-    fill(alloc, &mut walk, &mut verdicts, auths, period, after, limit)
+    let mut verdicts = verdicts_for(alloc, auths);
+    let mut walk = Walk::with_own_plan(alloc, index, query, start_of(after, period));
+    fill(alloc, &mut walk, &mut verdicts, period, after, limit)
 }

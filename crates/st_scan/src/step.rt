@@ -8,9 +8,10 @@ ghost use Rattle.st_box.specs.Query.{HasKey};
 ghost use Rattle.st_index.specs.Index.{Follow};
 ghost use Rattle.st_index.specs.Rows.{IsEntry, Rises, key_end, rows_of};
 ghost use Rattle.st_scan.specs.Rows.{has_row};
-ghost use Rattle.st_scan.specs.Walks.{AreExact, IsNextEntry, IsOver, IsPosition, Opens, SkipsTo, Steps, left_of, place_at};
+ghost use Rattle.st_scan.specs.Walks.{AreExact, IsNextEntry, IsOver, IsOwnExact, IsPosition, Opens, SkipsTo, Steps, left_of, place_at};
 
 use crate::exact::is_exact;
+use crate::own_plan::OwnPlan;
 use crate::part_ranges::PartRanges;
 use crate::position::Position;
 use st_bigmin::first_from;
@@ -34,11 +35,18 @@ fn key_of<A: Allocator + Copy>(entry: &Entry<A>) -> Key
 }
 
 /// Whether the key is that of a point inside the query. A key of an exact range is not tested.
-fn has_key(query: &Query, period: Period, parts: &[PartRanges], key: Key) -> bool
-    requires { AreExact period query.now parts.now }
+fn has_key<A: Allocator + Copy>(
+    query: &Query,
+    period: Period,
+    parts: &[PartRanges],
+    own: &OwnPlan<A>,
+    key: Key,
+) -> bool
+    requires exact { AreExact period query.now parts.now }
+    requires own { IsOwnExact period query.now own.now }
     ensures { IsTrue result ↔ HasKey query.now period key }
 {
-    is_exact(parts, key) || query.has_key(key, period)
+    is_exact(parts, key) || own.is_exact(key) || query.has_key(key, period)
 }
 
 /// The rows of the first entry that is inside the query, and the entries after it.
@@ -46,9 +54,11 @@ pub(crate) fn next_entry<'a, A: Allocator + Copy>(
     query: &Query,
     period: Period,
     parts: &[PartRanges],
+    own: &OwnPlan<A>,
     entries: &'a [Entry<A>],
 ) -> Option<(&'a [Row<A>], &'a [Entry<A>])>
     requires exact { AreExact period query.now parts.now }
+    requires own { IsOwnExact period query.now own.now }
     requires keyed { All (IsEntry period) entries.now }
     ensures some { IfSome result (λ found. IsNextEntry query.now entries.now found.0.now found.1.now) }
     ensures none { IfNone result (filter (has_row query.now) (rows_of entries.now) ≡ []) }
@@ -56,7 +66,7 @@ pub(crate) fn next_entry<'a, A: Allocator + Copy>(
     let mut ahead = entries;
     while let Some((entry, rest)) = ahead.split_first() {
         ahead = rest;
-        if has_key(query, period, parts, key_of(entry)) {
+        if has_key(query, period, parts, own, key_of(entry)) {
             return Some((rows_in(entry), rest));
         }
     }
@@ -145,10 +155,12 @@ pub(crate) fn forward<'a, I: RowIndex>(
     query: &Query,
     period: Period,
     parts: &[PartRanges],
+    own: &OwnPlan<I::Alloc>,
     from: Position<'a, I::Alloc>,
 ) -> Position<'a, I::Alloc>
     requires period { period ≡ I.period_of index.now }
     requires exact { AreExact period query.now parts.now }
+    requires own { IsOwnExact period query.now own.now }
     requires at { IsPosition period query.now (I.regions index.now) from }
     requires few { length (I.regions index.now) < 2 ^ 64 }
     requires follow { Follow 0 (key_end period) (I.regions index.now) }
@@ -159,7 +171,7 @@ pub(crate) fn forward<'a, I: RowIndex>(
 {
     let mut at = from;
     'regions: while at.rows.is_empty() {
-        if let Some((rows, entries)) = next_entry(query, period, parts, at.entries) {
+        if let Some((rows, entries)) = next_entry(query, period, parts, own, at.entries) {
             return Position {
                 rows,
                 entries,

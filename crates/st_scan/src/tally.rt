@@ -2,25 +2,25 @@
 ghost use Rattle.std.specs.Prelude.{◌≡◌, ◌^◌, ◌<◌, filter, length, IfOk};
 ghost use Rattle.st_scan.specs.Seen.{is_visible, seen};
 
-use crate::prepare::{plan_for, verdicts_for};
+use crate::prepare::verdicts_for;
 use crate::walk::Walk;
-use st_auth::{Auths, Verdicts};
+use st_auth::{Auths, SetVerdicts};
 use st_box::Query;
 use st_index::RowIndex;
+use st_key::Key;
 use std::alloc::{AllocError, Allocator};
 
 /// How many of the rows that a walk still gives are visible.
 fn count_visible<I: RowIndex, B: Allocator>(
     walk: &mut Walk<'_, '_, I>,
-    verdicts: &mut Verdicts<I::Alloc>,
-    auths: &Auths<B>,
+    verdicts: &mut SetVerdicts<'_, I::Alloc, B>,
 ) -> u64
     requires { length walk.old.left < 2 ^ 64 }
-    ensures { result ≡ length (filter (is_visible auths.now) walk.old.left) }
+    ensures { result ≡ length (filter (is_visible verdicts.old) walk.old.left) }
 {
     let mut count = 0;
     'rows: while let Some(row) = walk.next() {
-        if verdicts.ask(&row.label, auths) {
+        if verdicts.ask(&row.label) {
             count += 1;
         }
     }
@@ -36,8 +36,7 @@ pub fn count<I: RowIndex, B: Allocator>(
 ) -> Result<u64, AllocError>
     ensures { IfOk result (λ count. count ≡ length (seen query.now auths.now (I.content index.now))) }
 {
-    let plan = plan_for(&alloc, index, query)?;
-    let mut verdicts = verdicts_for(alloc)?;
-    let mut walk = Walk::new(index, query, &plan);
-    Ok(count_visible(&mut walk, &mut verdicts, auths))
+    let mut verdicts = verdicts_for(alloc, auths);
+    let mut walk = Walk::with_own_plan(alloc, index, query, Key::FIRST);
+    Ok(count_visible(&mut walk, &mut verdicts))
 }

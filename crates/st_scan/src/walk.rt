@@ -4,9 +4,10 @@ ghost use Rattle.st_key.specs.Key.{rank};
 ghost use Rattle.st_index.specs.Rows.{key_end, place_of};
 ghost use Rattle.st_scan.specs.Regions.{Count, Meets};
 ghost use Rattle.st_scan.specs.Rows.{has_row, has_row_from};
-ghost use Rattle.st_scan.specs.Walks.{IsExactFor, MeetsUpTo};
+ghost use Rattle.st_scan.specs.Walks.{AreExact, IsExactFor, IsOwnExact, MeetsUpTo};
 
 use crate::exact::ranges_of;
+use crate::own_plan::OwnPlan;
 use crate::part_ranges::PartRanges;
 use crate::position::Position;
 use crate::step::forward;
@@ -17,12 +18,17 @@ use st_key::{Key, Period};
 use st_plan::Plan;
 use std::alloc::Allocator;
 use std::marker::Model;
+use std::mem;
+
+// After how many regions a walk makes a plan of its own.
+const FEW: u64 = 256;
 
 /// A walk over the rows of an index that are inside a query, in scan order.
 #[derive(Drop)]
 pub struct Walk<'a, 'p, I: RowIndex> {
     index: &'a I,
     parts: ArrayVec<PartRanges<'p>, 3>,
+    own: OwnPlan<I::Alloc>,
     query: Query,
     period: Period,
     at: Position<'a, I::Alloc>,
@@ -38,7 +44,7 @@ impl<'a, 'p, I: RowIndex> Model for Walk<'a, 'p, I> {
 
     ghost view = { λ w. record { period = w.period; query = w.query; regions = I.regions w.index.now; start = rank w.at.start; left = left_of w.period w.query (I.content w.index.now) w.at; opened = w.at.opened } };
 
-    ghost invariant = { λ w. IsWalk (I.period_of w.index.now) (I.regions w.index.now) w.period w.query w.parts.items w.at };
+    ghost invariant = { λ w. IsWalk (I.period_of w.index.now) (I.regions w.index.now) w.period w.query w.parts.items w.own w.at };
 }
 
 impl<'a, 'p, I: RowIndex> Walk<'a, 'p, I> {
@@ -54,17 +60,34 @@ impl<'a, 'p, I: RowIndex> Walk<'a, 'p, I> {
         ensures period { result.period ≡ I.period_of index.now }
         ensures regions { result.regions ≡ I.regions index.now }
     {
-        Walk::from_key(index, query, plan, Key::FIRST)
+        Walk::begin(index, query, ranges_of(plan), OwnPlan::Never, Key::FIRST)
     }
 
-    /// A walk from the first row whose key does not come before this one.
-    pub(crate) fn from_key<P: Allocator + Copy>(
+    /// A walk from the first row whose key does not come before this one. It makes a plan of its own once
+    /// it has opened [`FEW`] regions, if one is of use and there is memory for it.
+    pub(crate) fn with_own_plan(alloc: I::Alloc, index: &'a I, query: &Query, from: Key) -> Self
+        requires in_period { rank from ≤ key_end (I.period_of index.now) }
+        ensures left { result.left ≡ filter (has_row_from (I.period_of index.now) query.now (rank from)) (I.content index.now) }
+        ensures few { length result.left < 2 ^ 64 }
+        ensures opened { result.opened ≡ 0 }
+        ensures start { result.start ≡ rank from }
+        ensures query { result.query ≡ query.now }
+        ensures period { result.period ≡ I.period_of index.now }
+        ensures regions { result.regions ≡ I.regions index.now }
+    {
+        Walk::begin(index, query, ArrayVec::new(), OwnPlan::Due(alloc), from)
+    }
+
+    /// A walk by exact ranges of a plan that was given, or of one of its own.
+    fn begin(
         index: &'a I,
         query: &Query,
-        plan: &'p Plan<P>,
+        parts: ArrayVec<PartRanges<'p>, 3>,
+        own: OwnPlan<I::Alloc>,
         from: Key,
     ) -> Self
-        requires exact { IsExactFor (I.period_of index.now) query.now plan.now }
+        requires exact { AreExact (I.period_of index.now) query.now parts.items }
+        requires own { IsOwnExact (I.period_of index.now) query.now own }
         requires in_period { rank from ≤ key_end (I.period_of index.now) }
         ensures left { result.left ≡ filter (has_row_from (I.period_of index.now) query.now (rank from)) (I.content index.now) }
         ensures few { length result.left < 2 ^ 64 }
@@ -76,7 +99,8 @@ impl<'a, 'p, I: RowIndex> Walk<'a, 'p, I> {
     {
         Walk {
             index,
-            parts: ranges_of(plan),
+            parts,
+            own,
             query: *query,
             period: index.period(),
             at: Position {
@@ -101,11 +125,38 @@ impl<'a, 'p, I: RowIndex> Walk<'a, 'p, I> {
         ensures period { self.new.period ≡ self.old.period }
         ensures regions { self.new.regions ≡ self.old.regions }
     {
+        self.plan_if_due();
+        self.advance()
+    }
+
+    /// Makes the walk's own plan, if it is due.
+    fn plan_if_due(&mut self)
+        ensures { self.new ≡ self.old }
+    {
+        if self.at.opened > FEW && matches!(self.own, OwnPlan::Due(_)) {
+            let own = mem::replace(&mut self.own, OwnPlan::Never);
+            self.own = own.made(&self.query, self.period);
+        }
+    }
+
+    /// The next row, by the plans that there are.
+    fn advance(&mut self) -> Option<&'a Row<I::Alloc>>
+        ensures some { IfSome result (λ row. self.old.left ≡ row.now ∷ self.new.left) }
+        ensures none { IfNone result (self.old.left ≡ []) }
+        ensures end { IfNone result (self.new.left ≡ []) }
+        ensures opened { IfSome result (λ row. Count (MeetsUpTo self.old.period self.old.query self.old.start (place_of self.old.period row.now)) self.old.regions self.new.opened) }
+        ensures opened_all { IfNone result (Count (Meets self.old.period self.old.query self.old.start) self.old.regions self.new.opened) }
+        ensures start { self.new.start ≡ self.old.start }
+        ensures query { self.new.query ≡ self.old.query }
+        ensures period { self.new.period ≡ self.old.period }
+        ensures regions { self.new.regions ≡ self.old.regions }
+    {
         let at = forward(
             self.index,
             &self.query,
             self.period,
             self.parts.as_slice(),
+            &self.own,
             self.at,
         );
         let Some((row, rest)) = at.rows.split_first() else {

@@ -45,6 +45,13 @@ fn row_at<'a, I: RowIndex>(index: &'a I, key: Key, id: &str, label: &str) -> &'a
     row
 }
 
+/// Whether a row has a label that the authorizations satisfy.
+fn is_shown<A: Allocator + Copy, B: Allocator>(row: &Row<A>, auths: &Auths<B>) -> bool
+    ensures { result ≡ is_visible auths.now row.now }
+{
+    satisfies(&row.label, auths)
+}
+
 /// The rows of an id and of these labels, each of them a row's, that the authorizations satisfy.
 pub(crate) fn rows_under<'a, I: RowIndex, B: Allocator>(
     alloc: I::Alloc,
@@ -59,7 +66,7 @@ pub(crate) fn rows_under<'a, I: RowIndex, B: Allocator>(
     let mut rows = Vec::new(alloc);
     'labels: while let Some((label, key)) = labels.next() {
         let row = row_at(index, key, id, label);
-        if satisfies(&row.label, auths) {
+        if is_shown(row, auths) {
             rows.push(row)?;
         }
     }

@@ -8,13 +8,14 @@ use Rattle.st_scan.specs.Grids.{AreCounts}
 use Rattle.st_scan.specs.Rows.{has_row}
 use Rattle.st_scan.specs.Seen.{is_visible, seen}
 use Rattle.st_scan.proofs.Fields.{are_grid}
+use Rattle.st_scan.proofs.Steps.{from_first}
 use Rattle.st_scan.proofs.Visible.{visible_seen}
 use Rattle.st_scan.proofs.cells.grid.Goals as goal
 
 pub count_fields-requires-clause-inside : goal.count_fields-requires-clause-inside
 count_fields-requires-clause-inside g c =
     let q = c.args.query.now in
-    subst (All (λ (row : Row g.row.I-Alloc.Denot). IsTrue (has_row q row))) (sym c.new-walk.ensures.left) (filter_passes (has_row q) (g.I.RowIndex.content c.args.index.now))
+    subst (All (λ (row : Row g.row.I-Alloc.Denot). IsTrue (has_row q row))) (sym (c.with_own_plan-walk.ensures.left ∙ from_first (g.I.RowIndex.period_of c.args.index.now) q (g.I.RowIndex.content c.args.index.now))) (filter_passes (has_row q) (g.I.RowIndex.content c.args.index.now))
 
 pub returns-clause-grid : goal.returns-clause-grid
 returns-clause-grid g c =
@@ -29,5 +30,8 @@ returns-clause-grid g c =
     let whole : held.len ≡ length counts = omega (arith, size, c.in_ok-counts.ensures.len) in
     let kept : take held.len (counts ++ drop (length counts) held.items) ≡ counts =
     ap (λ n. take n (counts ++ drop (length counts) held.items)) whole ∙ take-append_seam counts (drop (length counts) held.items) in
-    let rows : filter (is_visible auths) c.new-walk.result.left ≡ seen q auths content = ap (filter (is_visible auths)) c.new-walk.ensures.left ∙ visible_seen q auths content in
+    let rows : filter (is_visible c.verdicts_for-verdicts.result) c.with_own_plan-walk.result.left ≡ seen q auths content =
+    ap (λ names. filter (is_visible names) c.with_own_plan-walk.result.left) c.verdicts_for-verdicts.ensures
+    ∙ ap (filter (is_visible auths)) (c.with_own_plan-walk.ensures.left ∙ from_first (g.I.RowIndex.period_of c.args.index.now) q content)
+    ∙ visible_seen q auths content in
     kept ∙ are_grid q nx ny (seen q auths content) counts (subst (λ xs. AreCounts q nx ny xs counts) rows c.count_fields.ensures) size

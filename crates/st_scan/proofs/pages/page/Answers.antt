@@ -22,9 +22,10 @@ returns-clause-page g c =
     let content = g.I.RowIndex.content c.args.index.now in
     let same = c.period-period.ensures.value in
     let start = subst (λ p. IsStart p after c.start_of.result) same c.start_of.ensures.start in
-    let all : filter (is_shown c.period-period.result after auths) c.from_key-walk.result.left ≡ seen_after w q auths after content =
-    subst (λ p. filter (is_shown p after auths) c.from_key-walk.result.left ≡ seen_after w q auths after content) (sym same)
-    (ap (filter (is_shown w after auths)) c.from_key-walk.ensures.left ∙ shown_after w q auths after c.start_of.result start content) in
+    let all : filter (is_shown c.period-period.result after c.verdicts_for-verdicts.result) c.with_own_plan-walk.result.left ≡ seen_after w q auths after content =
+    subst (λ p. filter (is_shown p after c.verdicts_for-verdicts.result) c.with_own_plan-walk.result.left ≡ seen_after w q auths after content) (sym same)
+    (ap (λ names. filter (is_shown w after names) c.with_own_plan-walk.result.left) c.verdicts_for-verdicts.ensures
+    ∙ ap (filter (is_shown w after auths)) c.with_own_plan-walk.ensures.left ∙ shown_after w q auths after c.start_of.result start content) in
     if_ok _ _ c.fill.result (λ page p. subst (λ rows. IsPage c.args.limit rows (map (λ row. row.now) page.rows.items) page.more) all p) c.fill.ensures.page
 
 pub returns-clause-bad_limit : goal.returns-clause-bad_limit

@@ -20,7 +20,7 @@ labels-preserved-in-Continue-1 g c =
     let pushed = ap (map (λ row. row.now)) c.in_ok-push.ensures.items ∙ map_push c.args.id.now test rows (λ row. row.now) c.labels.rows.items c.row_at-row.result in (
       ap (λ xs. xs ++ left) pushed
           ∙ show_next c.args.id.now test rows (rows_under c.args.id.now test rows c.args.labels.now) (map (λ row. row.now) c.labels.rows.items) c.labels.labels c.next.new.self e c.row_at-row.result.now
-          c.labels.invariant.0 c.in-Some.ensures.some c.row_at-row.ensures (sym c.satisfies.ensures ∙ c.if-satisfies.true),
+          c.labels.invariant.0 c.in-Some.ensures.some c.row_at-row.ensures (sym c.is_shown.ensures ∙ c.if-is_shown.true),
       at_rest (g.I.RowIndex.period_of c.args.index.now) c.args.id.now rows c.labels.labels c.next.new.self e c.in-Some.ensures.some c.labels.invariant.1,
     )
 
@@ -30,6 +30,6 @@ labels-preserved g c =
     let test = is_visible c.args.auths.now in
     let e : Text × Key = (c.in-Some.label.now, c.in-Some.key) in (
       hide_next c.args.id.now test rows (rows_under c.args.id.now test rows c.args.labels.now) (map (λ row. row.now) c.labels.rows.items) c.labels.labels c.next.new.self e c.row_at-row.result.now
-          c.labels.invariant.0 c.in-Some.ensures.some c.row_at-row.ensures (sym c.satisfies.ensures ∙ c.if-satisfies.false),
+          c.labels.invariant.0 c.in-Some.ensures.some c.row_at-row.ensures (sym c.is_shown.ensures ∙ c.if-is_shown.false),
       at_rest (g.I.RowIndex.period_of c.args.index.now) c.args.id.now rows c.labels.labels c.next.new.self e c.in-Some.ensures.some c.labels.invariant.1,
     )

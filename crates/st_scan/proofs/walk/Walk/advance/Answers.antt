@@ -5,7 +5,7 @@ use Rattle.st_scan.specs.Regions.{Count, Meets}
 use Rattle.st_scan.specs.Walks.{AreExact, MeetsUpTo}
 use Rattle.st_scan.proofs.Filters.{no_items}
 use Rattle.st_scan.proofs.Positions.{given_at, given_opened}
-use Rattle.st_scan.proofs.walk.Walk.next.Goals as goal
+use Rattle.st_scan.proofs.walk.Walk.advance.Goals as goal
 
 pub forward-at-requires-clause-exact : goal.forward-at-requires-clause-exact
 forward-at-requires-clause-exact g c = subst (AreExact c.self.inside.period c.self.inside.query) (sym c.as_slice.ensures.value) c.self.invariant.exact
@@ -28,6 +28,7 @@ pub invariant_of-self-2 : goal.invariant_of-self-2
 invariant_of-self-2 g c = record {
   same_period = c.self.invariant.same_period;
   exact = c.self.invariant.exact;
+  own_exact = c.self.invariant.own_exact;
   follow = c.self.invariant.follow;
   few = c.self.invariant.few;
   at = given_at c.self.inside.period c.self.inside.query (g.I.RowIndex.content c.self.inside.index.now) (g.I.RowIndex.regions c.self.inside.index.now) c.forward-at.result _ _ c.forward-at.ensures.at c.in-Some.ensures.cases.0;

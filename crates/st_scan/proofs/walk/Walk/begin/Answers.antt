@@ -3,10 +3,10 @@ use Rattle.st_key.specs.Key.{rank}
 use Rattle.st_index.specs.Index.{Follow}
 use Rattle.st_index.specs.Rows.{key_end}
 use Rattle.st_scan.specs.Rows.{has_row_from}
-use Rattle.st_scan.specs.Walks.{IsExactFor}
+use Rattle.st_scan.specs.Walks.{AreExact, IsOwnExact}
 use Rattle.st_scan.proofs.Steps.{begin}
 use Rattle.st_scan.proofs.Visible.{filter_le}
-use Rattle.st_scan.proofs.walk.Walk.from_key.Goals as goal
+use Rattle.st_scan.proofs.walk.Walk.begin.Goals as goal
 
 pub invariant_of-result : goal.invariant_of-result
 invariant_of-result g c =
@@ -15,7 +15,8 @@ invariant_of-result g c =
     let regions = g.I.RowIndex.regions c.args.index.now in
     record {
       same_period = c.period.ensures.value;
-      exact = λ k held. subst (λ p. IsExactFor p q c.args.plan.now) same c.requires.exact k (c.ranges_of.ensures k held);
+      exact = subst (λ p. AreExact p q c.args.parts.items) same c.requires.exact;
+      own_exact = subst (λ p. IsOwnExact p q c.args.own) same c.requires.own;
       follow = subst (λ p. Follow 0 (key_end p) regions) same c.period.ensures.lawful.follow;
       few = c.period.ensures.lawful.regions_count;
       at = begin c.period.result q regions (rank c.args.from) (subst (λ p. rank c.args.from ≤ key_end p) same c.requires.in_period);

@@ -1,0 +1,58 @@
+//! Verdicts on labels for one set of authorizations.
+ghost use Rattle.std.specs.Prelude.{◌≡◌};
+ghost use Rattle.st_label.specs.Reading.{is_true};
+ghost use Rattle.st_text.specs.Texts.{is_among};
+
+use crate::auths::Auths;
+use crate::long_labels::LongLabels;
+use crate::table::Table;
+use st_label::Label;
+use std::alloc::{Allocator, Global};
+use std::marker::Model;
+use std::num::NonZeroUsize;
+
+/// Remembers which labels are true for one set of authorizations, as [`crate::Verdicts`] does, and never
+/// compares the set.
+#[derive(Drop)]
+pub struct SetVerdicts<'s, A: Allocator = Global, B: Allocator = Global> {
+    auths: &'s Auths<B>,
+    short: Table<A>,
+    long: LongLabels<A>,
+}
+
+impl<'s, A: Allocator, B: Allocator> Model for SetVerdicts<'s, A, B> {
+    ghost use Rattle.std.specs.Prelude.{ℕ, List};
+
+    ghost Value = { List (List ℕ) };
+
+    ghost use Rattle.st_auth.specs.Remembered.{AreHeld, AreKnown};
+
+    ghost view = { λ v. v.auths.now };
+
+    ghost invariant = { λ v. AreHeld v.auths.now v.long.cache × AreKnown v.auths.now v.short.known.items };
+}
+
+impl<'s, A: Allocator + Copy, B: Allocator> SetVerdicts<'s, A, B> {
+    /// Room for so many long labels. It takes no memory before the first label.
+    pub fn new(alloc: A, capacity: NonZeroUsize, auths: &'s Auths<B>) -> SetVerdicts<'s, A, B>
+        ensures { result ≡ auths.now }
+    {
+        SetVerdicts {
+            auths,
+            short: Table::new(alloc),
+            long: LongLabels::new(alloc, capacity),
+        }
+    }
+
+    /// Whether the label is true for the set, as [`crate::satisfies`] says. It remembers nothing where it
+    /// finds no memory for it.
+    pub fn ask<C: Allocator>(&mut self, label: &Label<C>) -> bool
+        ensures value { result ≡ is_true (is_among self.old) label.now }
+        ensures set { self.new ≡ self.old }
+    {
+        match self.short.ask(label, self.auths) {
+            Some(verdict) => verdict,
+            None => self.long.ask(label, self.auths),
+        }
+    }
+}
