@@ -6,7 +6,7 @@ use Rattle.std.proofs.KnownBytes.{Appends-nil, Appends-trans}
 use Rattle.std.proofs.lemmas.List.Folds.{concat-append}
 use Rattle.std.proofs.lemmas.Grind.{common_steps}
 use Rattle.st_http.specs.First.{First}
-use Rattle.st_connection.specs.Connection.{Run, Reaches, Whole, Broken}
+use Rattle.st_connection.specs.Connection.{Run, Whole}
 use Rattle.st_connection.proofs.Reading.{closed_join, begins_grows, begins_join, begins_none}
 
 pub run_join : {S : Type 0} (step : S → First → List ℕ → S → Type 0) (old mid new : S) (items others : List First) (answers replies : List (List ℕ))
@@ -15,22 +15,6 @@ run_join step old mid new [] others [] replies h k = subst (λ (n : _). Run step
 run_join step old mid new [] others (a ∷ answers) replies h k = absurd h
 run_join step old mid new (i ∷ items) others [] replies h k = absurd h
 run_join step old mid new (i ∷ items) others (a ∷ answers) replies h k = (h.0, h.1, run_join step h.0 mid new items others answers replies h.2 k)
-
--- answers that are out whole, and then others up to some place in the last one
-pub reaches_join : (answers replies : List (List ℕ)) (sent : List ℕ) → Reaches replies sent → Reaches (answers ++ replies) (concat answers ++ sent)
-reaches_join [] replies sent r = r
-reaches_join (a ∷ []) [] sent r = ([], grind (arith, common_steps, r))
-reaches_join (a ∷ []) (b ∷ replies) sent r = (sent, ap (λ (s : List ℕ). s ++ sent) (append-nil a), r)
-reaches_join (a ∷ b ∷ answers) replies sent r =
-    (concat (b ∷ answers) ++ sent, append_assoc a (concat (b ∷ answers)) sent, reaches_join (b ∷ answers) replies sent r)
-
-pub reaches_all : (answers : List (List ℕ)) → Reaches answers (concat answers)
-reaches_all answers =
-    let both = reaches_join answers [] [] refl in
-    subst (λ (s : List ℕ). Reaches answers s) (append-nil (concat answers)) (subst (λ (l : List (List ℕ)). Reaches l (concat answers ++ [])) (append-nil answers) both)
-
-pub reaches_one : (answer sent missing : List ℕ) → answer ≡ sent ++ missing → Reaches (answer ∷ []) sent
-reaches_one answer sent missing e = (missing, e)
 
 module _ {S : Type 0} (step : S → First → List ℕ → S → Type 0) where
   -- nothing yet
@@ -58,19 +42,6 @@ module _ {S : Type 0} (step : S → First → List ℕ → S → Type 0) where
       wrote = subst (λ (s : List ℕ). Appends ho hn s) (sym (concat-append a.answers b.answers)) (Appends-trans ho hm hn (concat a.answers) (concat b.answers) a.wrote b.wrote);
       counted = omega (arith, a.counted, b.counted, ap length (concat-append a.answers b.answers), length-append (concat a.answers) (concat b.answers));
       few = omega (arith, a.few, b.few, ap length (concat-append a.answers b.answers), length-append (concat a.answers) (concat b.answers), length-append a.items b.items);
-    }
-
-    abbrev pub broken_join : Broken step mid new rest hm hn wm wn → Broken step old new text ho hn wo wn
-    broken_join b = record {
-      items = a.items ++ b.items;
-      rest = b.rest;
-      answers = a.answers ++ b.answers;
-      sent = concat a.answers ++ b.sent;
-      begins = begins_join text a.items rest b.items b.rest a.begins a.ends b.begins;
-      run = run_join step old mid new a.items b.items a.answers b.answers a.run b.run;
-      reaches = reaches_join a.answers b.answers b.sent b.reaches;
-      wrote = Appends-trans ho hm hn (concat a.answers) b.sent a.wrote b.wrote;
-      counted = omega (arith, a.counted, b.counted, length-append (concat a.answers) b.sent);
     }
 
   -- the same of a text that more bytes come after

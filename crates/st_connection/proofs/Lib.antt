@@ -6,3 +6,5 @@ pub mod Steps
 pub mod Passes
 pub mod Buffer
 pub mod Turns
+pub mod Blocks
+pub mod AtOnce

@@ -1,10 +1,17 @@
 -- The items of a text, as far as the loop over them has come.
-use Rattle.std.proofs.Common.{◌≡◌, ◌∙◌, ℕ, ◌+◌, ◌-◌, ◌*◌, ◌^◌, ◌≤◌, true, false, Option, List, length, take, drop, ap, subst, arith}
+use Rattle.std.proofs.Common.{◌≡◌, ◌∙◌, ◌⊎◌, inl, inr, Bool, Ok, Err, [], ◌++◌, sym, ℕ, ◌+◌, ◌-◌, ◌*◌, ◌^◌, ◌<◌, ◌≤◌, true, false, Option, List, length, take, drop, ap, subst, arith, refl, append_assoc, append-nil, length-append, length-take}
 use Rattle.std.proofs.lemmas.Grind.{common_steps}
 use Rattle.st_http.specs.First.{First, more, IsFirst}
-use Rattle.st_connection.specs.Connection.{Whole, Broken}
+use Rattle.std.specs.Io.KnownBytes.{Appends}
+use Rattle.std.specs.List.{concat}
+use Rattle.std.proofs.KnownBytes.{Appends-trans}
+use Rattle.st_connection.specs.Connection.{Whole, Broken, Loses, One, Passed, Answered, AnsweredNext}
+use Rattle.st_connection.specs.declared.connection.Stopped.{Stopped}
+use Rattle.st_connection.specs.declared.connection.Next.TheVariants as nexts
+use Rattle.st_connection.specs.declared.connection.Stop.TheVariants as stops
+use Rattle.st_connection.specs.declared.connection.Stopped.TheVariants as stopped
+use Rattle.st_connection.proofs.Blocks.{Gathered, gathered_none, gathered_one, gathered_out, gathered_breaks, gathered_lost, held_still, flushed, amid_all, all_but_most}
 use Rattle.st_connection.proofs.Reading.{few_items}
-use Rattle.st_connection.proofs.Joins.{whole_join, broken_join}
 
 -- the rest of the text as the code slices it
 abbrev pub piece : List ℕ → ℕ → List ℕ
@@ -19,38 +26,172 @@ drop_again text used count = ap (drop count) (piece_is text used) ∙ grind (ari
 pub piece_length : (text : List ℕ) (used : ℕ) → length (piece text used) ≡ length text - used
 piece_length text used = grind (arith, common_steps)
 
-module _ {S : Type 0} (step : S → First → List ℕ → S → Type 0) (old mid : S) (text : List ℕ) (used : ℕ) (ho hm : Option (List ℕ)) (wo wm : ℕ) (s : Whole step false old mid text (drop used text) ho hm wo wm) where
+module _ {S : Type 0} (step : S → First → List ℕ → S → Type 0) (hold : ℕ) (old mid kept : S) (text : List ℕ) (used : ℕ) (ho hm : Option (List ℕ)) (wo wm : ℕ) (bytes : List ℕ) (a : Gathered step hold false old mid kept text (drop used text) ho hm wo wm bytes) where
   pub written_bound : wm ≤ wo + 2 ^ 64 * length text
   written_bound =
-      let f = few_items text s.items (drop used text) s.begins s.ends in
-      let n : length s.items ≤ length text = omega (arith, f) in omega (arith, s.counted, s.few, n)
+      let f = few_items text a.whole.items a.between a.whole.begins a.whole.ends in
+      let n : length a.whole.items ≤ length text = omega (arith, f) in omega (arith, a.whole.counted, a.whole.few, n)
 
-  module _ (new : S) (hn : Option (List ℕ)) (wn : ℕ) where
-    -- what is known of the rest as the code slices it, of the rest
-    of_rest : (P : List ℕ → Type 0) → P (piece text used) → P (drop used text)
-    of_rest P h = subst P (piece_is text used) h
+  module _ (le : length bytes ≤ hold) (closed : Bool) (new after : S) (end answer : List ℕ) (one : One step closed mid new (piece text used) end answer) (which : (after ≡ kept) ⊎ (after ≡ new)) where
+    one_more : Gathered step hold closed old new after text end ho hm wo wm (bytes ++ answer)
+    one_more =
+        gathered_one step hold old mid kept text (drop used text) ho hm wo wm bytes a le closed new after end answer
+        (subst (λ (t : List ℕ). One step closed mid new t end answer) (piece_is text used) one) which
 
-    pub breaks : Broken step mid new (piece text used) hm hn wm wn → Broken step old new text ho hn wo wn
-    breaks b =
-        broken_join step old mid new text (drop used text) ho hm hn wo wm wn s (of_rest (λ (t : List ℕ). Broken step mid new t hm hn wm wn) b)
+    module _ (last : S) (hn : Option (List ℕ)) (wn : ℕ) (back : List ℕ) where
+      pub breaks : Passed new after last hm hn wm wn (bytes ++ answer) back (Err stopped.Unwritten) → Broken step hold old new text ho hn wo wn
+      breaks s = gathered_breaks step hold closed old new after text end ho hm wo wm (bytes ++ answer) one_more hn wn false s
 
-    pub waits : used ≤ length text → IsFirst (piece text used) more × Whole step false mid new (piece text used) (piece text used) hm hn wm wn
-        → (used ≤ length text) × IsFirst (drop used text) more × Whole step false old new text (drop used text) ho hn wo wn
-    waits le (first, b) = (
-      le,
-      of_rest (λ (t : List ℕ). IsFirst t more) first,
-      whole_join step old mid new text (drop used text) ho hm hn wo wm wn s false (drop used text) (of_rest (λ (t : List ℕ). Whole step false mid new t t hm hn wm wn) b),
-    )
+      pub loses : Passed new after last hm hn wm wn (bytes ++ answer) back (Err stopped.Lost) → Loses step old new last text ho hn
+      loses s = gathered_lost step hold closed old new after text end ho hm wo wm (bytes ++ answer) one_more hn last s.0 s.1
 
-    pub closes : (rest : List ℕ) × Whole step true mid new (piece text used) rest hm hn wm wn
-        → (rest : List ℕ) × Whole step true old new text rest ho hn wo wn
-    closes (rest, b) = (
-      rest,
-      whole_join step old mid new text (drop used text) ho hm hn wo wm wn s true rest (of_rest (λ (t : List ℕ). Whole step true mid new t rest hm hn wm wn) b),
-    )
+      passes : Passed new after last hm hn wm wn (bytes ++ answer) back (Ok tt)
+          → (Gathered step hold closed old new last text end ho hn wo wn back) ⊎ (Whole step closed old new text end ho hn wo wn × (back ≡ []) × (last ≡ new))
+      passes (inl (same, wrote, counted, stays)) =
+          inl (held_still step hold closed old new after text end ho hm wo wm (bytes ++ answer) one_more hn wn back last same wrote counted stays)
+      passes (inr (none, wrote, counted, all)) =
+          inr (gathered_out step hold closed old new after text end ho hm wo wm (bytes ++ answer) one_more hn wn wrote counted, none, all)
 
-    pub goes_on : (count : ℕ) → Whole step false mid new (piece text used) (drop count (piece text used)) hm hn wm wn
-        → Whole step false old new text (drop (used + count) text) ho hn wo wn
-    goes_on count b =
-        let c = subst (λ (t : List ℕ). Whole step false mid new (piece text used) t hm hn wm wn) (drop_again text used count) b in
-        whole_join step old mid new text (drop used text) ho hm hn wo wm wn s false (drop (used + count) text) (of_rest (λ (t : List ℕ). Whole step false mid new t (drop (used + count) text) hm hn wm wn) c)
+pub goes_on : {S : Type 0} (step : S → First → List ℕ → S → Type 0) (hold : ℕ) (old mid kept : S) (text : List ℕ) (used : ℕ) (ho hm : Option (List ℕ)) (wo wm : ℕ) (bytes : List ℕ)
+    → Gathered step hold false old mid kept text (drop used text) ho hm wo wm bytes → length bytes ≤ hold
+    → (new last : S) (hn : Option (List ℕ)) (wn : ℕ) (back : List ℕ) (count : ℕ) (answer : List ℕ) (after : S)
+    → One step false mid new (piece text used) (drop count (piece text used)) answer → (after ≡ kept) ⊎ (after ≡ new)
+    → Passed new after last hm hn wm wn (bytes ++ answer) back (Ok tt)
+    → Gathered step hold false old new last text (drop (used + count) text) ho hn wo wn back
+goes_on step hold old mid kept text used ho hm wo wm bytes a le new last hn wn back count answer after one which passed =
+    let c = subst (λ (t : List ℕ). One step false mid new (piece text used) t answer) (drop_again text used count) one in
+    elim (passes step hold old mid kept text used ho hm wo wm bytes a le false new after (drop (used + count) text) answer c which last hn wn back passed) [
+      | inl g ↦ g
+      | inr (whole, none, all) ↦ gathered_none step hold old new text (drop (used + count) text) ho hn wo wn back last whole none all
+    ]
+
+pub same_one : {S : Type 0} (step : S → First → List ℕ → S → Type 0) (hold : ℕ) (old mid kept : S) (text : List ℕ) (used : ℕ) (ho hm : Option (List ℕ)) (wo wm : ℕ) (bytes : List ℕ)
+    → Gathered step hold false old mid kept text (drop used text) ho hm wo wm bytes
+    → (new last : S) (hn : Option (List ℕ)) (wn : ℕ) (back : List ℕ)
+    → (new ≡ mid) × (last ≡ kept) × (back ≡ bytes) × Appends hm hn [] × (wn ≡ wm)
+    → Gathered step hold false old new last text (drop used text) ho hn wo wn back
+same_one step hold old mid kept text used ho hm wo wm bytes a new last hn wn back (now, keeps, same, wrote, counted) =
+    subst (λ (s : _). Gathered step hold false old s last text (drop used text) ho hn wo wn back) (sym now)
+    (held_still step hold false old mid kept text (drop used text) ho hm wo wm bytes a hn wn back last same wrote counted keeps)
+
+pub first_of_rest : (text : List ℕ) (used : ℕ) → IsFirst (piece text used) more → IsFirst (drop used text) more
+first_of_rest text used first = subst (λ (t : List ℕ). IsFirst t more) (piece_is text used) first
+
+-- ---- the ends of the loop
+
+whole_stops : {S : Type 0} (step : S → First → List ℕ → S → Type 0) (hold : ℕ) (closed : Bool) (old now : S) (text rest : List ℕ) (ho hn : Option (List ℕ)) (wo wn : ℕ)
+    → Whole step closed old now text rest ho hn wo wn → (kept last : S) (hm : Option (List ℕ)) (wm : ℕ) (bytes : List ℕ) → bytes ≡ [] → kept ≡ now → (why : Stopped)
+    → Passed now kept last hn hm wn wm bytes [] (Err why) → Answered step hold old now last text ho hm wo wm (Err why)
+whole_stops step hold closed old now text rest ho hn wo wn a kept last hm wm bytes none same stopped.Unwritten s = record {
+  items = a.items;
+  rest = rest;
+  answers = a.answers;
+  sent = concat a.answers ++ s.sent;
+  begins = a.begins;
+  run = a.run;
+  reaches = (
+    s.missing,
+    sym (append-nil (concat a.answers)) ∙ ap (λ (l : List ℕ). concat a.answers ++ l) (sym none ∙ s.prefix) ∙ sym (append_assoc (concat a.answers) s.sent s.missing),
+    let m = all_but_most a.answers in omega (arith, m, length-append (concat a.answers) s.sent),
+  );
+  wrote = Appends-trans ho hn hm (concat a.answers) s.sent a.wrote s.wrote;
+  counted = omega (arith, a.counted, s.counted, length-append (concat a.answers) s.sent);
+}
+whole_stops {S = S} step hold closed old now text rest ho hn wo wn a kept last hm wm bytes none same stopped.Lost s = record {
+  items = a.items;
+  rest = rest;
+  answers = a.answers;
+  sent = concat a.answers;
+  begins = a.begins;
+  run = a.run;
+  past = record {
+    done = a.items;
+    others = [];
+    out = a.answers;
+    back = [];
+    mid = now;
+    items_are = sym (append-nil a.items);
+    answers_are = sym (append-nil a.answers);
+    sent_is = refl;
+    run = a.run;
+    amid = amid_all step now now last [] [] refl (elim s.1 [
+      | inl keeps ↦ keeps ∙ same
+      | inr all ↦ all
+    ]);
+  };
+  wrote = subst (λ (l : List ℕ). Appends ho hm l) (append-nil (concat a.answers)) (Appends-trans ho hn hm (concat a.answers) [] a.wrote s.0);
+}
+
+whole_stays : {S : Type 0} (step : S → First → List ℕ → S → Type 0) (closed : Bool) (old now : S) (text rest : List ℕ) (ho hn : Option (List ℕ)) (wo wn : ℕ)
+    → Whole step closed old now text rest ho hn wo wn → (hm : Option (List ℕ)) (wm : ℕ) (bytes : List ℕ) → bytes ≡ [] → Appends hn hm bytes → wm ≡ wn + length bytes
+    → Whole step closed old now text rest ho hm wo wm
+whole_stays step closed old now text rest ho hn wo wn a hm wm bytes none wrote counted = record {
+  items = a.items;
+  answers = a.answers;
+  begins = a.begins;
+  ends = a.ends;
+  run = a.run;
+  wrote = subst (λ (l : List ℕ). Appends ho hm l) (append-nil (concat a.answers)) (Appends-trans ho hn hm (concat a.answers) [] a.wrote (subst (λ (l : List ℕ). Appends hn hm l) none wrote));
+  counted = omega (arith, counted, ap length none, a.counted);
+  few = a.few;
+}
+
+gathered_stops : {S : Type 0} (step : S → First → List ℕ → S → Type 0) (hold : ℕ) (closed : Bool) (old now kept : S) (text rest : List ℕ) (ho hn : Option (List ℕ)) (wo wn : ℕ) (bytes : List ℕ)
+    → Gathered step hold closed old now kept text rest ho hn wo wn bytes → (last : S) (hm : Option (List ℕ)) (wm : ℕ) (why : Stopped) (back : List ℕ)
+    → Passed now kept last hn hm wn wm bytes back (Err why) → Answered step hold old now last text ho hm wo wm (Err why)
+gathered_stops step hold closed old now kept text rest ho hn wo wn bytes a last hm wm stopped.Unwritten back s =
+    gathered_breaks step hold closed old now kept text rest ho hn wo wn bytes a hm wm false s
+gathered_stops step hold closed old now kept text rest ho hn wo wn bytes a last hm wm stopped.Lost back s =
+    gathered_lost step hold closed old now kept text rest ho hn wo wn bytes a hm last s.0 s.1
+
+module _ {S : Type 0} (step : S → First → List ℕ → S → Type 0) (hold : ℕ) (old mid kept : S) (text : List ℕ) (used : ℕ) (ho hm : Option (List ℕ)) (wo wm : ℕ) (bytes : List ℕ) (a : Gathered step hold false old mid kept text (drop used text) ho hm wo wm bytes) (le : length bytes ≤ hold) (new last : S) (hn : Option (List ℕ)) (wn : ℕ) (back : List ℕ) where
+  pub next_breaks : (why : Stopped) → AnsweredNext step mid new kept last (piece text used) hm hn wm wn bytes back (Err why) → Answered step hold old new last text ho hn wo wn (Err why)
+  next_breaks why (answer, after, rest, closed, one, which, passed) =
+      gathered_stops step hold closed old new after text rest ho hm wo wm (bytes ++ answer)
+      (one_more step hold old mid kept text used ho hm wo wm bytes a le closed new after rest answer one which) last hn wn why back passed
+
+  module _ (new2 last2 : S) (now : new2 ≡ new) (hk : Option (List ℕ)) (wk : ℕ) where
+    still : AnsweredNext step mid new kept last (piece text used) hm hn wm wn bytes back (Ok nexts.Waits) → Gathered step hold false old new last text (drop used text) ho hn wo wn back
+    still (first, now_same, kept_same, back_same, wrote, counted) = same_one step hold old mid kept text used ho hm wo wm bytes a new last hn wn back (now_same, kept_same, back_same, wrote, counted)
+
+    pub waits : used ≤ length text → AnsweredNext step mid new kept last (piece text used) hm hn wm wn bytes back (Ok nexts.Waits) → Passed new last last2 hn hk wn wk back [] (Ok tt)
+        → Answered step hold old new2 last2 text ho hk wo wk (Ok (stops.Waits used))
+    waits within n passed =
+        let f = flushed new last last2 hn hk wn wk back passed in
+        let w = gathered_out step hold false old new last text (drop used text) ho hn wo wn back (still n) hk wk f.0 f.1 in
+        (within, first_of_rest text used n.0, subst (λ (s : S). Whole step false old s text (drop used text) ho hk wo wk) (sym now) w)
+
+    pub waits_breaks : AnsweredNext step mid new kept last (piece text used) hm hn wm wn bytes back (Ok nexts.Waits) → (why : Stopped) → Passed new last last2 hn hk wn wk back [] (Err why)
+        → Answered step hold old new2 last2 text ho hk wo wk (Err why)
+    waits_breaks n why passed =
+        subst (λ (s : S). Answered step hold old s last2 text ho hk wo wk (Err why)) (sym now)
+        (gathered_stops step hold false old new last text (drop used text) ho hn wo wn back (still n) last2 hk wk why [] passed)
+
+    pub closes : AnsweredNext step mid new kept last (piece text used) hm hn wm wn bytes back (Ok nexts.Closed) → Passed new last last2 hn hk wn wk back [] (Ok tt)
+        → Answered step hold old new2 last2 text ho hk wo wk (Ok stops.Closed)
+    closes (answer, after, rest, one, which, before) passed =
+        let f = flushed new last last2 hn hk wn wk back passed in (
+          rest,
+          subst (λ (s : S). Whole step true old s text rest ho hk wo wk) (sym now)
+              (elim (passes step hold old mid kept text used ho hm wo wm bytes a le true new after rest answer one which last hn wn back before) [
+                | inl g ↦ gathered_out step hold true old new last text rest ho hn wo wn back g hk wk f.0 f.1
+                | inr (w, none, all) ↦ whole_stays step true old new text rest ho hn wo wn w hk wk back none f.0 f.1
+              ]),
+        )
+
+    pub closes_breaks : AnsweredNext step mid new kept last (piece text used) hm hn wm wn bytes back (Ok nexts.Closed) → (why : Stopped) → Passed new last last2 hn hk wn wk back [] (Err why)
+        → Answered step hold old new2 last2 text ho hk wo wk (Err why)
+    closes_breaks (answer, after, rest, one, which, before) why passed =
+        subst (λ (s : S). Answered step hold old s last2 text ho hk wo wk (Err why)) (sym now)
+        (elim (passes step hold old mid kept text used ho hm wo wm bytes a le true new after rest answer one which last hn wn back before) [
+          | inl g ↦ gathered_stops step hold true old new last text rest ho hn wo wn back g last2 hk wk why [] passed
+          | inr (w, none, all) ↦ whole_stops step hold true old new text rest ho hn wo wn w last last2 hk wk back none all why passed
+        ])
+
+pub block_length : (block : List ℕ) (n hold : ℕ) → n ≤ hold → length (take n block) ≤ hold
+block_length block n hold le = omega (arith, le, length-take n block)
+
+pub next_count : {S : Type 0} (step : S → First → List ℕ → S → Type 0) (mid new kept last : S) (text : List ℕ) (hm hn : Option (List ℕ)) (wm wn : ℕ) (bytes back : List ℕ)
+    → AnsweredNext step mid new kept last text hm hn wm wn bytes back (Ok nexts.Closed) → length bytes < 2 ^ 64 → wn < wm + 2 * 2 ^ 64
+next_count step mid new kept last text hm hn wm wn bytes back (answer, after, rest, one, which, inl (same, wrote, counted, keeps)) le = omega (arith, counted)
+next_count step mid new kept last text hm hn wm wn bytes back (answer, after, rest, one, which, inr (none, wrote, counted, all)) le = omega (arith, counted, one.fits, le, length-append bytes answer)

@@ -1,5 +1,5 @@
 -- One item, answered.
-use Rattle.std.proofs.Common.{◌≡◌, ◌≢◌, ℕ, ◌^◌, ◌<◌, ◌≤◌, Bool, true, false, Option, List, [], ◌∷◌, ◌++◌, length, drop, refl, sym, ap, ◌∙◌, subst, arith}
+use Rattle.std.proofs.Common.{◌≡◌, ◌≢◌, ℕ, ◌^◌, ◌<◌, ◌≤◌, ◌⊎◌, Bool, true, false, Option, Ok, Err, List, [], ◌∷◌, ◌++◌, length, drop, refl, sym, ap, ◌∙◌, subst, arith}
 use Rattle.std.specs.List.{concat}
 use Rattle.std.specs.Io.KnownBytes.{Appends}
 use Rattle.std.proofs.lemmas.Grind.{common_steps}
@@ -12,9 +12,9 @@ use Rattle.st_http.specs.First.{First, message, fault, more, IsFirst, size_of}
 use Rattle.st_http.specs.Items.{after_message}
 use Rattle.st_http.proofs.ItemLemmas.{message_size}
 use Rattle.st_connection.specs.Items.{closes, after_item}
-use Rattle.st_connection.specs.Connection.{Whole, Broken, Sent}
-use Rattle.st_connection.proofs.Reading.{begins_one, closed_one}
-use Rattle.st_connection.proofs.Joins.{reaches_one}
+use Rattle.st_connection.specs.Connection.{One, Passed, AnsweredNext}
+use Rattle.st_connection.specs.declared.connection.Stopped.{Stopped}
+use Rattle.st_connection.specs.declared.connection.Next.TheVariants as nexts
 
 -- the message that stands first in a text
 pub record FindsMessage (text : List ℕ) (m : Message) (used : ℕ) : Type 0 where
@@ -46,67 +46,65 @@ finds_more text (message h body bare, first, shows) = absurd shows
 finds_more text (fault reason bare, first, shows) = absurd shows
 finds_more text (more, first, shows) = first
 
--- one answer that is out whole
-sent_whole : (answer sent missing : List ℕ) → answer ≡ sent ++ missing → missing ≡ [] → sent ≡ concat (answer ∷ [])
-sent_whole answer sent missing prefix none = grind (arith, common_steps)
-
-one_length : (answer : List ℕ) → length (concat (answer ∷ [])) ≡ length answer
-one_length answer = grind (arith, common_steps)
-
-module _ {S : Type 0} (step : S → First → List ℕ → S → Type 0) (old new : S) (text answer : List ℕ) (ho hn : Option (List ℕ)) (wo wn : ℕ) where
-  module _ (item : First) (is : IsFirst text item) (some : item ≢ more) (stepped : step old item answer new) where
-    one_whole : length answer < 2 ^ 64 → Sent ho hn wo wn answer true → Whole step (closes item) old new text (after_item text item) ho hn wo wn
-    one_whole fits out =
-        let same = sent_whole answer out.sent out.missing out.prefix (out.whole_out refl) in
-        record {
-          items = item ∷ [];
-          answers = answer ∷ [];
-          begins = begins_one text item is some;
-          ends = closed_one item;
-          run = (new, stepped, refl);
-          wrote = subst (λ (s : List ℕ). Appends ho hn s) same out.wrote;
-          counted = omega (arith, out.counted, ap length same);
-          few = let n = one_length answer in omega (arith, fits, n);
-        }
-
-    one_broken : (b : Bool) → Sent ho hn wo wn answer b → Broken step old new text ho hn wo wn
-    one_broken b out = record {
-      items = item ∷ [];
-      rest = after_item text item;
-      answers = answer ∷ [];
-      sent = out.sent;
-      begins = begins_one text item is some;
-      run = (new, stepped, refl);
-      reaches = reaches_one answer out.sent out.missing out.prefix;
-      wrote = out.wrote;
-      counted = out.counted;
-    }
-
+module _ {S : Type 0} (step : S → First → List ℕ → S → Type 0) (old new : S) (text answer : List ℕ) (fits : length answer < 2 ^ 64) where
   module _ (m : Message) (used : ℕ) (takes : Takes text (takes.Message m used)) (replied : (h : RequestHead) (body : List ℕ) (bare : Bool) → ShowsMessage h body bare m → step old (message h body bare) answer new) where
-    pub message_breaks : (b : Bool) → Sent ho hn wo wn answer b → Broken step old new text ho hn wo wn
-    message_breaks b out =
+    pub message_one : (rest : List ℕ) × One step m.close old new text rest answer
+    message_one =
+        let f = finds_message text m used takes in (
+          after_message text f.head f.body,
+          record {
+            item = message f.head f.body m.bare;
+            is = f.is;
+            some = λ e. cc;
+            closing = sym f.shows.close;
+            rest_is = refl;
+            stepped = replied f.head f.body m.bare f.shows;
+            fits = fits;
+          },
+        )
+
+    pub message_stays : m.close ≡ false → (0 < used) × (used ≤ length text) × One step false old new text (drop used text) answer
+    message_stays stays =
         let f = finds_message text m used takes in
-        one_broken (message f.head f.body m.bare) f.is (λ e. cc) (replied f.head f.body m.bare f.shows) b out
+        let size = message_size text f.head f.body m.bare f.is in (
+          omega (arith, size.0, f.used_is),
+          omega (arith, size.1, f.used_is),
+          record {
+            item = message f.head f.body m.bare;
+            is = f.is;
+            some = λ e. cc;
+            closing = sym f.shows.close ∙ stays;
+            rest_is = ap (λ (n : ℕ). drop n text) f.used_is;
+            stepped = replied f.head f.body m.bare f.shows;
+            fits = fits;
+          },
+        )
 
-    pub message_closes : length answer < 2 ^ 64 → Sent ho hn wo wn answer true → m.close ≡ true
-        → (rest : List ℕ) × Whole step true old new text rest ho hn wo wn
-    message_closes fits out close =
-        let f = finds_message text m used takes in
-        let whole = one_whole (message f.head f.body m.bare) f.is (λ e. cc) (replied f.head f.body m.bare f.shows) fits out in
-        (after_message text f.head f.body, subst (λ (c : Bool). Whole step c old new text (after_message text f.head f.body) ho hn wo wn) (sym f.shows.close ∙ close) whole)
+  pub fault_one : (f : Fault) → Takes text (takes.Fault f) → step old (fault f.reason f.bare) answer new → One step true old new text text answer
+  fault_one f takes stepped = record {
+    item = fault f.reason f.bare;
+    is = finds_fault text f takes;
+    some = λ e. cc;
+    closing = refl;
+    rest_is = refl;
+    stepped = stepped;
+    fits = fits;
+  }
 
-    pub message_stays : length answer < 2 ^ 64 → Sent ho hn wo wn answer true → m.close ≡ false
-        → (0 < used) × (used ≤ length text) × Whole step false old new text (drop used text) ho hn wo wn
-    message_stays fits out stays =
-        let f = finds_message text m used takes in
-        let whole = one_whole (message f.head f.body m.bare) f.is (λ e. cc) (replied f.head f.body m.bare f.shows) fits out in
-        let size = message_size text f.head f.body m.bare f.is in
-        let open_after = subst (λ (c : Bool). Whole step c old new text (after_message text f.head f.body) ho hn wo wn) (sym f.shows.close ∙ stays) whole in
-        (omega (arith, size.0, f.used_is), omega (arith, size.1, f.used_is), subst (λ (n : ℕ). Whole step false old new text (drop n text) ho hn wo wn) (sym f.used_is) open_after)
+-- ---- what became of its answer, where that changed no state
 
-  module _ (f : Fault) (takes : Takes text (takes.Fault f)) (stepped : step old (fault f.reason f.bare) answer new) where
-    pub fault_breaks : (b : Bool) → Sent ho hn wo wn answer b → Broken step old new text ho hn wo wn
-    fault_breaks b out = one_broken (fault f.reason f.bare) (finds_fault text f takes) (λ e. cc) stepped b out
+module _ {S : Type 0} (step : S → First → List ℕ → S → Type 0) (old mid new kept_old kept kept_new : S) (now : new ≡ mid) (text : List ℕ) (ho hn : Option (List ℕ)) (wo wn : ℕ) (held back answer rest : List ℕ) (which : (kept ≡ kept_old) ⊎ (kept ≡ mid)) where
+  pub next_stops : (closed : Bool) → One step closed old mid text rest answer → (why : Stopped) → Passed mid kept kept_new ho hn wo wn (held ++ answer) back (Err why)
+      → AnsweredNext step old new kept_old kept_new text ho hn wo wn held back (Err why)
+  next_stops closed one why passed =
+      subst (λ (s : S). AnsweredNext step old s kept_old kept_new text ho hn wo wn held back (Err why)) (sym now) (answer, kept, rest, closed, one, which, passed)
 
-    pub fault_closes : length answer < 2 ^ 64 → Sent ho hn wo wn answer true → Whole step true old new text text ho hn wo wn
-    fault_closes fits out = one_whole (fault f.reason f.bare) (finds_fault text f takes) (λ e. cc) stepped fits out
+  pub next_closed : One step true old mid text rest answer → Passed mid kept kept_new ho hn wo wn (held ++ answer) back (Ok tt)
+      → AnsweredNext step old new kept_old kept_new text ho hn wo wn held back (Ok nexts.Closed)
+  next_closed one passed =
+      subst (λ (s : S). AnsweredNext step old s kept_old kept_new text ho hn wo wn held back (Ok nexts.Closed)) (sym now) (answer, kept, rest, one, which, passed)
+
+  pub next_open : (used : ℕ) → (0 < used) × (used ≤ length text) × One step false old mid text (drop used text) answer → Passed mid kept kept_new ho hn wo wn (held ++ answer) back (Ok tt)
+      → AnsweredNext step old new kept_old kept_new text ho hn wo wn held back (Ok (nexts.Open used))
+  next_open used (some, within, one) passed =
+      subst (λ (s : S). AnsweredNext step old s kept_old kept_new text ho hn wo wn held back (Ok (nexts.Open used))) (sym now) (answer, kept, some, within, one, which, passed)

@@ -6,11 +6,12 @@ use Rattle.std.proofs.KnownBytes.{Consumes-nil, Consumes-trans, Consumes-kept}
 use Rattle.st_http.specs.First.{First, more, IsFirst}
 use Rattle.st_http.specs.Items.{Items}
 use Rattle.st_http.proofs.FirstLemmas.{more_short}
-use Rattle.st_connection.specs.Connection.{Whole, Broken, Served}
-use Rattle.st_connection.specs.declared.connection.Ended.TheVariants.{Clean, Closed, Cut, TurnsSpent}
+use Rattle.st_connection.specs.Connection.{Whole, Broken, Loses, ServedWithin}
+use Rattle.st_connection.specs.declared.connection.Ended.TheVariants.{Clean, Closed, Cut, TurnsSpent, Lost}
 use Rattle.st_connection.proofs.Empty.{first_empty}
 use Rattle.st_connection.proofs.Reading.{few_items, items_whole}
-use Rattle.st_connection.proofs.Joins.{reaches_all, whole_none, whole_join, broken_join, whole_grows}
+use Rattle.st_connection.proofs.Joins.{whole_none, whole_join, whole_grows}
+use Rattle.st_connection.proofs.Blocks.{reaches_all, broken_join, loses_join}
 
 -- What was given is answered, up to the text, in which nothing whole stands.
 pub record Serving {S : Type 0} (step : S → First → List ℕ → S → Type 0) (old now : S) (text : List ℕ) (lo ln ho hn : Option (List ℕ)) (w turn : ℕ) : Type 0 where
@@ -29,11 +30,11 @@ serving_start step old l h = record {
   turns = omega arith;
 }
 
-module _ {S : Type 0} (step : S → First → List ℕ → S → Type 0) (old now : S) (text : List ℕ) (lo ln ho hn : Option (List ℕ)) (w turn : ℕ) (s : Serving step old now text lo ln ho hn w turn) where
+module _ {S : Type 0} (step : S → First → List ℕ → S → Type 0) (old now : S) (text : List ℕ) (lo ln ho hn : Option (List ℕ)) (w turn : ℕ) (s : Serving step old now text lo ln ho hn w turn) (hold : ℕ) where
   pub text_short : length text < 73728
   text_short = more_short text s.waits
 
-  pub enough : (n : ℕ) → turn < 1000000 → n ≤ 65536 → w + 2 ^ 64 * (length text + n + 2) < 2 ^ 128
+  pub enough : (n : ℕ) → turn < 1000000 → n ≤ 65536 → w + 2 ^ 64 * (length text + n + 3) < 2 ^ 128
   enough n lt le =
       let f = few_items s.given s.whole.items text s.whole.begins s.whole.ends in
       let i : length s.whole.items ≤ 65536000000 = omega (arith, f, s.turns) in
@@ -45,8 +46,8 @@ module _ {S : Type 0} (step : S → First → List ℕ → S → Type 0) (old no
   counts : w ≡ length (concat s.whole.answers)
   counts = omega (arith, s.whole.counted)
 
-  pub read_breaks : (lm : Option (List ℕ)) (failed : Bool) → Keeps ln lm → Served step old now lo lm ho hn failed (Err (record { written = w }))
-  read_breaks lm failed keeps = record {
+  pub read_breaks : (kept : S) (lm : Option (List ℕ)) (failed : Bool) → Keeps ln lm → ServedWithin step hold old now kept lo lm ho hn failed (Err (record { written = w }))
+  read_breaks kept lm failed keeps = record {
     given = s.given;
     gave = Consumes-kept lo ln lm s.given s.gave keeps;
     items = s.whole.items;
@@ -55,11 +56,11 @@ module _ {S : Type 0} (step : S → First → List ℕ → S → Type 0) (old no
     run = s.whole.run;
     sent = concat s.whole.answers;
     wrote = s.whole.wrote;
-    ending = (s.whole.begins, counts, reaches_all s.whole.answers, (λ e. (all_items, s.whole.ends, refl)));
+    ending = (s.whole.begins, counts, reaches_all hold s.whole.answers, (λ e. (all_items, s.whole.ends, refl)));
   }
 
-  pub turns_spent : (failed : Bool) → Served step old now lo ln ho hn failed (Ok TurnsSpent)
-  turns_spent failed = record {
+  pub turns_spent : (kept : S) (failed : Bool) → ServedWithin step hold old now kept lo ln ho hn failed (Ok TurnsSpent)
+  turns_spent kept failed = record {
     given = s.given;
     gave = s.gave;
     items = s.whole.items;
@@ -78,8 +79,8 @@ module _ {S : Type 0} (step : S → First → List ℕ → S → Type 0) (old no
     gave_none : got ≡ [] → Consumes lo lm s.given
     gave_none none = subst (λ (t : List ℕ). Consumes lo lm t) (ap (λ t. s.given ++ t) none ∙ append-nil s.given) gave_more
 
-    pub ends_clean : (failed : Bool) → got ≡ [] → text ≡ [] → Served step old now lo lm ho hn failed (Ok Clean)
-    ends_clean failed none empty = record {
+    pub ends_clean : (kept : S) (failed : Bool) → got ≡ [] → text ≡ [] → ServedWithin step hold old now kept lo lm ho hn failed (Ok Clean)
+    ends_clean kept failed none empty = record {
       given = s.given;
       gave = gave_none none;
       items = s.whole.items;
@@ -91,8 +92,8 @@ module _ {S : Type 0} (step : S → First → List ℕ → S → Type 0) (old no
       ending = (all_items, s.whole.ends, empty, refl);
     }
 
-    pub ends_cut : (failed : Bool) → got ≡ [] → text ≢ [] → Served step old now lo lm ho hn failed (Ok Cut)
-    ends_cut failed none some = record {
+    pub ends_cut : (kept : S) (failed : Bool) → got ≡ [] → text ≢ [] → ServedWithin step hold old now kept lo lm ho hn failed (Ok Cut)
+    ends_cut kept failed none some = record {
       given = s.given;
       gave = gave_none none;
       items = s.whole.items;
@@ -108,10 +109,10 @@ module _ {S : Type 0} (step : S → First → List ℕ → S → Type 0) (old no
       grown : Whole step false old now (s.given ++ got) longer ho hn 0 w
       grown = subst (λ (t : List ℕ). Whole step false old now (s.given ++ got) t ho hn 0 w) (sym longer_is) (whole_grows step old now s.given text got ho hn 0 w s.whole)
 
-      pub write_breaks : (failed : Bool) → failed ≡ false → Broken step now new longer hn hm w wm
-          → Served step old new lo lm ho hm failed (Err (record { written = wm }))
-      write_breaks failed sound a =
-          let b = broken_join step old now new (s.given ++ got) longer ho hn hm 0 w wm grown a in
+      pub write_breaks : (kept : S) (failed : Bool) → failed ≡ false → Broken step hold now new longer hn hm w wm
+          → ServedWithin step hold old new kept lo lm ho hm failed (Err (record { written = wm }))
+      write_breaks kept failed sound a =
+          let b = broken_join step hold old now new (s.given ++ got) longer ho hn hm 0 w wm grown a in
           record {
             given = s.given ++ got;
             gave = gave_more;
@@ -124,9 +125,24 @@ module _ {S : Type 0} (step : S → First → List ℕ → S → Type 0) (old no
             ending = (b.begins, omega (arith, b.counted), b.reaches, (λ e. absurd (let k : true ≡ false = cc (sound, e) in cc)));
           }
 
-      pub connection_closes : (failed : Bool) → (rest : List ℕ) × Whole step true now new longer rest hn hm w wm
-          → Served step old new lo lm ho hm failed (Ok Closed)
-      connection_closes failed (rest, a) =
+      pub connection_lost : (kept : S) (failed : Bool) → Loses step now new kept longer hn hm → ServedWithin step hold old new kept lo lm ho hm failed (Ok Lost)
+      connection_lost kept failed a =
+          let b = loses_join step old now new (s.given ++ got) longer ho hn hm 0 w grown kept a in
+          record {
+            given = s.given ++ got;
+            gave = gave_more;
+            items = b.items;
+            rest = b.rest;
+            answers = b.answers;
+            run = b.run;
+            sent = b.sent;
+            wrote = b.wrote;
+            ending = (b.begins, b.past);
+          }
+
+      pub connection_closes : (kept : S) (failed : Bool) → (rest : List ℕ) × Whole step true now new longer rest hn hm w wm
+          → ServedWithin step hold old new kept lo lm ho hm failed (Ok Closed)
+      connection_closes kept failed (rest, a) =
           let b = whole_join step old now new (s.given ++ got) longer ho hn hm 0 w wm grown true rest a in
           record {
             given = s.given ++ got;

@@ -1,7 +1,7 @@
 //! One connection, from its first byte to its end.
-ghost use Rattle.std.specs.Prelude.{◌≡◌, ◌+◌, ◌-◌, ◌*◌, ◌^◌, ◌<◌, ◌≤◌, ◌⊎◌, Ok, true, false, length, min, is_ok, IfOk, OnErr, OnOk, IsErr};
+ghost use Rattle.std.specs.Prelude.{◌≡◌, ◌≢◌, ◌+◌, ◌-◌, ◌*◌, ◌^◌, ◌<◌, ◌≤◌, ◌⊎◌, ◌++◌, [], Ok, Err, true, false, length, take, min, OnErr, OnOk, IsErr, is_ok};
 ghost use Rattle.std.specs.Io.KnownBytes.{IsAtEnd};
-ghost use Rattle.st_connection.specs.Connection.{Served, Answered, AnsweredNext, Sent};
+ghost use Rattle.st_connection.specs.Connection.{ServedWithin, Answered, AnsweredNext, Passed, Sent};
 
 use crate::constant::fault_text;
 use crate::replies::Replies;
@@ -21,6 +21,8 @@ pub enum Ended {
     Cut,
     /// None of these after the reads that one call makes.
     TurnsSpent,
+    /// What was answered could not be settled.
+    Lost,
 }
 
 /// A read or a write failed, when so many bytes were written.
@@ -73,28 +75,115 @@ fn write_all<W: Sink>(writer: &mut W, bytes: &[u8], written: &mut u128) -> Resul
     Ok(())
 }
 
+// Why answering stopped.
+enum Stopped {
+    // A write failed.
+    Unwritten,
+    // The answers could not be settled.
+    Lost,
+}
+
+// Settles, and writes the block.
+fn flush<X: Replies, W: Sink>(
+    answerer: &mut X,
+    block: &[u8],
+    writer: &mut W,
+    written: &mut u128,
+) -> Result<(), Stopped>
+    requires room { written.old + 2 ^ 64 < 2 ^ 128 }
+    requires sound { X.has_failed answerer.old ≡ false }
+    ensures passed { Passed (X.now answerer.old) (X.kept answerer.old) (X.kept answerer.new)
+        (W.held writer.old) (W.held writer.new) written.old written.new block.now [] result }
+    ensures now { X.now answerer.new ≡ X.now answerer.old }
+    ensures settled { result ≢ Err Stopped.Lost → X.kept answerer.new ≡ X.now answerer.old }
+    ensures unwritten { result ≡ Err Stopped.Unwritten → W.has_failed writer.new ≡ true }
+    ensures lost { result ≡ Err Stopped.Lost → X.has_failed answerer.new ≡ true }
+    ensures not_lost { result ≢ Err Stopped.Lost → X.has_failed answerer.new ≡ false }
+    ensures ok { OnOk result (W.has_failed writer.new ≡ W.has_failed writer.old) }
+{
+    if let Err(Failed) = answerer.settle() {
+        return Err(Stopped::Lost);
+    }
+    match write_all(writer, block, written) {
+        Ok(()) => Ok(()),
+        Err(Failed) => Err(Stopped::Unwritten),
+    }
+}
+
+// Puts an answer behind those of the block. Where it has no room there, all are settled and written.
+fn pass<X: Replies, W: Sink>(
+    answerer: &mut X,
+    answer: &[u8],
+    block: &mut [u8],
+    held: &mut usize,
+    writer: &mut W,
+    written: &mut u128,
+) -> Result<(), Stopped>
+    requires room { written.old + 2 * 2 ^ 64 < 2 ^ 128 }
+    requires within { held.old ≤ length block.old }
+    requires sound { X.has_failed answerer.old ≡ false }
+    ensures passed { Passed (X.now answerer.old) (X.kept answerer.old) (X.kept answerer.new)
+        (W.held writer.old) (W.held writer.new) written.old written.new (take held.old block.old ++ answer.now) (take held.new block.new) result }
+    ensures now { X.now answerer.new ≡ X.now answerer.old }
+    ensures unwritten { result ≡ Err Stopped.Unwritten → W.has_failed writer.new ≡ true }
+    ensures settled { result ≡ Err Stopped.Unwritten → X.kept answerer.new ≡ X.now answerer.old }
+    ensures lost { result ≡ Err Stopped.Lost → X.has_failed answerer.new ≡ true }
+    ensures not_lost { result ≢ Err Stopped.Lost → X.has_failed answerer.new ≡ false }
+    ensures ok { OnOk result (W.has_failed writer.new ≡ W.has_failed writer.old) }
+    ensures room_stays { length block.new ≡ length block.old }
+    ensures within_stays { held.new ≤ length block.old }
+{
+    let filled = *held;
+    if answer.len() < block.len() - filled {
+        block[filled..filled + answer.len()].copy_from_slice(answer);
+        *held = filled + answer.len();
+        return Ok(());
+    }
+    *held = 0;
+    flush(answerer, &block[..filled], writer, written)?;
+    match write_all(writer, answer, written) {
+        Ok(()) => Ok(()),
+        Err(Failed) => Err(Stopped::Unwritten),
+    }
+}
+
 // Answers the first item of a text.
 fn answer_next<X: Replies, W: Sink>(
     answerer: &mut X,
     routes: &Routes,
     text: &[u8],
+    block: &mut [u8],
+    held: &mut usize,
     writer: &mut W,
     written: &mut u128,
-) -> Result<Next, Failed>
-    requires { written.old + 2 ^ 64 < 2 ^ 128 }
-    ensures answered { AnsweredNext X.answers answerer.old answerer.new text.now (W.held writer.old) (W.held writer.new) written.old written.new result }
-    ensures failed { OnErr result (W.has_failed writer.new ≡ true) }
+) -> Result<Next, Stopped>
+    requires room { written.old + 2 * 2 ^ 64 < 2 ^ 128 }
+    requires within { held.old ≤ length block.old }
+    requires sound { X.has_failed answerer.old ≡ false }
+    ensures answered { AnsweredNext X.answers (X.now answerer.old) (X.now answerer.new) (X.kept answerer.old) (X.kept answerer.new) text.now
+        (W.held writer.old) (W.held writer.new) written.old written.new (take held.old block.old) (take held.new block.new) result }
+    ensures unwritten { result ≡ Err Stopped.Unwritten → W.has_failed writer.new ≡ true }
+    ensures settled { result ≡ Err Stopped.Unwritten → X.kept answerer.new ≡ X.now answerer.new }
+    ensures lost { result ≡ Err Stopped.Lost → X.has_failed answerer.new ≡ true }
+    ensures not_lost { result ≢ Err Stopped.Lost → X.has_failed answerer.new ≡ false }
     ensures ok { OnOk result (W.has_failed writer.new ≡ W.has_failed writer.old) }
+    ensures room_stays { length block.new ≡ length block.old }
+    ensures within_stays { held.new ≤ length block.old }
 {
     match routes.take(text) {
         Take::More => Ok(Next::Waits),
         Take::Fault(fault) => {
-            write_all(writer, fault_text(fault.reason, fault.bare), written)?;
+            let answer = fault_text(fault.reason, fault.bare);
+            if let Err(why) = pass(answerer, answer, block, held, writer, written) {
+                return Err(why);
+            }
             Ok(Next::Closed)
         }
         Take::Message(message, used) => {
             let reply = answerer.reply(&message);
-            write_all(writer, reply.as_slice(), written)?;
+            if let Err(why) = pass(answerer, reply.as_slice(), block, held, writer, written) {
+                return Err(why);
+            }
             Ok(if message.close {
                 Next::Closed
             } else {
@@ -109,40 +198,76 @@ fn answer_all<X: Replies, W: Sink>(
     answerer: &mut X,
     routes: &Routes,
     text: &[u8],
+    block: &mut [u8],
     writer: &mut W,
     written: &mut u128,
-) -> Result<Stop, Failed>
-    requires { written.old + 2 ^ 64 * (length text.now + 2) < 2 ^ 128 }
-    ensures answered { Answered X.answers answerer.old answerer.new text.now (W.held writer.old) (W.held writer.new) written.old written.new result }
-    ensures failed { OnErr result (W.has_failed writer.new ≡ true) }
+) -> Result<Stop, Stopped>
+    requires room { written.old + 2 ^ 64 * (length text.now + 3) < 2 ^ 128 }
+    requires settled { X.kept answerer.old ≡ X.now answerer.old }
+    requires sound { X.has_failed answerer.old ≡ false }
+    ensures answered { Answered X.answers (length block.old) (X.now answerer.old) (X.now answerer.new) (X.kept answerer.new) text.now
+        (W.held writer.old) (W.held writer.new) written.old written.new result }
+    ensures settled { result ≢ Err Stopped.Lost → X.kept answerer.new ≡ X.now answerer.new }
+    ensures lost { result ≡ Err Stopped.Lost → X.has_failed answerer.new ≡ true }
+    ensures not_lost { result ≢ Err Stopped.Lost → X.has_failed answerer.new ≡ false }
+    ensures unwritten { result ≡ Err Stopped.Unwritten → W.has_failed writer.new ≡ true }
     ensures ok { OnOk result (W.has_failed writer.new ≡ W.has_failed writer.old) }
+    ensures room_stays { length block.new ≡ length block.old }
 {
+    let mut held = 0;
     let mut used = 0;
     'items: loop {
-        match answer_next(answerer, routes, &text[used..], writer, written)? {
-            Next::Waits => return Ok(Stop::Waits(used)),
-            Next::Open(count) => used += count,
-            Next::Closed => return Ok(Stop::Closed),
+        match answer_next(
+            answerer,
+            routes,
+            &text[used..],
+            block,
+            &mut held,
+            writer,
+            written,
+        ) {
+            Err(why) => return Err(why),
+            Ok(Next::Open(count)) => used += count,
+            Ok(Next::Waits) => {
+                return match flush(answerer, &block[..held], writer, written) {
+                    Ok(()) => Ok(Stop::Waits(used)),
+                    Err(why) => Err(why),
+                };
+            }
+            Ok(Next::Closed) => {
+                return match flush(answerer, &block[..held], writer, written) {
+                    Ok(()) => Ok(Stop::Closed),
+                    Err(why) => Err(why),
+                };
+            }
         }
     }
 }
 
-/// Serves a connection: answers each item that the reader gives, in order, before it reads on.
+/// Serves a connection: answers each item that the reader gives, in order, before it reads on. Answers are held back while
+/// `block` has room for them and a further item was read, and are settled before a byte of them is written.
 pub fn serve_connection<X: Replies, R: Source, W: Sink>(
     answerer: &mut X,
     routes: &Routes,
     buffer: &mut [u8],
+    block: &mut [u8],
     reader: &mut R,
     writer: &mut W,
 ) -> Result<Ended, IoFault>
     requires room { ROOM ≤ length buffer.old }
+    requires answerer_settled { X.kept answerer.old ≡ X.now answerer.old }
+    requires answerer_sound { X.has_failed answerer.old ≡ false }
     requires reader_sound { R.has_failed reader.old ≡ false }
     requires writer_sound { W.has_failed writer.old ≡ false }
-    ensures served { Served X.answers answerer.old answerer.new (R.left reader.old) (R.left reader.new) (W.held writer.old) (W.held writer.new) (R.has_failed reader.new) result }
+    ensures served { ServedWithin X.answers (length block.old) (X.now answerer.old) (X.now answerer.new) (X.kept answerer.new)
+        (R.left reader.old) (R.left reader.new) (W.held writer.old) (W.held writer.new) (R.has_failed reader.new) result }
+    ensures settled { result ≢ Ok Ended.Lost → X.kept answerer.new ≡ X.now answerer.new }
+    ensures lost { result ≡ Ok Ended.Lost → X.has_failed answerer.new ≡ true }
+    ensures not_lost { result ≢ Ok Ended.Lost → X.has_failed answerer.new ≡ false }
     ensures at_end { (result ≡ Ok Ended.Clean) ⊎ (result ≡ Ok Ended.Cut) → (R.has_ended reader.new ≡ true) × IsAtEnd (R.left reader.new) }
     ensures turns { result ≡ Ok Ended.TurnsSpent → R.reads reader.new ≡ min (R.reads reader.old + 1000000) (2 ^ 64 - 1) }
     ensures faults { IsErr result → (R.has_failed reader.new ≡ true) ⊎ (W.has_failed writer.new ≡ true) }
-    ensures sound { OnOk result ((R.has_failed reader.new ≡ false) × (W.has_failed writer.new ≡ false)) }
+    ensures sound { OnOk result ((R.has_failed reader.new ≡ false) × (result ≢ Ok Ended.Lost → W.has_failed writer.new ≡ false)) }
 {
     let mut written: u128 = 0;
     let mut filled = 0;
@@ -158,8 +283,16 @@ pub fn serve_connection<X: Replies, R: Source, W: Sink>(
             });
         }
         filled += count;
-        match answer_all(answerer, routes, &buffer[..filled], writer, &mut written) {
-            Err(Failed) => return Err(IoFault { written }),
+        match answer_all(
+            answerer,
+            routes,
+            &buffer[..filled],
+            block,
+            writer,
+            &mut written,
+        ) {
+            Err(Stopped::Unwritten) => return Err(IoFault { written }),
+            Err(Stopped::Lost) => return Ok(Ended::Lost),
             Ok(Stop::Closed) => return Ok(Ended::Closed),
             Ok(Stop::Waits(used)) => {
                 buffer.copy_within(used..filled, 0);

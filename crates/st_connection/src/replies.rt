@@ -1,11 +1,12 @@
 //! What answers the messages of a connection.
-ghost use Rattle.std.specs.Prelude.{ℕ, List, Bool};
+ghost use Rattle.std.specs.Prelude.{◌≡◌, ◌⊎◌, ℕ, List, Bool, true, false, OnOk, OnErr};
 ghost use Rattle.httparse.specs.Grammar.{RequestHead};
 ghost use Rattle.st_http.specs.First.{First, message as of_message, fault as of_fault};
 ghost use Rattle.st_http.specs.Take.{ShowsMessage};
 ghost use Rattle.st_http.specs.declared.fields.Reason.{Reason as Why};
 ghost use Rattle.st_connection.specs.Render.{fault_text};
 
+use crate::streams::Failed;
 use st_http::take::Message;
 use std::convert::AsSlice;
 
@@ -14,14 +15,38 @@ pub trait Replies {
     /// The text of one answer.
     type Reply: AsSlice<u8> + Drop;
 
+    // The states that it goes through.
+    ghost State: { Type 0 };
+
+    // Its state.
+    ghost now: { Self → State };
+
+    // The state that is kept, whatever becomes of it.
+    ghost kept: { Self → State };
+
+    // Whether a settling failed.
+    ghost has_failed: { Self → Bool };
+
     // In a state an item may get this answer, and leave that state.
-    ghost answers: { Self → First → List ℕ → Self → Type 0 };
+    ghost answers: { State → First → List ℕ → State → Type 0 };
 
     /// Answers a message.
     fn reply(&mut self, message: &Message<'_>) -> Self::Reply
-        ensures { (h : RequestHead) (body : List ℕ) (bare : Bool) → ShowsMessage h body bare message.now
-            → answers self.old (of_message h body bare) (Self.Reply.items result) self.new };
+        requires { has_failed self.old ≡ false }
+        ensures answered { (h : RequestHead) (body : List ℕ) (bare : Bool) → ShowsMessage h body bare message.now
+            → answers (now self.old) (of_message h body bare) (Self.Reply.items result) (now self.new) }
+        ensures kept { (kept self.new ≡ kept self.old) ⊎ (kept self.new ≡ now self.new) }
+        ensures sound { has_failed self.new ≡ false };
+
+    /// Sees that what was answered so far is kept.
+    fn settle(&mut self) -> Result<(), Failed>
+        requires { has_failed self.old ≡ false }
+        ensures now { now self.new ≡ now self.old }
+        ensures kept { OnOk result (kept self.new ≡ now self.new) }
+        ensures between { (kept self.new ≡ kept self.old) ⊎ (kept self.new ≡ now self.new) }
+        ensures ok { OnOk result (has_failed self.new ≡ false) }
+        ensures err { OnErr result (has_failed self.new ≡ true) };
 
     // A fault gets the constant answer, and changes nothing.
-    ghost faults: { (s : Self) (reason : Why) (bare : Bool) → answers s (of_fault reason bare) (fault_text reason bare) s };
+    ghost faults: { (s : State) (reason : Why) (bare : Bool) → answers s (of_fault reason bare) (fault_text reason bare) s };
 }

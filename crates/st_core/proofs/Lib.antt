@@ -5,8 +5,14 @@ pub mod RowLists
 pub mod Steps
 pub mod Progress
 pub mod Allowed
+pub mod Sieves
+pub mod Truth
+pub mod Alike
+pub mod Kept
+pub mod Decisions
 mod Worked
 mod WorkedRows
 mod WorkedDirectory
 mod WorkedNamespaces
-mod WorkedTokens
+pub mod WorkedTokens
+mod WorkedWorlds

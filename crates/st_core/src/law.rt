@@ -14,6 +14,7 @@ ghost use Rattle.st_table.specs.Rows.{Held, full_name, rows_of};
 ghost use Rattle.st_core.specs.Changes.{rows_after};
 ghost use Rattle.st_core.specs.State.{State};
 ghost use Rattle.st_core.specs.Step.{asker_of, asks_for_change, result_of, step};
+ghost use Rattle.st_core.specs.Worlds.{NeverSystem, keep, replies_to};
 
 use std::alloc::Allocator;
 
@@ -41,4 +42,16 @@ pub fn changes_are_listed<A: Allocator>()
 pub fn other_tables_stay<A: Allocator>()
     ensures { (request : Request A) (rows : List (Held A)) (table : Text)
         → in_order full_name rows ≡ rows → (table_of request ≡ Some table → ⊥) → rows_of table (rows_after request rows) ≡ rows_of table rows }
+{}
+
+/// What a user may not see cannot be noticed. Let a user hold SYSTEM at no moment of a run. Then the replies to the user's own
+/// requests are the same without those requests of others that are reads, or are refused, or change only rows that the user may
+/// never see; so two histories that agree on the rest are told the same, and nothing more is left out a second time.
+pub fn two_worlds<A: Allocator>()
+    ensures told_the_same { (s : State A) (user : Text) (asked : List (Event A)) → NeverSystem user s asked
+        → replies_to user s asked ≡ replies_to user s (keep user s asked) }
+    ensures equal_worlds { (s : State A) (user : Text) (asked others : List (Event A))
+        → NeverSystem user s asked → NeverSystem user s others → keep user s asked ≡ keep user s others
+        → replies_to user s asked ≡ replies_to user s others }
+    ensures kept_twice { (s : State A) (user : Text) (asked : List (Event A)) → keep user s (keep user s asked) ≡ keep user s asked }
 {}

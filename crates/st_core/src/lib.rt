@@ -6,6 +6,8 @@ mod asked;
 mod audit;
 mod change;
 mod copied;
+mod copies;
+mod decision;
 pub mod law;
 mod reads;
 mod runs;
@@ -14,6 +16,7 @@ mod table_changes;
 mod tables;
 
 pub use asked::{Asked, Call, Token};
+pub use decision::Decision;
 pub use runs::run;
 pub use st_policy::{Entry, Reply};
 pub use store::Store;

@@ -2,6 +2,7 @@
 #![tactic(auto)]
 
 mod asker_auths;
+mod copy;
 mod denial;
 mod entry;
 mod field_name;

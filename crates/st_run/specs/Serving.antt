@@ -8,7 +8,7 @@ use Rattle.st_core.specs.State.{State, first_state}
 use Rattle.st_service.specs.Answers.{Answers}
 use Rattle.st_connection.specs.Connection.{Served}
 use Rattle.st_connection.specs.declared.connection.Ended.{Ended}
-use Rattle.st_connection.specs.declared.connection.Ended.TheVariants.{Clean, Closed, Cut, TurnsSpent}
+use Rattle.st_connection.specs.declared.connection.Ended.TheVariants.{Clean, Closed, Cut, TurnsSpent, Lost}
 use Rattle.st_connection.specs.declared.connection.IoFault.{IoFault}
 use Rattle.st_run.specs.declared.fault.Fault.{Fault}
 use Rattle.st_run.specs.CommandLine.{Says, Refuses}
@@ -20,6 +20,7 @@ status_after (Ok Clean) = 0
 status_after (Ok Closed) = 0
 status_after (Ok Cut) = 3
 status_after (Ok TurnsSpent) = 4
+status_after (Ok Lost) = 5
 status_after (Err broken) = 5
 
 -- the status after a run

@@ -56,7 +56,7 @@ fn converse<R: Source, W: Sink>(
         Ok(Ended::Clean | Ended::Closed) => Ok(()),
         Ok(Ended::Cut) => Err(Fault::Cut),
         Ok(Ended::TurnsSpent) => Err(Fault::TurnsSpent),
-        Err(IoFault { .. }) => Err(Fault::Io),
+        Ok(Ended::Lost) | Err(IoFault { .. }) => Err(Fault::Io),
     }
 }
 

@@ -1,2 +1,6 @@
 pub mod Told
 pub mod Ample
+pub mod Histories
+pub mod Equal
+pub mod Connections
+pub mod Together

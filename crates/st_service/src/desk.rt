@@ -1,5 +1,6 @@
 //! A store, and what answers messages over it.
-ghost use Rattle.std.specs.Prelude.{◌≡◌, ◌≢◌, ◌⊎◌};
+ghost use Rattle.std.specs.Prelude.{◌≡◌, ◌≢◌, ◌⊎◌, false};
+ghost use Rattle.st_core.specs.State.{State};
 ghost use Rattle.st_policy.specs.declared.reply.Reply.{Reply as Told};
 ghost use Rattle.st_service.specs.Answers.{Answers, Replied, IsFound, faulty, reply_status, reply_text};
 ghost use Rattle.st_service.specs.Bytes.{bytes_of};
@@ -8,6 +9,7 @@ ghost use Rattle.st_connection.specs.Render.{busy_text};
 use crate::answer::Answer;
 use crate::asked::asked_of;
 use http::StatusCode;
+use st_connection::Failed;
 use st_connection::replies::Replies;
 use st_core::{Reply, Store};
 use st_http::routes::Route;
@@ -55,8 +57,9 @@ fn status_of<A: Allocator>(reply: &Reply<A>) -> StatusCode
     }
 }
 
-// The answer that tells a reply. That a change was made is told without memory.
-fn tell<A: Allocator + Copy>(alloc: A, reply: &Reply<A>, close: bool, bare: bool) -> Answer<A>
+/// The answer that tells a reply. That a change was made is told without memory; where memory is wanting for
+/// another reply the answer is a 503.
+pub fn tell<A: Allocator + Copy>(alloc: A, reply: &Reply<A>, close: bool, bare: bool) -> Answer<A>
     ensures { (bytes_of result ≡ reply_text reply.now close bare)
         ⊎ ((bytes_of result ≡ busy_text close bare) × (reply.now ≢ Told.Accepted)) }
 {
@@ -95,31 +98,39 @@ impl<A: Allocator + Copy> Desk<A> {
         };
         tell(self.alloc, &reply, close, bare)
     }
+}
 
-    // Answers a message whose route is no line.
-    fn refuse(&self, message: &Message<'_>) -> Answer<A>
-        requires { IsFound message.now → ⊥ }
-        ensures { Replied self.now message.now (bytes_of result) self.now }
-    {
-        let close = message.close;
-        let bare = message.bare;
-        match message.route {
-            Route::Found(..) => unreachable!(),
-            Route::NoRoute => {
-                let body = b"{\"error\":\"route\"}";
-                Answer::of(self.alloc, StatusCode::NOT_FOUND, None, body, close, bare)
-            }
-            Route::BadMethod { allow } => {
-                let body = b"{\"error\":\"method\"}";
-                let status = StatusCode::METHOD_NOT_ALLOWED;
-                Answer::of(self.alloc, status, Some(allow), body, close, bare)
-            }
+/// The answer to a message whose route is no line of the table of requests.
+pub fn refuse<A: Allocator + Copy>(alloc: A, message: &Message<'_>) -> Answer<A>
+    requires { IsFound message.now → ⊥ }
+    ensures { (s : State A) → Replied s message.now (bytes_of result) s }
+{
+    let close = message.close;
+    let bare = message.bare;
+    match message.route {
+        Route::Found(..) => unreachable!(),
+        Route::NoRoute => {
+            let body = b"{\"error\":\"route\"}";
+            Answer::of(alloc, StatusCode::NOT_FOUND, None, body, close, bare)
+        }
+        Route::BadMethod { allow } => {
+            let body = b"{\"error\":\"method\"}";
+            let status = StatusCode::METHOD_NOT_ALLOWED;
+            Answer::of(alloc, status, Some(allow), body, close, bare)
         }
     }
 }
 
 impl<A: Allocator + Copy> Replies for Desk<A> {
     type Reply = Answer<A>;
+
+    ghost State = { State A };
+
+    ghost now = { λ d. d };
+
+    ghost kept = { λ d. d };
+
+    ghost has_failed = { λ _. false };
 
     ghost answers = { Answers };
 
@@ -128,7 +139,11 @@ impl<A: Allocator + Copy> Replies for Desk<A> {
     fn reply(&mut self, message: &Message<'_>) -> Answer<A> {
         match message.route {
             Route::Found(..) => self.answer(message),
-            Route::NoRoute | Route::BadMethod { .. } => self.refuse(message),
+            Route::NoRoute | Route::BadMethod { .. } => refuse(self.alloc, message),
         }
+    }
+
+    fn settle(&mut self) -> Result<(), Failed> {
+        Ok(())
     }
 }

@@ -1,12 +1,17 @@
 //! What the definitions say of each text, whatever the program does.
-ghost use Rattle.std.specs.Prelude.{◌≡◌, List, ℕ, All};
+ghost use Rattle.std.specs.Prelude.{◌≡◌, ◌++◌, List, ℕ, Bool, Option, Result, All};
 ghost use Rattle.st_core.specs.declared.asked.Asked.{Asked};
 ghost use Rattle.st_core.specs.State.{State};
 ghost use Rattle.st_core.specs.Step.{replies, after};
+ghost use Rattle.st_core.specs.Worlds.{NeverSystem};
 ghost use Rattle.st_service.specs.Answers.{Answers};
-ghost use Rattle.st_connection.specs.Connection.{Run};
+ghost use Rattle.st_connection.specs.Connection.{Run, Served};
+ghost use Rattle.st_connection.specs.declared.connection.Ended.{Ended};
+ghost use Rattle.st_connection.specs.declared.connection.IoFault.{IoFault};
 ghost use Rattle.st_service.specs.Runs.{IsBusy, Tells};
+ghost use Rattle.st_service.specs.Worlds.{Event, IsHistory, requests, keep_history, keep_items, answers, answers_to};
 ghost use Rattle.st_http.specs.First.{First};
+ghost use Rattle.st_text.specs.Texts.{Text};
 
 use std::alloc::Allocator;
 
@@ -16,4 +21,57 @@ pub fn ample_run<A: Allocator>()
     ensures { (s t : State A) (items : List First) (answers : List (List ℕ)) → Run Answers s items answers t
         → All (λ answer. IsBusy answer → ⊥) answers
         → (asked : List (Asked A)) × Tells items asked (replies s asked) answers × (t ≡ after s asked) }
+{}
+
+/// Where no answer is for want of memory, the items have one history: what each of them asks. The answers are those of the
+/// history, and the state is that after its requests.
+pub fn one_history<A: Allocator>()
+    ensures there { (s t : State A) (items : List First) (texts : List (List ℕ)) → Run Answers s items texts t
+        → All (λ answer. IsBusy answer → ⊥) texts → (history : List (Event A)) × IsHistory items history }
+    ensures alone { (items : List First) (history other : List (Event A))
+        → IsHistory items history → IsHistory items other → history ≡ other }
+    ensures answered { (s t : State A) (items : List First) (texts : List (List ℕ)) (history : List (Event A))
+        → Run Answers s items texts t → All (λ answer. IsBusy answer → ⊥) texts → IsHistory items history
+        → (texts ≡ answers s history) × (t ≡ after s (requests history)) }
+{}
+
+/// Histories that agree on what a user may ever see give that user equal bytes: from one state, where the user holds SYSTEM at
+/// no moment and the same is kept of both. The same is kept, at the least, where the same items are kept.
+pub fn equal_bytes<A: Allocator>()
+    ensures told_the_same { (s : State A) (user : Text) (items others : List First) (history other : List (Event A))
+        → IsHistory items history → IsHistory others other
+        → NeverSystem user s (requests history) → NeverSystem user s (requests other)
+        → keep_history user s history ≡ keep_history user s other
+        → answers_to user items (answers s history) ≡ answers_to user others (answers s other) }
+    ensures same_items { (s : State A) (user : Text) (items others : List First) (history other : List (Event A))
+        → IsHistory items history → IsHistory others other → keep_items user s history ≡ keep_items user s other
+        → keep_history user s history ≡ keep_history user s other }
+{}
+
+/// Connections that are served one after another from a state make one run.
+pub fn connections_join<A: Allocator>()
+    ensures { (s m t : State A) (items others : List First) (texts more : List (List ℕ)) → Run Answers s items texts m
+        → Run Answers m others more t → Run Answers s (items ++ others) (texts ++ more) t }
+{}
+
+/// So it is of what is served: two runs from one state without a 503, however many connections they are made of, answer the
+/// user's items by equal bytes, where the user holds SYSTEM at no moment and the same is kept of both. The second clause says it
+/// of two calls of `serve` by what its contract says of each: the items are those of what its reader gave, and the answers are
+/// what it wrote.
+pub fn equal_service<A: Allocator>()
+    ensures runs { (s t u : State A) (user : Text) (items others : List First) (texts more : List (List ℕ))
+        (history other : List (Event A)) → Run Answers s items texts t → Run Answers s others more u
+        → All (λ answer. IsBusy answer → ⊥) texts → All (λ answer. IsBusy answer → ⊥) more
+        → IsHistory items history → IsHistory others other
+        → NeverSystem user s (requests history) → NeverSystem user s (requests other)
+        → keep_history user s history ≡ keep_history user s other
+        → answers_to user items texts ≡ answers_to user others more }
+    ensures served { (s t u : State A) (user : Text) (left_a left_b left_c left_d held_a held_b held_c held_d : Option (List ℕ))
+        (failed broke : Bool) (end stop : Result Ended IoFault) (first : Served Answers s t left_a left_b held_a held_b failed end)
+        (second : Served Answers s u left_c left_d held_c held_d broke stop) (history other : List (Event A))
+        → All (λ answer. IsBusy answer → ⊥) first.answers → All (λ answer. IsBusy answer → ⊥) second.answers
+        → IsHistory first.items history → IsHistory second.items other
+        → NeverSystem user s (requests history) → NeverSystem user s (requests other)
+        → keep_history user s history ≡ keep_history user s other
+        → answers_to user first.items first.answers ≡ answers_to user second.items second.answers }
 {}

@@ -75,6 +75,7 @@ impl<A: Allocator + Copy> Service<A> {
             &mut self.desk,
             &self.routes,
             self.buffer.as_mut_slice(),
+            &mut [],
             reader,
             writer,
         )

@@ -1,39 +1,45 @@
-use Rattle.std.proofs.Common.{List, ℕ, Bool, false, sym, subst, arith}
+use Rattle.std.proofs.Common.{List, [], take, ℕ, Bool, false, true, refl, inl, sym, subst, arith, ◌∙◌}
+use Rattle.std.proofs.KnownBytes.{Appends-nil}
 use Rattle.std.proofs.lemmas.Result.{err_from_is_err_and}
 use Rattle.httparse.specs.Grammar.{RequestHead}
 use Rattle.st_http.specs.Take.{ShowsMessage}
 use Rattle.st_http.specs.First.{message, fault}
-use Rattle.st_connection.proofs.Joins.{whole_none}
-use Rattle.st_connection.proofs.Steps.{finds_more, fault_breaks, fault_closes, message_breaks, message_closes, message_stays}
+use Rattle.st_connection.specs.Connection.{One}
+use Rattle.st_connection.proofs.Steps.{finds_more, fault_one, message_one, message_stays, next_stops, next_closed, next_open}
 use Rattle.st_connection.proofs.connection.answer_next.Goals.{then-message, else-message}
 use Rattle.st_connection.proofs.connection.answer_next.Goals as goal
 
 pub returns-in-More-clause-answered : goal.returns-in-More-clause-answered
-returns-in-More-clause-answered g c = (finds_more _ c.in-More.ensures.first, whole_none _ _ _ _ _)
+returns-in-More-clause-answered g c = (finds_more _ c.in-More.ensures.first, refl, refl, refl, Appends-nil _, refl)
 
-pub returns-in_err-write_all-in-Fault-clause-answered : goal.returns-in_err-write_all-in-Fault-clause-answered
-returns-in_err-write_all-in-Fault-clause-answered g c =
-    let s = subst (λ (a : List ℕ). g.X.Replies.answers c.args.answerer.now (fault c.in-Fault.fault.reason c.in-Fault.fault.bare) a c.args.answerer.now) (sym c.fault_text.ensures) (g.met.X.Replies.faults c.args.answerer.now _ _) in
-    let p = err_from_is_err_and c.from_residual.result c.from_residual.ensures.1 in rw p.1
-    (fault_breaks _ _ _ _ _ _ _ _ _ _ c.in-Fault.ensures.first s false c.in_err-write_all-in-Fault.ensures.sent)
+pub returns-in-Err-clause-answered : goal.returns-in-Err-clause-answered
+returns-in-Err-clause-answered g c =
+    let s = subst (λ (a : List ℕ). g.X.Replies.answers (g.X.Replies.now c.args.answerer.now) (fault c.in-Fault.fault.reason c.in-Fault.fault.bare) a (g.X.Replies.now c.args.answerer.now)) (sym c.fault_text-answer.ensures) (g.met.X.Replies.faults (g.X.Replies.now c.args.answerer.now) _ _) in
+    let one = fault_one g.X.Replies.answers _ _ _ _ (omega arith) c.in-Fault.fault c.in-Fault.ensures.first s in
+    next_stops g.X.Replies.answers _ _ _ _ _ _ c.in-Err.ensures.now _ _ _ _ _ _ (take c.pass.new.held c.pass.new.block) _ _ (inl refl) true one _ c.in-Err.ensures.passed
 
-pub returns-in_ok-write_all-in-Fault-clause-answered : goal.returns-in_ok-write_all-in-Fault-clause-answered
-returns-in_ok-write_all-in-Fault-clause-answered g c =
-    let s = subst (λ (a : List ℕ). g.X.Replies.answers c.args.answerer.now (fault c.in-Fault.fault.reason c.in-Fault.fault.bare) a c.args.answerer.now) (sym c.fault_text.ensures) (g.met.X.Replies.faults c.args.answerer.now _ _) in
-    (c.args.text.now, fault_closes g.X.Replies.answers _ _ _ _ _ _ _ _ _ c.in-Fault.ensures.first s (omega arith) c.in_ok-write_all-in-Fault.ensures.sent)
+pub returns-in_default-clause-answered : goal.returns-in_default-clause-answered
+returns-in_default-clause-answered g c =
+    let s = subst (λ (a : List ℕ). g.X.Replies.answers (g.X.Replies.now c.args.answerer.now) (fault c.in-Fault.fault.reason c.in-Fault.fault.bare) a (g.X.Replies.now c.args.answerer.now)) (sym c.fault_text-answer.ensures) (g.met.X.Replies.faults (g.X.Replies.now c.args.answerer.now) _ _) in
+    let one = fault_one g.X.Replies.answers _ _ _ _ (omega arith) c.in-Fault.fault c.in-Fault.ensures.first s in
+    next_closed g.X.Replies.answers _ _ _ _ _ _ c.in_default.ensures.now _ _ _ _ _ _ (take c.pass.new.held c.pass.new.block) _ _ (inl refl) one c.in_default.ensures.passed
 
-pub returns-in_err-write_all-in-Message-clause-answered : goal.returns-in_err-write_all-in-Message-clause-answered
-returns-in_err-write_all-in-Message-clause-answered g c =
+pub returns-in-Err-pass-clause-answered : goal.returns-in-Err-pass-clause-answered
+returns-in-Err-pass-clause-answered g c =
     let replied = λ (h : RequestHead) (body : List ℕ) (bare : Bool) (shows : ShowsMessage h body bare c.in-Message.message).
-    subst (λ (a : List ℕ). g.X.Replies.answers c.args.answerer.now (message h body bare) a c.reply-reply.new.self) (sym c.as_slice.ensures) (c.reply-reply.ensures h body bare shows) in
-    let p = err_from_is_err_and c.from_residual-in_err-write_all-in-Message.result c.from_residual-in_err-write_all-in-Message.ensures.1 in rw p.1
-    (message_breaks _ _ _ _ _ _ _ _ _ _ _ c.in-Message.ensures.first replied false c.in_err-write_all-in-Message.ensures.sent)
+    subst (λ (a : List ℕ). g.X.Replies.answers (g.X.Replies.now c.args.answerer.now) (message h body bare) a (g.X.Replies.now c.reply-reply.new.self)) (sym c.as_slice.ensures) (c.reply-reply.ensures.answered h body bare shows) in
+    let one = message_one g.X.Replies.answers _ _ _ _ (omega arith) _ _ c.in-Message.ensures.first replied in
+    next_stops g.X.Replies.answers _ _ _ _ _ _ c.in-Err-pass.ensures.now _ _ _ _ _ _ (take c.pass-in-Message.new.held c.pass-in-Message.new.block) _ _ c.reply-reply.ensures.kept _ one.1 _ c.in-Err-pass.ensures.passed
 
 pub returns-after-message-clause-answered : goal.returns-after-message-clause-answered
 returns-after-message-clause-answered g c =
     let replied = λ (h : RequestHead) (body : List ℕ) (bare : Bool) (shows : ShowsMessage h body bare c.in-Message.message).
-    subst (λ (a : List ℕ). g.X.Replies.answers c.args.answerer.now (message h body bare) a c.reply-reply.new.self) (sym c.as_slice.ensures) (c.reply-reply.ensures h body bare shows) in
+    subst (λ (a : List ℕ). g.X.Replies.answers (g.X.Replies.now c.args.answerer.now) (message h body bare) a (g.X.Replies.now c.reply-reply.new.self)) (sym c.as_slice.ensures) (c.reply-reply.ensures.answered h body bare shows) in
+    let one = message_one g.X.Replies.answers (g.X.Replies.now c.args.answerer.now) (g.X.Replies.now c.reply-reply.new.self) c.args.text.now _ (omega arith) _ _ c.in-Message.ensures.first replied in
     elim c.if-message.branch [
-      | then-message w ↦ rw w.result-is (message_closes _ _ _ _ _ _ _ _ _ _ _ c.in-Message.ensures.first replied (omega arith) c.in_ok-write_all-in-Message.ensures.sent w.if-message.true)
-      | else-message w ↦ rw w.result-is (message_stays _ _ _ _ _ _ _ _ _ _ _ c.in-Message.ensures.first replied (omega arith) c.in_ok-write_all-in-Message.ensures.sent w.if-message.false)
+      | then-message w ↦
+          rw w.result-is (next_closed g.X.Replies.answers _ _ _ _ _ _ c.in_default-pass.ensures.now _ _ _ _ _ _ (take c.pass-in-Message.new.held c.pass-in-Message.new.block) _ one.0 c.reply-reply.ensures.kept
+          (subst (λ (b : Bool). One g.X.Replies.answers b (g.X.Replies.now c.args.answerer.now) (g.X.Replies.now c.reply-reply.new.self) c.args.text.now one.0 c.as_slice.result.now) w.if-message.true one.1) c.in_default-pass.ensures.passed)
+      | else-message w ↦ rw w.result-is (next_open g.X.Replies.answers _ _ _ _ _ _ c.in_default-pass.ensures.now _ _ _ _ _ _ (take c.pass-in-Message.new.held c.pass-in-Message.new.block) _ [] c.reply-reply.ensures.kept _
+          (message_stays g.X.Replies.answers (g.X.Replies.now c.args.answerer.now) (g.X.Replies.now c.reply-reply.new.self) c.args.text.now _ (omega arith) _ _ c.in-Message.ensures.first replied w.if-message.false) c.in_default-pass.ensures.passed)
     ]

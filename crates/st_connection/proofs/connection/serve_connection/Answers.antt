@@ -1,13 +1,16 @@
 use Rattle.std.proofs.Common.{rules, ◌+◌, ◌-◌, ◌≤◌, take, refl, ap, ◌∙◌, arith}
 use borrow.Rule.Slice.PartMut.{put_mid}
 use Rattle.st_connection.proofs.Buffer.{text_after_read, text_after_move, front_length, front_at_most, front_empty, front_some, part_at_most, part_within}
-use Rattle.st_connection.proofs.Turns.{serving_start, text_short, enough, read_breaks, turns_spent, ends_clean, ends_cut, write_breaks, connection_closes, goes_on_serving, counted_on}
+use Rattle.st_connection.proofs.Turns.{serving_start, text_short, enough, read_breaks, turns_spent, ends_clean, ends_cut, write_breaks, connection_lost, connection_closes, goes_on_serving, counted_on}
 use Rattle.st_connection.proofs.connection.serve_connection.Goals as goal
 
 pub reads-init : goal.reads-init
 reads-init g c = record {
   serving = serving_start _ _ _ _;
   within = omega arith;
+  settled = c.requires.answerer_settled;
+  answerer_sound = c.requires.answerer_sound;
+  block_room = refl;
   reader_sound = c.requires.reader_sound;
   writer_sound = c.requires.writer_sound;
   no_reads = λ _. refl;
@@ -16,19 +19,19 @@ reads-init g c = record {
 
 pub slice_bounds-read-end : goal.slice_bounds-read-end
 slice_bounds-read-end g c =
-    let n = front_length _ _ c.reads.invariant.within in let t = text_short _ _ _ _ _ _ _ _ _ _ c.reads.invariant.serving in
+    let n = front_length _ _ c.reads.invariant.within in let t = text_short _ _ _ _ _ _ _ _ _ _ c.reads.invariant.serving 0 in
     omega (arith, n, t, c.reads.auto.buffer, c.requires.room)
 
 pub returns-in_default-clause-served : goal.returns-in_default-clause-served
-returns-in_default-clause-served g c = read_breaks _ _ _ _ _ _ _ _ _ _ c.reads.invariant.serving _ _ c.in_default.ensures.bytes
+returns-in_default-clause-served g c = read_breaks _ _ _ _ _ _ _ _ _ _ c.reads.invariant.serving _ (g.X.Replies.kept c.reads.answerer) _ _ c.in_default.ensures.bytes
 
 pub returns-then-filled-eq0-clause-served : goal.returns-then-filled-eq0-clause-served
 returns-then-filled-eq0-clause-served g c =
-    ends_clean _ _ _ _ _ _ _ _ _ _ c.reads.invariant.serving _ (take c.in-Ok.count c.read.new.buffer) c.in-Ok.ensures.bytes.0 _ (front_empty _ _ c.if-count-eq0.true) (front_empty _ _ c.if-filled-eq0.true)
+    ends_clean _ _ _ _ _ _ _ _ _ _ c.reads.invariant.serving _ _ (take c.in-Ok.count c.read.new.buffer) c.in-Ok.ensures.bytes.0 (g.X.Replies.kept c.reads.answerer) _ (front_empty _ _ c.if-count-eq0.true) (front_empty _ _ c.if-filled-eq0.true)
 
 pub returns-else-filled-eq0-clause-served : goal.returns-else-filled-eq0-clause-served
 returns-else-filled-eq0-clause-served g c =
-    ends_cut _ _ _ _ _ _ _ _ _ _ c.reads.invariant.serving _ (take c.in-Ok.count c.read.new.buffer) c.in-Ok.ensures.bytes.0 _ (front_empty _ _ c.if-count-eq0.true) (front_some _ _ c.reads.invariant.within c.if-filled-eq0.false)
+    ends_cut _ _ _ _ _ _ _ _ _ _ c.reads.invariant.serving _ _ (take c.in-Ok.count c.read.new.buffer) c.in-Ok.ensures.bytes.0 (g.X.Replies.kept c.reads.answerer) _ (front_empty _ _ c.if-count-eq0.true) (front_some _ _ c.reads.invariant.within c.if-filled-eq0.false)
 
 pub answer_all-requires : goal.answer_all-requires
 answer_all-requires g c =
@@ -36,18 +39,24 @@ answer_all-requires g c =
     let le : c.in-Ok.count ≤ 65536 = omega (arith, p, c.read.auto.buffer, c.in-Ok.ensures.room) in
     let n = front_length _ _ c.reads.invariant.within in
     let m = front_at_most (put_mid c.reads.filled (c.reads.filled + 65536 - c.reads.filled) c.reads.buffer c.read.new.buffer) (c.reads.filled + c.in-Ok.count) in
-    let e = enough _ _ _ _ _ _ _ _ _ _ c.reads.invariant.serving c.in-Ok.count c.reads-test.true le in omega (arith, n, m, e)
+    let e = enough _ _ _ _ _ _ _ _ _ _ c.reads.invariant.serving 0 c.in-Ok.count c.reads-test.true le in
+    record { room = omega (arith, n, m, e); settled = c.reads.invariant.settled; sound = c.reads.invariant.answerer_sound }
 
-pub returns-in-Err-clause-served : goal.returns-in-Err-clause-served
-returns-in-Err-clause-served g c =
+pub returns-in-Err-Unwritten-clause-served : goal.returns-in-Err-Unwritten-clause-served
+returns-in-Err-Unwritten-clause-served g c =
     let t = text_after_read c.reads.buffer c.read.new.buffer c.reads.filled (c.reads.filled + 65536 - c.reads.filled) c.in-Ok.count c.reads.invariant.within c.in-Ok.ensures.room in
-    write_breaks _ _ _ _ _ _ _ _ _ _ c.reads.invariant.serving _ (take c.in-Ok.count c.read.new.buffer) c.in-Ok.ensures.bytes.0 _ _ t _ _ _
-    (c.in-Ok.ensures.ok ∙ c.reads.invariant.reader_sound) c.in-Err.ensures.answered
+    write_breaks _ _ _ _ _ _ _ _ _ _ c.reads.invariant.serving _ _ (take c.in-Ok.count c.read.new.buffer) c.in-Ok.ensures.bytes.0 _ _ t _ _ (g.X.Replies.kept c.answer_all.new.answerer) _
+    (c.in-Ok.ensures.ok ∙ c.reads.invariant.reader_sound) (rw c.reads.invariant.block_room at (rw c.in-Err-Unwritten.field-0-is at c.in-Err-Unwritten.ensures.answered))
+
+pub returns-in-Err-Lost-clause-served : goal.returns-in-Err-Lost-clause-served
+returns-in-Err-Lost-clause-served g c =
+    let t = text_after_read c.reads.buffer c.read.new.buffer c.reads.filled (c.reads.filled + 65536 - c.reads.filled) c.in-Ok.count c.reads.invariant.within c.in-Ok.ensures.room in
+    connection_lost _ _ _ _ _ _ _ _ _ _ c.reads.invariant.serving _ _ (take c.in-Ok.count c.read.new.buffer) c.in-Ok.ensures.bytes.0 _ _ t _ 0 (g.X.Replies.kept c.answer_all.new.answerer) _ (rw c.in-Err-Lost.field-0-is at c.in-Err-Lost.ensures.answered)
 
 pub returns-in-Ok-Closed-clause-served : goal.returns-in-Ok-Closed-clause-served
 returns-in-Ok-Closed-clause-served g c =
     let t = text_after_read c.reads.buffer c.read.new.buffer c.reads.filled (c.reads.filled + 65536 - c.reads.filled) c.in-Ok.count c.reads.invariant.within c.in-Ok.ensures.room in
-    connection_closes _ _ _ _ _ _ _ _ _ _ c.reads.invariant.serving _ (take c.in-Ok.count c.read.new.buffer) c.in-Ok.ensures.bytes.0 _ _ t _ _ _
+    connection_closes _ _ _ _ _ _ _ _ _ _ c.reads.invariant.serving _ _ (take c.in-Ok.count c.read.new.buffer) c.in-Ok.ensures.bytes.0 _ _ t _ _ (g.X.Replies.kept c.answer_all.new.answerer) _
     (rw c.in-Ok-Closed.field-0-is at c.in-Ok-Closed.ensures.answered)
 
 pub reads-preserved : goal.reads-preserved
@@ -62,8 +71,11 @@ reads-preserved g c =
     let fits = part_within c.reads.buffer c.read.new.buffer c.reads.filled (c.reads.filled + 65536 - c.reads.filled) c.in-Ok.count c.reads.invariant.within c.in-Ok.ensures.room in
     let moved = ap (take (c.reads.filled + c.in-Ok.count - c.in-Ok-Waits.used)) c.copy_within.ensures.after ∙ text_after_move b c.in-Ok-Waits.used (c.reads.filled + c.in-Ok.count) le fits in
     record {
-      serving = goes_on_serving _ _ _ _ _ _ _ _ _ _ c.reads.invariant.serving _ (take c.in-Ok.count c.read.new.buffer) c.in-Ok.ensures.bytes.0 _ _ t _ _ c.in-Ok-Waits.used _ moved (omega (arith, p, m, c.read.auto.buffer, c.in-Ok.ensures.room)) a;
+      serving = goes_on_serving _ _ _ _ _ _ _ _ _ _ c.reads.invariant.serving 0 _ (take c.in-Ok.count c.read.new.buffer) c.in-Ok.ensures.bytes.0 _ _ t _ _ c.in-Ok-Waits.used _ moved (omega (arith, p, m, c.read.auto.buffer, c.in-Ok.ensures.room)) a;
       within = omega (arith, fits, c.copy_within.ensures.len);
+      settled = c.in-Ok-Waits.ensures.settled (λ e. cc);
+      answerer_sound = c.in-Ok-Waits.ensures.not_lost (λ e. cc);
+      block_room = c.in-Ok-Waits.ensures.room_stays ∙ c.reads.invariant.block_room;
       reader_sound = c.in-Ok.ensures.ok ∙ c.reads.invariant.reader_sound;
       writer_sound = c.in-Ok-Waits.ensures.ok ∙ c.reads.invariant.writer_sound;
       no_reads = λ h. omega arith;
@@ -71,7 +83,7 @@ reads-preserved g c =
     }
 
 pub returns-clause-served : goal.returns-clause-served
-returns-clause-served g c = turns_spent _ _ _ _ _ _ _ _ _ _ c.reads.invariant.serving _
+returns-clause-served g c = turns_spent _ _ _ _ _ _ _ _ _ _ c.reads.invariant.serving _ (g.X.Replies.kept c.reads.answerer) _
 
 pub returns-clause-at_end : goal.returns-clause-at_end
 returns-clause-at_end g c = search rules

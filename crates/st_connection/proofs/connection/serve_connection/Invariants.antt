@@ -8,8 +8,11 @@ invariant-reads g l =
     let held = g.W.Sink.held in
     let reads = g.R.Source.reads in
     record {
-      serving : Serving g.X.Replies.answers l.initial.answerer l.answerer (take l.filled l.buffer) (left l.initial.reader) (left l.reader) (held l.initial.writer) (held l.writer) l.written l.turn;
+      serving : Serving g.X.Replies.answers (g.X.Replies.now l.initial.answerer) (g.X.Replies.now l.answerer) (take l.filled l.buffer) (left l.initial.reader) (left l.reader) (held l.initial.writer) (held l.writer) l.written l.turn;
       within : l.filled ≤ length l.buffer;
+      settled : g.X.Replies.kept l.answerer ≡ g.X.Replies.now l.answerer;
+      answerer_sound : g.X.Replies.has_failed l.answerer ≡ false;
+      block_room : length l.block ≡ length l.initial.block;
       reader_sound : g.R.Source.has_failed l.reader ≡ false;
       writer_sound : g.W.Sink.has_failed l.writer ≡ false;
       no_reads : l.turn ≡ 0 → reads l.reader ≡ reads l.initial.reader;

@@ -1,0 +1,338 @@
+-- Answers that are held back, and what comes of them.
+use Rattle.std.proofs.Common.{◌≡◌, ◌≢◌, ◌⊎◌, inl, inr, ◌∙◌, ℕ, ◌+◌, ◌*◌, ◌^◌, ◌<◌, ◌≤◌, Bool, true, false, Option, Ok, Err, List, [], ◌∷◌, ◌++◌, length, take, drop, refl, sym, ap, subst, arith, append_assoc, append-nil, length-append}
+use Rattle.std.specs.List.{concat}
+use Rattle.std.specs.Io.KnownBytes.{Appends}
+use Rattle.std.proofs.KnownBytes.{Appends-nil, Appends-trans}
+use Rattle.std.proofs.lemmas.List.Folds.{concat-append}
+use Rattle.std.proofs.lemmas.Grind.{common_steps}
+use Rattle.st_http.specs.First.{First, more, IsFirst}
+use Rattle.st_connection.specs.Items.{Begins, is_closed, closes, after_item}
+use Rattle.st_connection.specs.Connection.{Run, Reaches, ReachesWithin, all_but_last, Amid, KeptPast, Whole, Broken, Loses, One, Sent, Passed}
+use Rattle.st_connection.specs.declared.connection.Stopped.{Stopped}
+use Rattle.st_connection.specs.declared.connection.Stopped.TheVariants as stopped
+use Rattle.st_connection.proofs.Reading.{begins_one, begins_none, begins_join, closed_one, closed_join}
+use Rattle.st_connection.proofs.Joins.{run_join, whole_join}
+
+-- ---- fronts of answers
+
+same_front : (answer sent rests missing : List ℕ) → answer ++ rests ≡ sent ++ missing → length answer ≤ length sent
+    → (later : List ℕ) × (sent ≡ answer ++ later) × (rests ≡ later ++ missing)
+same_front [] sent rests missing e le = (sent, refl, e)
+same_front (a ∷ answer) [] rests missing e le = absurd (omega (arith, le))
+same_front (a ∷ answer) (b ∷ sent) rests missing e le =
+    let tail : answer ++ rests ≡ sent ++ missing = ap (drop 1) e in
+    let heads : a ∷ [] ≡ b ∷ [] = ap (take 1) e in
+    let le2 : length answer ≤ length sent = omega (arith, le) in
+    let r = same_front answer sent rests missing tail le2 in
+    (r.0, ap (λ (l : List ℕ). l ++ sent) (sym heads) ∙ ap (λ (l : List ℕ). a ∷ l) r.1, r.2)
+
+-- where nothing is held back, each answer but the last is out whole
+pub reaches_now : (answers : List (List ℕ)) (sent : List ℕ) → ReachesWithin 0 answers sent → Reaches answers sent
+reaches_now [] [] (missing, e, le) = refl
+reaches_now [] (s ∷ sent) (missing, e, le) = cc
+reaches_now (answer ∷ []) sent (missing, e, le) = (missing, sym (append-nil answer) ∙ e)
+reaches_now (answer ∷ next ∷ answers) sent (missing, e, le) =
+    let fits : length answer ≤ length sent = omega (arith, le, length-append answer (concat (all_but_last (next ∷ answers)))) in
+    let r = same_front answer sent (concat (next ∷ answers)) missing e fits in
+    let n : length sent ≡ length answer + length r.0 = ap length r.1 ∙ length-append answer r.0 in
+    (r.0, r.1, reaches_now (next ∷ answers) r.0 (missing, r.2, omega (arith, le, n, length-append answer (concat (all_but_last (next ∷ answers))))))
+
+pub all_but_most : (answers : List (List ℕ)) → length (concat (all_but_last answers)) ≤ length (concat answers)
+all_but_most [] = omega arith
+all_but_most (answer ∷ []) = omega arith
+all_but_most (answer ∷ next ∷ answers) =
+    let r = all_but_most (next ∷ answers) in
+    omega (arith, r, length-append answer (concat (all_but_last (next ∷ answers))), length-append answer (concat (next ∷ answers)))
+
+all_but_end : (answers : List (List ℕ)) (answer : List ℕ) → all_but_last (answers ++ answer ∷ []) ≡ answers
+all_but_end [] answer = refl
+all_but_end (a ∷ []) answer = refl
+all_but_end (a ∷ b ∷ answers) answer = ap (λ (l : List (List ℕ)). a ∷ l) (all_but_end (b ∷ answers) answer)
+
+all_but_join : (answers replies : List (List ℕ))
+    → length (concat (all_but_last (answers ++ replies))) ≤ length (concat answers) + length (concat (all_but_last replies))
+all_but_join [] replies = omega arith
+all_but_join (a ∷ []) [] = omega arith
+all_but_join (a ∷ []) (b ∷ replies) = omega (arith, length-append a (concat (all_but_last (b ∷ replies))), length-append a [])
+all_but_join (a ∷ b ∷ answers) replies =
+    let r = all_but_join (b ∷ answers) replies in
+    omega (arith, r, length-append a (concat (all_but_last (b ∷ answers ++ replies))), length-append a (concat (b ∷ answers)))
+
+concat_end : (answers : List (List ℕ)) (answer : List ℕ) → concat (answers ++ answer ∷ []) ≡ concat answers ++ answer
+concat_end answers answer = concat-append answers (answer ∷ []) ∙ ap (λ (l : List ℕ). concat answers ++ l) (append-nil answer)
+
+-- ---- a block
+
+module _ {S : Type 0} (step : S → First → List ℕ → S → Type 0) where
+  amid_start : (s : S) → Amid step s s s [] []
+  amid_start s = record { first = []; later = []; told = []; untold = []; items_are = refl; answers_are = refl; before = refl; behind = refl }
+
+  pub amid_all : (old new kept : S) (items : List First) (answers : List (List ℕ)) → Run step old items answers new → kept ≡ new → Amid step old kept new items answers
+  amid_all old new kept items answers run e = record {
+    first = items;
+    later = [];
+    told = answers;
+    untold = [];
+    items_are = sym (append-nil items);
+    answers_are = sym (append-nil answers);
+    before = subst (λ (s : S). Run step old items answers s) (sym e) run;
+    behind = sym e;
+  }
+
+  amid_more : (old kept mid new : S) (items others : List First) (answers replies : List (List ℕ)) → Amid step old kept mid items answers
+      → Run step mid others replies new → Amid step old kept new (items ++ others) (answers ++ replies)
+  amid_more old kept mid new items others answers replies a run = record {
+    first = a.first;
+    later = a.later ++ others;
+    told = a.told;
+    untold = a.untold ++ replies;
+    items_are = ap (λ (l : List First). l ++ others) a.items_are ∙ append_assoc a.first a.later others;
+    answers_are = ap (λ (l : List (List ℕ)). l ++ replies) a.answers_are ∙ append_assoc a.told a.untold replies;
+    before = a.before;
+    behind = run_join step kept mid new a.later others a.untold replies a.behind run;
+  }
+
+  -- Of the items before a place the answers are out up to some place, and the others are held back.
+  pub record Gathered (hold : ℕ) (closed : Bool) (old now kept : S) (text rest : List ℕ) (ho hn : Option (List ℕ)) (wo wn : ℕ) (bytes : List ℕ) : Type 0 where
+    pub mid : S
+    pub between : List ℕ
+    pub whole : Whole step false old mid text between ho hn wo wn
+    pub items : List First
+    pub answers : List (List ℕ)
+    pub begins : Begins between items rest
+    pub ends : is_closed items ≡ closed
+    pub run : Run step mid items answers now
+    pub bytes_are : bytes ≡ concat answers
+    pub few : length (concat answers) ≤ 2 ^ 64 * length items
+    pub most : length (concat (all_but_last answers)) ≤ hold
+    pub amid : Amid step mid kept now items answers
+
+  pub gathered_none : (hold : ℕ) (old now : S) (text rest : List ℕ) (ho hn : Option (List ℕ)) (wo wn : ℕ) (bytes : List ℕ) (kept : S)
+      → Whole step false old now text rest ho hn wo wn → bytes ≡ [] → kept ≡ now → Gathered hold false old now kept text rest ho hn wo wn bytes
+  gathered_none hold old now text rest ho hn wo wn bytes kept whole none e = record {
+    mid = now;
+    between = rest;
+    whole = whole;
+    items = [];
+    answers = [];
+    begins = begins_none rest;
+    ends = refl;
+    run = refl;
+    bytes_are = none;
+    few = omega arith;
+    most = omega arith;
+    amid = subst (λ (s : S). Amid step now s now [] []) (sym e) (amid_start now);
+  }
+
+  module _ (hold : ℕ) (closed : Bool) (old now kept : S) (text rest : List ℕ) (ho hn : Option (List ℕ)) (wo wn : ℕ) (bytes : List ℕ) (a : Gathered hold closed old now kept text rest ho hn wo wn bytes) where
+    -- they are written
+    pub gathered_out : (hm : Option (List ℕ)) (wm : ℕ) → Appends hn hm bytes → wm ≡ wn + length bytes → Whole step closed old now text rest ho hm wo wm
+    gathered_out hm wm wrote counted =
+        whole_join step old a.mid now text a.between ho hn hm wo wn wm a.whole closed rest (record {
+          items = a.items;
+          answers = a.answers;
+          begins = a.begins;
+          ends = a.ends;
+          run = a.run;
+          wrote = subst (λ (s : List ℕ). Appends hn hm s) a.bytes_are wrote;
+          counted = counted ∙ ap (λ (s : List ℕ). wn + length s) a.bytes_are;
+          few = a.few;
+        })
+
+    -- a part of them is
+    pub gathered_breaks : (hm : Option (List ℕ)) (wm : ℕ) (b : Bool) → Sent hn hm wn wm bytes b → Broken step hold old now text ho hm wo wm
+    gathered_breaks hm wm b s = record {
+      items = a.whole.items ++ a.items;
+      rest = rest;
+      answers = a.whole.answers ++ a.answers;
+      sent = concat a.whole.answers ++ s.sent;
+      begins = begins_join text a.whole.items a.between a.items rest a.whole.begins a.whole.ends a.begins;
+      run = run_join step old a.mid now a.whole.items a.items a.whole.answers a.answers a.whole.run a.run;
+      reaches = (
+        s.missing,
+        concat-append a.whole.answers a.answers ∙ ap (λ (l : List ℕ). concat a.whole.answers ++ l) (sym a.bytes_are ∙ s.prefix) ∙ sym (append_assoc (concat a.whole.answers) s.sent s.missing),
+        let j = all_but_join a.whole.answers a.answers in omega (arith, j, a.most, length-append (concat a.whole.answers) s.sent),
+      );
+      wrote = Appends-trans ho hn hm (concat a.whole.answers) s.sent a.whole.wrote s.wrote;
+      counted = omega (arith, a.whole.counted, s.counted, length-append (concat a.whole.answers) s.sent);
+    }
+
+    -- none is
+    pub gathered_lost : (hm : Option (List ℕ)) (after : S) → Appends hn hm [] → (after ≡ kept) ⊎ (after ≡ now) → Loses step old now after text ho hm
+    gathered_lost hm after wrote which = record {
+      items = a.whole.items ++ a.items;
+      rest = rest;
+      answers = a.whole.answers ++ a.answers;
+      sent = concat a.whole.answers;
+      begins = begins_join text a.whole.items a.between a.items rest a.whole.begins a.whole.ends a.begins;
+      run = run_join step old a.mid now a.whole.items a.items a.whole.answers a.answers a.whole.run a.run;
+      past = record {
+        done = a.whole.items;
+        others = a.items;
+        out = a.whole.answers;
+        back = a.answers;
+        mid = a.mid;
+        items_are = refl;
+        answers_are = refl;
+        sent_is = refl;
+        run = a.whole.run;
+        amid = elim which [
+          | inl same ↦ subst (λ (s : S). Amid step a.mid s now a.items a.answers) (sym same) a.amid
+          | inr all ↦ amid_all a.mid now after a.items a.answers a.run all
+        ];
+      };
+      wrote = subst (λ (l : List ℕ). Appends ho hm l) (append-nil (concat a.whole.answers)) (Appends-trans ho hn hm (concat a.whole.answers) [] a.whole.wrote wrote);
+    }
+
+  -- nothing more is out
+  pub held_still : (hold : ℕ) (closed : Bool) (old now kept : S) (text rest : List ℕ) (ho hn : Option (List ℕ)) (wo wn : ℕ) (bytes : List ℕ)
+      → Gathered hold closed old now kept text rest ho hn wo wn bytes → (hm : Option (List ℕ)) (wm : ℕ) (back : List ℕ) (after : S)
+      → back ≡ bytes → Appends hn hm [] → wm ≡ wn → after ≡ kept → Gathered hold closed old now after text rest ho hm wo wm back
+  held_still hold closed old now kept text rest ho hn wo wn bytes a hm wm back after same wrote counted keeps = record {
+    mid = a.mid;
+    between = a.between;
+    whole = record {
+      items = a.whole.items;
+      answers = a.whole.answers;
+      begins = a.whole.begins;
+      ends = a.whole.ends;
+      run = a.whole.run;
+      wrote = subst (λ (l : List ℕ). Appends ho hm l) (append-nil (concat a.whole.answers)) (Appends-trans ho hn hm (concat a.whole.answers) [] a.whole.wrote wrote);
+      counted = counted ∙ a.whole.counted;
+      few = a.whole.few;
+    };
+    items = a.items;
+    answers = a.answers;
+    begins = a.begins;
+    ends = a.ends;
+    run = a.run;
+    bytes_are = same ∙ a.bytes_are;
+    few = a.few;
+    most = a.most;
+    amid = subst (λ (s : S). Amid step a.mid s now a.items a.answers) (sym keeps) a.amid;
+  }
+
+  -- one more
+  pub gathered_one : (hold : ℕ) (old now kept : S) (text rest : List ℕ) (ho hn : Option (List ℕ)) (wo wn : ℕ) (bytes : List ℕ)
+      → Gathered hold false old now kept text rest ho hn wo wn bytes → length bytes ≤ hold
+      → (closed : Bool) (new after : S) (end answer : List ℕ) → One step closed now new rest end answer → (after ≡ kept) ⊎ (after ≡ new)
+      → Gathered hold closed old new after text end ho hn wo wn (bytes ++ answer)
+  gathered_one hold old now kept text rest ho hn wo wn bytes a le closed new after end answer one which =
+      let run1 : Run step now (one.item ∷ []) (answer ∷ []) new = (new, one.stepped, refl) in
+      let begins1 : Begins rest (one.item ∷ []) end = subst (λ (t : List ℕ). Begins rest (one.item ∷ []) t) (sym one.rest_is) (begins_one rest one.item one.is one.some) in
+      let run = run_join step a.mid now new a.items (one.item ∷ []) a.answers (answer ∷ []) a.run run1 in
+      let whole_bytes : bytes ++ answer ≡ concat (a.answers ++ answer ∷ []) = ap (λ (l : List ℕ). l ++ answer) a.bytes_are ∙ sym (concat_end a.answers answer) in
+      record {
+        mid = a.mid;
+        between = a.between;
+        whole = a.whole;
+        items = a.items ++ one.item ∷ [];
+        answers = a.answers ++ answer ∷ [];
+        begins = begins_join a.between a.items rest (one.item ∷ []) end a.begins a.ends begins1;
+        ends = closed_join a.items (one.item ∷ []) a.ends ∙ closed_one one.item ∙ one.closing;
+        run = run;
+        bytes_are = whole_bytes;
+        few = omega (arith, a.few, one.fits, ap length (concat_end a.answers answer), length-append (concat a.answers) answer, length-append a.items (one.item ∷ []));
+        most = omega (arith, le, ap length a.bytes_are, ap (λ (l : List (List ℕ)). length (concat l)) (all_but_end a.answers answer));
+        amid = elim which [
+          | inl same ↦ subst (λ (s : S). Amid step a.mid s new (a.items ++ one.item ∷ []) (a.answers ++ answer ∷ [])) (sym same) (amid_more a.mid kept now new a.items (one.item ∷ []) a.answers (answer ∷ []) a.amid run1)
+          | inr all ↦ amid_all a.mid new after (a.items ++ one.item ∷ []) (a.answers ++ answer ∷ []) run all
+        ];
+      }
+
+-- ---- one answer behind those of a block
+
+sent_more : (ho hn : Option (List ℕ)) (wo wn : ℕ) (bytes others : List ℕ) (b : Bool) → Sent ho hn wo wn bytes b → Sent ho hn wo wn (bytes ++ others) false
+sent_more ho hn wo wn bytes others b s = record {
+  sent = s.sent;
+  missing = s.missing ++ others;
+  prefix = ap (λ (l : List ℕ). l ++ others) s.prefix ∙ append_assoc s.sent s.missing others;
+  whole_out = λ e. cc;
+  wrote = s.wrote;
+  counted = s.counted;
+}
+
+pub passed_err : {S : Type 0} (now kept_old kept_new : S) (ho hn : Option (List ℕ)) (wo wn : ℕ) (bytes others back : List ℕ) (why : Stopped)
+    → Passed now kept_old kept_new ho hn wo wn bytes [] (Err why) → Passed now kept_old kept_new ho hn wo wn (bytes ++ others) back (Err why)
+passed_err now ko kn ho hn wo wn bytes others back stopped.Unwritten s = sent_more ho hn wo wn bytes others false s
+passed_err now ko kn ho hn wo wn bytes others back stopped.Lost s = s
+
+pub flushed : {S : Type 0} (now kept_old kept_new : S) (ho hn : Option (List ℕ)) (wo wn : ℕ) (bytes : List ℕ)
+    → Passed now kept_old kept_new ho hn wo wn bytes [] (Ok tt) → Appends ho hn bytes × (wn ≡ wo + length bytes)
+flushed now ko kn ho hn wo wn bytes (inl (none, wrote, counted, same)) =
+    (subst (λ (l : List ℕ). Appends ho hn l) none wrote, let n : length bytes ≡ 0 = ap length (sym none) in omega (arith, counted, n))
+flushed now ko kn ho hn wo wn bytes (inr (none, wrote, counted, all)) = (wrote, counted)
+
+pub sent_behind : {S : Type 0} (now kept_old kept_new : S) (ho hm hn : Option (List ℕ)) (wo wm wn : ℕ) (bytes answer : List ℕ) (b : Bool)
+    → Passed now kept_old kept_new ho hm wo wm bytes [] (Ok tt) → Sent hm hn wm wn answer b → Sent ho hn wo wn (bytes ++ answer) false
+sent_behind now ko kn ho hm hn wo wm wn bytes answer b f s =
+    let p = flushed now ko kn ho hm wo wm bytes f in
+    record {
+      sent = bytes ++ s.sent;
+      missing = s.missing;
+      prefix = ap (λ (l : List ℕ). bytes ++ l) s.prefix ∙ sym (append_assoc bytes s.sent s.missing);
+      whole_out = λ e. cc;
+      wrote = Appends-trans ho hm hn bytes s.sent p.0 s.wrote;
+      counted = omega (arith, p.1, s.counted, length-append bytes s.sent);
+    }
+
+pub all_behind : {S : Type 0} (now kept_old kept_new last : S) (ho hm hn : Option (List ℕ)) (wo wm wn : ℕ) (bytes answer back : List ℕ)
+    → Passed now kept_old kept_new ho hm wo wm bytes [] (Ok tt) → Sent hm hn wm wn answer true → back ≡ [] → last ≡ now
+    → Passed now kept_old last ho hn wo wn (bytes ++ answer) back (Ok tt)
+all_behind now ko kn last ho hm hn wo wm wn bytes answer back f s none all =
+    let p = flushed now ko kn ho hm wo wm bytes f in
+    let same : s.sent ≡ answer = sym (append-nil s.sent) ∙ ap (λ (l : List ℕ). s.sent ++ l) (sym (s.whole_out refl)) ∙ sym s.prefix in
+    inr (
+      none,
+      Appends-trans ho hm hn bytes answer p.0 (subst (λ (l : List ℕ). Appends hm hn l) same s.wrote),
+      omega (arith, p.1, s.counted, ap length same, length-append bytes answer),
+      all,
+    )
+
+-- ---- behind what is out whole
+
+pub reaches_all : (hold : ℕ) (answers : List (List ℕ)) → ReachesWithin hold answers (concat answers)
+reaches_all hold answers = ([], sym (append-nil (concat answers)), let m = all_but_most answers in omega (arith, m))
+
+module _ {S : Type 0} (step : S → First → List ℕ → S → Type 0) where
+  pub broken_join : (hold : ℕ) (old mid new : S) (text rest : List ℕ) (ho hm hn : Option (List ℕ)) (wo wm wn : ℕ) → Whole step false old mid text rest ho hm wo wm
+      → Broken step hold mid new rest hm hn wm wn → Broken step hold old new text ho hn wo wn
+  broken_join hold old mid new text rest ho hm hn wo wm wn a b = record {
+    items = a.items ++ b.items;
+    rest = b.rest;
+    answers = a.answers ++ b.answers;
+    sent = concat a.answers ++ b.sent;
+    begins = begins_join text a.items rest b.items b.rest a.begins a.ends b.begins;
+    run = run_join step old mid new a.items b.items a.answers b.answers a.run b.run;
+    reaches = (
+      b.reaches.0,
+      concat-append a.answers b.answers ∙ ap (λ (l : List ℕ). concat a.answers ++ l) b.reaches.1 ∙ sym (append_assoc (concat a.answers) b.sent b.reaches.0),
+      let j = all_but_join a.answers b.answers in omega (arith, j, b.reaches.2, length-append (concat a.answers) b.sent),
+    );
+    wrote = Appends-trans ho hm hn (concat a.answers) b.sent a.wrote b.wrote;
+    counted = omega (arith, a.counted, b.counted, length-append (concat a.answers) b.sent);
+  }
+
+  pub loses_join : (old mid new : S) (text rest : List ℕ) (ho hm hn : Option (List ℕ)) (wo wm : ℕ) → Whole step false old mid text rest ho hm wo wm
+      → (kept : S) → Loses step mid new kept rest hm hn → Loses step old new kept text ho hn
+  loses_join old mid new text rest ho hm hn wo wm a kept b = record {
+    items = a.items ++ b.items;
+    rest = b.rest;
+    answers = a.answers ++ b.answers;
+    sent = concat a.answers ++ b.sent;
+    begins = begins_join text a.items rest b.items b.rest a.begins a.ends b.begins;
+    run = run_join step old mid new a.items b.items a.answers b.answers a.run b.run;
+    past = record {
+      done = a.items ++ b.past.done;
+      others = b.past.others;
+      out = a.answers ++ b.past.out;
+      back = b.past.back;
+      mid = b.past.mid;
+      items_are = ap (λ (l : List First). a.items ++ l) b.past.items_are ∙ sym (append_assoc a.items b.past.done b.past.others);
+      answers_are = ap (λ (l : List (List ℕ)). a.answers ++ l) b.past.answers_are ∙ sym (append_assoc a.answers b.past.out b.past.back);
+      sent_is = ap (λ (l : List ℕ). concat a.answers ++ l) b.past.sent_is ∙ sym (concat-append a.answers b.past.out);
+      run = run_join step old mid b.past.mid a.items b.past.done a.answers b.past.out a.run b.past.run;
+      amid = b.past.amid;
+    };
+    wrote = Appends-trans ho hm hn (concat a.answers) b.sent a.wrote b.wrote;
+  }

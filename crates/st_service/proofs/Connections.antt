@@ -1,0 +1,98 @@
+-- Runs without a 503, and the histories of their items.
+use Rattle.std.proofs.Common.{◌≡◌, ℕ, List, [], ◌∷◌, ◌++◌, Option, Some, None, option_map, refl, sym, ◌∙◌, ap, subst}
+use Rattle.std.specs.List.{All}
+use Rattle.std.proofs.lemmas.List.Elements.{All-head, All-tail}
+use Rattle.st_http.specs.First.{First}
+use Rattle.st_core.specs.declared.asked.Asked.{Asked}
+use Rattle.st_core.specs.State.{State}
+use Rattle.st_core.specs.Step.{step, after}
+use Rattle.st_service.specs.Answers.{Answers, told, busy, untold, unrouted, mismatched, faulty, close_of}
+use Rattle.st_service.specs.Runs.{IsBusy}
+use Rattle.st_service.specs.Worlds.{Event, IsUnrouted, ItemAsks, IsHistory, requests, next_state, unrouted_text, item_text}
+use Rattle.st_service.specs.Worlds as worlds
+use Rattle.st_service.proofs.Histories.{asks_one}
+use Rattle.st_connection.specs.Connection.{Run}
+
+abbrev NotBusy : List (List ℕ) → Type 0
+NotBusy texts = All (λ answer. IsBusy answer → ⊥) texts
+
+module _ {A : Type 0} where
+  -- what is answered to an item, by what it asks
+  record Answered (s mid : State A) (item : First) (answer : List ℕ) (asked : Option (Asked A)) : Type 0 where
+    pub asks : ItemAsks item asked
+    pub text : answer ≡ item_text item (option_map (λ a. (step s a).reply) asked)
+    pub state : mid ≡ next_state s asked
+
+  record AnsweredSo (s mid : State A) (item : First) (answer : List ℕ) : Type 0 where
+    pub asked : Option (Asked A)
+    pub answered : Answered s mid item answer asked
+
+  answered_so : {s mid : State A} {item : First} {answer : List ℕ} → Answers s item answer mid → (IsBusy answer → ⊥) → AnsweredSo s mid item answer
+  answered_so (told {line = line} {name = name} {asked = asked} at asks) some = record {
+    asked = Some asked;
+    answered = record { asks = (line, name, at, asks); text = refl; state = refl };
+  }
+  answered_so (busy {h = h} {bare = bare}) some = absurd (some (close_of h, bare, refl))
+  answered_so (untold {h = h} {bare = bare} at asks refused) some = absurd (some (close_of h, bare, refl))
+  answered_so (unrouted {h = h} {bare = bare} at) some = record {
+    asked = None;
+    answered = record { asks = subst IsUnrouted (sym at) tt; text = ap (λ r. unrouted_text r (close_of h) bare) (sym at); state = refl };
+  }
+  answered_so (mismatched {h = h} {bare = bare} at) some = record {
+    asked = None;
+    answered = record { asks = subst IsUnrouted (sym at) tt; text = ap (λ r. unrouted_text r (close_of h) bare) (sym at); state = refl };
+  }
+  answered_so faulty some = record { asked = None; answered = record { asks = tt; text = refl; state = refl } }
+
+  -- the items of such a run are a history
+  pub record Heard (s t : State A) (items : List First) (texts : List (List ℕ)) : Type 0 where
+    pub history : List (Event A)
+    pub is_history : IsHistory items history
+
+  pub heard : (s t : State A) (items : List First) (texts : List (List ℕ)) → Run Answers s items texts t → NotBusy texts → Heard s t items texts
+  heard s t [] [] run some = record { history = []; is_history = tt }
+  heard s t [] (text ∷ texts) run some = absurd run
+  heard s t (item ∷ items) [] run some = absurd run
+  heard s t (item ∷ items) (text ∷ texts) (mid, one, rest) some =
+      let first = answered_so one (All-head (λ a. IsBusy a → ⊥) text texts some) in
+      let more = heard mid t items texts rest (All-tail (λ a. IsBusy a → ⊥) text texts some) in
+      record {
+        history = record { item = item; asked = first.asked } ∷ more.history;
+        is_history = (refl, first.answered.asks, more.is_history);
+      }
+
+  -- and its answers and its state are those of the definitions
+  pub record Defined (s t : State A) (texts : List (List ℕ)) (history : List (Event A)) : Type 0 where
+    pub texts_are : texts ≡ worlds.answers s history
+    pub ends : t ≡ after s (requests history)
+
+  pub defined : (s t : State A) (items : List First) (texts : List (List ℕ)) (history : List (Event A)) → Run Answers s items texts t → NotBusy texts
+      → IsHistory items history → Defined s t texts history
+  defined s t [] [] [] run some h = record { texts_are = refl; ends = run }
+  defined s t [] [] (event ∷ events) run some h = absurd h
+  defined s t [] (text ∷ texts) history run some h = absurd run
+  defined s t (item ∷ items) [] history run some h = absurd run
+  defined s t (item ∷ items) (text ∷ texts) [] run some h = absurd h
+  defined s t (item ∷ items) (text ∷ texts) (event ∷ events) (mid, one, rest) some (is, asks, h) =
+      let first = answered_so one (All-head (λ a. IsBusy a → ⊥) text texts some) in
+      let same = asks_one item first.asked event.asked first.answered.asks asks in
+      let here : text ≡ item_text event.item (option_map (λ a. (step s a).reply) event.asked) =
+      first.answered.text ∙ ap (λ o. item_text item (option_map (λ a. (step s a).reply) o)) same ∙ ap (λ x. item_text x (option_map (λ a. (step s a).reply) event.asked)) (sym is) in
+      let there : mid ≡ next_state s event.asked = first.answered.state ∙ ap (next_state s) same in
+      let more = defined mid t items texts events rest (All-tail (λ a. IsBusy a → ⊥) text texts some) h in
+      record {
+        texts_are = λ i. here i ∷ (more.texts_are ∙ ap (λ m. worlds.answers m events) there) i;
+        ends = more.ends ∙ ap (λ m. after m (requests events)) there ∙ last event.asked refl;
+      }
+    where
+      last : (o : Option (Asked A)) → event.asked ≡ o → after (next_state s event.asked) (requests events) ≡ after s (requests (event ∷ events))
+      last None e = simp e
+      last (Some asked) e = simp e
+
+  -- a run and another after it are one
+  pub joined : (s m t : State A) (items others : List First) (texts more : List (List ℕ)) → Run Answers s items texts m → Run Answers m others more t
+      → Run Answers s (items ++ others) (texts ++ more) t
+  joined s m t [] others [] more run rest = subst (λ x. Run Answers x others more t) run rest
+  joined s m t [] others (text ∷ texts) more run rest = absurd run
+  joined s m t (item ∷ items) others [] more run rest = absurd run
+  joined s m t (item ∷ items) others (text ∷ texts) more (mid, one, run) rest = (mid, one, joined mid m t items others texts more run rest)

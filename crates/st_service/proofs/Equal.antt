@@ -1,0 +1,102 @@
+-- What a user is answered, by the user's own items and the replies to them.
+use Rattle.std.proofs.Common.{◌≡◌, ℕ, List, [], ◌∷◌, map, Bool, true, false, Option, Some, None, option_map, refl, sym, ◌∙◌, ap, subst}
+use Rattle.std.specs.Prelude.{filter_map}
+use Rattle.st_text.specs.Texts.{Text}
+use Rattle.st_http.specs.First.{First}
+use Rattle.st_core.specs.declared.asked.Asked.{Asked}
+use Rattle.st_policy.specs.declared.reply.Reply.{Reply}
+use Rattle.st_core.specs.State.{State}
+use Rattle.st_core.specs.Step.{step}
+use Rattle.st_core.specs.Worlds.{ever, NeverSystem, names, keep, replies_to}
+use Rattle.st_core.proofs.Kept.{told_the_same}
+use Rattle.st_service.specs.Worlds.{Event, ItemAsks, IsHistory, requests, is_of, kept_events, Trace, trace_of, keep_history, keep_items, item_text, answers, answers_to}
+use Rattle.st_service.proofs.Histories.{each_asks, each_kept, same_events, whose, requests_kept, own_events, own_kept}
+
+module _ {A : Type 0} where
+  -- an item, and the rest of the answers by the replies that are left
+  abbrev told_one : First → Option (Asked A) → (List (Reply A) → List (List ℕ)) → List (Reply A) → List (List ℕ)
+  told_one item None rest replies = item_text {A = A} item None ∷ rest replies
+  told_one item (Some asked) rest [] = []
+  told_one item (Some asked) rest (reply ∷ replies) = item_text item (Some reply) ∷ rest replies
+
+  abbrev told : List (Event A) → List (Reply A) → List (List ℕ)
+  told [] = λ replies. []
+  told (event ∷ events) = told_one event.item event.asked (told events)
+
+  -- a user's answers are those to the user's items by the replies to the user's requests
+  own_told : (user : Text) (s : State A) (items : List First) (history : List (Event A)) → IsHistory items history
+      → answers_to user items (answers s history) ≡ told (own_events user history) (replies_to user s (requests history))
+  own_told user s [] [] h = refl
+  own_told user s [] (event ∷ events) h = absurd h
+  own_told user s (item ∷ items) [] h = absurd h
+  own_told user s (item ∷ items) (event ∷ events) (is, asks, rest) = by event.asked refl (λ m. own_told user m items events rest)
+    where
+      Goal : Type 0
+      Goal = answers_to user (item ∷ items) (answers s (event ∷ events)) ≡ told (own_events user (event ∷ events)) (replies_to user s (requests (event ∷ events)))
+
+      by : (o : Option (Asked A)) → event.asked ≡ o
+          → ((m : State A) → answers_to user items (answers m events) ≡ told (own_events user events) (replies_to user m (requests events))) → Goal
+      by None e more = at (is_of user event.item) refl (more s)
+        where
+          at : (b : Bool) → is_of user event.item ≡ b → answers_to user items (answers s events) ≡ told (own_events user events) (replies_to user s (requests events)) → Goal
+          at true f ih = let mine = ap (is_of user) (sym is) ∙ f in simp (e, f, mine, ih)
+          at false f ih = let mine = ap (is_of user) (sym is) ∙ f in simp (e, f, mine, ih)
+      by (Some asked) e more =
+          let own = whose user item asked (subst (λ o. ItemAsks item o) e asks) in
+          at own (names asked.token user) refl (more (step s asked).state)
+        where
+          at : is_of user item ≡ names asked.token user → (b : Bool) → names asked.token user ≡ b
+              → answers_to user items (answers (step s asked).state events) ≡ told (own_events user events) (replies_to user (step s asked).state (requests events)) → Goal
+          at own true g ih = let f = own ∙ g in let mine = ap (is_of user) is ∙ f in simp (e, f, mine, g, ih)
+          at own false g ih = let f = own ∙ g in let mine = ap (is_of user) is ∙ f in simp (e, f, mine, g, ih)
+
+  -- ---- the traces say the requests that are kept, and the user's own events
+
+  abbrev asked_of : List (Trace A) → List (Asked A)
+  asked_of traces = filter_map (λ trace. trace.asked) traces
+
+  requests_traced : (user : Text) (events : List (Event A)) → requests events ≡ asked_of (map (trace_of user) events)
+  requests_traced user [] = refl
+  requests_traced user (event ∷ rest) = at event.asked refl (requests_traced user rest)
+    where
+      at : (o : Option (Asked A)) → event.asked ≡ o → requests rest ≡ asked_of (map (trace_of user) rest) → requests (event ∷ rest) ≡ asked_of (map (trace_of user) (event ∷ rest))
+      at None e ih = simp (e, ih)
+      at (Some asked) e ih = simp (e, ih)
+
+  abbrev own_of : List (Trace A) → List (Event A)
+  own_of traces = filter_map (λ trace. option_map (λ item. record { item = item; asked = trace.asked }) trace.own) traces
+
+  events_traced : (user : Text) (events : List (Event A)) → own_events user events ≡ own_of (map (trace_of user) events)
+  events_traced user [] = refl
+  events_traced user (event ∷ rest) = at (is_of user event.item) refl (events_traced user rest)
+    where
+      at : (b : Bool) → is_of user event.item ≡ b → own_events user rest ≡ own_of (map (trace_of user) rest) → own_events user (event ∷ rest) ≡ own_of (map (trace_of user) (event ∷ rest))
+      at true e ih = simp (e, ih)
+      at false e ih = simp (e, ih)
+
+  -- histories of which the same items are kept
+  pub same_kept : (s : State A) (user : Text) (items others : List First) (history other : List (Event A)) → IsHistory items history → IsHistory others other
+      → keep_items user s history ≡ keep_items user s other → keep_history user s history ≡ keep_history user s other
+  same_kept s user items others history other is also same =
+      let sight = ever user s (requests history) in
+      let sight_too = ever user s (requests other) in
+      ap (map (trace_of user)) (same_events (kept_events user sight s history) (kept_events user sight_too s other)
+      (each_kept user sight s history (each_asks items history is)) (each_kept user sight_too s other (each_asks others other also)) same)
+
+  -- histories of which the same is kept
+  pub equal : (s : State A) (user : Text) (items others : List First) (history other : List (Event A)) → IsHistory items history → IsHistory others other
+      → NeverSystem user s (requests history) → NeverSystem user s (requests other) → keep_history user s history ≡ keep_history user s other
+      → answers_to user items (answers s history) ≡ answers_to user others (answers s other)
+  equal s user items others history other is also never never_too same =
+      let sight = ever user s (requests history) in
+      let sight_too = ever user s (requests other) in
+      let events = kept_events user sight s history in
+      let events_too = kept_events user sight_too s other in
+      let kept_same : keep user s (requests history) ≡ keep user s (requests other) =
+      sym (requests_kept user sight s history (each_asks items history is)) ∙ requests_traced user events ∙ ap asked_of same
+      ∙ sym (requests_traced user events_too) ∙ requests_kept user sight_too s other (each_asks others other also) in
+      let replies_same : replies_to user s (requests history) ≡ replies_to user s (requests other) =
+      told_the_same s user (requests history) never ∙ ap (replies_to user s) kept_same ∙ sym (told_the_same s user (requests other) never_too) in
+      let own_same : own_events user history ≡ own_events user other =
+      sym (own_kept user sight s history) ∙ events_traced user events ∙ ap own_of same ∙ sym (events_traced user events_too) ∙ own_kept user sight_too s other in
+      own_told user s items history is ∙ (λ i. told (own_same i) (replies_same i)) ∙ sym (own_told user s others other also)

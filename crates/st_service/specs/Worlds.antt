@@ -1,0 +1,122 @@
+-- What the items of a text ask, what of them a user may notice, and what the user is answered. The items may come from one connection
+-- or from several, one after another.
+use Rattle.std.specs.Prelude.{◌≡◌, ℕ, Bool, false, ◌||◌, List, [], ◌∷◌, map, filter_map, if◌then◌else◌, Option, Some, None, option_map, ⊤}
+use Rattle.st_text.specs.Texts.{Text}
+use Rattle.st_dir.specs.Directory.{Directory}
+use Rattle.st_http.specs.declared.routes.Line.{Line}
+use Rattle.st_http.specs.First.{First, message, fault, more, fields_of}
+use Rattle.st_http.specs.Routes.{Routed, found, no_route, bad_method, routed}
+use Rattle.st_http.specs.Token.{token_of}
+use Rattle.st_core.specs.declared.asked.Asked.{Asked}
+use Rattle.st_policy.specs.declared.reply.Reply.{Reply}
+use Rattle.st_core.specs.State.{State}
+use Rattle.st_core.specs.Step.{judge, step}
+use Rattle.st_core.specs.Worlds.{Sight, ever, names, matters}
+use Rattle.st_connection.specs.Render.{fault_text}
+use Rattle.st_service.specs.Answers.{Asks, token_from, close_of, reply_text, no_route_text, bad_method_text}
+
+-- ---- what the items ask
+
+-- an item, and what it asks: nothing where no line has its path and its method, or where it is a fault
+pub record Event (A : Type 0) : Type 0 where
+  pub item : First
+  pub asked : Option (Asked A)
+
+-- no line has the path and the method
+abbrev pub IsUnrouted : Routed → Type 0
+IsUnrouted (found line name) = ⊥
+IsUnrouted no_route = ⊤
+IsUnrouted (bad_method allow) = ⊤
+
+-- The item asks what its line, the name in its path, its token and its body make. No item asks two things.
+abbrev pub ItemAsks : {A : Type 0} → First → Option (Asked A) → Type 0
+ItemAsks (message h body bare) (Some asked) =
+    (line : Line) × (name : List ℕ) × (routed h.method h.target ≡ found line name) × Asks line name (token_of (fields_of h)) body asked
+ItemAsks (message h body bare) None = IsUnrouted (routed h.method h.target)
+ItemAsks (fault reason bare) (Some asked) = ⊥
+ItemAsks (fault reason bare) None = ⊤
+ItemAsks more asked = ⊥
+
+-- these are the items, in order, each with what it asks
+abbrev pub IsHistory : {A : Type 0} → List First → List (Event A) → Type 0
+IsHistory [] [] = ⊤
+IsHistory [] (event ∷ events) = ⊥
+IsHistory (item ∷ items) [] = ⊥
+IsHistory (item ∷ items) (event ∷ events) = (event.item ≡ item) × ItemAsks item event.asked × IsHistory items events
+
+-- the requests of a history, in order
+abbrev pub requests : {A : Type 0} → List (Event A) → List (Asked A)
+requests history = filter_map (λ event. event.asked) history
+
+-- ---- the items that a user's answers may rest on
+
+-- An item is the user's where its token names the user, whether or not the secret is right, and whether or not it has a line. A fault
+-- has no token, and is nobody's.
+abbrev pub is_of : Text → First → Bool
+is_of user (message h body bare) = names (option_map token_from (token_of (fields_of h))) user
+is_of user (fault reason bare) = false
+is_of user more = false
+
+-- what has no line counts as refused, as a fault does
+abbrev pub asks_what_matters : {A : Type 0} → Sight → Directory A → Option (Asked A) → Bool
+asks_what_matters sight d None = false
+asks_what_matters sight d (Some asked) = matters sight (judge d asked)
+
+abbrev pub item_stays : {A : Type 0} → Text → Sight → Directory A → Event A → Bool
+item_stays user sight d event = is_of user event.item || asks_what_matters sight d event.asked
+
+-- the state after an item that asks this
+abbrev pub next_state : {A : Type 0} → State A → Option (Asked A) → State A
+next_state s None = s
+next_state s (Some asked) = (step s asked).state
+
+-- The items that stay for this sight, in order, each judged in the whole run.
+abbrev pub kept_events : {A : Type 0} → Text → Sight → State A → List (Event A) → List (Event A)
+kept_events user sight s [] = []
+kept_events user sight s (event ∷ rest) =
+    if item_stays user sight s.directory event
+    then event ∷ kept_events user sight (next_state s event.asked) rest
+    else kept_events user sight (next_state s event.asked) rest
+
+-- What an item leaves to notice: what it asks, and of the user's own the item itself, whose head says how its answer is written. How others
+-- write what they ask does not matter.
+pub record Trace (A : Type 0) : Type 0 where
+  pub own : Option First
+  pub asked : Option (Asked A)
+
+abbrev pub trace_of : {A : Type 0} → Text → Event A → Trace A
+trace_of user event = record { own = if is_of user event.item then Some event.item else None; asked = event.asked }
+
+-- what the items leave that stay for what the user may ever see
+abbrev pub keep_history : {A : Type 0} → Text → State A → List (Event A) → List (Trace A)
+keep_history user s history = map (trace_of user) (kept_events user (ever user s (requests history)) s history)
+
+-- the items that stay, as they were sent
+abbrev pub keep_items : {A : Type 0} → Text → State A → List (Event A) → List First
+keep_items user s history = map (λ event. event.item) (kept_events user (ever user s (requests history)) s history)
+
+-- ---- the answers
+
+-- the answer where no line has the path and the method
+abbrev pub unrouted_text : Routed → Bool → Bool → List ℕ
+unrouted_text (found line name) close bare = []
+unrouted_text no_route close bare = no_route_text close bare
+unrouted_text (bad_method allow) close bare = bad_method_text allow close bare
+
+-- the answer to an item that gets this reply, or none
+abbrev pub item_text : {A : Type 0} → First → Option (Reply A) → List ℕ
+item_text (message h body bare) (Some reply) = reply_text reply (close_of h) bare
+item_text (message h body bare) None = unrouted_text (routed h.method h.target) (close_of h) bare
+item_text (fault reason bare) reply = fault_text reason bare
+item_text more reply = []
+
+-- the answers to the items of a history, in order: what asks takes its step, and what does not leaves the state
+abbrev pub answers : {A : Type 0} → State A → List (Event A) → List (List ℕ)
+answers s [] = []
+answers s (event ∷ rest) = item_text event.item (option_map (λ asked. (step s asked).reply) event.asked) ∷ answers (next_state s event.asked) rest
+
+-- of the answers to items, those to the user's own
+abbrev pub answers_to : Text → List First → List (List ℕ) → List (List ℕ)
+answers_to user [] texts = []
+answers_to user (item ∷ items) [] = []
+answers_to user (item ∷ items) (text ∷ texts) = if is_of user item then text ∷ answers_to user items texts else answers_to user items texts
