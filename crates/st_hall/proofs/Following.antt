@@ -1,0 +1,107 @@
+-- What follows from entries that follow each other.
+use Rattle.std.proofs.Common.{◌≡◌, ℕ, ◌+◌, subst, List, [], ◌∷◌, ◌++◌, length, fold, refl, ap, sym, ◌∙◌, arith, length-append, append_assoc, Result, Ok, Err, MatchResult, IfOk}
+use Rattle.std.proofs.lemmas.List.{append-nil}
+use mathlib.Core.List.{IsPrefix}
+use Rattle.logbook.specs.Pages.{Book}
+use Rattle.std.specs.declared.alloc.Global.{Global}
+use Rattle.st_core.specs.Step.{after, step}
+use Rattle.st_hall.specs.Steps.{Ask, State, Told, next, state_after, reply_of}
+use Rattle.st_hall.specs.Views.{EndsWith}
+use Rattle.st_dir.specs.Directory.{Directory}
+use Rattle.st_hall.specs.Trails.{Trail}
+use Rattle.st_hall.specs.Editions.{Copy, Added, taken, Agrees, Follows}
+
+run_snoc : (s : State) (xs : List Ask) (a : Ask) → after s (xs ++ a ∷ []) ≡ (step (after s xs) a).state
+run_snoc s [] a = refl
+run_snoc s (x ∷ xs) a = run_snoc (step s x).state xs a
+
+-- the state after one change more
+pub after_snoc : (s : State) (xs : List Ask) (a : Ask) → state_after s (xs ++ a ∷ []) ≡ next (state_after s xs) a
+unfolding state_after next
+after_snoc s xs a = run_snoc s xs a
+
+pub after_none : (s : State) → state_after s [] ≡ s
+unfolding state_after
+after_none s = refl
+
+-- a copy that agrees, and takes entries that follow it, agrees with the last list
+pub follows_taken : (start : State) (book : Book) (c : Copy) (es : List Added) (ys : List Ask) → Agrees start book c → Follows book c.trail.list es ys
+    → Agrees start book (fold taken c es) × ((fold taken c es).trail.list ≡ ys)
+follows_taken start book c [] ys agrees same = (agrees, same)
+follows_taken start book c (e ∷ es) ys agrees f =
+    follows_taken start book (taken c e) es ys
+    (ap (λ s. next s e.ask) agrees.0 ∙ (sym (after_snoc start c.trail.list e.ask) ∙ ap (state_after start) (sym f.1)), f.0)
+    f.2
+
+pub follows_length : (book : Book) (xs : List Ask) (es : List Added) (ys : List Ask) → Follows book xs es ys → length ys ≡ length xs + length es
+follows_length book xs [] ys same = omega (arith, ap length same)
+follows_length book xs (e ∷ es) ys f = omega (arith, follows_length book e.trail.list es ys f.2, ap length f.1, length-append xs (e.ask ∷ []))
+
+pub empty_of : {A : Type 0} (xs : List A) → length xs ≡ 0 → xs ≡ []
+empty_of [] h = refl
+empty_of (x ∷ xs) h = absurd (omega arith)
+
+-- where the last list is the first, there is no entry
+pub follows_none : (book : Book) (xs : List Ask) (es : List Added) (ys : List Ask) → Follows book xs es ys → xs ≡ ys → es ≡ []
+follows_none book xs es ys f same = empty_of es (omega (arith, follows_length book xs es ys f, ap length same))
+
+pub first_empty : {A : Type 0} (xs ys : List A) → xs ++ ys ≡ [] → xs ≡ []
+first_empty xs ys h = empty_of xs (omega (arith, ap length h, length-append xs ys))
+
+-- a copy that agrees agrees after publishing, whether that found memory or not
+pub publishes : {A E : Type 0} (start : State) (book : Book) (shown shown' : Copy) (es es' : List Added) (ys : List Ask) (r : Result A E)
+    → Agrees start book shown → Follows book shown.trail.list es ys
+    → MatchResult r (λ _. (shown' ≡ fold taken shown es) × (es' ≡ [])) (λ _. (shown' ≡ shown) × (es' ≡ es))
+    → Agrees start book shown' × Follows book shown'.trail.list (es' ++ []) ys
+publishes start book shown shown' es es' ys (Ok x) agrees f m =
+    let t = follows_taken start book shown es ys agrees f in
+    rw (m.1, m.0) (t.0, t.1)
+publishes start book shown shown' es es' ys (Err e) agrees f m =
+    rw (m.1, m.0, append-nil es) (agrees, f)
+
+pub published_list : {A E : Type 0} (start : State) (book : Book) (shown shown' : Copy) (es es' : List Added) (ys : List Ask) (r : Result A E)
+    → Agrees start book shown → Follows book shown.trail.list es ys
+    → MatchResult r (λ _. (shown' ≡ fold taken shown es) × (es' ≡ [])) (λ _. (shown' ≡ shown) × (es' ≡ es))
+    → MatchResult r (λ _. shown'.trail.list ≡ ys) (λ _. shown'.trail.list ≡ shown.trail.list)
+published_list start book shown shown' es es' ys (Ok x) agrees f m =
+    let t = follows_taken start book shown es ys agrees f in
+    rw (m.0) (t.1)
+published_list start book shown shown' es es' ys (Err e) agrees f m = ap (λ (c : Copy). c.trail.list) m.0
+
+-- one entry more
+pub follows_snoc : (book : Book) (xs : List Ask) (es : List Added) (ys : List Ask) (e : Added) → Follows book xs es ys → e.trail.book ≡ book → e.trail.list ≡ ys ++ e.ask ∷ []
+    → Follows book xs (es ++ e ∷ []) e.trail.list
+follows_snoc book xs [] ys e f is list = (is, list ∙ ap (λ (l : List Ask). l ++ e.ask ∷ []) (sym f), refl)
+follows_snoc book xs (d ∷ es) ys e f is list = (f.0, f.1, follows_snoc book d.trail.list es ys e f.2 is list)
+
+-- a reply after some list is the last of the run of a list that ends with the change
+pub ends : {A E : Type 0} (start : State) (before : List Ask) (a : Ask) (reply : A → Told) (r : Result A E) → IfOk r (λ x. reply x ≡ reply_of (state_after start before) a)
+    → IfOk r (λ x. (list : List Ask) × EndsWith start list a (reply x))
+ends start before a reply (Ok x) h = (before ++ a ∷ [], (before, refl, h))
+ends start before a reply (Err e) h = tt
+
+-- the first list begins the last
+pub follows_prefix : (book : Book) (xs : List Ask) (es : List Added) (ys : List Ask) → Follows book xs es ys → IsPrefix xs ys
+follows_prefix book xs [] ys f = ([], append-nil xs ∙ f)
+follows_prefix book xs (e ∷ es) ys f =
+    let p = follows_prefix book e.trail.list es ys f.2 in
+    (e.ask ∷ p.0, sym (append_assoc xs (e.ask ∷ []) p.0) ∙ (ap (λ (l : List Ask). l ++ p.0) (sym f.1) ∙ p.1))
+
+-- what the clerk keeps holds again once a change was added, which waits
+pub adds : (start : State) (book : Book) (shown shown' : Copy) (es es' : List Added) (front front' : List Ask) (directory directory' : Directory Global) (total total' : ℕ)
+    (asked copy : Ask) (trail : Trail)
+    → Agrees start book shown → Follows book shown.trail.list es front → directory ≡ (state_after start front).directory → total ≡ length front
+    → shown' ≡ shown → es' ≡ es → copy ≡ asked → trail.book ≡ book → trail.list ≡ front ++ asked ∷ [] → front' ≡ front ++ asked ∷ []
+    → ((s : State) → s.directory ≡ directory → directory' ≡ (next s asked).directory) → total' ≡ total + 1
+    → Agrees start book shown' × Follows book shown'.trail.list (es' ++ record { ask = copy; trail = trail } ∷ []) front' × (directory' ≡ (state_after start front').directory) × (total' ≡ length front')
+adds start book shown shown' es es' front front' directory directory' total total' asked copy trail agrees follows is_after counted same_shown same_queue is_copy is_book is_list is_front decides one_more =
+    let e : Added = record { ask = copy; trail = trail } in
+    let list : trail.list ≡ front ++ copy ∷ [] = is_list ∙ ap (λ (a : Ask). front ++ a ∷ []) (sym is_copy) in
+    let snoc : Follows book shown.trail.list (es ++ e ∷ []) trail.list = follows_snoc book shown.trail.list es front e follows is_book list in
+    let ends_so : Follows book shown.trail.list (es ++ e ∷ []) front' = subst (Follows book shown.trail.list (es ++ e ∷ [])) (is_list ∙ sym is_front) snoc in
+    let decided : directory' ≡ (next (state_after start front) asked).directory = decides (state_after start front) (sym is_after) in (
+      rw same_shown agrees,
+      rw (same_shown, same_queue) ends_so,
+      decided ∙ (ap (λ (s : State). s.directory) (sym (after_snoc start front asked)) ∙ ap (λ (l : List Ask). (state_after start l).directory) (sym is_front)),
+      omega (arith, one_more, counted, ap length is_front, length-append front (asked ∷ [])),
+    )

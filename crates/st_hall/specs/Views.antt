@@ -1,0 +1,18 @@
+-- What contracts see of a desk and of a clerk.
+use Rattle.std.specs.Prelude.{ℕ, ◌≡◌, List, [], ◌∷◌, ◌++◌}
+use Rattle.st_hall.specs.Steps.{Ask, State, Told, reply_of, state_after}
+
+-- the changes that a desk has seen, and how many receipts were got with it
+pub record Seat : Type 0 where
+  pub seen : List Ask
+  pub made : ℕ
+
+-- the one list of changes, and the part of it that is published
+pub record Roll : Type 0 where
+  pub list : List Ask
+  pub published : List Ask
+
+-- the list ends with the change, and the reply is the last of its run
+abbrev pub EndsWith : State → List Ask → Ask → Told → Type 0
+EndsWith start list asked reply =
+    (before : List Ask) × (list ≡ before ++ asked ∷ []) × (reply ≡ reply_of (state_after start before) asked)

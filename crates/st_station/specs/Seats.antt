@@ -1,0 +1,59 @@
+-- What each item is answered at a desk, and the seat that it leaves.
+use Rattle.std.specs.Prelude.{◌≡◌, ℕ, ◌+◌, Bool, true, false, List}
+use mathlib.Core.List.{IsPrefix}
+use Rattle.httparse.specs.Grammar.{RequestHead}
+use Rattle.st_http.specs.declared.fields.Reason.{Reason}
+use Rattle.st_http.specs.declared.routes.Line.{Line}
+use Rattle.st_http.specs.declared.take.Message.{Message}
+use Rattle.st_http.specs.First.{First, message, fault, fields_of}
+use Rattle.st_http.specs.Routes.{found, routed}
+use Rattle.st_http.specs.Take.{ShowsMessage}
+use Rattle.st_http.specs.Token.{token_of}
+use Rattle.st_policy.specs.declared.refusal.Refusal.{Refusal}
+use Rattle.st_policy.specs.declared.reply.Reply.{Reply}
+use Rattle.st_core.specs.Step.{asks_for_change}
+use Rattle.st_connection.specs.Render.{fault_text, busy_text}
+use Rattle.st_service.specs.Answers.{Asks, reply_text, close_of, Answers as ServiceAnswers}
+use Rattle.st_hall.specs.Steps.{Ask, State, Told, reply_of, state_after}
+use Rattle.st_hall.specs.Views.{Seat, EndsWith}
+
+-- what was seen is seen still, and so many receipts more were got
+pub record Moves (more : ℕ) (s t : Seat) : Type 0 where
+  pub seen : IsPrefix s.seen t.seen
+  pub made : t.made ≡ s.made + more
+
+-- the item is a message whose route is a line, which asks this
+pub record AsksIn (h : RequestHead) (body : List ℕ) (asked : Ask) : Type 0 where
+  pub line : Line
+  pub name : List ℕ
+  pub route : routed h.method h.target ≡ found line name
+  pub asks : Asks line name (token_of (fields_of h)) body asked
+
+-- At a seat an item may get this answer, and leave this seat.
+pub data Answers (start : State) : Seat → First → List ℕ → Seat → Type 0 where
+  -- a read is told what the state after the seen changes replies
+  read : {s t : Seat} {h : RequestHead} {body : List ℕ} {bare : Bool} {asked : Ask}
+      → AsksIn h body asked → asks_for_change asked ≡ false → Moves 0 s t
+      → Answers start s (message h body bare) (reply_text (reply_of (state_after start t.seen) asked) (close_of h) bare) t
+  -- a change is told the last reply of a list that ends with it, and is counted
+  made : {s t : Seat} {h : RequestHead} {body : List ℕ} {bare : Bool} {asked : Ask} {reply : Told}
+      → AsksIn h body asked → asks_for_change asked ≡ true → (list : List Ask) × EndsWith start list asked reply → Moves 1 s t
+      → Answers start s (message h body bare) (reply_text reply (close_of h) bare) t
+  -- memory was wanting for the text of a refusal, which is counted
+  untold : {s t : Seat} {h : RequestHead} {body : List ℕ} {bare : Bool} {asked : Ask} {refusal : Refusal}
+      → AsksIn h body asked → asks_for_change asked ≡ true → (list : List Ask) × EndsWith start list asked (Reply.Refused refusal) → Moves 1 s t
+      → Answers start s (message h body bare) (busy_text (close_of h) bare) t
+  -- memory was wanting, and no change is made
+  busy : {s t : Seat} {h : RequestHead} {body : List ℕ} {bare : Bool} → Moves 0 s t → Answers start s (message h body bare) (busy_text (close_of h) bare) t
+  -- a message without a line asks nothing, and is answered as by a service in any state
+  unrouted : {s : Seat} {h : RequestHead} {body : List ℕ} {bare : Bool} {text : List ℕ}
+      → ((line : Line) (name : List ℕ) → routed h.method h.target ≡ found line name → ⊥)
+      → ((state : State) → ServiceAnswers state (message h body bare) text state)
+      → Answers start s (message h body bare) text s
+  -- nor does a fault
+  faulty : {s : Seat} {reason : Reason} {bare : Bool} → Answers start s (fault reason bare) (fault_text reason bare) s
+
+-- the answer to a message, whatever its head and its body are
+abbrev pub Replied : State → Seat → Message → List ℕ → Seat → Type 0
+Replied start old m answer new =
+    (h : RequestHead) (body : List ℕ) (bare : Bool) → ShowsMessage h body bare m → Answers start old (message h body bare) answer new

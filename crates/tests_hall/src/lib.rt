@@ -1,0 +1,7 @@
+//! Tests of two copies, a clerk and two desks.
+#![tactic(auto)]
+
+#[cfg(test)]
+mod asks;
+#[cfg(test)]
+mod fronts;
