@@ -33,32 +33,34 @@ fn label_at(number: u64) -> &'static str {
     }
 }
 
+/// A row of these parts, or none where one of them is none.
+fn row_with(point: Point, label: Label, id: Option<Id>, note: Option<Note>) -> Option<Row> {
+    let id = id?;
+    let note = note?;
+    Some(Row {
+        id,
+        point,
+        label,
+        note,
+    })
+}
+
 /// A row without a note, or none where the words make none.
 fn row_of(
     alloc: Global,
     id: &str,
-    place: [u64; 3],
+    [x, y, t]: [u64; 3],
     label: &str,
 ) -> Result<Option<Row>, AllocError> {
-    let [x, y, t] = place;
-    let Some(id) = Id::new(alloc, id)? else {
+    let Ok(point) = Point::new(x, y, t) else {
         return Ok(None);
     };
     let Ok(label) = Label::parse(alloc, label) else {
         return Ok(None);
     };
-    let Ok(point) = Point::new(x, y, t) else {
-        return Ok(None);
-    };
-    let Some(note) = Note::new(alloc, "")? else {
-        return Ok(None);
-    };
-    Ok(Some(Row {
-        id,
-        point,
-        label,
-        note,
-    }))
+    let id = Id::new(alloc, id)?;
+    let note = Note::new(alloc, "")?;
+    Ok(row_with(point, label, id, note))
 }
 
 /// The row of this number, at a place without a pattern: an id of 8 bytes, and a label of 3.
@@ -81,12 +83,10 @@ pub fn row_in(alloc: Global, line: &str) -> Result<Option<Row>, AllocError> {
     let Some(id) = words.next() else {
         return Ok(None);
     };
-    let mut place = [0; 3];
-    for part in &mut place {
-        *part = number_of(words.next());
-    }
+    let (x, y) = (number_of(words.next()), number_of(words.next()));
+    let t = number_of(words.next());
     let label = words.next().unwrap_or("");
-    row_of(alloc, id, place, label)
+    row_of(alloc, id, [x, y, t], label)
 }
 
 /// The number that a word says, and 0 where there is none.

@@ -14,6 +14,19 @@ use std::time::Instant;
 // How many rows a page has.
 const LIMIT: usize = 100;
 
+/// How long a call took, in nanoseconds, and how many rows it showed.
+#[derive(Clone, Copy)]
+struct Took {
+    nanoseconds: u64,
+    rows: u64,
+}
+
+/// The nanoseconds since then.
+fn since(rt: &HostRuntime, start: Instant) -> io::Result<u64> {
+    let nanoseconds = start.elapsed(rt)?.as_nanos();
+    Ok(u64::try_from(nanoseconds).unwrap_or(u64::MAX))
+}
+
 /// How long calls took, in nanoseconds, and how many rows they showed.
 #[derive(Drop)]
 pub struct Times {
@@ -29,12 +42,10 @@ impl Times {
         }
     }
 
-    /// Adds a call that began then.
-    fn add(&mut self, rt: &HostRuntime, start: Instant, rows: u64) -> io::Result<()> {
-        let nanoseconds = start.elapsed(rt)?.as_nanos();
-        self.each
-            .push(u64::try_from(nanoseconds).unwrap_or(u64::MAX))?;
-        self.rows = self.rows.wrapping_add(rows);
+    /// Adds a call.
+    fn add(&mut self, took: Took) -> Result<(), AllocError> {
+        self.each.push(took.nanoseconds)?;
+        self.rows = self.rows.wrapping_add(took.rows);
         Ok(())
     }
 
@@ -98,9 +109,7 @@ impl Bench {
         let mut times = Times::new(self.alloc);
         for asked in boxes {
             if asked.size == size {
-                let start = Instant::now(rt)?;
-                let rows = self.table.count(&asked.query, &self.auths)?;
-                times.add(rt, start, rows)?;
+                times.add(self.time_count(rt, asked)?)?;
             }
         }
         Ok(times)
@@ -111,12 +120,26 @@ impl Bench {
         let mut times = Times::new(self.alloc);
         for asked in boxes {
             if asked.size == size {
-                let start = Instant::now(rt)?;
-                let rows = self.first_rows(asked)?;
-                times.add(rt, start, rows)?;
+                times.add(self.time_page(rt, asked)?)?;
             }
         }
         Ok(times)
+    }
+
+    /// Times a count of a box.
+    fn time_count(&self, rt: &HostRuntime, asked: &Asked) -> io::Result<Took> {
+        let start = Instant::now(rt)?;
+        let rows = self.table.count(&asked.query, &self.auths)?;
+        let nanoseconds = since(rt, start)?;
+        Ok(Took { nanoseconds, rows })
+    }
+
+    /// Times a page of 100 rows of a box.
+    fn time_page(&self, rt: &HostRuntime, asked: &Asked) -> io::Result<Took> {
+        let start = Instant::now(rt)?;
+        let rows = self.first_rows(asked)?;
+        let nanoseconds = since(rt, start)?;
+        Ok(Took { nanoseconds, rows })
     }
 
     /// How many rows the first page of a box has.
@@ -132,8 +155,7 @@ impl Bench {
     pub fn puts(&mut self, rt: &HostRuntime, rows: &[Row]) -> io::Result<u64> {
         let start = Instant::now(rt)?;
         put_all(&mut self.table, rows)?;
-        let nanoseconds = u64::try_from(start.elapsed(rt)?.as_nanos()).unwrap_or(u64::MAX);
-        Ok(nanoseconds / (rows.len() as u64).max(1))
+        Ok(since(rt, start)? / (rows.len() as u64).max(1))
     }
 }
 

@@ -28,6 +28,14 @@ struct Tally(u8);
 impl Replies for Tally {
     type Reply = Digit;
 
+    ghost State = { Unit {0} };
+
+    ghost now = { λ _. tt };
+
+    ghost kept = { λ _. tt };
+
+    ghost has_failed = { λ _. false };
+
     ghost answers = { λ _ _ _ _. Unit {0} };
 
     ghost faults = { λ _ _ _. tt };
@@ -35,6 +43,10 @@ impl Replies for Tally {
     fn reply(&mut self, _message: &Message<'_>) -> Digit {
         self.0 = self.0 % 9 + 1;
         Digit([b'0' + self.0, b'\n'])
+    }
+
+    fn settle(&mut self) -> Result<(), Failed> {
+        Ok(())
     }
 }
 
@@ -57,6 +69,7 @@ fn served(alloc: Global, input: &[u8], written: &[u8]) -> Option<(Result<Ended, 
         &mut Tally(0),
         &routes,
         buffer.as_mut_slice(),
+        &mut [],
         &mut reader,
         &mut writer,
     );
@@ -117,6 +130,7 @@ fn served_without_end(alloc: Global) -> Option<(Result<Ended, IoFault>, u64, usi
         &mut Tally(0),
         &routes,
         buffer.as_mut_slice(),
+        &mut [],
         &mut reader,
         &mut writer,
     );

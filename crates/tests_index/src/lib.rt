@@ -1,32 +1,12 @@
-//! Tests of keys, boxes, jumps, plans, lanes, indexes and tables, and of the allocator that refuses.
+//! Tests of indexes, the UB-tree and walks over it, and of the allocator that refuses.
 #![tactic(auto)]
 
 #[cfg(test)]
-mod boxes;
-#[cfg(test)]
-mod growths;
-#[cfg(test)]
 mod indexes;
-#[cfg(test)]
-mod jumps;
-#[cfg(test)]
-mod keys;
-#[cfg(test)]
-mod lanes;
-#[cfg(test)]
-mod mirrored;
-#[cfg(test)]
-mod paging;
-#[cfg(test)]
-mod plans;
 #[cfg(test)]
 mod putting;
 #[cfg(test)]
 mod refusals;
-#[cfg(test)]
-mod tables;
-#[cfg(test)]
-mod tabling;
 #[cfg(test)]
 mod trees;
 #[cfg(test)]

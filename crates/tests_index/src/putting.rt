@@ -9,6 +9,16 @@ use st_key::Point;
 use st_label::Label;
 use std::alloc::{AllocError, Allocator};
 
+// An id of this text.
+fn id_of<A: Allocator + Copy>(alloc: A, text: &str) -> Option<Id<A>> {
+    Id::new(alloc, text).ok()?
+}
+
+// A note of this text.
+fn note_of<A: Allocator + Copy>(alloc: A, text: &str) -> Option<Note<A>> {
+    Note::new(alloc, text).ok()?
+}
+
 // A row at a place on one line.
 fn row_at<A: Allocator + Copy>(
     alloc: A,
@@ -16,11 +26,15 @@ fn row_at<A: Allocator + Copy>(
     (id, label): (&str, &str),
     note: &str,
 ) -> Option<Row<A>> {
+    let point = Point::new(x, 0, 0).ok()?;
+    let label = Label::parse(alloc, label).ok()?;
+    let id = id_of(alloc, id)?;
+    let note = note_of(alloc, note)?;
     Some(Row {
-        id: Id::new(alloc, id).ok()??,
-        point: Point::new(x, 0, 0).ok()?,
-        label: Label::parse(alloc, label).ok()?,
-        note: Note::new(alloc, note).ok()??,
+        id,
+        point,
+        label,
+        note,
     })
 }
 

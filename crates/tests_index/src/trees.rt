@@ -5,7 +5,7 @@ use refusing_alloc::Refusing;
 use st_index::ListIndex;
 use st_key::Period;
 use st_ubtree::UbTree;
-use std::alloc::Global;
+use std::alloc::{Allocator, Global};
 
 // A tree of so many rows, each of its own key.
 fn filled(alloc: Global, count: u64) -> Option<UbTree> {
@@ -206,6 +206,11 @@ fn as_a_list(rt: HostRuntime) {
     assert_eq!(rt; differences(rt.alloc()), Some((None, None, 0)));
 }
 
+// Puts a further row into the tree, if it has as many rows as that. Whether it then is a row more.
+fn put_next<A: Allocator + Copy>(alloc: A, tree: &mut UbTree<A>, x: u64) -> bool {
+    tree.len() == x && put_at(tree, alloc, x, ("a", ""), "") == Some(None)
+}
+
 // Puts a further row into the tree. Gives how many growths it takes, if none of them changes the tree.
 fn put_counted<'a>(
     heap: &'a Refusing<Global>,
@@ -213,10 +218,7 @@ fn put_counted<'a>(
     x: u64,
 ) -> Option<u64> {
     let count = growths_at(heap, tree, x)?;
-    if tree.len() != x || put_at(tree, heap, x, ("a", ""), "")?.is_some() {
-        return None;
-    }
-    Some(count)
+    put_next(heap, tree, x).then_some(count)
 }
 
 // How many growths each of 65 rows takes that are put into a tree one by one.

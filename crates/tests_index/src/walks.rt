@@ -1,7 +1,7 @@
 //! Walks over the regions of a UB-tree.
 
 use crate::putting::put_at;
-use crate::tabling::query_of;
+use st_box::Query;
 use st_index::{Leaf, Row, RowIndex};
 use st_key::{Key, Period};
 use st_plan::plan;
@@ -76,7 +76,8 @@ struct Steps {
 
 // Takes so many steps of a walk over a box.
 fn take_steps<I: RowIndex>(alloc: Global, index: &I, asked: [u64; 6], count: u64) -> Option<Steps> {
-    let query = query_of(asked)?;
+    let [x0, x1, y0, y1, t0, t1] = asked;
+    let query = Query::new(x0, x1, y0, y1, t0, t1).ok()?;
     let Ok(ranges) = plan(alloc, &query, 16, index.period()) else {
         return None;
     };

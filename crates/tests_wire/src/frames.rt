@@ -1,7 +1,6 @@
 //! Heads of requests, and the answers to them.
 
-use crate::exchanges::ended;
-use crate::serving::ZERO;
+use crate::serving::{ZERO, ended};
 use st_service::Ended;
 use std::alloc::Global;
 

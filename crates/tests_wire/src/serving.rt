@@ -49,6 +49,16 @@ pub fn served<A: Allocator + Copy>(
     Some((ended, writer.into_inner()))
 }
 
+/// How a service of the input ends, if it writes the output.
+pub fn ended(alloc: Global, input: &str, output: &str) -> Option<Ended> {
+    let (ended, written) = served(alloc, alloc, input.as_bytes())?;
+    if written.as_slice() == output.as_bytes() {
+        ended.ok()
+    } else {
+        None
+    }
+}
+
 /// Whether the text is that of these answers.
 pub fn is_joined(text: &[u8], answers: &[&str]) -> bool {
     let mut rest = text;

@@ -49,12 +49,28 @@ const NORMAL_FORMS: [(&str, &str); 13] = [
     ("A|B", "A|B"),
 ];
 
+// A label's normal form, copied.
+fn normal_form(label: &Label) -> Option<Label> {
+    label.normal().ok()?.copy().ok()
+}
+
+// Whether the label is its own normal form, and this text.
+fn is_settled_as(label: &Label, text: &str) -> Option<bool> {
+    let is_normal = label.is_normal().ok()?;
+    Some(is_normal && label.text() == text)
+}
+
+// Whether a label's normal form is this text and its own normal form, and the label's own where it is the same text.
+fn has_normal_form(label: &Label, normal: &str) -> Option<bool> {
+    let is_normal = label.is_normal().ok()?;
+    let is_settled = is_settled_as(&normal_form(label)?, normal)?;
+    Some(is_settled && is_normal == (label.text() == normal))
+}
+
 // Whether the text is a label whose normal form is the other text.
 fn is_normal_form(alloc: Global, text: &str, normal: &str) -> Option<bool> {
     let label = Label::parse(alloc, text).ok()?;
-    let other = label.normal().ok()?.copy().ok()?;
-    let is_settled = label.is_normal().ok()? == (text == normal);
-    Some(other.text() == normal && other.is_normal().ok()? && is_settled)
+    Some(has_normal_form(&label, normal)? && label.text() == text)
 }
 
 #[test]

@@ -55,10 +55,30 @@ fn a_label_needs_no_permission(rt: HostRuntime) {
     assert_eq!(rt; number(rt.alloc(), "zoe", request), Some(0));
 }
 
+// Whether this is a want of that authorization.
+fn is_want_of(refusal: &Refusal, text: &str) -> bool {
+    match refusal {
+        Refusal::Denied(Denial::Authorization { name }) => name.is(text),
+        _ => false,
+    }
+}
+
 // Whether the request is refused for want of this authorization.
 fn lacks(alloc: Global, asker: &str, request: Option<Request>, text: &str) -> Option<bool> {
-    match decided(alloc, asker, &request?)? {
-        Err(Refusal::Denied(Denial::Authorization { name })) => Some(name.is(text)),
+    let decided = decided(alloc, asker, &request?)?;
+    Some(decided.is_err_and(|refusal| is_want_of(&refusal, text)))
+}
+
+// The permission of whose want this refusal is, where it is one on that table.
+fn wanted_on(refusal: &Refusal, text: &str) -> Option<Permission> {
+    match refusal {
+        Refusal::Denied(Denial::Permission { name, table }) => {
+            if table.as_ref()?.is(text) {
+                Some(*name)
+            } else {
+                None
+            }
+        }
         _ => None,
     }
 }
@@ -70,17 +90,8 @@ fn forbidden(
     request: Option<Request>,
     text: &str,
 ) -> Option<Permission> {
-    match decided(alloc, asker, &request?)? {
-        Err(
-            Refusal::Denied(
-                Denial::Permission {
-                    name,
-                    table: Some(table),
-                },
-            ),
-        ) if table.is(text) => Some(name),
-        _ => None,
-    }
+    let refusal = decided(alloc, asker, &request?)?.err()?;
+    wanted_on(&refusal, text)
 }
 
 #[test]

@@ -42,17 +42,20 @@ pub fn label(alloc: Global, label: &str) -> Option<Request> {
     })
 }
 
-// Whether the request has this name, is a change, and is of this table.
-fn is_told(request: Option<Request>, name: &str, is_change: bool, table: Option<&str>) -> bool {
-    let Some(request) = request else {
-        return false;
-    };
-    let is_of_table = match (request.table(), table) {
+// Whether the request is of this table, or of none.
+fn is_of(request: &Request, table: Option<&str>) -> bool {
+    match (request.table(), table) {
         (Some(found), Some(table)) => found.is(table),
         (None, None) => true,
         _ => false,
-    };
-    is_of_table && request.name() == name && request.is_change() == is_change
+    }
+}
+
+// Whether the request has this name, is a change, and is of this table.
+fn is_told(request: Option<Request>, name: &str, is_change: bool, table: Option<&str>) -> bool {
+    request.is_some_and(|request| {
+        request.name() == name && request.is_change() == is_change && is_of(&request, table)
+    })
 }
 
 #[test]

@@ -1,27 +1,26 @@
 //! Pages, one after another.
 
-use crate::tabling::{WHOLE, empty, query_of, told};
+use crate::tabling::{WHOLE, empty, place_at, query_of, row_at, told};
 use st_auth::Auths;
-use st_index::{Id, Note, Row};
+use st_index::Row;
 use st_key::{Period, Place, Point};
-use st_label::Label;
 use st_scan::Page;
 use st_table::Table;
-use st_text::Words;
 use st_ubtree::UbTree;
 use std::alloc::Global;
 
-// A row of a number: each third is hidden, and five stand at each point.
-fn numbered(alloc: Global, number: u16) -> Option<Row> {
-    let id = format!(in alloc; "{number}").ok()?;
-    let label = if number % 3 == 0 { "S" } else { "A" };
+// The point of a number: five stand at each.
+fn point_of(number: u16) -> Option<Point> {
     let at = u64::from(number / 5);
-    Some(Row {
-        id: Id::new(alloc, id.as_str()).ok()??,
-        point: Point::new(at * 37 % 64, at % 7, at * 50_000).ok()?,
-        label: Label::parse(alloc, label).ok()?,
-        note: Note::new(alloc, "").ok()??,
-    })
+    Point::new(at * 37 % 64, at % 7, at * 50_000).ok()
+}
+
+// A row of a number: each third is hidden.
+fn numbered(alloc: Global, number: u16) -> Option<Row> {
+    let point = point_of(number)?;
+    let label = if number % 3 == 0 { "S" } else { "A" };
+    let id = format!(in alloc; "{number}").ok()?;
+    row_at(alloc, point, id.as_str(), label)
 }
 
 // A table of 300 rows, of which 200 are seen.
@@ -35,11 +34,7 @@ fn crowd(alloc: Global) -> Option<Table<UbTree>> {
 
 // The place of a row.
 fn place(alloc: Global, row: &Row) -> Option<Place> {
-    Some(Place {
-        point: row.point,
-        id: Words::new(alloc, row.id.as_str()).ok()?,
-        label: Words::new(alloc, row.label.text()).ok()?,
-    })
+    place_at(alloc, row.point, row.id.as_str(), row.label.text())
 }
 
 // What a page shows, and the place after which more follows, if more does.
@@ -79,18 +74,26 @@ fn all_pages(alloc: Global, table: &Table<UbTree>, limit: usize) -> Option<Strin
     None
 }
 
+// How many lines a text has, and whether the other is the same.
+fn alike(whole: &str, text: &str) -> (bool, usize) {
+    (text == whole, whole.lines().count())
+}
+
 // Whether pages of so many rows show what one page of all does, and how many rows that are.
-fn pages_agree(alloc: Global, limit: usize) -> Option<(bool, usize)> {
-    let table = crowd(alloc)?;
-    let whole = all_pages(alloc, &table, 1_000)?;
-    let lines = whole.as_str().lines().count();
-    let text = all_pages(alloc, &table, limit)?;
-    Some((text.as_str() == whole.as_str(), lines))
+fn pages_agree(alloc: Global, table: &Table<UbTree>, limit: usize) -> Option<(bool, usize)> {
+    let whole = all_pages(alloc, table, 1_000)?;
+    let text = all_pages(alloc, table, limit)?;
+    Some(alike(whole.as_str(), text.as_str()))
+}
+
+// Whether pages of so many rows of the crowd do.
+fn crowd_agrees(alloc: Global, limit: usize) -> Option<(bool, usize)> {
+    pages_agree(alloc, &crowd(alloc)?, limit)
 }
 
 #[test]
 fn pages_of_each_limit(rt: HostRuntime) {
     for limit in 1..8 {
-        assert_eq!(rt; pages_agree(rt.alloc(), limit), Some((true, 200)));
+        assert_eq!(rt; crowd_agrees(rt.alloc(), limit), Some((true, 200)));
     }
 }

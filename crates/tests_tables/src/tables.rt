@@ -1,10 +1,11 @@
 //! What tables hold after puts and deletes, and what their reads show.
 
 use crate::tabling::{
-    Said, WHOLE, counted, got, is_page, is_text, paged, place_of, put, query_of, row_of, table_of,
+    Said, WHOLE, counted, got, is_page, is_text, note_of, paged, place_of, put, query_of, row_of,
+    table_of,
 };
 use st_auth::Auths;
-use st_index::Note;
+use st_box::Query;
 use st_key::Period;
 use st_scan::ScanFault;
 use st_table::Table;
@@ -75,7 +76,7 @@ fn count_at(alloc: Global, at: u64) -> Option<u64> {
 fn noted(alloc: Global) -> Option<String> {
     let mut table = moved(alloc)?;
     let mut row = row_of(alloc, ("p", "A", [5, 5, 5]))?;
-    row.note = Note::new(alloc, " n").ok()??;
+    row.note = note_of(alloc, " n")?;
     table.put(&row).ok()?;
     got(alloc, &table, "p", &["A"])
 }
@@ -176,20 +177,32 @@ fn pages_after_places(rt: HostRuntime) {
     assert!(rt; is_page(page_after_all(rt.alloc()), "", false));
 }
 
-// Whether a grid of so many columns and lines over a line of four rows, one of them hidden, has these counts.
+// A line of four rows, one of them hidden.
+const LINE: [Said; 4] = [
+    ("a", "", [0, 0, 0]),
+    ("b", "", [1, 0, 0]),
+    ("c", "", [2, 0, 0]),
+    ("d", "S", [2, 0, 0]),
+];
+
+// Whether the grid of a query with so many columns and one line has these counts.
+fn has_counts(
+    table: &Table<UbTree>,
+    query: &Query,
+    auths: &Auths,
+    columns: usize,
+    wanted: &[u64],
+) -> Result<bool, ScanFault> {
+    let grid = table.grid(query, auths, columns, 1)?;
+    Ok(grid.as_slice() == wanted)
+}
+
+// Whether a grid of so many columns over that line has these counts.
 fn is_grid(alloc: Global, columns: usize, wanted: &[u64]) -> Option<Result<bool, ScanFault>> {
-    let rows = [
-        ("a", "", [0, 0, 0]),
-        ("b", "", [1, 0, 0]),
-        ("c", "", [2, 0, 0]),
-        ("d", "S", [2, 0, 0]),
-    ];
-    let table = table_of(alloc, &rows)?;
     let query = query_of([0, 2, 0, 0, 0, 0])?;
-    match table.grid(&query, &Auths::none(alloc), columns, 1) {
-        Ok(grid) => Some(Ok(grid.as_slice() == wanted)),
-        Err(fault) => Some(Err(fault)),
-    }
+    let table = table_of(alloc, &LINE)?;
+    let auths = Auths::none(alloc);
+    Some(has_counts(&table, &query, &auths, columns, wanted))
 }
 
 #[test]

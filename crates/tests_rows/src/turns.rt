@@ -1,7 +1,6 @@
 //! Requests of any user over one connection, and their answers.
 
-use crate::exchanges::ended;
-use st_service::Ended;
+use crate::serving::{is_served, push_answer, push_request};
 use std::alloc::Global;
 
 /// A user's token, the method and the path, and the body of a request; the status and the body of its answer.
@@ -58,12 +57,7 @@ pub const NEW_V: Turn<'static> = (
 fn requests(alloc: Global, turns: &[Turn<'_>]) -> Option<String> {
     let mut text = String::new(alloc);
     for (token, line, body, _, _) in turns {
-        write!(
-            text,
-            "{line} HTTP/1.1\r\nHost: a\r\nAuthorization: Bearer {token}\r\nContent-Length: {}\r\n\r\n{body}",
-            body.len()
-        )
-        .ok()?;
+        push_request(&mut text, line.split_once(' ')?, *token, *body)?;
     }
     Some(text)
 }
@@ -72,12 +66,7 @@ fn requests(alloc: Global, turns: &[Turn<'_>]) -> Option<String> {
 fn answers(alloc: Global, turns: &[Turn<'_>]) -> Option<String> {
     let mut text = String::new(alloc);
     for (_, _, _, status, reply) in turns {
-        write!(
-            text,
-            "HTTP/1.1 {status}\r\nContent-Type: application/json\r\nContent-Length: {}\r\n\r\n{reply}",
-            reply.len()
-        )
-        .ok()?;
+        push_answer(&mut text, *status, *reply)?;
     }
     Some(text)
 }
@@ -85,6 +74,6 @@ fn answers(alloc: Global, turns: &[Turn<'_>]) -> Option<String> {
 /// Whether each request gets its answer from a fresh service, and the connection then ends between messages.
 pub fn are_told(alloc: Global, turns: &[Turn<'_>]) -> Option<bool> {
     let input = requests(alloc, turns)?;
-    let ended = ended(alloc, input.as_str(), answers(alloc, turns)?.as_str());
-    Some(ended == Some(Ended::Clean))
+    let output = answers(alloc, turns)?;
+    Some(is_served(alloc, input.as_str(), output.as_str()))
 }

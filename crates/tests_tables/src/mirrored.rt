@@ -1,12 +1,11 @@
 //! A table beside a plain list, through calls in no order.
 
-use crate::tabling::{empty, query_of};
+use crate::tabling::{empty, query_of, row_at};
 use rand_core::{Rng, SeedableRng};
 use rand_xoshiro::SplitMix64;
 use st_auth::Auths;
-use st_index::{Id, Note, Row};
+use st_index::Row;
 use st_key::{Period, Point};
-use st_label::Label;
 use st_table::Table;
 use st_ubtree::UbTree;
 use std::alloc::Global;
@@ -40,15 +39,38 @@ fn label_text(label: u64) -> &'static str {
     }
 }
 
+// The text of a spot's id.
+fn id_text(alloc: Global, spot: Spot) -> Option<String> {
+    format!(in alloc; "{}", spot.id).ok()
+}
+
 // The row of a spot.
 fn row_of(alloc: Global, spot: Spot) -> Option<Row> {
-    let id = format!(in alloc; "{}", spot.id).ok()?;
-    Some(Row {
-        id: Id::new(alloc, id.as_str()).ok()??,
-        point: Point::new(spot.x, 0, spot.t).ok()?,
-        label: Label::parse(alloc, label_text(spot.label)).ok()?,
-        note: Note::new(alloc, "").ok()??,
-    })
+    let point = Point::new(spot.x, 0, spot.t).ok()?;
+    let id = id_text(alloc, spot)?;
+    row_at(alloc, point, id.as_str(), label_text(spot.label))
+}
+
+// How many of the spots that may be seen stand up to a spot's place and second.
+fn count_up_to(spots: &[Spot], spot: Spot) -> usize {
+    let mut count = 0usize;
+    for held in spots {
+        if held.label < 2 && held.x <= spot.x && held.t <= spot.t {
+            count = count.wrapping_add(1);
+        }
+    }
+    count
+}
+
+// How many of the spots that may be seen have a spot's id.
+fn count_of_id(spots: &[Spot], spot: Spot) -> usize {
+    let mut count = 0usize;
+    for held in spots {
+        if held.label < 2 && held.id == spot.id {
+            count = count.wrapping_add(1);
+        }
+    }
+    count
 }
 
 // A table, and a list that says what the table is to hold.
@@ -81,7 +103,7 @@ impl Mirror {
     }
 
     fn delete(&mut self, spot: Spot) -> Option<()> {
-        let id = format!(in self.alloc; "{}", spot.id).ok()?;
+        let id = id_text(self.alloc, spot)?;
         self.table.delete(id.as_str(), label_text(spot.label));
         self.forget(spot);
         Some(())
@@ -89,30 +111,18 @@ impl Mirror {
 
     // How many rows both count up to a spot's place and second.
     fn counts(&self, spot: Spot) -> Option<[usize; 2]> {
-        let auths = Auths::from_list(self.alloc, &["A"]).ok()?;
         let query = query_of([0, spot.x, 0, 0, 0, spot.t])?;
+        let auths = Auths::from_list(self.alloc, &["A"]).ok()?;
         let count = self.table.count(&query, &auths).ok()?;
-        let mut listed = 0usize;
-        for held in self.spots.as_slice() {
-            if held.label < 2 && held.x <= spot.x && held.t <= spot.t {
-                listed = listed.wrapping_add(1);
-            }
-        }
-        Some([count as usize, listed])
+        Some([count as usize, count_up_to(self.spots.as_slice(), spot)])
     }
 
     // How many rows of a spot's id both get.
     fn gets(&self, spot: Spot) -> Option<[usize; 2]> {
         let auths = Auths::from_list(self.alloc, &["A"]).ok()?;
-        let id = format!(in self.alloc; "{}", spot.id).ok()?;
-        let rows = self.table.get(id.as_str(), &auths).ok()?;
-        let mut listed = 0usize;
-        for held in self.spots.as_slice() {
-            if held.label < 2 && held.id == spot.id {
-                listed = listed.wrapping_add(1);
-            }
-        }
-        Some([rows.len(), listed])
+        let id = id_text(self.alloc, spot)?;
+        let count = self.table.get(id.as_str(), &auths).ok()?.len();
+        Some([count, count_of_id(self.spots.as_slice(), spot)])
     }
 
     // Makes the call that a number says. Gives what the table and the list answer.

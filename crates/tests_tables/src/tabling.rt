@@ -13,15 +13,38 @@ use std::alloc::{Allocator, Global};
 /// What a test says of a row: its id, its label, and its point.
 pub type Said = (&'static str, &'static str, [u64; 3]);
 
+// An id of this text.
+fn id_of<A: Allocator + Copy>(alloc: A, text: &str) -> Option<Id<A>> {
+    Id::new(alloc, text).ok()?
+}
+
+/// A note of this text.
+pub fn note_of<A: Allocator + Copy>(alloc: A, text: &str) -> Option<Note<A>> {
+    Note::new(alloc, text).ok()?
+}
+
+/// A row at a point, without a note.
+pub fn row_at<A: Allocator + Copy>(
+    alloc: A,
+    point: Point,
+    id: &str,
+    label: &str,
+) -> Option<Row<A>> {
+    let label = Label::parse(alloc, label).ok()?;
+    let id = id_of(alloc, id)?;
+    let note = note_of(alloc, "")?;
+    Some(Row {
+        id,
+        point,
+        label,
+        note,
+    })
+}
+
 /// A row without a note.
 pub fn row_of<A: Allocator + Copy>(alloc: A, (id, label, point): Said) -> Option<Row<A>> {
     let [x, y, t] = point;
-    Some(Row {
-        id: Id::new(alloc, id).ok()??,
-        point: Point::new(x, y, t).ok()?,
-        label: Label::parse(alloc, label).ok()?,
-        note: Note::new(alloc, "").ok()??,
-    })
+    row_at(alloc, Point::new(x, y, t).ok()?, id, label)
 }
 
 /// A table of no rows over a UB-tree.
@@ -64,11 +87,16 @@ pub fn told<A: Allocator + Copy>(alloc: Global, rows: &[&Row<A>]) -> Option<Stri
     Some(lines)
 }
 
+// What a get by a set of authorizations shows.
+fn told_of(alloc: Global, table: &Table<UbTree>, id: &str, auths: &Auths) -> Option<String> {
+    let rows = table.get(id, auths).ok()?;
+    told(alloc, rows.as_slice())
+}
+
 /// What a get shows.
 pub fn got(alloc: Global, table: &Table<UbTree>, id: &str, auths: &[&str]) -> Option<String> {
     let auths = Auths::from_list(alloc, auths).ok()?;
-    let rows = table.get(id, &auths).ok()?;
-    told(alloc, rows.as_slice())
+    told_of(alloc, table, id, &auths)
 }
 
 /// What a count of a box shows.
@@ -83,12 +111,15 @@ pub fn counted(
 }
 
 /// A place, which need name no row.
+pub fn place_at(alloc: Global, point: Point, id: &str, label: &str) -> Option<Place> {
+    let id = Words::new(alloc, id).ok()?;
+    let label = Words::new(alloc, label).ok()?;
+    Some(Place { point, id, label })
+}
+
+/// A place of these numbers.
 pub fn place_of(alloc: Global, id: &str, label: &str, [x, y, t]: [u64; 3]) -> Option<Place> {
-    Some(Place {
-        point: Point::new(x, y, t).ok()?,
-        id: Words::new(alloc, id).ok()?,
-        label: Words::new(alloc, label).ok()?,
-    })
+    place_at(alloc, Point::new(x, y, t).ok()?, id, label)
 }
 
 /// What a page of a box shows after a place, and whether more follow.
