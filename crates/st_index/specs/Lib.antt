@@ -4,3 +4,5 @@ pub mod Order
 pub mod Index
 pub mod ListValue
 pub mod Lists
+pub mod RowLists
+pub mod RowViews

@@ -10,6 +10,6 @@ pub record HasListRoom {A : Type 0} (s : ListValue A) (row : Row A) (spare : Lis
   pub no_entries : spare.entries.items ≡ []
   pub room : length s.entries < vec_capacity spare.entries
   pub no_rows : spare.rows.items ≡ []
-  pub row_room : 0 < vec_capacity spare.rows
-  pub rows_room : All (λ (e : EntryValue A). e.at ≡ place_of s.period row → length e.rows < vec_capacity spare.rows) s.entries
+  pub rows_room : All (λ (e : EntryValue A). e.at ≡ place_of s.period row → 0 < length e.rows → length e.rows < vec_capacity spare.rows) s.entries
+  pub no_row_room : All (λ (e : EntryValue A). e.at ≡ place_of s.period row → ⊥) s.entries → vec_capacity spare.rows ≡ 0
   pub count : length (rows_of s.entries) + 1 < 2 ^ 64

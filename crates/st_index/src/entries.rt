@@ -13,7 +13,7 @@ use crate::entry::Entry;
 use crate::order;
 use crate::row::Row;
 use st_key::Key;
-use std::alloc::Allocator;
+use std::alloc::{AllocError, Allocator};
 use std::cmp::Ordering;
 
 /// The index of the key's entry, or the index where it would stand.
@@ -28,6 +28,22 @@ pub fn find<A: Allocator + Copy>(entries: &[Entry<A>], key: Key) -> Result<usize
     )
 }
 
+/// An empty list for one row more than a key holds. It takes no memory where the key holds none.
+pub fn list_for_more<A: Allocator + Copy>(
+    alloc: A,
+    held: usize,
+) -> Result<Vec<Row<A>, A>, AllocError>
+    requires { held + 1 < 2 ^ 64 }
+    ensures empty { IfOk result (λ rows. rows.items ≡ []) }
+    ensures room { 0 < held → IfOk result (λ rows. held < vec_capacity rows) }
+    ensures no_room { held ≡ 0 → IfOk result (λ rows. vec_capacity rows ≡ 0) }
+{
+    if held == 0 {
+        return Ok(Vec::new(alloc));
+    }
+    Vec::with_capacity(alloc, held + 1)
+}
+
 /// Puts a row into a list of entries, at its key. The lists take it without more memory.
 pub fn put<A: Allocator + Copy>(
     entries: &mut Vec<Entry<A>, A>,
@@ -37,8 +53,7 @@ pub fn put<A: Allocator + Copy>(
 )
     requires empty { rows.items ≡ [] }
     requires room { vec_len entries.old < vec_capacity entries.old }
-    requires row_room { 0 < vec_capacity rows }
-    requires rows_room { All (λ (e : EntryValue A). e.at ≡ rank key → length e.rows < vec_capacity rows) entries.old.items }
+    requires rows_room { All (λ (e : EntryValue A). e.at ≡ rank key → 0 < length e.rows → length e.rows < vec_capacity rows) entries.old.items }
     ensures added { Adds row (rows_of entries.old.items) (rows_of entries.new.items) }
     ensures rising { (period : Period) (lo hi : _) → rank key ≡ place_of period row → Rises period lo hi entries.old.items → lo ≤ rank key → rank key < hi → IsAbsent period (rank key) (name_of row) (rows_of entries.old.items) → Rises period lo hi entries.new.items }
     ensures longer { vec_len entries.old ≤ vec_len entries.new }
@@ -52,7 +67,7 @@ pub fn put<A: Allocator + Copy>(
             entry.put(row, rows);
         }
         Err(i) => {
-            let Ok(()) = entries.insert(i, Entry::new(key, row, rows)) else {
+            let Ok(()) = entries.insert(i, Entry::new(key, row)) else {
                 unreachable!()
             };
         }
@@ -81,7 +96,7 @@ pub fn take<A: Allocator + Copy>(
     let entry = &mut entries[i];
     let row = entry.take(id, label)?;
     if entry.is_empty() {
-        let _ = entries.remove(i);
+        drop(entries.remove(i));
     }
     Some(row)
 }

@@ -1,25 +1,25 @@
 //! The rows of one key.
 ghost use Rattle.std.specs.Prelude.{◌≡◌, ◌+◌, ◌<◌, ◌==◌, ◌^◌, [], ◌∷◌, length, vec_capacity, IfSome, IfNone, IfOk, OnErr};
 ghost use Rattle.std.specs.List.{All, Contains};
-ghost use Rattle.std.specs.List.Sorted.{IsSearchInRange, IsBinarySearchResult};
 ghost use Rattle.st_key.specs.declared.period.Period.{Period};
 ghost use Rattle.st_index.specs.declared.row.Row.{Row};
 ghost use Rattle.st_key.specs.Key.{rank};
-ghost use Rattle.st_index.specs.Rows.{name_cmp, name_of, NamesRise, place_of};
+ghost use Rattle.st_index.specs.RowViews.{viewed};
+ghost use Rattle.st_index.specs.Rows.{name_of, NamesRise, place_of};
 ghost use Rattle.st_index.specs.Index.{Adds, Swaps, IsAbsent};
 
 use crate::row::Row;
+use crate::row_list::RowList;
+use crate::rows_view::RowsView;
 use st_key::Key;
 use std::alloc::{Allocator, Global};
-use std::cmp::Ordering;
 use std::marker::Model;
-use std::mem;
 
 /// The rows of one key, by their names: by the id's bytes, then by the label's.
 #[derive(Drop)]
 pub struct Entry<A: Allocator = Global> {
     pub key: Key,
-    rows: Vec<Row<A>, A>,
+    rows: RowList<A>,
 }
 
 impl<A: Allocator> Model for Entry<A> {
@@ -28,60 +28,41 @@ impl<A: Allocator> Model for Entry<A> {
 
     ghost Value = { EntryValue A };
 
-    ghost view = { λ e. record { at = rank e.key; rows = e.rows.items } };
-}
-
-/// The index of the row of this name, or the index where it would stand.
-fn find_name<A: Allocator + Copy>(rows: &[Row<A>], id: &str, label: &str) -> Result<usize, usize>
-    ensures bound { IsSearchInRange result (length rows.now) }
-    ensures place { IsBinarySearchResult (λ (r : Row A). name_cmp (name_of r) (record { id = id.now; label = label.now })) rows.now result }
-{
-    rows.binary_search_by(
-        |row: &Row<A>| -> Ordering
-            ensures { result ≡ name_cmp (name_of row.now) (record { id = id.entry.now; label = label.entry.now }) }
-        { row.cmp_name(id, label) },
-    )
+    ghost view = { λ e. record { at = rank e.key; rows = e.rows } };
 }
 
 impl<A: Allocator + Copy> Entry<A> {
-    /// An entry of one row. The list of rows takes it without more memory.
-    pub fn new(key: Key, row: Row<A>, mut rows: Vec<Row<A>, A>) -> Self
-        requires empty { rows.items ≡ [] }
-        requires room { 0 < vec_capacity rows }
+    /// An entry of one row, which takes no memory of its own.
+    pub fn new(key: Key, row: Row<A>) -> Self
         ensures { result ≡ record { at = rank key; rows = row ∷ [] } }
     {
-        let Ok(()) = rows.push(row) else {
-            unreachable!()
-        };
-        Entry { key, rows }
+        Entry {
+            key,
+            rows: RowList::one(row),
+        }
     }
 
-    /// Puts a row at its place. The new list of rows takes it without more memory.
-    pub fn put(&mut self, row: Row<A>, mut rows: Vec<Row<A>, A>)
+    /// Puts a row at its place. Where there are rows already, the new list takes all of them without more
+    /// memory.
+    pub fn put(&mut self, row: Row<A>, rows: Vec<Row<A>, A>)
         requires empty { rows.items ≡ [] }
-        requires room { length self.old.rows < vec_capacity rows }
+        requires room { 0 < length self.old.rows → length self.old.rows < vec_capacity rows }
         ensures at { self.new.at ≡ self.old.at }
         ensures added { Adds row self.old.rows self.new.rows }
         ensures named { (period : Period) → NamesRise self.old.rows → IsAbsent period (place_of period row) (name_of row) self.old.rows → All (λ r. place_of period r ≡ place_of period row) self.old.rows → NamesRise self.new.rows }
     {
-        let place = match find_name(&self.rows, row.id.as_str(), row.label.text()) {
+        let place = match self.rows().find(row.id.as_str(), row.label.text()) {
             Ok(place) => place,
             Err(place) => place,
         };
-        let Ok(()) = rows.append(&mut self.rows) else {
-            unreachable!()
-        };
-        let Ok(()) = rows.insert(place, row) else {
-            unreachable!()
-        };
-        self.rows = rows;
+        self.rows.insert(place, row, rows);
     }
 
     /// The rows.
-    pub fn rows(&self) -> &[Row<A>]
-        ensures { result.now ≡ self.now.rows }
+    pub fn rows(&self) -> RowsView<'_, A>
+        ensures { viewed result ≡ self.now.rows }
     {
-        self.rows.as_slice()
+        self.rows.rows()
     }
 
     /// How many rows the entry has.
@@ -96,7 +77,7 @@ impl<A: Allocator + Copy> Entry<A> {
     pub fn is_empty(&self) -> bool
         ensures { result ≡ (length self.now.rows == 0) }
     {
-        self.rows.is_empty()
+        self.rows().is_empty()
     }
 
     /// The row of this name.
@@ -104,8 +85,9 @@ impl<A: Allocator + Copy> Entry<A> {
         ensures some { IfSome result (λ row. Contains self.now.rows row.now × ((name_of row.now) ≡ record { id = id.now; label = label.now })) }
         ensures absent { IfNone result (NamesRise self.now.rows → All (λ (r : Row A). (name_of r) ≡ record { id = id.now; label = label.now } → ⊥) self.now.rows) }
     {
-        match find_name(&self.rows, id, label) {
-            Ok(i) => Some(&self.rows[i]),
+        let rows = self.rows();
+        match rows.find(id, label) {
+            Ok(i) => Some(rows.at(i)),
             Err(_) => None,
         }
     }
@@ -118,7 +100,7 @@ impl<A: Allocator + Copy> Entry<A> {
         ensures absent { IfNone result (NamesRise self.old.rows → All (λ (r : Row A). (name_of r) ≡ record { id = id.now; label = label.now } → ⊥) self.old.rows) }
         ensures named { NamesRise self.old.rows → NamesRise self.new.rows }
     {
-        match find_name(&self.rows, id, label) {
+        match self.rows().find(id, label) {
             Ok(i) => Some(self.rows.remove(i)),
             Err(_) => None,
         }
@@ -132,8 +114,8 @@ impl<A: Allocator + Copy> Entry<A> {
         ensures absent { OnErr result (NamesRise self.old.rows → All (λ (r : Row A). (name_of r) ≡ (name_of row) → ⊥) self.old.rows) }
         ensures named { NamesRise self.old.rows → NamesRise self.new.rows }
     {
-        match find_name(&self.rows, row.id.as_str(), row.label.text()) {
-            Ok(i) => Ok(mem::replace(&mut self.rows[i], row)),
+        match self.rows().find(row.id.as_str(), row.label.text()) {
+            Ok(i) => Ok(self.rows.replace(i, row)),
             Err(_) => Err(row),
         }
     }

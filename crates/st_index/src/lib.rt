@@ -10,6 +10,8 @@ mod list_index;
 mod note;
 pub mod order;
 mod row;
+mod row_list;
+mod rows_view;
 
 pub use entry::Entry;
 pub use id::{Id, MAX_ID};
@@ -17,3 +19,4 @@ pub use index::{AsRow, Leaf, RowIndex};
 pub use list_index::{ListIndex, ListSpare};
 pub use note::{MAX_NOTE, Note};
 pub use row::Row;
+pub use rows_view::RowsView;

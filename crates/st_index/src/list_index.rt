@@ -86,7 +86,7 @@ impl<A: Allocator + Copy> RowIndex for ListIndex<A> {
         }
         let alloc = *self.entries.allocator();
         let held = entries::count_at(&self.entries, row.key(self.period));
-        let rows = Vec::with_capacity(alloc, held + 1)?;
+        let rows = entries::list_for_more(alloc, held)?;
         let entries = Vec::with_capacity(alloc, self.entries.len() + 1)?;
         Ok(ListSpare { entries, rows })
     }

@@ -57,13 +57,12 @@ module _ {A : Type 0} where
 
   pub room_for_kid : (key : ℕ) (items : List (Row A)) (capacity : ℕ) (kids : List (NodeValue A)) (i : ℕ) (kid : NodeValue A) → i < length kids → kid ≡ get_or kids i kid → IsRoomFor key items capacity (entries_in (pages_of kids)) → IsRoomFor key items capacity (entries_in kid.pages)
   room_for_kid key items capacity kids i kid l read h =
-      let P : EntryValue A → Type 0 = λ e. e.at ≡ key → length e.rows < capacity in
+      let P : EntryValue A → Type 0 = λ e. e.at ≡ key → 0 < length e.rows → length e.rows < capacity in
       let front = pages_of (take i kids) in
       let back = pages_of (drop (suc i) kids) in
       let is = ap entries_in (pages_split kids i kid l read) ∙ entries-append front (kid.pages ++ back) ∙ ap (λ es. entries_in front ++ es) (entries-append kid.pages back) in
       record {
         empty = h.empty;
-        some = h.some;
         enough = all_left P (entries_in kid.pages) (entries_in back) (all_right P (entries_in front) (entries_in kid.pages ++ entries_in back) (subst (All P) is h.enough));
       }
 

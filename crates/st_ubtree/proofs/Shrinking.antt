@@ -61,6 +61,14 @@ module _ {A : Type 0} where
   page_taken key name first height old new None some placed rising shorter most fits = tt
   page_taken key name first height old new (Some row) some placed rising shorter most fits = shrinks_page key row first height old new some.0 placed rising shorter most fits
 
+  pub page_named : (name : Name) (old new : List (Row A)) (r : Option (Row A)) → IfSome r (λ row. Adds row new old × (name_of row ≡ name)) → IfSome r (λ row. name_of row ≡ name)
+  page_named name old new None some = tt
+  page_named name old new (Some row) some = some.1
+
+  pub page_kept : (first height : ℕ) (old new : List (EntryValue A)) (r : Option (Row A)) → IfNone r (new ≡ old) → IfNone r (page_node first height new ≡ page_node first height old)
+  page_kept first height old new None same = ap (page_node first height) same
+  page_kept first height old new (Some row) same = tt
+
   pub page_without : (key : ℕ) (name : Name) (first : ℕ) (es : List (EntryValue A)) (r : Option (Row A)) → IfNone r ((period : Period) (lo hi : ℕ) → Rises period lo hi es → IsAbsent period key name (rows_of es)) → IfNone r (HasNone key name (page first es ∷ []))
   page_without key name first es None h = none_in_page key name first es h
   page_without key name first es (Some row) h = tt

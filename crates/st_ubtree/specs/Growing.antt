@@ -6,11 +6,10 @@ use Rattle.st_index.specs.declared.row.Row.{Row}
 use Rattle.st_index.specs.Rows.{EntryValue, Rises}
 use Rattle.st_ubtree.specs.Pages.{PageValue, NodeValue, Spans, GrowsBy, AreWide, IsKid, Starts, pages_of}
 
--- an empty list of rows that can hold one more than the key's
+-- an empty list of rows that can hold one more than the key's, if it has some
 pub record IsRoomFor {A : Type 0} (key : ℕ) (items : List (Row A)) (capacity : ℕ) (es : List (EntryValue A)) : Type 0 where
   pub empty : items ≡ []
-  pub some : 0 < capacity
-  pub enough : All (λ (e : EntryValue A). e.at ≡ key → length e.rows < capacity) es
+  pub enough : All (λ (e : EntryValue A). e.at ≡ key → 0 < length e.rows → length e.rows < capacity) es
 
 -- an empty list of entries with room
 abbrev pub IsBlankPage : {A B : Type 0} → Option (Vec B A) → Type 0

@@ -1,8 +1,9 @@
 -- What a tree is seen as, and what holds of it.
 use Rattle.std.specs.Prelude.{◌≡◌, ℕ, ◌+◌, ◌-◌, ◌^◌, ◌<◌, ◌≤◌, List, [], ◌∷◌, length, vec_capacity, None}
+use Rattle.std.specs.List.{All}
 use Rattle.st_key.specs.declared.period.Period.{Period}
 use Rattle.st_index.specs.declared.row.Row.{Row}
-use Rattle.st_index.specs.Rows.{key_end, place_of}
+use Rattle.st_index.specs.Rows.{EntryValue, key_end, place_of}
 use Rattle.st_index.specs.Index.{Region, region}
 use Rattle.st_ubtree.specs.Pages.{PageValue, NodeValue, Spans, entries_in, rows_in}
 use Rattle.st_ubtree.specs.Growing.{AreBlank, IsBlankPage, IsRoomFor}
@@ -29,10 +30,11 @@ regions_of hi [] = []
 regions_of hi (p ∷ []) = region p.first (hi - 1) ∷ []
 regions_of hi (p ∷ q ∷ ps) = region p.first (q.first - 1) ∷ regions_of hi (q ∷ ps)
 
--- the memory that one more row takes in a tree: a list for the rows of its key, and a page and nodes exactly where
--- some are split
+-- the memory that one more row takes in a tree: a list for the rows of its key exactly where there are some, and a
+-- page and nodes exactly where some are split
 pub record HasTreeRoom {A : Type 0} (t : TreeValue A) (row : Row A) (spare : UbSpare A) : Type 0 where
   pub rows : IsRoomFor (place_of t.period row) spare.rows.items (vec_capacity spare.rows) (entries_in t.root.pages)
+  pub no_rows : All (λ (e : EntryValue A). e.at ≡ place_of t.period row → ⊥) (entries_in t.root.pages) → vec_capacity spare.rows ≡ 0
   pub page : 1 ≤ splits t.root (place_of t.period row) → IsBlankPage spare.page
   pub no_page : splits t.root (place_of t.period row) ≡ 0 → spare.page ≡ None
   pub blank : AreBlank spare.inners.items

@@ -12,7 +12,7 @@ ghost use Rattle.st_ubtree.specs.Trading.{AreFilled};
 ghost use Rattle.st_ubtree.specs.Ranges.{region_in};
 
 use crate::node::Node;
-use st_index::{Entry, Leaf, Row, RowIndex};
+use st_index::{Entry, Leaf, Row, RowIndex, entries};
 use st_key::{Key, Period};
 use std::alloc::{AllocError, Allocator, Global};
 use std::marker::Model;
@@ -167,7 +167,7 @@ impl<A: Allocator + Copy> RowIndex for UbTree<A> {
         }
         let alloc = self.root.allocator();
         let needs = self.root.needs(row.key(self.period));
-        let rows = Vec::with_capacity(alloc, needs.rows + 1)?;
+        let rows = entries::list_for_more(alloc, needs.rows)?;
         let page = blank_page(alloc, needs.inners)?;
         let made = count_made(needs.inners, self.root.height())?;
         let inners = blank_nodes(alloc, made)?;

@@ -18,7 +18,10 @@ fn filled(alloc: Global) -> Option<ListIndex> {
 fn told(alloc: Global, entries: &[Entry]) -> Option<String> {
     let mut out = String::new(alloc);
     for entry in entries {
-        for row in entry.rows() {
+        let mut rows = entry.rows();
+        for _ in 0..entry.len() {
+            let (row, rest) = rows.split_first()?;
+            rows = rest;
             out.push_str(row.id.as_str()).ok()?;
             out.push_str(row.label.text()).ok()?;
         }

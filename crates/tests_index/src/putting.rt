@@ -116,11 +116,12 @@ fn growths<B: Allocator, I: RowIndex>(
     None
 }
 
-/// How many growths putting in a row at a place on one line takes.
+/// How many growths putting in a row of a name at a place on one line takes.
 pub fn growths_at<'a, B: Allocator, I: RowIndex<Alloc = &'a Refusing<B>>>(
     heap: &'a Refusing<B>,
     index: &I,
     x: u64,
+    name: (&str, &str),
 ) -> Option<u64> {
-    growths(heap, index, &row_at(heap, x, ("a", ""), "")?)
+    growths(heap, index, &row_at(heap, x, name, "")?)
 }

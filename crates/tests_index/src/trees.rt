@@ -217,7 +217,7 @@ fn put_counted<'a>(
     tree: &mut UbTree<&'a Refusing<Global>>,
     x: u64,
 ) -> Option<u64> {
-    let count = growths_at(heap, tree, x)?;
+    let count = growths_at(heap, tree, x, ("a", ""))?;
     put_next(heap, tree, x).then_some(count)
 }
 
@@ -231,13 +231,32 @@ fn growths_of_each(heap: &Refusing<Global>) -> Option<[u64; 65]> {
     Some(counts)
 }
 
-// The 33rd row splits the only page, and puts a node over the halves; the 49th and the 65th split the last page.
+// A row at a key of its own takes no growth but where pages are split: the 33rd row splits the only page, and puts a
+// node over the halves; the 49th and the 65th split the last page.
 #[test]
 fn each_growth_refused(rt: HostRuntime) {
     let heap = Refusing::new(rt.alloc());
-    let mut wanted = [1; 65];
-    wanted[32] = 4;
-    wanted[48] = 2;
-    wanted[64] = 2;
+    let mut wanted = [0; 65];
+    wanted[32] = 3;
+    wanted[48] = 1;
+    wanted[64] = 1;
     assert_eq!(rt; growths_of_each(&heap), Some(wanted));
+}
+
+// How many growths each of three rows takes that are put in at one key, one by one.
+fn growths_of_one_key(heap: &Refusing<Global>) -> Option<[u64; 3]> {
+    let mut tree = UbTree::new(heap, Period::Week).ok()?;
+    let mut counts = [0; 3];
+    for (at, id) in ["b", "a", "c"].iter().enumerate() {
+        counts[at] = growths_at(heap, &tree, 0, (*id, ""))?;
+        put_at(&mut tree, heap, 0, (*id, ""), "")?;
+    }
+    Some(counts)
+}
+
+// The first row lies in its entry, and each further one takes a list.
+#[test]
+fn growths_at_one_key(rt: HostRuntime) {
+    let heap = Refusing::new(rt.alloc());
+    assert_eq!(rt; growths_of_one_key(&heap), Some([0, 1, 1]));
 }

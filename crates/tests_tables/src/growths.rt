@@ -86,10 +86,15 @@ fn growths<B: Allocator, A: Allocator + Copy>(
     None
 }
 
+// How many growths a call takes, if each refusal leaves all as it was.
+fn growths_of(alloc: Global, call: Call, said: Said) -> Option<u64> {
+    let heap = Refusing::new(alloc);
+    growths(&heap, &heap, alloc, call, said)
+}
+
 // Whether a call grows, and each refusal leaves all as it was.
 fn is_safe(alloc: Global, call: Call, said: Said) -> bool {
-    let heap = Refusing::new(alloc);
-    growths(&heap, &heap, alloc, call, said).is_some_and(|count| count > 0)
+    growths_of(alloc, call, said).is_some_and(|count| count > 0)
 }
 
 #[test]
@@ -97,7 +102,7 @@ fn each_growth_refused(rt: HostRuntime) {
     let long = "an id of more than 15 bytes";
     for said in [
         ("r", "A", [1, 0, 0]),
-        ("p", "A", [9, 9, 9]),
+        ("p", "A", [2, 0, 0]),
         (long, "A&B", [0; 3]),
     ] {
         assert!(rt; is_safe(rt.alloc(), Call::Put, said));
@@ -105,4 +110,13 @@ fn each_growth_refused(rt: HostRuntime) {
     for call in [Call::Get, Call::Page, Call::Grid] {
         assert!(rt; is_safe(rt.alloc(), call, ("r", "A", [1, 0, 0])));
     }
+}
+
+// A row that moves to a point of its own lies in its entry there.
+#[test]
+fn a_move_to_a_free_point(rt: HostRuntime) {
+    assert_eq!(rt;
+        growths_of(rt.alloc(), Call::Put, ("p", "A", [9, 9, 9])),
+        Some(0)
+    );
 }

@@ -113,7 +113,7 @@ impl Mirror {
     fn counts(&self, spot: Spot) -> Option<[usize; 2]> {
         let query = query_of([0, spot.x, 0, 0, 0, spot.t])?;
         let auths = Auths::from_list(self.alloc, &["A"]).ok()?;
-        let count = self.table.count(&query, &auths).ok()?;
+        let count = self.table.count(&query, &auths);
         Some([count as usize, count_up_to(self.spots.as_slice(), spot)])
     }
 

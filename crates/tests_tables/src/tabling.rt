@@ -107,7 +107,7 @@ pub fn counted(
     auths: &[&str],
 ) -> Option<u64> {
     let auths = Auths::from_list(alloc, auths).ok()?;
-    table.count(&query_of(asked)?, &auths).ok()
+    Some(table.count(&query_of(asked)?, &auths))
 }
 
 /// A place, which need name no row.

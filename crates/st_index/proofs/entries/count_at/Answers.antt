@@ -13,3 +13,8 @@ returns-in-Ok-clause-value g c = λ period lo hi h.
 
 pub returns-in-Err-clause-value : goal.returns-in-Err-clause-value
 returns-in-Err-clause-value g c = λ period lo hi h. none_at period _ 0 c.args.entries.now c.in-Err.field-0 lo hi h c.in-Err.ensures.place
+
+pub returns-in-Ok-clause-none : goal.returns-in-Ok-clause-none
+returns-in-Ok-clause-none g c = λ none.
+    let e = c.index-entries-i.result in
+    absurd (none c.in-Ok.i e c.in-Ok.ensures.bound (nat_equal _ _ (c.in-Ok.ensures.place e)))

@@ -14,7 +14,7 @@ put-requires-clause-room g c =
     let same = rw c.deref.ensures.value at (c.in-Ok.ensures.place c.index_mut-entry.result.now) in
     let at : c.index_mut-entry.result.now.at ≡ rank c.args.key = ap (λ (e : EntryValue g.row.A.Denot). e.at) c.index_mut-entry.ensures.value ∙ nat_equal _ _ same in
     let enough = c.requires.rows_room c.in-Ok.i c.index_mut-entry.result.now bound in
-    subst (λ (e : EntryValue g.row.A.Denot). e.at ≡ rank c.args.key → length e.rows < vec_capacity c.args.rows) (sym c.index_mut-entry.ensures.value) enough at
+    subst (λ (e : EntryValue g.row.A.Denot). e.at ≡ rank c.args.key → 0 < length e.rows → length e.rows < vec_capacity c.args.rows) (sym c.index_mut-entry.ensures.value) enough at
 
 pub returns-in-Ok-clause-added : goal.returns-in-Ok-clause-added
 returns-in-Ok-clause-added g c =

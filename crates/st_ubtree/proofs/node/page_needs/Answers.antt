@@ -31,3 +31,8 @@ pub returns-else-entries-lt32-clause-splits : goal.returns-else-entries-lt32-cla
 returns-else-entries-lt32-clause-splits g c =
     let o = c.requires in
     page_full (rank c.args.key) c.args.entries.now c.if-entries-lt32.false (missing_key o.0 _ c.args.entries.now c.in-Err.field-0 o.1 o.2 o.3 c.in-Err.ensures.place)
+
+pub returns-in-Ok-clause-no_rows : goal.returns-in-Ok-clause-no_rows
+returns-in-Ok-clause-no_rows g c = λ none.
+    let e = c.index-entries-i.result in
+    absurd (none c.in-Ok.i e c.in-Ok.ensures.bound (nat_equal _ _ (c.in-Ok.ensures.place e)))

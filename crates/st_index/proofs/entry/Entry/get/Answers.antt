@@ -6,14 +6,12 @@ use Rattle.st_index.proofs.entry.Entry.get.Goals as goal
 
 pub returns-in-Ok-clause-some : goal.returns-in-Ok-clause-some
 returns-in-Ok-clause-some g c =
-    let bound = rw c.deref.ensures.value at c.in-Ok.ensures.bound in
-    let same = rw c.deref.ensures.value at (c.in-Ok.ensures.place c.index.result.now) in
-    rw (← c.self.view_is) (
-      (c.in-Ok.i, bound, sym c.index.ensures),
-      ap name_of c.index.ensures ∙ name_equal _ _ same,
-    )
+    let bound = rw c.rows-rows.ensures at c.in-Ok.ensures.bound in
+    let read = rw c.rows-rows.ensures at c.at.ensures in
+    let same = rw c.rows-rows.ensures at (c.in-Ok.ensures.place c.at.result.now) in
+    ((c.in-Ok.i, bound, sym read), ap name_of read ∙ name_equal _ _ same)
 
 pub returns-in-Err-clause-absent : goal.returns-in-Err-clause-absent
 returns-in-Err-clause-absent g c =
-    let found = rw c.deref.ensures.value at c.in-Err.ensures.place in
-    rw (← c.self.view_is) (names_missing _ c.self.inside.rows.items c.in-Err.field-0 found)
+    let found = rw c.rows-rows.ensures at c.in-Err.ensures.place in
+    names_missing _ c.args.self.now.rows c.in-Err.field-0 found

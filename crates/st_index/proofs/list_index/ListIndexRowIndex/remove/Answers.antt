@@ -25,3 +25,7 @@ invariant_of-self-2 g c =
     let same = c.self.invariant.1 in
     let shorter = adds_length c.in_ok-row.row _ _ c.in_ok-row.ensures.some.0 in
     (c.take.ensures.rising c.self.inside.period 0 (key_end c.self.inside.period) c.self.invariant.0, omega (arith, same, shorter), omega (arith, n))
+
+pub returns-in_err-row-clause-absent : goal.returns-in_err-row-clause-absent
+returns-in_err-row-clause-absent g c =
+    rw (c.from_residual.ensures, ← c.self.view_is) (c.in_err-row.ensures.absent c.self.inside.period 0 (key_end c.self.inside.period) c.self.invariant.0)

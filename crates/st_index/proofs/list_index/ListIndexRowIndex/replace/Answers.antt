@@ -1,4 +1,4 @@
-use Rattle.std.proofs.Common.{◌<◌, ◌^◌, ◌∙◌, arith}
+use Rattle.std.proofs.Common.{◌<◌, ◌^◌, ◌∙◌, sym, arith}
 use Rattle.st_index.specs.Rows.{key_end, name_of, place_of, rows_of}
 use Rattle.st_index.specs.Index.{Holds}
 use Rattle.st_index.proofs.Listing.{lawful, swaps_length}
@@ -21,3 +21,9 @@ returns-clause-lawful g c =
     let n : c.self.inside.len < 2 ^ 64 = c.self.invariant.2 in
     let same = swaps_length c.in-Ok.out c.args.row _ _ c.in-Ok.ensures.ok.0 in
     lawful c.self.inside.period c.swap.new.entries.items (c.swap.ensures.rising c.self.inside.period 0 (key_end c.self.inside.period) c.key-key.ensures.value c.self.invariant.0) (omega (arith, n, c.self.invariant.1, same))
+
+pub invariant_of-self : goal.invariant_of-self
+invariant_of-self g c =
+    let p = c.self.inside.period in
+    let same = swaps_length c.in-Ok.out c.args.row _ _ c.in-Ok.ensures.ok.0 in
+    (c.swap.ensures.rising p 0 (key_end p) c.key-key.ensures.value c.self.invariant.0, c.self.invariant.1 ∙ sym same, c.self.invariant.2)

@@ -1,4 +1,5 @@
 use Rattle.std.proofs.Common.{[], ◌≡◌, ◌+◌, ◌-◌, ◌<◌, max, length, subst, sym, ap, ◌∙◌, arith, rules, vec_len, vec_capacity}
+use Rattle.std.proofs.lemmas.List.Elements.{All-append, All-nil}
 use Rattle.st_key.specs.Key.{rank}
 use Rattle.st_index.specs.Rows.{EntryValue}
 use Rattle.st_index.proofs.Climbing.{all_left}
@@ -103,3 +104,9 @@ returns-in-Inner-clause-splits g t c =
     let below : kid.height ≡ c.self.inside.height - 1 = omega (arith, low, higher) in
     same ∙ some ∙ ap (λ s. splits_with (length kids) kid.height s) c.needs-needs.ensures.splits
     ∙ ap (λ w. splits_with w kid.height inner) (len ∙ sym c.len.ensures) ∙ ap (λ h. splits_with c.len.result h inner) below ∙ sym c.count_node.ensures
+
+pub returns-in-Page-clause-rows : goal.returns-in-Page-clause-rows
+returns-in-Page-clause-rows g t c =
+    let P : EntryValue g.row.A.Denot → Type 0 = λ e. e.at ≡ rank c.args.key → length e.rows ≡ c.page_needs.result.rows in
+    let pages = ap (λ (v : NodeValue g.row.A.Denot). v.pages) (sym c.self.view_is) ∙ ap (pages_under (rank c.self.inside.first)) c.in-Page.is in
+    rw pages (All-append P c.in-Page.entries.items [] (rw c.deref.ensures.value at c.page_needs.ensures.rows) (All-nil P))

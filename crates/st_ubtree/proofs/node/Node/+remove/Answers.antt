@@ -2,7 +2,7 @@ use Rattle.std.proofs.Common.{◌≡◌, ◌+◌, ◌-◌, ◌<◌, ◌≤◌, m
 use Rattle.st_key.specs.Key.{rank}
 use Rattle.st_ubtree.specs.Pages.{NodeValue, pages_of}
 use Rattle.st_ubtree.specs.Nodes.{IsNode, IsInner, IsPage, inner_node, node_value, page_node, width_of, pages_under}
-use Rattle.st_ubtree.proofs.Shrinking.{are_worn, none_in_kids, page_taken, page_without, shrinks_inner, shrunk_inner}
+use Rattle.st_ubtree.proofs.Shrinking.{are_worn, none_in_kids, page_kept, page_named, page_taken, page_without, shrinks_inner, shrunk_inner}
 use Rattle.st_ubtree.proofs.Splitting.{page}
 use Rattle.st_ubtree.proofs.node.Node.+remove.Goals as goal
 use Rattle.st_ubtree.proofs.node.Node.+remove.Goals.{in-Page, in-Inner+in_ok-row-in-Inner}
@@ -112,5 +112,23 @@ returns-clause-absent g t c =
           let es = w.in-Page.entries.items in
           let pages : c.args.self.now.pages ≡ page (rank c.self.inside.first) es ∷ [] = ap (λ (v : NodeValue g.row.A.Denot). v.pages) (sym c.self.view_is) ∙ ap (pages_under (rank c.self.inside.first)) w.in-Page.is in
           rw (pages, w.result-is) (page_without (rank c.args.key) (record { id = c.args.id.now; label = c.args.label.now }) (rank c.self.inside.first) es w.take.result w.take.ensures.absent)
+      | in-Inner+in_ok-row-in-Inner w ↦ rw w.result-is tt
+    ]
+
+pub returns-clause-named : goal.returns-clause-named
+returns-clause-named g t c =
+    elim c.match-self.branch [
+      | in-Page w ↦ rw w.result-is (page_named _ _ _ w.take.result w.take.ensures.some)
+      | in-Inner+in_ok-row-in-Inner w ↦ rw w.result-is w.in_ok-row-in-Inner.ensures.named
+    ]
+
+pub returns-clause-none : goal.returns-clause-none
+returns-clause-none g t c =
+    elim c.match-self.branch [
+      | in-Page w ↦
+          let es = w.in-Page.entries.items in
+          let old : page_node (rank c.self.inside.first) c.self.inside.height es ≡ c.args.self.now =
+          ap (node_value (rank c.self.inside.first) c.self.inside.height) (sym w.in-Page.is) ∙ c.self.view_is in
+          rw (← old, w.self-inside-is, w.result-is) (page_kept (rank c.self.inside.first) c.self.inside.height es w.take.new.entries.items w.take.result w.take.ensures.none)
       | in-Inner+in_ok-row-in-Inner w ↦ rw w.result-is tt
     ]

@@ -1,4 +1,4 @@
-use Rattle.std.proofs.Common.{◌≡◌, ◌+◌, ◌<◌, ◌≤◌, length, sym, ap, ◌∙◌, arith, vec_capacity}
+use Rattle.std.proofs.Common.{◌≡◌, ◌<◌, length, sym, ap, ◌∙◌, arith, vec_capacity}
 use Rattle.std.specs.List.{All}
 use Rattle.st_index.specs.Rows.{EntryValue, place_of}
 use Rattle.st_ubtree.specs.Pages.{entries_in}
@@ -15,12 +15,14 @@ returns g c =
     let len = c.self.invariant.counted in
     let most = c.self.invariant.most in
     let full = c.if-self.false in
-    let room : c.needs-needs.result.rows + 1 ≤ vec_capacity c.in_ok-rows.rows = c.in_ok-rows.ensures.capacity in
-    let enough : All (λ (e : EntryValue g.row.A.Denot). e.at ≡ place → length e.rows < vec_capacity c.in_ok-rows.rows) (entries_in root.pages) =
-    λ k d l at. let n = c.needs-needs.ensures.rows k d l (at ∙ sym key) in omega (arith, n, room) in
+    let enough : All (λ (e : EntryValue g.row.A.Denot). e.at ≡ place → 0 < length e.rows → length e.rows < vec_capacity c.in_ok-rows.rows) (entries_in root.pages) =
+    λ k d l at some. let n = c.needs-needs.ensures.rows k d l (at ∙ sym key) in let room = c.in_ok-rows.ensures.room (omega (arith, n, some)) in omega (arith, n, room) in
+    let none : All (λ (e : EntryValue g.row.A.Denot). e.at ≡ place → ⊥) (entries_in root.pages) → vec_capacity c.in_ok-rows.rows ≡ 0 =
+    λ no. c.in_ok-rows.ensures.no_room (c.needs-needs.ensures.no_rows (rw (← key) at no)) in
     let made = c.in_ok-inners.ensures.count ∙ c.in_ok-made.ensures ∙ ap (λ h. made_nodes h (split_nodes c.needs-needs.result.inners)) c.height.ensures ∙ ap (made_nodes root.height) (sym split) in
     rw (← c.self.view_is) (record {
-      rows = record { empty = c.in_ok-rows.ensures.items; some = omega (arith, room); enough = enough };
+      rows = record { empty = c.in_ok-rows.ensures.empty; enough = enough };
+      no_rows = none;
       page = λ some. c.in_ok-page.ensures.some (omega (arith, split, some));
       no_page = λ none. c.in_ok-page.ensures.none (omega (arith, split, none));
       blank = c.in_ok-inners.ensures.blank;

@@ -1,0 +1,32 @@
+use Rattle.std.proofs.Common.{◌≡◌, ◌≤◌, ◌∷◌, [], length, drop, refl, ap, ◌∙◌, arith}
+use Rattle.st_key.specs.Key.{rank}
+use Rattle.st_index.specs.Rows.{EntryValue}
+use Rattle.st_index.proofs.Putting.{split_read}
+use Rattle.st_ubtree.specs.Pages.{NodeValue, IsKid}
+use Rattle.st_ubtree.proofs.Splitting.{page, wide_page}
+use Rattle.st_ubtree.proofs.node.join_pages.Goals as goal
+
+pub returns-clause-joins : goal.returns-clause-joins
+returns-clause-joins g c =
+    let rest = c.share.new.right.items in
+    let wide : (16 ≤ length rest) × (length rest ≤ 32) = c.share.ensures.some c.if-not-share.false in
+    let first = rank c.least.inside.key in
+    let e = c.index-least.result.now in
+    let at : first ≡ e.at = ap (λ (x : EntryValue g.row.A.Denot). x.at) c.least.view_is in
+    let width : c.page.result.width ≡ length rest = ap (λ (v : NodeValue g.row.A.Denot). v.width) c.page.ensures in
+    let kid : IsKid 0 c.page.result = record {
+      same_height = ap (λ (v : NodeValue g.row.A.Denot). v.height) c.page.ensures;
+      not_less = omega (arith, width, wide.0);
+      not_more = omega (arith, width, wide.1);
+      starts = rw c.page.ensures (refl, refl);
+      filled = rw c.page.ensures (wide_page first rest wide.0 wide.1);
+    } in
+    let some = split_read rest 0 e (omega (arith, wide.0)) c.index-least.ensures in
+    let pages = ap (λ (v : NodeValue g.row.A.Denot). v.pages) c.page.ensures ∙ ap (λ n. page n rest ∷ []) at in
+    record {
+      rest = rest;
+      kept = c.share.ensures.kept;
+      not_less = c.share.ensures.left.0;
+      not_more = c.share.ensures.left.1;
+      beside = (kid, (e, drop 1 rest, some, pages));
+    }
