@@ -129,7 +129,7 @@ impl Bench {
     /// Times a count of a box.
     fn time_count(&self, rt: &HostRuntime, asked: &Asked) -> io::Result<Took> {
         let start = Instant::now(rt)?;
-        let rows = self.table.count(&asked.query, &self.auths)?;
+        let rows = self.table.count(&asked.query, &self.auths);
         let nanoseconds = since(rt, start)?;
         Ok(Took { nanoseconds, rows })
     }

@@ -1,6 +1,7 @@
 pub mod Bounds
 pub mod Boxes
 pub mod Cells
+pub mod KeyTests
 pub mod Lanes
 pub mod Parts
 pub mod Queries

@@ -78,7 +78,7 @@ impl<A: Allocator + Copy> Store<A> {
                 table,
                 query,
                 auths,
-            } => Ok(Reply::Count(self.count(table, query, auths)?)),
+            } => Ok(Reply::Count(self.count(table, query, auths))),
             Request::Grid {
                 table,
                 query,

@@ -38,14 +38,9 @@ impl<A: Allocator + Copy> Store<A> {
     }
 
     // How many rows of a table are inside the query and seen with the authorizations.
-    pub(crate) fn count(
-        &self,
-        table: &TableName,
-        query: &Query,
-        auths: &Auths<A>,
-    ) -> Result<u64, AllocError>
+    pub(crate) fn count(&self, table: &TableName, query: &Query, auths: &Auths<A>) -> u64
         requires { is_table self.now.directory table.now ≡ true }
-        ensures { IfOk result (λ count. count ≡ length (seen self.now table.now query.now auths.now)) }
+        ensures { result ≡ length (seen self.now table.now query.now auths.now) }
     {
         self.table(table).count(query, auths)
     }

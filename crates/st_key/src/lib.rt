@@ -9,7 +9,7 @@ mod place;
 mod point;
 
 pub use key::{Key, comes_before};
-pub use morton::{gather, interleave, spread};
+pub use morton::{gather, interleave, spread, spread_in};
 pub use period::Period;
 pub use place::Place;
 pub use point::{OutOfRange, Point};

@@ -7,6 +7,7 @@ use Rattle.st_box.specs.declared.query.Query.{Query}
 use Rattle.st_box.specs.Query.{HasKey}
 use Rattle.st_index.specs.declared.row.Row.{Row}
 use Rattle.st_index.specs.Index.{Follow, Region}
+use Rattle.st_index.specs.RowViews.{viewed}
 use Rattle.st_index.specs.Rows.{EntryValue, key_end, place_of, rows_of}
 use Rattle.st_scan.specs.declared.position.Position.{Position}
 use Rattle.st_scan.specs.Regions.{Count}
@@ -15,23 +16,23 @@ use Rattle.st_scan.specs.Walks.{IsAt, IsNextEntry, IsOver, IsPosition, MeetsUpTo
 use Rattle.st_scan.proofs.Steps.{enter, enter_left, give, give_opened, over_left, over_count, opened_left, opened_at, opened_fits, opened_on}
 
 module _ {A : Type 0} (w : Period) (q : Query) (content : List (Row A)) (regions : List Region) (p : Position A) where
-  pub spent_left : p.rows.now ≡ [] → left_of w q content p ≡ left_at w q content [] p.entries.now (place_at w p.next)
+  pub spent_left : viewed p.rows ≡ [] → left_of w q content p ≡ left_at w q content [] p.entries.now (place_at w p.next)
   spent_left rows = ap (λ xs. left_at w q content xs p.entries.now (place_at w p.next)) rows
 
-  pub spent_at : p.rows.now ≡ [] → IsPosition w q regions p → IsAt w q regions (rank p.start) [] p.entries.now (place_at w p.next) p.opened
+  pub spent_at : viewed p.rows ≡ [] → IsPosition w q regions p → IsAt w q regions (rank p.start) [] p.entries.now (place_at w p.next) p.opened
   spent_at rows at = subst (λ xs. IsAt w q regions (rank p.start) xs p.entries.now (place_at w p.next) p.opened) rows at
 
-  pub over : IsPosition w q regions p → p.rows.now ≡ [] → filter (has_row q) (rows_of p.entries.now) ≡ [] → ((k : Key) → HasKey q w k → rank k < place_at w p.next) → IsOver w q content regions p
+  pub over : IsPosition w q regions p → viewed p.rows ≡ [] → filter (has_row q) (rows_of p.entries.now) ≡ [] → ((k : Key) → HasKey q w k → rank k < place_at w p.next) → IsOver w q content regions p
   over at rows entries none =
       let next = place_at w p.next in
       let more = filter (has_row_from w q next) content in
       record {
         left = spent_left rows ∙ ap (λ xs. xs ++ more) entries ∙ over_left w q content next none;
-        opened = over_count w q regions (rank p.start) p.rows.now p.entries.now next p.opened at none;
+        opened = over_count w q regions (rank p.start) (viewed p.rows) p.entries.now next p.opened at none;
       }
 
   module _ (from : Key) (entries : List (EntryValue A)) (next : ℕ) (is : p.next ≡ Some from) (o : Opens w q content regions (rank from) entries next) (follow : Follow 0 (key_end w) regions)
-      (at : IsPosition w q regions p) (rows : p.rows.now ≡ []) where
+      (at : IsPosition w q regions p) (rows : viewed p.rows ≡ []) where
     at_from : IsAt w q regions (rank p.start) [] p.entries.now (rank from) p.opened
     at_from = subst (λ n. IsAt w q regions (rank p.start) [] p.entries.now (place_at w n) p.opened) is (spent_at rows at)
 
@@ -52,14 +53,14 @@ module _ {A : Type 0} (w : Period) (q : Query) (content : List (Row A)) (regions
         ∙ opened_left w q content regions (rank from) next entries o
         )
 
-  module _ (rows : List (Row A)) (rest : List (EntryValue A)) (n : IsNextEntry q p.entries.now rows rest) (at : IsPosition w q regions p) (spent : p.rows.now ≡ []) where
+  module _ (rows : List (Row A)) (rest : List (EntryValue A)) (n : IsNextEntry q p.entries.now rows rest) (at : IsPosition w q regions p) (spent : viewed p.rows ≡ []) where
     pub entered_at : IsAt w q regions (rank p.start) rows rest (place_at w p.next) p.opened
     entered_at = enter w q regions (rank p.start) p.entries.now (place_at w p.next) p.opened rows rest (spent_at spent at) n
 
     pub entered_left : left_at w q content rows rest (place_at w p.next) ≡ left_of w q content p
     entered_left = enter_left w q content p.entries.now (place_at w p.next) rows rest n ∙ sym (spent_left spent)
 
-  module _ (row : Row A) (rest : List (Row A)) (at : IsPosition w q regions p) (is : p.rows.now ≡ row ∷ rest) where
+  module _ (row : Row A) (rest : List (Row A)) (at : IsPosition w q regions p) (is : viewed p.rows ≡ row ∷ rest) where
     begun : IsAt w q regions (rank p.start) (row ∷ rest) p.entries.now (place_at w p.next) p.opened
     begun = subst (λ xs. IsAt w q regions (rank p.start) xs p.entries.now (place_at w p.next) p.opened) is at
 

@@ -14,6 +14,7 @@ use Rattle.st_scan.specs.declared.own_plan.OwnPlan.TheVariants.{Due, Made, Never
 use Rattle.st_scan.specs.declared.part_ranges.PartRanges.{PartRanges}
 use Rattle.st_index.specs.declared.row.Row.{Row}
 use Rattle.st_index.specs.Index.{Follow, IsLeafAt, Region}
+use Rattle.st_index.specs.RowViews.{viewed}
 use Rattle.st_index.specs.Rows.{EntryValue, IsEntry, key_end, place_of, rows_of}
 use Rattle.st_scan.specs.declared.position.Position.{Position}
 use Rattle.st_scan.specs.Regions.{Count, IsIn, Meets}
@@ -75,10 +76,10 @@ pub record IsAt {A : Type 0} (period : Period) (q : Query) (regions : List Regio
   pub to_end : next ≤ key_end period
 
 abbrev pub IsPosition : {A : Type 0} → Period → Query → List Region → Position A → Type 0
-IsPosition period q regions p = IsAt period q regions (rank p.start) p.rows.now p.entries.now (place_at period p.next) p.opened
+IsPosition period q regions p = IsAt period q regions (rank p.start) (viewed p.rows) p.entries.now (place_at period p.next) p.opened
 
 abbrev pub left_of : {A : Type 0} → Period → Query → List (Row A) → Position A → List (Row A)
-left_of period q content p = left_at period q content p.rows.now p.entries.now (place_at period p.next)
+left_of period q content p = left_at period q content (viewed p.rows) p.entries.now (place_at period p.next)
 
 -- nothing is left, and the regions opened are all that meet the query
 pub record IsOver {A : Type 0} (period : Period) (q : Query) (content : List (Row A)) (regions : List Region) (p : Position A) : Type 0 where
@@ -89,7 +90,7 @@ pub record IsOver {A : Type 0} (period : Period) (q : Query) (content : List (Ro
 pub record Steps {A : Type 0} (period : Period) (q : Query) (content : List (Row A)) (regions : List Region) (old new : Position A) : Type 0 where
   pub at : IsPosition period q regions new
   pub start : new.start ≡ old.start
-  pub spent : new.rows.now ≡ []
+  pub spent : viewed new.rows ≡ []
   pub left : left_of period q content new ≡ left_of period q content old
   pub on : place_at period old.next < place_at period new.next
 

@@ -1,6 +1,6 @@
 //! Where a walk stands.
 
-use st_index::{Entry, Row};
+use st_index::{Entry, RowsView};
 use st_key::Key;
 use std::alloc::Allocator;
 
@@ -10,7 +10,7 @@ pub(crate) struct Position<'a, A: Allocator> {
     /// The key from which the walk began.
     pub start: Key,
     /// The rows of the entry that are still to be given. They are inside the query.
-    pub rows: &'a [Row<A>],
+    pub rows: RowsView<'a, A>,
     /// The entries of the region after that one.
     pub entries: &'a [Entry<A>],
     /// The first key after the region.

@@ -6,6 +6,7 @@ ghost use Rattle.st_key.specs.declared.period.Period.{Period};
 ghost use Rattle.st_key.specs.Key.{rank};
 ghost use Rattle.st_box.specs.Query.{HasKey};
 ghost use Rattle.st_index.specs.Index.{Follow};
+ghost use Rattle.st_index.specs.RowViews.{viewed};
 ghost use Rattle.st_index.specs.Rows.{IsEntry, Rises, key_end, rows_of};
 ghost use Rattle.st_scan.specs.Rows.{has_row};
 ghost use Rattle.st_scan.specs.Walks.{AreExact, IsNextEntry, IsOver, IsOwnExact, IsPosition, Opens, SkipsTo, Steps, left_of, place_at};
@@ -15,14 +16,14 @@ use crate::own_plan::OwnPlan;
 use crate::part_ranges::PartRanges;
 use crate::position::Position;
 use st_bigmin::first_from;
-use st_box::Query;
-use st_index::{Entry, Row, RowIndex};
+use st_box::{KeyTest, Query};
+use st_index::{Entry, RowIndex, RowsView};
 use st_key::{Key, Period};
 use std::alloc::Allocator;
 
 /// The rows of an entry.
-fn rows_in<A: Allocator + Copy>(entry: &Entry<A>) -> &[Row<A>]
-    ensures { result.now ≡ entry.now.rows }
+fn rows_in<A: Allocator + Copy>(entry: &Entry<A>) -> RowsView<'_, A>
+    ensures { viewed result ≡ entry.now.rows }
 {
     entry.rows()
 }
@@ -36,37 +37,35 @@ fn key_of<A: Allocator + Copy>(entry: &Entry<A>) -> Key
 
 /// Whether the key is that of a point inside the query. A key of an exact range is not tested.
 fn has_key<A: Allocator + Copy>(
-    query: &Query,
-    period: Period,
+    test: &KeyTest,
     parts: &[PartRanges],
     own: &OwnPlan<A>,
     key: Key,
 ) -> bool
-    requires exact { AreExact period query.now parts.now }
-    requires own { IsOwnExact period query.now own.now }
-    ensures { IsTrue result ↔ HasKey query.now period key }
+    requires exact { AreExact test.now.period test.now.query parts.now }
+    requires own { IsOwnExact test.now.period test.now.query own.now }
+    ensures { IsTrue result ↔ HasKey test.now.query test.now.period key }
 {
-    is_exact(parts, key) || own.is_exact(key) || query.has_key(key, period)
+    is_exact(parts, key) || own.is_exact(key) || test.has_key(key)
 }
 
 /// The rows of the first entry that is inside the query, and the entries after it.
 pub(crate) fn next_entry<'a, A: Allocator + Copy>(
-    query: &Query,
-    period: Period,
+    test: &KeyTest,
     parts: &[PartRanges],
     own: &OwnPlan<A>,
     entries: &'a [Entry<A>],
-) -> Option<(&'a [Row<A>], &'a [Entry<A>])>
-    requires exact { AreExact period query.now parts.now }
-    requires own { IsOwnExact period query.now own.now }
-    requires keyed { All (IsEntry period) entries.now }
-    ensures some { IfSome result (λ found. IsNextEntry query.now entries.now found.0.now found.1.now) }
-    ensures none { IfNone result (filter (has_row query.now) (rows_of entries.now) ≡ []) }
+) -> Option<(RowsView<'a, A>, &'a [Entry<A>])>
+    requires exact { AreExact test.now.period test.now.query parts.now }
+    requires own { IsOwnExact test.now.period test.now.query own.now }
+    requires keyed { All (IsEntry test.now.period) entries.now }
+    ensures some { IfSome result (λ found. IsNextEntry test.now.query entries.now (viewed found.0) found.1.now) }
+    ensures none { IfNone result (filter (has_row test.now.query) (rows_of entries.now) ≡ []) }
 {
     let mut ahead = entries;
     while let Some((entry, rest)) = ahead.split_first() {
         ahead = rest;
-        if has_key(query, period, parts, own, key_of(entry)) {
+        if has_key(test, parts, own, key_of(entry)) {
             return Some((rows_in(entry), rest));
         }
     }
@@ -127,7 +126,7 @@ fn enter_region<'a, I: RowIndex>(
 ) -> Option<Position<'a, I::Alloc>>
     requires period { period ≡ I.period_of index.now }
     requires at { IsPosition period query.now (I.regions index.now) at }
-    requires rows { at.rows.now ≡ [] }
+    requires rows { viewed at.rows ≡ [] }
     requires entries { filter (has_row query.now) (rows_of at.entries.now) ≡ [] }
     requires few { length (I.regions index.now) < 2 ^ 64 }
     requires follow { Follow 0 (key_end period) (I.regions index.now) }
@@ -152,33 +151,32 @@ fn enter_region<'a, I: RowIndex>(
 /// rows where none is left.
 pub(crate) fn forward<'a, I: RowIndex>(
     index: &'a I,
-    query: &Query,
-    period: Period,
+    test: &KeyTest,
     parts: &[PartRanges],
     own: &OwnPlan<I::Alloc>,
     from: Position<'a, I::Alloc>,
 ) -> Position<'a, I::Alloc>
-    requires period { period ≡ I.period_of index.now }
-    requires exact { AreExact period query.now parts.now }
-    requires own { IsOwnExact period query.now own.now }
-    requires at { IsPosition period query.now (I.regions index.now) from }
+    requires period { test.now.period ≡ I.period_of index.now }
+    requires exact { AreExact test.now.period test.now.query parts.now }
+    requires own { IsOwnExact test.now.period test.now.query own.now }
+    requires at { IsPosition test.now.period test.now.query (I.regions index.now) from }
     requires few { length (I.regions index.now) < 2 ^ 64 }
-    requires follow { Follow 0 (key_end period) (I.regions index.now) }
-    ensures at { IsPosition period query.now (I.regions index.now) result }
+    requires follow { Follow 0 (key_end test.now.period) (I.regions index.now) }
+    ensures at { IsPosition test.now.period test.now.query (I.regions index.now) result }
     ensures start { result.start ≡ from.entry.start }
-    ensures left { left_of period query.now (I.content index.now) result ≡ left_of period query.now (I.content index.now) from.entry }
-    ensures over { result.rows.now ≡ [] → IsOver period query.now (I.content index.now) (I.regions index.now) result }
+    ensures left { left_of test.now.period test.now.query (I.content index.now) result ≡ left_of test.now.period test.now.query (I.content index.now) from.entry }
+    ensures over { viewed result.rows ≡ [] → IsOver test.now.period test.now.query (I.content index.now) (I.regions index.now) result }
 {
     let mut at = from;
     'regions: while at.rows.is_empty() {
-        if let Some((rows, entries)) = next_entry(query, period, parts, own, at.entries) {
+        if let Some((rows, entries)) = next_entry(test, parts, own, at.entries) {
             return Position {
                 rows,
                 entries,
                 ..at
             };
         }
-        match enter_region(index, query, period, at) {
+        match enter_region(index, &test.query, test.period, at) {
             Some(next) => at = next,
             None => return at,
         }

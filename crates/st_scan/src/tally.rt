@@ -1,5 +1,5 @@
 //! How many rows are seen.
-ghost use Rattle.std.specs.Prelude.{◌≡◌, ◌^◌, ◌<◌, filter, length, IfOk};
+ghost use Rattle.std.specs.Prelude.{◌≡◌, ◌^◌, ◌<◌, filter, length};
 ghost use Rattle.st_scan.specs.Seen.{is_visible, seen};
 
 use crate::prepare::verdicts_for;
@@ -8,7 +8,7 @@ use st_auth::{Auths, SetVerdicts};
 use st_box::Query;
 use st_index::RowIndex;
 use st_key::Key;
-use std::alloc::{AllocError, Allocator};
+use std::alloc::Allocator;
 
 /// How many of the rows that a walk still gives are visible.
 fn count_visible<I: RowIndex, B: Allocator>(
@@ -33,10 +33,10 @@ pub fn count<I: RowIndex, B: Allocator>(
     index: &I,
     query: &Query,
     auths: &Auths<B>,
-) -> Result<u64, AllocError>
-    ensures { IfOk result (λ count. count ≡ length (seen query.now auths.now (I.content index.now))) }
+) -> u64
+    ensures { result ≡ length (seen query.now auths.now (I.content index.now)) }
 {
     let mut verdicts = verdicts_for(alloc, auths);
     let mut walk = Walk::with_own_plan(alloc, index, query, Key::FIRST);
-    Ok(count_visible(&mut walk, &mut verdicts))
+    count_visible(&mut walk, &mut verdicts)
 }

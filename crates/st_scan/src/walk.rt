@@ -12,9 +12,9 @@ use crate::part_ranges::PartRanges;
 use crate::position::Position;
 use crate::step::forward;
 use arrayvec::ArrayVec;
-use st_box::Query;
-use st_index::{Row, RowIndex};
-use st_key::{Key, Period};
+use st_box::{KeyTest, Query};
+use st_index::{Row, RowIndex, RowsView};
+use st_key::Key;
 use st_plan::Plan;
 use std::alloc::Allocator;
 use std::marker::Model;
@@ -29,8 +29,7 @@ pub struct Walk<'a, 'p, I: RowIndex> {
     index: &'a I,
     parts: ArrayVec<PartRanges<'p>, 3>,
     own: OwnPlan<I::Alloc>,
-    query: Query,
-    period: Period,
+    test: KeyTest,
     at: Position<'a, I::Alloc>,
 }
 
@@ -42,9 +41,9 @@ impl<'a, 'p, I: RowIndex> Model for Walk<'a, 'p, I> {
     ghost use Rattle.st_key.specs.Key.{rank};
     ghost use Rattle.st_scan.specs.Walks.{IsWalk, left_of};
 
-    ghost view = { λ w. record { period = w.period; query = w.query; regions = I.regions w.index.now; start = rank w.at.start; left = left_of w.period w.query (I.content w.index.now) w.at; opened = w.at.opened } };
+    ghost view = { λ w. record { period = w.test.period; query = w.test.query; regions = I.regions w.index.now; start = rank w.at.start; left = left_of w.test.period w.test.query (I.content w.index.now) w.at; opened = w.at.opened } };
 
-    ghost invariant = { λ w. IsWalk (I.period_of w.index.now) (I.regions w.index.now) w.period w.query w.parts.items w.own w.at };
+    ghost invariant = { λ w. IsWalk (I.period_of w.index.now) (I.regions w.index.now) w.test.period w.test.query w.parts.items w.own w.at };
 }
 
 impl<'a, 'p, I: RowIndex> Walk<'a, 'p, I> {
@@ -101,11 +100,10 @@ impl<'a, 'p, I: RowIndex> Walk<'a, 'p, I> {
             index,
             parts,
             own,
-            query: *query,
-            period: index.period(),
+            test: KeyTest::new(query, index.period()),
             at: Position {
                 start: from,
-                rows: &[],
+                rows: RowsView::Many(&[]),
                 entries: &[],
                 next: Some(from),
                 opened: 0,
@@ -135,7 +133,7 @@ impl<'a, 'p, I: RowIndex> Walk<'a, 'p, I> {
     {
         if self.at.opened > FEW && matches!(self.own, OwnPlan::Due(_)) {
             let own = mem::replace(&mut self.own, OwnPlan::Never);
-            self.own = own.made(&self.query, self.period);
+            self.own = own.made(&self.test.query, self.test.period);
         }
     }
 
@@ -153,8 +151,7 @@ impl<'a, 'p, I: RowIndex> Walk<'a, 'p, I> {
     {
         let at = forward(
             self.index,
-            &self.query,
-            self.period,
+            &self.test,
             self.parts.as_slice(),
             &self.own,
             self.at,

@@ -148,8 +148,8 @@ impl<I: RowIndex> Table<I> {
     }
 
     /// How many rows are inside the query and have a label that the authorizations satisfy.
-    pub fn count<B: Allocator>(&self, query: &Query, auths: &Auths<B>) -> Result<u64, AllocError>
-        ensures { IfOk result (λ count. count ≡ length (seen query.now auths.now self.now.rows)) }
+    pub fn count<B: Allocator>(&self, query: &Query, auths: &Auths<B>) -> u64
+        ensures { result ≡ length (seen query.now auths.now self.now.rows) }
     {
         st_scan::count(self.keys.alloc(), &self.index, query, auths)
     }

@@ -5,10 +5,10 @@ use Rattle.st_scan.proofs.step.forward.Given as goal
 
 abbrev pub invariant-regions : goal.invariant-regions
 invariant-regions g l = record {
-  at : IsPosition l.period l.query (g.I.RowIndex.regions l.index) l.at;
+  at : IsPosition l.test.period l.test.query (g.I.RowIndex.regions l.index) l.at;
   start : l.at.start ≡ l.fn.from.start;
-  left : left_of l.period l.query (g.I.RowIndex.content l.index) l.at ≡ left_of l.period l.query (g.I.RowIndex.content l.index) l.fn.from;
+  left : left_of l.test.period l.test.query (g.I.RowIndex.content l.index) l.at ≡ left_of l.test.period l.test.query (g.I.RowIndex.content l.index) l.fn.from;
 }
 
 abbrev pub decreases-regions : goal.decreases-regions
-decreases-regions g l = key_end l.period - place_at l.period l.at.next
+decreases-regions g l = key_end l.test.period - place_at l.test.period l.at.next

@@ -9,8 +9,8 @@ use Rattle.st_scan.proofs.step.next_entry.Goals as goal
 
 pub returns-then-has_key-clause-some : goal.returns-then-has_key-clause-some
 returns-then-has_key-clause-some g c =
-    let q = c.args.query.now in
-    let w = c.args.period in
+    let q = c.args.test.now.query in
+    let w = c.args.test.now.period in
     let is = c.in-Some.ensures.cases.0 in
     let p = subst (Passed q c.args.entries.now) is c.loop-entry.invariant in
     let entry = All-head (IsEntry w) _ _ (all_right (IsEntry w) p.passed _ (subst (All (IsEntry w)) p.is c.requires.keyed)) in
@@ -27,8 +27,8 @@ returns-then-has_key-clause-some g c =
 
 pub loop-entry-preserved : goal.loop-entry-preserved
 loop-entry-preserved g c =
-    let q = c.args.query.now in
-    let w = c.args.period in
+    let q = c.args.test.now.query in
+    let w = c.args.test.now.period in
     let is = c.in-Some.ensures.cases.0 in
     let p = subst (Passed q c.args.entries.now) is c.loop-entry.invariant in
     let entry = All-head (IsEntry w) _ _ (all_right (IsEntry w) p.passed _ (subst (All (IsEntry w)) p.is c.requires.keyed)) in

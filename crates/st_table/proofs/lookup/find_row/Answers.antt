@@ -33,3 +33,6 @@ returns-clause-absent g c =
     subst (λ n. IsAbsent period n (record { id = c.args.id.now; label = c.args.label.now }) (rows_of c.args.held.now)) at
     (absent_around period c.args.held.now c.in-Ok.at e e c.in-Ok.ensures.bound c.index-held-at.is lo hi _ h (gone a.entry.named)))
     c.get.result c.get.ensures.absent
+
+pub returns-clause-named : goal.returns-clause-named
+returns-clause-named g c = some_more (λ row h. h.1) c.get.result c.get.ensures.some

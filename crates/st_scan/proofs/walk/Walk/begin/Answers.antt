@@ -1,4 +1,4 @@
-use Rattle.std.proofs.Common.{◌≤◌, sym, subst, arith}
+use Rattle.std.proofs.Common.{◌≤◌, ◌∙◌, sym, subst, arith}
 use Rattle.st_key.specs.Key.{rank}
 use Rattle.st_index.specs.Index.{Follow}
 use Rattle.st_index.specs.Rows.{key_end}
@@ -10,19 +10,21 @@ use Rattle.st_scan.proofs.walk.Walk.begin.Goals as goal
 
 pub invariant_of-result : goal.invariant_of-result
 invariant_of-result g c =
-    let q = c.args.query.now in
-    let same = sym c.period.ensures.value in
+    let test = c.new.result in
+    let same = sym (c.new.ensures.period ∙ c.period.ensures.value) in
+    let query = sym c.new.ensures.query in
     let regions = g.I.RowIndex.regions c.args.index.now in
     record {
-      same_period = c.period.ensures.value;
-      exact = subst (λ p. AreExact p q c.args.parts.items) same c.requires.exact;
-      own_exact = subst (λ p. IsOwnExact p q c.args.own) same c.requires.own;
+      same_period = c.new.ensures.period ∙ c.period.ensures.value;
+      exact = subst (λ q. AreExact test.period q c.args.parts.items) query (subst (λ p. AreExact p c.args.query.now c.args.parts.items) same c.requires.exact);
+      own_exact = subst (λ q. IsOwnExact test.period q c.args.own) query (subst (λ p. IsOwnExact p c.args.query.now c.args.own) same c.requires.own);
       follow = subst (λ p. Follow 0 (key_end p) regions) same c.period.ensures.lawful.follow;
       few = c.period.ensures.lawful.regions_count;
-      at = begin c.period.result q regions (rank c.args.from) (subst (λ p. rank c.args.from ≤ key_end p) same c.requires.in_period);
+      at = begin test.period test.query regions (rank c.args.from) (subst (λ p. rank c.args.from ≤ key_end p) same c.requires.in_period);
     }
 
 pub returns-clause-few : goal.returns-clause-few
 returns-clause-few g c =
-    let le = filter_le (has_row_from c.period.result c.args.query.now (rank c.args.from)) (g.I.RowIndex.content c.args.index.now) in
+    let test = c.new.result in
+    let le = filter_le (has_row_from test.period test.query (rank c.args.from)) (g.I.RowIndex.content c.args.index.now) in
     omega (arith, le, c.period.ensures.lawful.count)
