@@ -1,18 +1,18 @@
 -- A search in a set's order finds just its names.
-use Rattle.std.proofs.Common.{◌≡◌, ◌≢◌, ◌+◌, ◌<◌, ℕ, zero, suc, List, [], ◌∷◌, ◌++◌, Bool, true, false, not, Result, Ok, Err, length, map, get_or, refl, sym, ap, ap₂, take, ◌∙◌, arith, add-one, is_ok}
+use Rattle.std.proofs.Common.{◌≡◌, ◌≢◌, ◌+◌, ◌<◌, ℕ, zero, suc, List, [], ◌∷◌, ◌++◌, Bool, true, false, not, Result, Ok, Err, length, map, get_or, refl, sym, subst, ap, ap₂, take, ◌∙◌, arith, add-one, is_ok}
 use lib.Dec.{ltb}
 use Rattle.std.proofs.lemmas.Bool.{ltb-true, ltb-false}
 use Rattle.std.specs.Cmp.{Equal-is}
 use Rattle.std.specs.Cmp.Lexicographic.{slice_cmp}
-use Rattle.std.specs.List.{list_any, range_with_len}
+use Rattle.std.specs.List.{All, list_any, range_with_len}
 use Rattle.std.specs.List.Sorted.{IsBinarySearchResult, IsSearchInRange, IsPartitionPoint}
 use Rattle.std.specs.Ordering.{nat_cmp, is_eq}
 use Rattle.std.specs.declared.cmp.Ordering.TheVariants.{Less, Equal, Greater}
 use Rattle.std.proofs.lemmas.Cmp.{nat_list_cmp_total}
 use Rattle.std.proofs.lemmas.List.{get_or-map, length-map, take_more}
 use Rattle.std.proofs.lemmas.List.Folds.{list_any_at}
-use Rattle.std.proofs.lemmas.List.FromFn.{fill_by_all}
-use Rattle.std.proofs.lemmas.List.Sorted.{IsPermutation-map, list_any-IsPermutation, searchable_from_sorted}
+use Rattle.std.proofs.lemmas.List.FromFn.{fill_by_all, get_or-range_with_len, length-range_with_len}
+use Rattle.std.proofs.lemmas.List.Sorted.{All-permutation, IsPermutation-map, list_any-IsPermutation, searchable_from_sorted}
 use Rattle.std.proofs.lemmas.Map.Text.{is_eq-slice_cmp}
 use Rattle.st_text.specs.Texts.{Text, same, is_among}
 use Rattle.st_text.proofs.Same.{same-eq, same-refl}
@@ -45,7 +45,14 @@ other_when_greater a b e = other_by a b _ refl (λ k. let both : Greater ≡ Equ
 all_names : (names : List Text) → names ≡ map (name_at names) (range_with_len 0 (length names))
 all_names names = fill_by_all (name_at names) names (length names) [] refl (λ k less. refl)
 
-among_in_order : (names : List Text) (order : List ℕ) (name : Text) → IsOrder names order → is_among names name ≡ list_any (same name) (map (name_at names) order)
+pub places_inside : (names : List Text) (order : List ℕ) → IsOrder names order → All (λ place. place < length names) order
+places_inside names order h =
+    let places = range_with_len 0 (length names) in
+    All-permutation (λ place. place < length names) places order h.whole (λ k d less.
+    let inside = subst (λ n. k < n) (length-range_with_len 0 (length names)) less in
+    rw (get_or-range_with_len 0 (length names) k d inside) (omega (inside, arith)))
+
+pub among_in_order : (names : List Text) (order : List ℕ) (name : Text) → IsOrder names order → is_among names name ≡ list_any (same name) (map (name_at names) order)
 among_in_order names order name h =
     ap (list_any (same name)) (all_names names)
     ∙ list_any-IsPermutation (same name) (map (name_at names) (range_with_len 0 (length names))) (map (name_at names) order) (IsPermutation-map (name_at names) (range_with_len 0 (length names)) order h.whole)

@@ -167,6 +167,13 @@ impl<A: Allocator> Auths<A> {
         self.names.len()
     }
 
+    /// The places of all names, those of lesser names first, by their bytes.
+    pub fn order(&self) -> &[usize]
+        ensures { IsOrder self.now result.now }
+    {
+        &self.order
+    }
+
     /// The name at a place, in the order given.
     pub fn get(&self, index: usize) -> &str
         requires { index < length self.now }

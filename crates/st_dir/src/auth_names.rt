@@ -34,24 +34,15 @@ fn is_at<A: Allocator>(names: &[Words<A>], place: usize, text: &str) -> bool
     place < names.len() && text == names[place].as_str()
 }
 
-// Whether the text is one of the names.
-fn has<A: Allocator>(names: &[Words<A>], text: &str) -> bool
-    requires { Rises name_key names.now }
-    ensures { result ≡ is_among names.now text.now }
-{
-    let place = place_of(names, text);
-    is_at(names, place, text)
-}
-
 // Puts in a name, unless it is there.
 fn put<A: Allocator>(names: &mut Vec<Words<A>, A>, name: Words<A>) -> Result<(), AllocError>
     requires { Rises name_key names.old.items }
     ensures ok { OnOk result (names.new.items ≡ with_name name names.old.items) }
 {
-    if has(names, name.as_str()) {
+    let place = place_of(names, name.as_str());
+    if is_at(names, place, name.as_str()) {
         return Ok(());
     }
-    let place = place_of(names, name.as_str());
     let Ok(()) = names.insert(place, name) else {
         return Err(AllocError);
     };
@@ -66,10 +57,10 @@ pub fn each_once<A: Allocator + Copy>(
     ensures { IfOk result (λ names. names ≡ set_of auths.now) }
 {
     let mut names = Vec::new(alloc);
-    let mut left = auths.len();
-    while 0 < left {
-        left -= 1;
-        let name = Words::new(alloc, auths.get(left))?;
+    let order = auths.order();
+    // By their bytes, so that each goes to the end.
+    for place in order {
+        let name = Words::new(alloc, auths.get(*place))?;
         put(&mut names, name)?;
     }
     Ok(Items::from_vec(names))

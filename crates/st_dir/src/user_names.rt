@@ -35,24 +35,15 @@ fn is_at(names: &[Name], place: usize, text: &str) -> bool
     place < names.len() && text == names[place].as_str()
 }
 
-// Whether the text is one of the names.
-fn has(names: &[Name], text: &str) -> bool
-    requires { Rises name_key names.now }
-    ensures { result ≡ is_among names.now text.now }
-{
-    let place = place_of(names, text);
-    is_at(names, place, text)
-}
-
 // Puts in a name, unless it is there.
 fn put<A: Allocator>(names: &mut Vec<Name, A>, name: Name) -> Result<(), AllocError>
     requires { Rises name_key names.old.items }
     ensures ok { OnOk result (names.new.items ≡ with_name name names.old.items) }
 {
-    if has(names, name.as_str()) {
+    let place = place_of(names, name.as_str());
+    if is_at(names, place, name.as_str()) {
         return Ok(());
     }
-    let place = place_of(names, name.as_str());
     let Ok(()) = names.insert(place, name) else {
         return Err(AllocError);
     };
@@ -84,10 +75,8 @@ pub fn granted_on<A: Allocator + Copy>(
     ensures { IfOk result (λ names. names ≡ set_of (map (λ g. g.user) (filter (λ g. same_scope scope.now g.scope) grants.now))) }
 {
     let mut names = Vec::new(alloc);
-    let mut left = grants.len();
-    while 0 < left {
-        left -= 1;
-        put_granted(&mut names, &grants[left], scope)?;
+    for grant in grants {
+        put_granted(&mut names, grant, scope)?;
     }
     Ok(Items::from_vec(names))
 }

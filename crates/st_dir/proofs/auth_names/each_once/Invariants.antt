@@ -1,11 +1,11 @@
-use Rattle.std.proofs.Common.{◌≡◌, ◌≤◌, length, drop}
-use Rattle.st_text.specs.Texts.{set_of}
+use Rattle.std.proofs.Common.{◌≡◌, take}
+use Rattle.std.specs.List.{list_any}
+use Rattle.st_text.specs.Texts.{Text, same, is_among}
+use Rattle.st_auth.specs.Order.{name_at}
 use Rattle.st_dir.specs.Sorted.{Rises, name_key}
 use Rattle.st_dir.proofs.auth_names.each_once.Given as goal
 
--- the set of the names behind the place is there
-abbrev pub invariant-loop-left : goal.invariant-loop-left
-invariant-loop-left g l = (l.names.items ≡ set_of (drop l.left l.auths)) × (l.left ≤ length l.auths) × Rises name_key l.names.items
-
-abbrev pub decreases-loop-left : goal.decreases-loop-left
-decreases-loop-left g l = l.left
+-- the names that have come are there, by their bytes and each once
+abbrev pub invariant-loop-place : goal.invariant-loop-place
+invariant-loop-place g l =
+    Rises name_key l.names.items × ((name : Text) → is_among l.names.items name ≡ list_any (λ place. same name (name_at l.auths place)) (take l.place-index l.order))

@@ -1,19 +1,34 @@
-use Rattle.std.proofs.Common.{◌-◌, List, ap, sym, ◌∙◌, subst, drop, arith, if◌then◌else◌}
-use Rattle.st_text.specs.Texts.{Text, set_of}
+use Rattle.std.proofs.Common.{◌∙◌, ap, sym, subst, take, ◌||◌, ◌&&◌}
+use Rattle.std.specs.List.{list_any}
+use Rattle.std.proofs.lemmas.List.{take_all}
+use Rattle.std.proofs.lemmas.List.Folds.{list_any_more}
+use Rattle.st_text.specs.Texts.{same, is_among}
 use Rattle.st_dir.specs.Grants.{same_scope}
-use Rattle.st_dir.specs.Sorted.{Rises, name_key, with_name}
-use Rattle.st_dir.specs.declared.grant.Grant.{Grant}
-use Rattle.st_dir.proofs.Sets.{user_more, users_on, rises_set}
+use Rattle.st_dir.specs.Sorted.{Rises, name_key}
+use Rattle.st_dir.proofs.Sets.{among_with_user, met_in_grants, rises_with_user}
 use Rattle.st_dir.proofs.user_names.granted_on.Goals as goal
 
-pub loop-left-preserved : goal.loop-left-preserved
-loop-left-preserved g c =
-    let left = c.loop-left.left in
+pub loop-grant-preserved : goal.loop-grant-preserved
+loop-grant-preserved g c =
+    let held = c.loop-grant.names.items in
     let scope = c.args.scope.now in
-    let grant : Grant = c.index-grants-left.result in
-    let held = set_of (users_on scope (drop left c.args.grants.now)) in
-    let is = c.in_ok-put_granted.ensures.ok
-    ∙ ap (λ (names : List Text). if same_scope scope grant.scope then with_name grant.user names else names) c.loop-left.invariant.0
-    ∙ ap (λ (h : Grant). if same_scope scope h.scope then with_name h.user held else held) c.index-grants-left.is
-    ∙ sym (user_more scope c.args.grants.now left grant c.loop-left-test.true c.loop-left.invariant.1) in
-    (is, omega (c.loop-left.invariant.1, arith), subst (Rises name_key) (sym is) (rises_set (users_on scope (drop (left - 1) c.args.grants.now))))
+    let grants = c.args.grants.now in
+    let at = c.loop-grant.grant-index in
+    let grant = c.grant-item.result in
+    let is = c.in_ok-put_granted.ensures.ok in (
+      subst (Rises name_key) (sym is) (rises_with_user scope grant held c.loop-grant.invariant.0),
+      λ name.
+          ap (λ names. is_among names name) is
+          ∙ among_with_user scope grant held name
+          ∙ ap (λ b. b || (same_scope scope grant.scope && same name grant.user)) (c.loop-grant.invariant.1 name)
+          ∙ ap (λ h. list_any (λ h. same_scope scope h.scope && same name h.user) (take at grants) || (same_scope scope h.scope && same name h.user)) c.grant-item.is
+          ∙ sym (list_any_more (λ h. same_scope scope h.scope && same name h.user) grants at grant c.loop-grant-test.true),
+    )
+
+pub returns : goal.returns
+returns g c =
+    let scope = c.args.scope.now in
+    let whole = take_all c.loop-grant.grant-index c.args.grants.now c.loop-grant-test.false in
+    c.from_vec.ensures
+    ∙ met_in_grants scope c.args.grants.now c.loop-grant.names.items c.loop-grant.invariant.0 (λ name.
+    c.loop-grant.invariant.1 name ∙ ap (list_any (λ h. same_scope scope h.scope && same name h.user)) whole)

@@ -1,14 +1,11 @@
-use Rattle.std.proofs.Common.{◌≡◌, ◌≤◌, length, drop, map, filter}
-use Rattle.st_text.specs.Texts.{set_of}
+use Rattle.std.proofs.Common.{◌≡◌, take, ◌&&◌}
+use Rattle.std.specs.List.{list_any}
+use Rattle.st_text.specs.Texts.{Text, same, is_among}
 use Rattle.st_dir.specs.Grants.{same_scope}
 use Rattle.st_dir.specs.Sorted.{Rises, name_key}
 use Rattle.st_dir.proofs.user_names.granted_on.Given as goal
 
--- the set of the users whose grants stand behind the place is there
-abbrev pub invariant-loop-left : goal.invariant-loop-left
-invariant-loop-left g l =
-    (l.names.items ≡ set_of (map (λ h. h.user) (filter (λ h. same_scope l.scope h.scope) (drop l.left l.grants))))
-    × (l.left ≤ length l.grants) × Rises name_key l.names.items
-
-abbrev pub decreases-loop-left : goal.decreases-loop-left
-decreases-loop-left g l = l.left
+-- the users of the grants that have come are there, by their bytes and each once
+abbrev pub invariant-loop-grant : goal.invariant-loop-grant
+invariant-loop-grant g l =
+    Rises name_key l.names.items × ((name : Text) → is_among l.names.items name ≡ list_any (λ h. same_scope l.scope h.scope && same name h.user) (take l.grant-index l.grants))
