@@ -2,6 +2,7 @@
 ghost use Rattle.std.specs.Prelude.{◌≡◌, ◌+◌, [], true, List, IfOk, IfSome, MatchResult};
 ghost use Rattle.st_core.specs.Step.{asks_for_change};
 ghost use Rattle.st_hall.specs.Steps.{Ask};
+ghost use Rattle.st_hall.specs.declared.hall.HallFault.TheVariants.{NoMemory};
 ghost use Rattle.st_hall.specs.Views.{EndsWith};
 
 use crate::clerk::{Clerk, EditionWriter, Receipt};
@@ -22,6 +23,8 @@ pub enum HallFault {
 }
 
 impl From<AllocError> for HallFault {
+    ghost from_gives = { λ _ e. e ≡ NoMemory };
+
     fn from(_: AllocError) -> HallFault {
         HallFault::NoMemory
     }
