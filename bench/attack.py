@@ -1,0 +1,265 @@
+#!/usr/bin/env python3
+"""Asks st_run the worst requests within its limits, one by one, over tables of 100,000 rows, and prints of each kind the slowest
+and the mean (processor time of the server, and the clock), and the memory after each kind.
+
+usage: attack.py [COUNT [ROUNDS [KIND]]]
+
+Each kind is asked COUNT times (100) in each of ROUNDS rounds (2); with KIND only those whose name has that word. Processor time
+is that of Linux's scheduler (/proc/PID/schedstat), so that a busy machine does not spoil it. Kinds that show or count rows, or
+sort them anew, say so: their time is in proportion. Build the server first: (cd crates/st_run && rt run < stdin > /dev/null).
+"""
+import fcntl
+import os
+import pathlib
+import random
+import subprocess
+import sys
+import time
+
+TOP = pathlib.Path(__file__).resolve().parent.parent
+DIGEST = "66687aadf862bd776c8fc18b8e9f8e20089714856ee233b3902a591d0d5f2925"
+TOKEN = "Bearer root." + "0" * 64
+ALL = "[0,2097151,0,2097151,0,19818086399]"
+ROWS = 100_000
+LIMIT = 5_000  # microseconds
+LABELS = ["", "A", "A|B", "(A&B)|C", "B&C", "S", "A&(B|C)", "(A|B)&(B|C)&(A|C)"]
+
+
+def head(line, fields, size):
+    return f"{line} HTTP/1.1\r\nHost: a\r\nAuthorization: {TOKEN}\r\n{fields}Content-Length: {size}\r\n\r\n"
+
+
+def ask(line, body="", fields=""):
+    body = body.encode()
+    return head(line, fields, len(body)).encode() + body
+
+
+def put(table, row, label, point, note=""):
+    return ask(f"POST /tables/{table}/put", f'{{"id":"{row}","label":"{label}","note":"{note}","point":[{point}]}}')
+
+
+class Server:
+    """The program, asked over two pipes."""
+
+    def __init__(self, program):
+        words = [program, "--root", DIGEST, "A", "B", "C"]
+        self.process = subprocess.Popen(words, stdin=subprocess.PIPE, stdout=subprocess.PIPE, bufsize=0)
+        self.to, self.back = self.process.stdin.fileno(), self.process.stdout.fileno()
+        for pipe in (self.to, self.back):
+            fcntl.fcntl(pipe, fcntl.F_SETPIPE_SZ, 1 << 20)
+        self.schedule = os.open(f"/proc/{self.process.pid}/schedstat", os.O_RDONLY)
+
+    def processor(self):
+        """Nanoseconds of the processor that the server had."""
+        return int(os.pread(self.schedule, 100, 0).split()[0])
+
+    def memory(self):
+        """The resident memory, in MiB."""
+        pages = pathlib.Path(f"/proc/{self.process.pid}/statm").read_text().split()[1]
+        return int(pages) * os.sysconf("SC_PAGE_SIZE") / (1 << 20)
+
+    def reply(self):
+        text = b""
+        while b"\r\n\r\n" not in text:
+            piece = os.read(self.back, 1 << 20)
+            if not piece:
+                sys.exit("the server ended")
+            text += piece
+        first, _, body = text.partition(b"\r\n\r\n")
+        size = int(first.split(b"Content-Length: ")[1].split(b"\r\n")[0])
+        while len(body) < size:
+            body += os.read(self.back, 1 << 20)
+        return first[9:12].decode(), body
+
+    def tell(self, request):
+        os.write(self.to, request)
+        return self.reply()
+
+    def tell_all(self, requests):
+        """Asks what only prepares."""
+        for request in requests:
+            status, body = self.tell(request)
+            if status != "200":
+                sys.exit(f"{request[:200]}: {status} {body[:200]}")
+
+    def settled(self):
+        """Waits until the server waits for what comes next, so that its processor time stands."""
+        before = self.processor()
+        while True:
+            time.sleep(0)
+            after = self.processor()
+            if after == before:
+                return after
+            before = after
+
+    def time(self, request):
+        """Microseconds of processor and clock, the status and the size of the reply."""
+        processor, clock = self.settled(), time.perf_counter_ns()
+        status, body = self.tell(request)
+        clock = time.perf_counter_ns() - clock
+        return (self.settled() - processor) / 1e3, clock / 1e3, status, len(body)
+
+
+def rows():
+    """100,000 rows at random points and times; and as many in one week, in 100 seconds."""
+    random.seed(3)
+    for table in ("weeks", "days"):
+        yield ask("POST /tables", f'{{"table":"{table}"}}')
+    for i in range(ROWS):
+        x, y = random.randrange(1 << 21), random.randrange(1 << 21)
+        label = LABELS[i % len(LABELS)]
+        yield put("points", f"r{i}", label, f"{x},{y},{random.randrange(19_818_086_400)}")
+        yield put("weeks", f"r{i}", label, f"{x},{y},{random.randrange(100)}")
+
+
+def crowds():
+    """10,000 rows of one point; 2,000 rows of one id."""
+    for table in ("crowd", "same"):
+        yield ask("POST /tables", f'{{"table":"{table}"}}')
+    for i in range(10_000):
+        yield put("crowd", f"r{i:05}", "A", "7,7,7")
+    for i in range(2_000):
+        yield put("same", "p", f"A|B{i:04}", f"{i},7,7")
+
+
+def names(count):
+    return [f"{i:x}" for i in range(count)]
+
+
+def texts(items):
+    return "[" + ",".join(f'"{it}"' for it in items) + "]"
+
+
+def filled(front, middle, tail, size=65_536):
+    """A body of a front, a middle as often as there is room, and a tail."""
+    return front + middle * ((size - len(front) - len(tail)) // len(middle)) + tail
+
+
+def deep(seed):
+    """A label of 256 bytes whose groups stand in 16 parentheses, of names of one letter."""
+    pick = random.Random(seed)
+    letters = "ABCDEFGHIJKLMNOPQRSTUVWXYZabcdefghijklmnopqrstuvwxyz0123456789"
+    label = pick.choice(letters)
+    for level in range(16):
+        sign = "&|"[level % 2]
+        others = [pick.choice(letters) for _ in range(5)]
+        label = f"({sign.join([label, *others])})"
+    return label[:256]
+
+
+LABELS_ASKED = {
+    "label, names in a row": ["|".join(chr(65 + i * 7 % 26) for i in range(128)), "&".join(f"n{i * 37 % 64:02}" for i in range(64))],
+    "label, groups in a row": ["|".join(f"({chr(90 - i % 26)}&{chr(97 + i % 26)})" for i in range(42))],
+    "label, groups in 16": [deep(seed) for seed in range(8)],
+    "label, one sign in 16": ["(" * 16 + "A" + "".join(f"|{chr(66 + i)})" for i in range(16)) + "|" + "|".join("zyxwvutsrq" * 8)],
+    "label, quoted": ['\\"' + "\\\\\\\\" * 126 + '\\"', "|".join(f'\\"{i}!\\"' for i in range(42))],
+}
+
+
+def box_of(*bounds):
+    return "[" + ",".join(map(str, bounds)) + "]"
+
+
+def kinds():
+    """The name of each kind, its requests, and whether its time is in proportion to the rows that it shows, counts or sorts."""
+    fields = "".join(f"a{i}: b\r\n" for i in range(61))
+    yield "64 fields", [ask("GET /whoami", fields=fields)], False
+    room = 8_192 - len(ask("GET /whoami", fields="a: \r\n"))
+    yield "head of 8,192 bytes", [ask("GET /whoami", fields=f"a: {'b' * room}\r\n")], False
+    room = 8_192 - len(ask("GET /whoami", fields="Connection: \r\n"))
+    yield "list of connections", [ask("GET /whoami", fields=f"Connection: {'a,' * (room // 2)}\r\n")], False
+    room = 8_192 - len(ask("GET /whoami"))
+    yield "target of 8,000 bytes", [ask("GET /whoami?" + "b" * (room - 1))], False
+    front = '{"auths":[],"box":[0,0,0,0,0,0]'
+    count = "POST /tables/points/count"
+    for name, middle, tail in (
+        ("body of spaces", " ", "}"),
+        ("body of fields", ',"z":0', "}"),
+        ("body of boxes", ',"box":[0,0,0,0,0,0]', "}"),
+        ("body of lists", ',"z":' + "[" * 126 + "]" * 126, "}"),
+        ("body of objects", ',"z":' + '{"a":' * 126 + "0" + "}" * 126, "}"),
+        ("body of escapes", "\\u00e9", '"}'),
+        ("body of digits", "7", "}"),
+    ):
+        begin = {"body of escapes": ',"z":"', "body of digits": ',"z":0.'}.get(name, "")
+        yield name, [ask(count, filled(front + begin, middle, tail))], False
+    keys = [f',"{i:05x}":0' for i in range(5_900)]
+    mixed = random.Random(5).sample(keys, len(keys))
+    for name, list_of_keys in (("body of names", keys), ("body of names, falling", keys[::-1]), ("body of names, mixed", mixed)):
+        yield name, [ask(count, front + "".join(list_of_keys) + "}")], False
+    many = 9_000
+    yield "9,000 authorizations set", [ask("POST /users/root/auths", f'{{"auths":{texts(names(many) + ["A", "B", "C"])}}}')], False
+    yield "9,000 authorizations held", [ask(count, f'{{"auths":{texts(names(many))},"box":[0,0,0,0,0,0]}}')], False
+    yield "9,000 authorizations shown", [ask("GET /whoami")], False
+    yield "authorizations set", [ask("POST /users/root/auths", '{"auths":["A","B","C"]}')], False
+    for name, labels in LABELS_ASKED.items():
+        yield name, [ask("POST /label", f'{{"label":"{label}"}}') for label in labels], False
+    for name, bounds in (
+        ("plan, all but the ends", (1, 2097150, 1, 2097150, 1, 19818086398)),
+        ("plan, thin", (1398101, 1398102, 0, 2097151, 1, 19818086398)),
+        ("plan, uneven", (699050, 1398101, 699050, 1398101, 201600, 19818086398)),
+    ):
+        yield name, [ask("POST /tables/points/plan", f'{{"box":{box_of(*bounds)},"budget":64}}')], False
+    pick = random.Random(4)
+    thin = []
+    for _ in range(50):
+        x, y = pick.randrange(1 << 21), pick.randrange(1 << 21)
+        thin += [box_of(x, x, y, y, 0, 19818086399), box_of(x, x, 0, 2097151, 0, 19818086399), box_of(0, 2097151, y, y, 0, 19818086399)]
+    for table in ("points", "weeks"):
+        asked = f"POST /tables/{table}"
+        auths = '"auths":["A","B","C"]'
+        yield f"count of a line, {table}", [ask(f"{asked}/count", f'{{{auths},"box":{box}}}') for box in thin], False
+        yield f"scan of a line, {table}", [ask(f"{asked}/scan", f'{{{auths},"box":{box},"limit":1000}}') for box in thin], False
+        yield f"grid of a line, {table}", [ask(f"{asked}/grid", f'{{{auths},"box":{box},"nx":32,"ny":32}}') for box in thin], False
+        inner = box_of(1, 2097150, 1, 2097150, 1, 19818086398)
+        yield f"count of all, {table}", [ask(f"{asked}/count", f'{{{auths},"box":{inner}}}')], True
+        yield f"grid of all, {table}", [ask(f"{asked}/grid", f'{{{auths},"box":{inner},"nx":32,"ny":32}}')], True
+        yield f"scan of 1,000 rows, {table}", [ask(f"{asked}/scan", f'{{{auths},"box":{inner},"limit":1000}}')], True
+        place = '{"id":"","label":"","point":[1048576,1048576,50]}'
+        yield f"scan after a place, {table}", [ask(f"{asked}/scan", f'{{{auths},"after":{place},"box":{inner},"limit":1}}')], False
+    yield "scan of rows unseen", [ask("POST /tables/weeks/scan", f'{{"auths":[],"box":{ALL},"limit":1000}}')], True
+    long = "é" * 2_048
+    yield "put of a long note", [put("points", "r7", LABELS[7], "1,1,1", long), put("points", "r7", LABELS[7], "1,1,1")], False
+    moved = [put("points", "r8", LABELS[0], f"{x},5,5") for x in (5, 2_000_000)]
+    yield "put of a row moved", moved, False
+    gone = ask("POST /tables/points/delete", '{"id":"new","label":"A"}')
+    yield "put and delete", [put("points", "new", "A", "9,9,9"), gone], False
+    gone = ask("POST /tables/crowd/delete", '{"id":"a","label":"A"}')
+    yield "put and delete among 10,000 of a point", [put("crowd", "a", "A", "7,7,7"), gone], False
+    yield "put again among 10,000 of a point", [put("crowd", "r05000", "A", "7,7,7", note) for note in ("n", "")], False
+    yield "count among 10,000 of a point", [ask("POST /tables/crowd/count", f'{{"auths":["A"],"box":{ALL}}}')], True
+    place = '{"id":"r09998","label":"A","point":[7,7,7]}'
+    yield "scan after 10,000 of a point", [ask("POST /tables/crowd/scan", f'{{"after":{place},"auths":["A"],"box":{ALL},"limit":1}}')], False
+    yield "get of 2,000 rows", [ask("POST /tables/same/get", '{"id":"p","auths":["A"]}')], True
+    yield "audit", [ask("GET /audit")], True
+    yield "period of 100,000 rows", [ask("POST /tables/weeks/period", f'{{"period":"{it}"}}') for it in ("day", "week")], True
+
+
+def main():
+    count, rounds = (int(word) for word in (sys.argv[1:3] + ["100", "2"][len(sys.argv[1:3]):]))
+    word = sys.argv[3] if len(sys.argv) > 3 else ""
+    server = Server(os.environ.get("PROGRAM", TOP / "crates/st_run/out/st_run"))
+    server.tell_all(rows())
+    server.tell_all(crowds())
+    print(f"{server.memory():.1f} MiB with {ROWS:,} rows in each of two tables")
+    slow = []
+    for round in range(rounds):
+        for name, requests, is_proportional in kinds():
+            if word not in name:
+                continue
+            asked = min(count, 10) if is_proportional else count
+            found = [server.time(requests[i % len(requests)]) for i in range(max(asked, len(requests)))]
+            processor = [it[0] for it in found]
+            statuses = sorted({it[2] for it in found})
+            late = not is_proportional and max(processor) > LIMIT
+            slow += [name] * late
+            print(
+                f"{name}: slowest {max(processor):,.0f} us, mean {sum(processor) / len(found):,.0f} us; by the clock "
+                f"{max(it[1] for it in found):,.0f} us; {len(found)} answered {', '.join(statuses)}, {max(it[3] for it in found):,} bytes; "
+                f"{server.memory():.1f} MiB{', in proportion' * is_proportional}{', TOO SLOW' * late}",
+                flush=True,
+            )
+    print(f"{len(set(slow))} kinds took more than {LIMIT / 1000:g} ms: {', '.join(sorted(set(slow)))}")
+
+
+main()
