@@ -2,3 +2,4 @@ pub mod Fronts
 pub mod Adding
 pub mod Following
 pub mod Worlds
+pub mod Crossing

@@ -75,10 +75,28 @@ pub fn count(alloc: Global) -> Option<Asked>
     })
 }
 
-// The number of a count.
-fn number_in(reply: Reply) -> Option<u64> {
+// A listing by root of the changes that were asked for.
+fn audit() -> Asked
+    ensures { asks_for_change result ≡ false }
+{
+    Asked {
+        token: token(),
+        call: Call::Good(Request::Audit),
+    }
+}
+
+/// The number of a count.
+pub fn number_in(reply: Reply) -> Option<u64> {
     match reply {
         Reply::Count(number) => Some(number),
+        _ => None,
+    }
+}
+
+// How many entries a listing has.
+fn entries_in(reply: Reply) -> Option<usize> {
+    match reply {
+        Reply::Audit(entries) => Some(entries.len()),
         _ => None,
     }
 }
@@ -87,6 +105,12 @@ fn number_in(reply: Reply) -> Option<u64> {
 pub fn rows<H: HallName>(alloc: Global, desk: &mut Desk<H>) -> Option<u64> {
     let asked = count(alloc)?;
     number_in(desk.read(&asked).ok()?)
+}
+
+/// How many changes a desk lists that were asked for.
+pub fn entries<H: HallName>(desk: &mut Desk<H>) -> Option<usize> {
+    let asked = audit();
+    entries_in(desk.read(&asked).ok()?)
 }
 
 /// The front of a receipt.

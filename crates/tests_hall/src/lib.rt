@@ -5,3 +5,7 @@
 mod asks;
 #[cfg(test)]
 mod fronts;
+#[cfg(test)]
+mod puts;
+#[cfg(test)]
+mod workers;

@@ -1,4 +1,4 @@
-use Rattle.std.proofs.Common.{◌≡◌, ℕ, ◌+◌, List, [], ◌∷◌, ◌++◌, drop, sym, ap, ◌∙◌, arith}
+use Rattle.std.proofs.Common.{◌≡◌, List, [], ◌∷◌, ◌++◌, drop, ap, ◌∙◌, arith}
 use Rattle.st_hall.specs.Steps.{Ask}
 use Rattle.st_hall.specs.Trails.{Trail}
 use Rattle.st_hall.specs.Editions.{waiting_list}
