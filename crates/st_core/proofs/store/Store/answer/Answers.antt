@@ -14,3 +14,6 @@ returns g c =
     let heard : asker_of c.args.self.now.directory c.args.asked.now.token ≡ Some c.in-Some.asker.now = search rules in
     let told = step_shown c.args.self.now c.args.asked.now c.in-Some.asker.now c.in-Good.request heard c.in-Good.is (search rules) in
     subst (λ (reply : Reply g.row.A.Denot). IfOk c.show.result (λ r. r ≡ reply)) (sym told) c.show.ensures
+
+pub returns-in_default : goal.returns-in_default
+returns-in_default g c = search rules

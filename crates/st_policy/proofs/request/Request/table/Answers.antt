@@ -1,0 +1,8 @@
+use Rattle.std.proofs.Common.{rules}
+use Rattle.st_policy.proofs.request.Request.table.Goals as goal
+
+pub returns-in_default : goal.returns-in_default
+returns-in_default g c = search rules
+
+pub returns-in-Grants : goal.returns-in-Grants
+returns-in-Grants g c = search rules
