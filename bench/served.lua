@@ -1,0 +1,23 @@
+-- What `wrk` asks of a server whose root has the secret of 32 zero bytes: `wrk .. -s bench/served.lua URL -- count` or `-- put`.
+local kind, number, name = "count", 0, ""
+local threads = 0
+
+function setup(thread)
+  threads = threads + 1
+  thread:set("name", "w" .. threads)
+end
+
+function init(args)
+  kind = args[1] or kind
+  wrk.method = "POST"
+  wrk.headers["Authorization"] = "Bearer root." .. string.rep("0", 64)
+end
+
+function request()
+  if kind == "count" then
+    return wrk.format(nil, "/tables/points/count", nil, '{"auths":[],"box":[0,1000,0,1000,0,1000]}')
+  end
+  number = (number + 1) % 100000
+  local point = "[" .. number % 2097151 .. "," .. number * 7 % 2097151 .. "," .. number .. "]"
+  return wrk.format(nil, "/tables/points/put", nil, '{"id":"' .. name .. number .. '","label":"","note":"","point":' .. point .. "}")
+end

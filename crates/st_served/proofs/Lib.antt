@@ -1,0 +1,4 @@
+pub mod Crossing
+pub mod Refusing
+pub mod Telling
+mod WorkedWords

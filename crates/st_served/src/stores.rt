@@ -1,0 +1,53 @@
+//! The stores that the words of a command line open.
+ghost use Rattle.std.specs.Prelude.{◌≡◌, ◌⊎◌, ℕ, Ok, Option, Some, None, IfOk, IfErr, IsErr, OnOk, List, map};
+ghost use Rattle.hex.specs.Hex.{decode_sized};
+ghost use Rattle.st_text.specs.Texts.{Text};
+ghost use Rattle.st_auth.specs.Names.{first_bad};
+ghost use Rattle.st_core.specs.State.{first_state};
+ghost use Rattle.st_served.specs.CommandLine.{Says, Refuses};
+ghost use Rattle.st_served.specs.Serving.{Opens};
+ghost use Rattle.st_served.specs.declared.fault.Fault.TheVariants.{BadDigest, BadName, NoMemory};
+
+use crate::command_line::Words;
+use crate::fault::Fault;
+use st_auth::AuthsFault;
+use st_core::Store;
+use std::alloc::Global;
+
+// The bytes that 64 hexadecimal digits write.
+fn digest_of(text: &str) -> Result<[u8; 32], Fault>
+    ensures ok { IfOk result (λ digest. decode_sized text.now 32 ≡ Ok digest) }
+    ensures err { IfErr result (λ fault. (fault ≡ BadDigest) × IsErr (decode_sized text.now 32)) }
+{
+    let mut digest = [0; 32];
+    match hex::decode_to_slice(text, &mut digest) {
+        Ok(()) => Ok(digest),
+        Err(_) => Err(Fault::BadDigest),
+    }
+}
+
+// A store of the state that a digest and names open.
+fn store_for(alloc: Global, digest: [u8; 32], names: &[&str]) -> Result<Store, Fault>
+    ensures ok { IfOk result (λ store. store ≡ first_state digest (map (λ name. name.now) names.now)) }
+    ensures good { OnOk result (first_bad (map (λ name. name.now) names.now) ≡ None) }
+    ensures err { IfErr result (λ fault. (fault ≡ NoMemory) ⊎ ((fault ≡ BadName) × (place : ℕ) × (first_bad (map (λ name. name.now) names.now) ≡ Some place))) }
+{
+    match Store::open(alloc, digest, names) {
+        Ok(store) => Ok(store),
+        Err(AuthsFault::BadName { .. }) => Err(Fault::BadName),
+        Err(AuthsFault::NoMemory) => Err(Fault::NoMemory),
+    }
+}
+
+/// Two stores of the state that the words open. The digest is judged first.
+pub fn stores_for(alloc: Global, said: &Words<'_>) -> Result<(Store, Store), Fault>
+    ensures alike { IfOk result (λ both. both.1 ≡ both.0) }
+    ensures ok { IfOk result (λ both. Opens said.now.digest.now (map (λ name. name.now) said.now.names.items) both.0) }
+    ensures err { IfErr result (λ fault. (words : List Text) (port : ℕ) (connections timeout : Option ℕ)
+        → Says words said.now.digest.now port connections timeout (map (λ name. name.now) said.now.names.items) → Refuses words fault) }
+{
+    let digest = digest_of(said.digest)?;
+    let first = store_for(alloc, digest, &said.names)?;
+    let second = store_for(alloc, digest, &said.names)?;
+    Ok((first, second))
+}

@@ -1,0 +1,183 @@
+//! Two workers, and how connections come to them.
+ghost use Rattle.std.specs.Prelude.{◌≡◌, ◌↔◌, ◌%◌, IfErr, IsTrue};
+ghost use Rattle.std.specs.Thread.{IsSync};
+ghost use Rattle.st_served.specs.Serving.{Stops};
+ghost use Rattle.st_served.specs.declared.fault.Fault.TheVariants.{Accept};
+
+use crate::connection::{Open, serve};
+use crate::fault::Fault;
+use crossbeam_channel::{Receiver, Sender, unbounded};
+use st_hall::HallName;
+use st_station::Station;
+use std::alloc::Global;
+use std::io::ErrorKind;
+use std::net::{TcpListener, TcpStream};
+use std::sync::{Mutex, Wait};
+use std::thread;
+use std::thread::Threads;
+use std::time::Duration;
+
+// The next connection. One that its client gave up before it was accepted is passed over.
+fn accept(listener: &TcpListener) -> Result<TcpStream, Fault>
+    ensures { IfErr result (λ fault. fault ≡ Accept) }
+{
+    for _ in 0..u64::MAX {
+        match listener.accept() {
+            Ok((stream, _)) => return Ok(stream),
+            Err(error) => match error.kind() {
+                ErrorKind::ConnectionAborted | ErrorKind::Interrupted => {}
+                _ => return Err(Fault::Accept),
+            },
+        }
+    }
+    Err(Fault::Accept)
+}
+
+// Serves what comes to one worker, one after another.
+fn serve_queue<H: HallName, C: Wait + Drop, R: Wait>(
+    rt: &R,
+    mut station: Station<'_, H, C, Open, R>,
+    queue: Receiver<TcpStream>,
+    limit: Duration,
+) {
+    for stream in queue.iter(rt) {
+        serve(&mut station, stream, limit);
+    }
+}
+
+// Whether a connection is for the first worker: the first, the third and so on are, where the first has number 0.
+fn is_for_first(number: u16) -> bool
+    ensures { IsTrue result ↔ (number % 2 ≡ 0) }
+{
+    number % 2 == 0
+}
+
+// Accepts so many connections, each for one worker or the other.
+fn accept_all<R: Wait>(
+    rt: &R,
+    listener: &TcpListener,
+    connections: u16,
+    one: Sender<TcpStream>,
+    two: Sender<TcpStream>,
+) -> Result<(), Fault>
+    ensures { IfErr result Stops }
+{
+    for number in 0..connections {
+        let stream = accept(listener)?;
+        let queue = if is_for_first(number) { &one } else { &two };
+        if queue.send(rt, stream).is_err() {
+            return Err(Fault::NoMemory);
+        }
+    }
+    Ok(())
+}
+
+/// Serves so many connections.
+pub fn serve_some<'c, H: HallName + Send + Sync, R: Threads + Wait + Sync>(
+    rt: &R,
+    alloc: Global,
+    listener: &TcpListener,
+    connections: u16,
+    limit: Duration,
+    one: Station<'_, H, &'c R, Open, R>,
+    two: Station<'_, H, &'c R, Open, R>,
+) -> Result<(), Fault>
+    ensures { IfErr result Stops }
+{
+    let (to_one, for_one) = unbounded(alloc)?;
+    let (to_two, for_two) = unbounded(alloc)?;
+    thread::scope(
+        thread::scope_env(),
+        rt,
+        |scope| -> Result<(), Fault>
+            requires { IsSync R.row }
+            ensures { IfErr result Stops }
+        {
+            if scope
+                .spawn(move || serve_queue(rt, one, for_one, limit))
+                .is_err()
+            {
+                return Err(Fault::NoThread);
+            }
+            if scope
+                .spawn(move || serve_queue(rt, two, for_two, limit))
+                .is_err()
+            {
+                return Err(Fault::NoThread);
+            }
+            accept_all(rt, listener, connections, to_one, to_two)
+        },
+    )
+}
+
+// Where each worker accepts its next connection, until an accept fails.
+#[derive(Drop)]
+struct Door<'a> {
+    listener: &'a TcpListener,
+    is_open: Mutex<bool>,
+}
+
+impl Door<'_> {
+    fn next<R: Wait>(&self, rt: &R) -> Option<TcpStream> {
+        let mut is_open = self.is_open.lock(rt);
+        if !*is_open {
+            return None;
+        }
+        match accept(self.listener) {
+            Ok(stream) => Some(stream),
+            Err(_) => {
+                *is_open = false;
+                None
+            }
+        }
+    }
+}
+
+// Serves what comes while a worker is free, until an accept fails.
+fn serve_door<H: HallName, C: Wait + Drop, R: Wait>(
+    rt: &R,
+    mut station: Station<'_, H, C, Open, R>,
+    door: &Door<'_>,
+    limit: Duration,
+) {
+    for _ in rt.forever() {
+        let Some(stream) = door.next(rt) else {
+            return;
+        };
+        serve(&mut station, stream, limit);
+    }
+}
+
+/// Serves all connections that come, until an accept fails.
+pub fn serve_on<'c, H: HallName + Send + Sync, R: Threads + Wait + Sync>(
+    rt: &R,
+    listener: &TcpListener,
+    limit: Duration,
+    one: Station<'_, H, &'c R, Open, R>,
+    two: Station<'_, H, &'c R, Open, R>,
+) -> Fault
+    ensures { Stops result }
+{
+    let door = Door {
+        listener,
+        is_open: Mutex::new(true),
+    };
+    let door = &door;
+    thread::scope(
+        thread::scope_env(),
+        rt,
+        |scope| -> Fault
+            requires { IsSync R.row }
+            ensures { Stops result }
+        {
+            if scope
+                .spawn(move || serve_door(rt, one, door, limit))
+                .is_err()
+            {
+                return Fault::NoThread;
+            }
+            serve_door(rt, two, door, limit);
+            Fault::Accept
+        },
+    )
+}
