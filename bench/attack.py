@@ -262,4 +262,5 @@ def main():
     print(f"{len(set(slow))} kinds took more than {LIMIT / 1000:g} ms: {', '.join(sorted(set(slow)))}")
 
 
-main()
+if __name__ == "__main__":
+    main()
