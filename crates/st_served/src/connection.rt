@@ -1,9 +1,10 @@
 //! One connection, and what lets reads pass.
+use st_connection::Ended;
 use st_connection::streams::{FromRead, FromWrite};
 use st_hall::{Gate, HallName};
 use st_station::{Station, work};
-use std::io::{self, ErrorKind, Write};
-use std::net::TcpStream;
+use std::io::{self, ErrorKind, Read, Write};
+use std::net::{Shutdown, TcpStream};
 use std::sync::Wait;
 use std::time::Duration;
 
@@ -48,6 +49,23 @@ fn prepare(stream: &TcpStream, limit: Duration) -> io::Result<()> {
     stream.set_nodelay(true)
 }
 
+// How often a connection that the server has ended is still read.
+const LAST_READS: u32 = 16;
+
+// Says that no more comes, and takes for a moment what the client sent before it heard so. Left unread, it would reset
+// the connection, and the client could not tell whether its last request was taken (RFC 9112, section 9.6).
+fn part(mut stream: &TcpStream) -> io::Result<()> {
+    stream.shutdown(Shutdown::Write)?;
+    stream.set_read_timeout(Some(Duration::from_secs(1)))?;
+    let mut rest = [0; 4096];
+    for _ in 0..LAST_READS {
+        if stream.read(&mut rest)? == 0 {
+            return Ok(());
+        }
+    }
+    Ok(())
+}
+
 /// Serves a connection to its end. A fault ends it alone.
 pub fn serve<H: HallName, C: Wait + Drop, W: Wait>(
     station: &mut Station<'_, H, C, Open, W>,
@@ -59,5 +77,7 @@ pub fn serve<H: HallName, C: Wait + Drop, W: Wait>(
     }
     let mut reader = FromRead::new(&stream);
     let mut writer = FromWrite::new(Prompt { stream: &stream });
-    let _ended = work(station, &mut reader, &mut writer);
+    if let Ok(Ended::Closed | Ended::TurnsSpent) = work(station, &mut reader, &mut writer) {
+        let _parted = part(&stream);
+    }
 }
