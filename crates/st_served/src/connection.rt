@@ -53,7 +53,7 @@ fn prepare(stream: &TcpStream, limit: Duration) -> io::Result<()> {
 const LAST_READS: u32 = 16;
 
 // Says that no more comes, and takes for a moment what the client sent before it heard so. Left unread, it would reset
-// the connection, and the client could not tell whether its last request was taken (RFC 9112, section 9.6).
+// the connection, and the client could not tell whether its last request was taken (RFC 9112, on the end of a connection).
 fn part(mut stream: &TcpStream) -> io::Result<()> {
     stream.shutdown(Shutdown::Write)?;
     stream.set_read_timeout(Some(Duration::from_secs(1)))?;
