@@ -7,6 +7,7 @@ usage: bytes.py [ROWS]
 Processor time is that of Linux's scheduler (/proc/PID/schedstat), so that a busy machine does not spoil it; it holds the reading
 and the writing of a pipe. Each figure is the middle one. Build the server first: (cd crates/st_run && rt run < stdin > /dev/null).
 """
+import os
 import statistics
 import subprocess
 import sys
@@ -26,6 +27,15 @@ def put(line):
     return attack.put("points", row, label, f"{x},{y},{t}")
 
 
+def fill(server, requests, each=64):
+    """Puts rows, so many at a time: a connection ends after a million reads."""
+    for start in range(0, len(requests), each):
+        batch, back = requests[start : start + each], b""
+        os.write(server.to, b"".join(batch))
+        while back.count(b'{"ok":true}') < len(batch):
+            back += os.read(server.back, 1 << 20)
+
+
 def told(server, requests):
     """The middle one of the microseconds that requests take, all of which are answered 200."""
     found = [server.time(request) for request in requests]
@@ -39,7 +49,7 @@ def main():
     server = attack.Server(attack.TOP / "crates/st_run/out/st_run")
     server.tell_all([attack.ask("POST /users/root/auths", f"{{{HELD}}}")])
     before = server.memory()
-    server.tell_all(points[:count])
+    fill(server, points[:count])
     print(f"{count:,} rows, {(server.memory() - before) * (1 << 20) / count:.0f} bytes a row")
     boxes = [line.split(" ") for line in lines("--boxes")]
     for share in ("0.02", "0.1", "0.4"):
