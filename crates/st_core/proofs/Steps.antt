@@ -22,7 +22,7 @@ is_refused : (o : Option Refusal) (refusal : Refusal) → decision o ≡ Err ref
 is_refused None refusal e = cc
 is_refused (Some other) refusal e = cc
 
-is_allowed : (o : Option Refusal) → decision o ≡ Ok tt → o ≡ None
+pub is_allowed : (o : Option Refusal) → decision o ≡ Ok tt → o ≡ None
 is_allowed None e = refl
 is_allowed (Some other) e = cc
 

@@ -1,5 +1,5 @@
 //! Lists of entries, in the order of their keys.
-ghost use Rattle.std.specs.Prelude.{◌≡◌, ◌+◌, ◌<◌, ◌≤◌, ◌^◌, [], length, vec_len, vec_capacity, IfSome, IfNone, IfOk, OnErr};
+ghost use Rattle.std.specs.Prelude.{◌≡◌, ◌+◌, ◌<◌, ◌≤◌, ◌^◌, [], length, vec_len, vec_capacity, IfSome, IfNone, IfOk, IsOk, OnErr};
 ghost use Rattle.std.specs.List.{All};
 ghost use Rattle.std.specs.List.Sorted.{IsSearchInRange, IsBinarySearchResult};
 ghost use Rattle.std.specs.Ordering.{nat_cmp};
@@ -37,6 +37,7 @@ pub fn list_for_more<A: Allocator + Copy>(
     ensures empty { IfOk result (λ rows. rows.items ≡ []) }
     ensures room { 0 < held → IfOk result (λ rows. held < vec_capacity rows) }
     ensures no_room { held ≡ 0 → IfOk result (λ rows. vec_capacity rows ≡ 0) }
+    ensures no_memory { held ≡ 0 → IsOk result }
 {
     if held == 0 {
         return Ok(Vec::new(alloc));

@@ -1,5 +1,6 @@
 //! Notes of rows.
 ghost use Rattle.std.specs.Prelude.{◌≡◌, ◌↔◌, IfOk, IfSome, IsSome};
+ghost use Rattle.st_index.specs.Notes.{noted_bytes};
 ghost use Rattle.st_index.specs.Texts.{IsNote};
 ghost use Rattle.st_text.specs.Texts.{same};
 
@@ -13,18 +14,20 @@ pub const MAX_NOTE: usize = 4096;
 /// The note of a row: a text of at most [`MAX_NOTE`] bytes. The empty one takes no memory of its own.
 #[derive(Drop)]
 pub struct Note<A: Allocator = Global> {
-    text: Words<A>,
+    alloc: A,
+    text: Option<Box<Words<A>, A>>,
 }
 
 impl<A: Allocator> Model for Note<A> {
     ghost use Rattle.std.specs.Prelude.{ℕ, List};
+    ghost use Rattle.st_index.specs.Notes.{noted_bytes};
     ghost use Rattle.st_index.specs.Texts.{IsNote};
 
     ghost Value = { List ℕ };
 
-    ghost view = { λ n. n.text };
+    ghost view = { λ n. noted_bytes n.text };
 
-    ghost invariant = { λ n. IsNote n.text };
+    ghost invariant = { λ n. IsNote (noted_bytes n.text) };
 }
 
 impl<A: Allocator + Copy> Note<A> {
@@ -37,17 +40,28 @@ impl<A: Allocator + Copy> Note<A> {
         if text.len() > MAX_NOTE {
             return Ok(None);
         }
-        let text = Words::new(alloc, text)?;
-        Ok(Some(Note { text }))
+        let text = boxed(alloc, text)?;
+        Ok(Some(Note { alloc, text }))
     }
 
     /// An equal note, or an error where there is no memory for it.
     pub fn copy(&self) -> Result<Note<A>, AllocError>
         ensures { IfOk result (λ note. note ≡ self.now) }
     {
-        let text = self.text.copy()?;
-        Ok(Note { text })
+        let alloc = self.alloc;
+        let text = boxed(alloc, self.as_str())?;
+        Ok(Note { alloc, text })
     }
+}
+
+// A text in memory of its own, but none where it is empty.
+fn boxed<A: Allocator + Copy>(alloc: A, text: &str) -> Result<Option<Box<Words<A>, A>>, AllocError>
+    ensures { IfOk result (λ boxed. noted_bytes boxed ≡ text.now) }
+{
+    if text.is_empty() {
+        return Ok(None);
+    }
+    Ok(Some(Box::new(alloc, Words::new(alloc, text)?)?))
 }
 
 impl<A: Allocator> Note<A> {
@@ -56,13 +70,16 @@ impl<A: Allocator> Note<A> {
         ensures value { result.now ≡ self.now }
         ensures fits { IsNote result.now }
     {
-        self.text.as_str()
+        match &self.text {
+            Some(text) => text.as_str(),
+            None => "",
+        }
     }
 
     /// Whether this is the text, byte by byte.
     pub fn is(&self, text: &str) -> bool
         ensures { result ≡ same self.now text.now }
     {
-        self.text.is(text)
+        self.as_str() == text
     }
 }

@@ -1,8 +1,11 @@
 -- Entries whose keys rise, and their rows.
-use Rattle.std.proofs.Common.{◌≡◌, ℕ, ◌+◌, ◌<◌, ◌≤◌, List, [], ◌∷◌, ◌++◌, filter, refl, sym, ap, subst, ◌∙◌, arith, append_assoc, IsTrue}
+use Rattle.std.proofs.Common.{◌≡◌, ℕ, ◌+◌, ◌-◌, ◌<◌, ◌≤◌, List, [], ◌∷◌, ◌++◌, filter, length, get_or, take, drop, true, false, ltb, suc, zero, refl, sym, ap, subst, ◌∙◌, arith, append_assoc, IsTrue}
+use Rattle.std.proofs.lemmas.Bool.{ltb-true, ltb-false, lt-ltb}
 use Rattle.std.proofs.lemmas.Grind.{flat_map-append}
 use Rattle.std.proofs.lemmas.List.Elements.{All-append, All-cons, All-head, All-nil, All-tail, filter-append}
+use Rattle.std.proofs.lemmas.List.{get_or-drop, get_or-take, length-drop, length-take-le, take-append-drop, take_all}
 use Rattle.std.specs.List.{All}
+use Rattle.std.specs.List.Sorted.{IsPartitionedBy, IsPartitionPoint}
 use Rattle.st_key.specs.declared.period.Period.{Period}
 use Rattle.st_box.specs.declared.query.Query.{Query}
 use Rattle.st_index.specs.Rows.{EntryValue, IsEntry, Rises, place_of, rows_of}
@@ -79,41 +82,37 @@ module _ {A : Type 0} (q : Query) where
         ∙ ap (λ xs. xs ++ []) (filter_none (has_row q) e.rows out);
   }
 
--- the entries skipped so far, all of them before a place
-pub record Skipped {A : Type 0} (start : ℕ) (entries ahead : List (EntryValue A)) : Type 0 where
-  pub skipped : List (EntryValue A)
-  pub is : entries ≡ skipped ++ ahead
-  pub before : All (λ e. e.at < start) skipped
+module _ {A : Type 0} (period : Period) (start : ℕ) where
+  -- the keys before a place stand first
+  pub rises_parted : (lo hi : ℕ) (es : List (EntryValue A)) → Rises period lo hi es → IsPartitionedBy (λ (e : EntryValue A). ltb e.at start) es
+  rises_parted lo hi [] h i j d a b p = absurd (omega (arith, b))
+  rises_parted lo hi (e ∷ es) h zero zero d a b p = p
+  rises_parted lo hi (e ∷ es) h zero (suc j) d a b p =
+      let later = entries_from period (e.at + 1) hi es h.2 j d (omega (arith, b)) in
+      let low = ltb-true (get_or es j d).at start p in
+      lt-ltb e.at start (omega (arith, later, low))
+  rises_parted lo hi (e ∷ es) h (suc i) zero d a b p = absurd (omega (arith, a))
+  rises_parted lo hi (e ∷ es) h (suc i) (suc j) d a b p = rises_parted (e.at + 1) hi es h.2 i j d (omega (arith, a)) (omega (arith, b)) p
 
-module _ {A : Type 0} (start : ℕ) where
-  pub skip_none : (entries : List (EntryValue A)) → Skipped start entries entries
-  skip_none entries = record { skipped = []; is = refl; before = All-nil _ }
-
-  pub skip_more : (entries : List (EntryValue A)) (e : EntryValue A) (rest : List (EntryValue A)) → Skipped start entries (e ∷ rest) → e.at < start → Skipped start entries rest
-  skip_more entries e rest s low = record {
-    skipped = s.skipped ++ e ∷ [];
-    is = s.is ∙ sym (append_assoc s.skipped (e ∷ []) rest);
-    before = All-append (λ f. f.at < start) s.skipped (e ∷ []) s.before (All-cons (λ f. f.at < start) e [] low (All-nil _));
-  }
+  pub skips_found : (lo hi : ℕ) (es : List (EntryValue A)) (n : ℕ) → n ≤ length es → Rises period lo hi es → (IsPartitionedBy (λ (e : EntryValue A). ltb e.at start) es → IsPartitionPoint (λ (e : EntryValue A). ltb e.at start ≡ true) (λ (e : EntryValue A). ltb e.at start ≡ false) es n) → SkipsTo start es (take (length es - n) (drop n es))
+  skips_found lo hi es n le h found =
+      let at = found (rises_parted lo hi es h) in
+      let all : take (length es - n) (drop n es) ≡ drop n es = take_all (length es - n) (drop n es) (let e = length-drop n es in omega (arith, e)) in
+      subst (SkipsTo start es) (sym all) (record {
+        skipped = take n es;
+        is = sym (take-append-drop n es);
+        before = λ k d l.
+            let short : k < n = let e = length-take-le n es le in omega (arith, e, l) in
+            subst (λ (e : EntryValue A). e.at < start) (sym (get_or-take n es k d short)) (ltb-true _ start (at.0 k d (omega arith) short));
+        after = λ k d l.
+            let long : n + k < length es = let e = length-drop n es in omega (arith, e, l) in
+            subst (λ (e : EntryValue A). start ≤ e.at) (sym (get_or-drop n es k d)) (ltb-false _ start (at.1 (n + k) d (omega arith) long));
+      })
 
 module _ {A : Type 0} (period : Period) where
   pub rises_right : (lo hi : ℕ) (xs ys : List (EntryValue A)) → Rises period lo hi (xs ++ ys) → Rises period lo hi ys
   rises_right lo hi [] ys h = h
   rises_right lo hi (x ∷ xs) ys h = rises_lower period lo (x.at + 1) hi ys (omega (arith, h.0)) (rises_right (x.at + 1) hi xs ys h.2)
-
-  pub skips_end : (start lo hi : ℕ) (entries : List (EntryValue A)) → Skipped start entries [] → SkipsTo start entries []
-  skips_end start lo hi entries s = record { skipped = s.skipped; is = s.is; before = s.before; after = All-nil _ }
-
-  pub skips_at : (start lo hi : ℕ) (entries : List (EntryValue A)) (e : EntryValue A) (rest : List (EntryValue A)) → Skipped start entries (e ∷ rest) → start ≤ e.at → Rises period lo hi entries → SkipsTo start entries (e ∷ rest)
-  skips_at start lo hi entries e rest s le h =
-      let r = rises_right lo hi s.skipped (e ∷ rest) (subst (Rises period lo hi) s.is h) in
-      let later = entries_from period (e.at + 1) hi rest r.2 in
-      record {
-        skipped = s.skipped;
-        is = s.is;
-        before = s.before;
-        after = All-cons (λ f. start ≤ f.at) e rest le (λ j d l. let a = later j d l in omega (arith, a, le));
-      }
 
   pub skips_none : (start lo hi : ℕ) (entries : List (EntryValue A)) → start ≤ lo → Rises period lo hi entries → SkipsTo start entries entries
   skips_none start lo hi entries le h = record {

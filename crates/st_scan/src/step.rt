@@ -1,5 +1,5 @@
 //! The steps of a walk.
-ghost use Rattle.std.specs.Prelude.{◌≡◌, ◌↔◌, ℕ, ◌<◌, ◌^◌, [], filter, length, IsTrue, IfSome, IfNone};
+ghost use Rattle.std.specs.Prelude.{◌≡◌, ◌↔◌, ℕ, ◌<◌, ◌^◌, [], filter, length, ltb, IsTrue, IfSome, IfNone};
 ghost use Rattle.std.specs.List.{All};
 ghost use Rattle.st_key.specs.declared.key.Key.{Key};
 ghost use Rattle.st_key.specs.declared.period.Period.{Period};
@@ -17,7 +17,7 @@ use crate::part_ranges::PartRanges;
 use crate::position::Position;
 use st_bigmin::first_from;
 use st_box::{KeyTest, Query};
-use st_index::{Entry, RowIndex, RowsView};
+use st_index::{Entry, RowIndex, RowsView, order};
 use st_key::{Key, Period};
 use std::alloc::Allocator;
 
@@ -76,15 +76,12 @@ pub(crate) fn next_entry<'a, A: Allocator + Copy>(
 fn skip_to<A: Allocator + Copy>(entries: &[Entry<A>], from: Key) -> &[Entry<A>]
     ensures { (period : Period) (lo hi : ℕ) → Rises period lo hi entries.now → SkipsTo (rank from) entries.now result.now }
 {
-    let mut ahead = entries;
-    while let Some((entry, rest)) = ahead.split_first() {
-        if key_of(entry).is_before(from) {
-            ahead = rest;
-        } else {
-            return ahead;
-        }
-    }
-    ahead
+    let before = entries.partition_point(
+        |entry: &Entry<A>| -> bool
+            ensures { result ≡ ltb entry.now.at (rank from) }
+        { order::is_before(entry.key, from) },
+    );
+    &entries[before..]
 }
 
 /// Those of the entries of a region, which begins at its first key, that do not come before a key.

@@ -1,22 +1,11 @@
-use Rattle.std.proofs.Common.{◌≤◌, ◌<◌, sym, subst}
+use Rattle.std.proofs.Common.{rules, ltb}
+use Rattle.std.proofs.lemmas.Fn.{always_returns_same}
 use Rattle.st_key.specs.Key.{rank}
-use Rattle.st_scan.specs.Walks.{SkipsTo}
-use Rattle.st_scan.proofs.Keys.{not_before, rank_before}
-use Rattle.st_scan.proofs.Entries.{Skipped, skip_more, skips_at}
+use Rattle.st_index.specs.Rows.{EntryValue}
+use Rattle.st_scan.proofs.Entries.{skips_found}
 use Rattle.st_scan.proofs.step.skip_to.Goals as goal
 
-pub returns-else-is_before : goal.returns-else-is_before
-returns-else-is_before g c period lo hi rises =
-    let is = c.in-Some.ensures.cases.0 in
-    let start = rank c.args.from in
-    let s = subst (Skipped start c.args.entries.now) is c.loop-entry.invariant in
-    let le : start ≤ c.in-Some.entry.now.at = subst (λ n. start ≤ n) c.key_of.ensures (not_before c.key_of.result c.args.from _ c.is_before.ensures c.if-is_before.false) in
-    subst (SkipsTo start c.args.entries.now) (sym is) (skips_at period start lo hi c.args.entries.now _ _ s le rises)
-
-pub loop-entry-preserved : goal.loop-entry-preserved
-loop-entry-preserved g c =
-    let is = c.in-Some.ensures.cases.0 in
-    let start = rank c.args.from in
-    let s = subst (Skipped start c.args.entries.now) is c.loop-entry.invariant in
-    let low = rank_before c.key_of.result c.args.from (c.is_before.ensures.0 c.if-is_before.true) in
-    skip_more start c.args.entries.now _ _ s (subst (λ n. n < start) c.key_of.ensures low)
+pub returns : goal.returns
+returns g c period lo hi rises =
+    skips_found period (rank c.args.from) lo hi c.args.entries.now _ c.partition_point-before.ensures.bound rises
+    (c.partition_point-before.ensures.partitioned (λ (e : EntryValue g.row.A.Denot). ltb e.at (rank c.args.from)) (always_returns_same _ _ _ (λ a r f called. search rules)))
