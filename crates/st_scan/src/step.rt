@@ -144,39 +144,34 @@ fn enter_region<'a, I: RowIndex>(
     })
 }
 
-/// The position at the next rows of the query, where those of the last entry are all given. It has no
-/// rows where none is left.
+/// Goes on to the next rows of the query, where those of the last entry are all given. There are no rows where none is left.
 pub(crate) fn forward<'a, I: RowIndex>(
     index: &'a I,
     test: &KeyTest,
     parts: &[PartRanges],
     own: &OwnPlan<I::Alloc>,
-    from: Position<'a, I::Alloc>,
-) -> Position<'a, I::Alloc>
+    at: &mut Position<'a, I::Alloc>,
+)
     requires period { test.now.period ≡ I.period_of index.now }
     requires exact { AreExact test.now.period test.now.query parts.now }
     requires own { IsOwnExact test.now.period test.now.query own.now }
-    requires at { IsPosition test.now.period test.now.query (I.regions index.now) from }
+    requires at { IsPosition test.now.period test.now.query (I.regions index.now) at.old }
     requires few { length (I.regions index.now) < 2 ^ 64 }
     requires follow { Follow 0 (key_end test.now.period) (I.regions index.now) }
-    ensures at { IsPosition test.now.period test.now.query (I.regions index.now) result }
-    ensures start { result.start ≡ from.entry.start }
-    ensures left { left_of test.now.period test.now.query (I.content index.now) result ≡ left_of test.now.period test.now.query (I.content index.now) from.entry }
-    ensures over { viewed result.rows ≡ [] → IsOver test.now.period test.now.query (I.content index.now) (I.regions index.now) result }
+    ensures at { IsPosition test.now.period test.now.query (I.regions index.now) at.new }
+    ensures start { at.new.start ≡ at.old.start }
+    ensures left { left_of test.now.period test.now.query (I.content index.now) at.new ≡ left_of test.now.period test.now.query (I.content index.now) at.old }
+    ensures over { viewed at.new.rows ≡ [] → IsOver test.now.period test.now.query (I.content index.now) (I.regions index.now) at.new }
 {
-    let mut at = from;
     'regions: while at.rows.is_empty() {
         if let Some((rows, entries)) = next_entry(test, parts, own, at.entries) {
-            return Position {
-                rows,
-                entries,
-                ..at
-            };
+            at.rows = rows;
+            at.entries = entries;
+            return;
         }
-        match enter_region(index, &test.query, test.period, at) {
-            Some(next) => at = next,
-            None => return at,
-        }
+        let Some(next) = enter_region(index, &test.query, test.period, *at) else {
+            return;
+        };
+        *at = next;
     }
-    at
 }

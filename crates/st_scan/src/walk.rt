@@ -149,18 +149,17 @@ impl<'a, 'p, I: RowIndex> Walk<'a, 'p, I> {
         ensures period { self.new.period ≡ self.old.period }
         ensures regions { self.new.regions ≡ self.old.regions }
     {
-        let at = forward(
+        forward(
             self.index,
             &self.test,
             self.parts.as_slice(),
             &self.own,
-            self.at,
+            &mut self.at,
         );
-        let Some((row, rest)) = at.rows.split_first() else {
-            self.at = at;
+        let Some((row, rest)) = self.at.rows.split_first() else {
             return None;
         };
-        self.at = Position { rows: rest, ..at };
+        self.at.rows = rest;
         Some(row)
     }
 

@@ -6,8 +6,8 @@ use Rattle.st_scan.proofs.step.forward.Given as goal
 abbrev pub invariant-regions : goal.invariant-regions
 invariant-regions g l = record {
   at : IsPosition l.test.period l.test.query (g.I.RowIndex.regions l.index) l.at;
-  start : l.at.start ≡ l.fn.from.start;
-  left : left_of l.test.period l.test.query (g.I.RowIndex.content l.index) l.at ≡ left_of l.test.period l.test.query (g.I.RowIndex.content l.index) l.fn.from;
+  start : l.at.start ≡ l.fn.at.start;
+  left : left_of l.test.period l.test.query (g.I.RowIndex.content l.index) l.at ≡ left_of l.test.period l.test.query (g.I.RowIndex.content l.index) l.fn.at;
 }
 
 abbrev pub decreases-regions : goal.decreases-regions

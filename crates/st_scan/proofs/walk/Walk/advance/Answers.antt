@@ -6,22 +6,22 @@ use Rattle.st_scan.specs.Walks.{AreExact, MeetsUpTo}
 use Rattle.st_scan.proofs.Positions.{given_at, given_opened}
 use Rattle.st_scan.proofs.walk.Walk.advance.Goals as goal
 
-pub forward-at-requires-clause-exact : goal.forward-at-requires-clause-exact
-forward-at-requires-clause-exact g c = subst (AreExact c.self.inside.test.period c.self.inside.test.query) (sym c.as_slice.ensures.value) c.self.invariant.exact
+pub forward-requires-clause-exact : goal.forward-requires-clause-exact
+forward-requires-clause-exact g c = subst (AreExact c.self.inside.test.period c.self.inside.test.query) (sym c.as_slice.ensures.value) c.self.invariant.exact
 
 pub returns-in_default-clause-none : goal.returns-in_default-clause-none
 returns-in_default-clause-none g c =
-    ap (λ v. v.left) (sym c.self.view_is) ∙ sym c.forward-at.ensures.left ∙ (c.forward-at.ensures.over c.in_default.ensures.none).left
+    ap (λ v. v.left) (sym c.self.view_is) ∙ sym c.forward.ensures.left ∙ (c.forward.ensures.over c.in_default.ensures.none).left
 
 pub returns-in_default-clause-end : goal.returns-in_default-clause-end
-returns-in_default-clause-end g c = (c.forward-at.ensures.over c.in_default.ensures.none).left
+returns-in_default-clause-end g c = (c.forward.ensures.over c.in_default.ensures.none).left
 
 pub returns-in_default-clause-opened_all : goal.returns-in_default-clause-opened_all
 returns-in_default-clause-opened_all g c =
-    let opened = c.forward-at.result.opened in
-    let all = (c.forward-at.ensures.over c.in_default.ensures.none).opened in
+    let opened = c.forward.new.at.opened in
+    let all = (c.forward.ensures.over c.in_default.ensures.none).opened in
     subst (λ v. Count (Meets v.period v.query v.start) v.regions opened) c.self.view_is
-    (subst (λ k. Count (Meets c.self.inside.test.period c.self.inside.test.query (rank k)) (g.I.RowIndex.regions c.self.inside.index.now) opened) c.forward-at.ensures.start all)
+    (subst (λ k. Count (Meets c.self.inside.test.period c.self.inside.test.query (rank k)) (g.I.RowIndex.regions c.self.inside.index.now) opened) c.forward.ensures.start all)
 
 pub invariant_of-self-2 : goal.invariant_of-self-2
 invariant_of-self-2 g c = record {
@@ -30,15 +30,15 @@ invariant_of-self-2 g c = record {
   own_exact = c.self.invariant.own_exact;
   follow = c.self.invariant.follow;
   few = c.self.invariant.few;
-  at = given_at c.self.inside.test.period c.self.inside.test.query (g.I.RowIndex.content c.self.inside.index.now) (g.I.RowIndex.regions c.self.inside.index.now) c.forward-at.result _ _ c.forward-at.ensures.at c.in-Some.ensures.some;
+  at = given_at c.self.inside.test.period c.self.inside.test.query (g.I.RowIndex.content c.self.inside.index.now) (g.I.RowIndex.regions c.self.inside.index.now) c.forward.new.at _ _ c.forward.ensures.at c.in-Some.ensures.some;
 }
 
 pub returns-clause-opened : goal.returns-clause-opened
 returns-clause-opened g c =
-    let opened = c.forward-at.result.opened in
+    let opened = c.forward.new.at.opened in
     let w = c.self.inside.test.period in
     let q = c.self.inside.test.query in
     let regions = g.I.RowIndex.regions c.self.inside.index.now in
-    let some = given_opened w q (g.I.RowIndex.content c.self.inside.index.now) regions c.forward-at.result _ _ c.forward-at.ensures.at c.in-Some.ensures.some in
+    let some = given_opened w q (g.I.RowIndex.content c.self.inside.index.now) regions c.forward.new.at _ _ c.forward.ensures.at c.in-Some.ensures.some in
     subst (λ v. Count (MeetsUpTo v.period v.query v.start (place_of v.period c.in-Some.row.now)) v.regions opened) c.self.view_is
-    (subst (λ k. Count (MeetsUpTo w q (rank k) (place_of w c.in-Some.row.now)) regions opened) c.forward-at.ensures.start some)
+    (subst (λ k. Count (MeetsUpTo w q (rank k) (place_of w c.in-Some.row.now)) regions opened) c.forward.ensures.start some)
