@@ -1,8 +1,6 @@
-//! Tests of the service of a connection, from bytes to bytes, and of the server's state.
+//! Tests of the service of a connection, with narrow reads and writes and with refused growths, and of the server's state.
 #![tactic(auto)]
 
-#[cfg(test)]
-mod frames;
 #[cfg(test)]
 mod narrow;
 #[cfg(test)]
