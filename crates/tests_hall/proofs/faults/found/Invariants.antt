@@ -1,4 +1,4 @@
-use Rattle.tests_station.proofs.faults.found.Given as goal
+use Rattle.tests_hall.proofs.faults.found.Given as goal
 
 -- the hall that is opened here
 abbrev pub ghosts-worked-H-HallName : goal.ghosts-worked-H-HallName

@@ -1,4 +1,4 @@
-use Rattle.tests_station.proofs.messages.found.Given as goal
+use Rattle.tests_hall.proofs.messages.found.Given as goal
 
 -- the hall that is opened here
 abbrev pub ghosts-answered-H-HallName : goal.ghosts-answered-H-HallName
