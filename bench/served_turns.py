@@ -1,11 +1,11 @@
 #!/usr/bin/env python3
 """No client sees that st_served ends a connection after a million reads: the edge asks again what met the end.
 
-    served_turns.py [SECONDS]
+    served_turns.py
 
-runs the built st_served, HAProxy before it by deploy/haproxy.cfg, and `wrk` with 64 clients for so many seconds (120, in which some
-3,500,000 requests go over two connections), and reads HAProxy's own counts. First build the program:
-(cd crates/st_served && rt run -- $(cat args)). It needs haproxy and wrk.
+runs the built st_served, HAProxy before it by deploy/haproxy.cfg, and `wrk` with 64 clients until 3,100,000 requests went over the
+two connections, and reads HAProxy's own counts. First build the program: (cd crates/st_served && rt run -- $(cat args)). It needs
+haproxy and wrk.
 """
 import contextlib
 import csv
@@ -17,17 +17,21 @@ import sys
 import tempfile
 import time
 
-SECONDS = int(sys.argv[1]) if len(sys.argv) > 1 else 120
 DIGEST = "66687aadf862bd776c8fc18b8e9f8e20089714856ee233b3902a591d0d5f2925"
 SERVED = ["crates/st_served/out/st_served", "--root", DIGEST, "--port", "47001", "--timeout", "60"]
 TURNS = 1_000_000
+REQUESTS = 3_100_000
 
 
 @contextlib.contextmanager
-def running(*words):
+def running(port, *words):
+    """Runs a program that listens at the port."""
     program = subprocess.Popen(words, stdout=subprocess.DEVNULL, stderr=subprocess.DEVNULL)
     try:
-        time.sleep(1)
+        for _ in range(100):
+            with contextlib.suppress(ConnectionRefusedError), socket.create_connection(("127.0.0.1", port)):
+                break
+            time.sleep(0.1)
         yield
     finally:
         program.kill()
@@ -45,11 +49,13 @@ def counts(path):
 
 
 def drive():
-    """How many requests `wrk` made, and whether it tells of a reply that was no 200 or of an error of a socket."""
-    words = ["wrk", "-t", "2", "-c", "64", "-d", f"{SECONDS}s", "-s", "bench/served.lua", "http://127.0.0.1:8080", "--", "count"]
+    """How many requests `wrk` made in half a minute, and whether it tells of a reply that was no 200 or of an error of a socket."""
+    words = ["wrk", "-t", "2", "-c", "64", "-d", "30s", "--timeout", "30s", "-s", "bench/served.lua", "http://127.0.0.1:8080", "--", "count"]
     told = subprocess.run(words, check=True, stdout=subprocess.PIPE, text=True).stdout
-    print(told, end="")
-    return int(re.search(r"(\d+) requests in", told)[1]), "Non-2xx" in told or "Socket errors" in told
+    is_wrong = "Non-2xx" in told or "Socket errors" in told
+    if is_wrong:
+        print(told, end="")
+    return int(re.search(r"(\d+) requests in", told)[1]), is_wrong
 
 
 def main():
@@ -60,14 +66,16 @@ def main():
         lines.insert(lines.index("global\n") + 1, f"    stats socket {folder}/stats level user\n")
         with open(f"{folder}/haproxy.cfg", "w", encoding="utf-8") as it:
             it.writelines(lines)
-        with running(*SERVED), running("haproxy", "-f", f"{folder}/haproxy.cfg"):
-            made, was_wrong = drive()
+        with running(47001, *SERVED), running(8080, "haproxy", "-f", f"{folder}/haproxy.cfg"):
+            made, wrong = 0, False
+            while made < REQUESTS:
+                more, is_wrong = drive()
+                made, wrong = made + more, wrong or is_wrong
             found = counts(f"{folder}/stats")
     opened, again = int(found["connect"]), int(found["wretr"])
     print(f"{made} requests, {opened} connections to st_served, {again} requests asked again, {found['hrsp_5xx']} replies of 5xx")
-    # two connections stand at a time, so each further one took the place of one that was ended
-    ended = made // TURNS - 1
-    right = not was_wrong and ended > 0 and opened > 2 and found["hrsp_5xx"] == "0"
+    # two connections stand at a time, so one of so many requests was ended, and each further one took the place of such a one
+    right = not wrong and made > 2 * TURNS and opened > 2 and found["hrsp_5xx"] == "0"
     print("ok" if right else "WRONG")
     sys.exit(not right)
 
