@@ -28,7 +28,8 @@ pub fn find<A: Allocator + Copy>(entries: &[Entry<A>], key: Key) -> Result<usize
     )
 }
 
-/// An empty list for one row more than a key holds. It takes no memory where the key holds none.
+/// An empty list for one row more than a key holds, and for half as many again, so that few puts at a key move its rows. It
+/// takes no memory where the key holds none.
 pub fn list_for_more<A: Allocator + Copy>(
     alloc: A,
     held: usize,
@@ -42,7 +43,7 @@ pub fn list_for_more<A: Allocator + Copy>(
     if held == 0 {
         return Ok(Vec::new(alloc));
     }
-    Vec::with_capacity(alloc, held + 1)
+    Vec::with_capacity(alloc, (held + 1).saturating_add(held / 2))
 }
 
 /// Puts a row into a list of entries, at its key. The lists take it without more memory.

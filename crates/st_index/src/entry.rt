@@ -45,8 +45,8 @@ impl<A: Allocator + Copy> Entry<A> {
         }
     }
 
-    /// Puts a row at its place. Where there are rows already, the new list takes all of them without more
-    /// memory.
+    /// Puts a row at its place. Where there are rows already and their list is full, the new list takes all of them without
+    /// more memory.
     pub fn put(&mut self, row: Row<A>, rows: Vec<Row<A>, A>)
         requires empty { rows.items ≡ [] }
         requires room { 0 < length self.old.rows → length self.old.rows < vec_capacity rows }

@@ -67,8 +67,8 @@ impl<A: Allocator + Copy> RowList<A> {
         }
     }
 
-    /// Puts in a row at an index. Where there are rows already, the new list takes all of them without more
-    /// memory.
+    /// Puts in a row at an index. Where there are rows already and their list is full, the new list takes all of them without
+    /// more memory.
     pub fn insert(&mut self, index: usize, row: Row<A>, list: Vec<Row<A>, A>)
         requires index { index ≤ length self.old }
         requires empty { list.items ≡ [] }
@@ -159,12 +159,31 @@ fn two<A: Allocator + Copy>(
     list
 }
 
+// The rows that are held, in a list with room for one more: their own, or the new one where that is full.
+fn with_room<A: Allocator + Copy>(
+    mut held: Vec<Row<A>, A>,
+    mut list: Vec<Row<A>, A>,
+) -> Vec<Row<A>, A>
+    requires empty { list.items ≡ [] }
+    requires room { length held.items < vec_capacity list }
+    ensures same { result.items ≡ held.items }
+    ensures room { length held.items < vec_capacity result }
+{
+    if held.len() < held.capacity() {
+        return held;
+    }
+    let Ok(()) = list.append(&mut held) else {
+        unreachable!()
+    };
+    list
+}
+
 // The place of a row at an index and of those that are held.
 fn more<A: Allocator + Copy>(
     index: usize,
     row: Row<A>,
-    mut held: Vec<Row<A>, A>,
-    mut list: Vec<Row<A>, A>,
+    held: Vec<Row<A>, A>,
+    list: Vec<Row<A>, A>,
 ) -> Place<A>
     requires index { index ≤ length held.items }
     requires empty { list.items ≡ [] }
@@ -174,13 +193,11 @@ fn more<A: Allocator + Copy>(
     if held.is_empty() {
         return Place::Inline(row);
     }
-    let Ok(()) = list.append(&mut held) else {
+    let mut rows = with_room(held, list);
+    let Ok(()) = rows.insert(index, row) else {
         unreachable!()
     };
-    let Ok(()) = list.insert(index, row) else {
-        unreachable!()
-    };
-    Place::Heap(list)
+    Place::Heap(rows)
 }
 
 // The place of rows that lie in a list: a single one lies there no more.

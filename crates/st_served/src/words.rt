@@ -4,7 +4,7 @@ ghost use Rattle.std.specs.Io.KnownBytes.{Appends};
 ghost use Rattle.std.specs.Net.Addr.{ipv4_octets};
 ghost use Rattle.std.specs.Net.Socket.{v4_ip, v4_port};
 ghost use Rattle.std.specs.Duration.{as_nanos};
-ghost use Rattle.st_served.specs.Serving.{Ran, Stops, Tells, line};
+ghost use Rattle.st_served.specs.Serving.{Opens, Ran, Stops, Tells, line};
 ghost use Rattle.st_served.specs.Status.{status_given, status_of};
 ghost use Rattle.st_served.specs.declared.fault.Fault.TheVariants.{Bind, Write as Unwritten, NoMemory};
 
@@ -102,6 +102,7 @@ fn serve<
 ) -> Result<(), Fault>
     requires named { (name.seen.book ≡ H.book) × (name.blank.name ≡ H.name) × (H.parts ≡ 2) }
     requires alike { (both.0 ≡ H.start) × (both.1 ≡ H.start) }
+    requires opens { Opens said.now.digest.now (map (λ name. name.now) said.now.names.items) both.0 }
     ensures { Tells said.now.port said.now.connections (O.contents output.old) (O.contents output.new) result }
 {
     let (clerk, one, two) = match Hall::<H>::open(rt, alloc, name, both.0, both.1) {

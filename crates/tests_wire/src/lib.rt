@@ -1,10 +1,27 @@
-//! Tests of the service of a connection, from bytes to bytes, and of the server's state.
+//! Tests of the service of a connection: narrow reads and writes, hostile input, requests whose growths are refused, and the
+//! server's state.
 #![tactic(auto)]
 
 #[cfg(test)]
-mod frames;
+mod cuts;
+#[cfg(test)]
+mod endless;
+#[cfg(test)]
+mod faults;
+#[cfg(test)]
+mod growths;
+#[cfg(test)]
+mod growths_rows;
+#[cfg(test)]
+mod growths_tables;
+#[cfg(test)]
+mod growths_users;
+#[cfg(test)]
+mod long_bodies;
 #[cfg(test)]
 mod narrow;
+#[cfg(test)]
+mod pieces;
 #[cfg(test)]
 mod refusals;
 #[cfg(test)]

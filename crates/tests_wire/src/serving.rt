@@ -49,16 +49,6 @@ pub fn served<A: Allocator + Copy>(
     Some((ended, writer.into_inner()))
 }
 
-/// How a service of the input ends, if it writes the output.
-pub fn ended(alloc: Global, input: &str, output: &str) -> Option<Ended> {
-    let (ended, written) = served(alloc, alloc, input.as_bytes())?;
-    if written.as_slice() == output.as_bytes() {
-        ended.ok()
-    } else {
-        None
-    }
-}
-
 /// Whether the text is that of these answers.
 pub fn is_joined(text: &[u8], answers: &[&str]) -> bool {
     let mut rest = text;
@@ -69,18 +59,6 @@ pub fn is_joined(text: &[u8], answers: &[&str]) -> bool {
         }
     }
     rest.is_empty()
-}
-
-// How a service of the input ends, and whether it writes these answers.
-fn answered(global: Global, answers: &[&str]) -> Option<(Result<Ended, IoFault>, bool)> {
-    let (ended, written) = served(global, global, INPUT)?;
-    Some((ended, is_joined(written.as_slice(), answers)))
-}
-
-#[test]
-fn counts_and_puts(rt: HostRuntime) {
-    let found = answered(rt.alloc(), &[ZERO, DONE, ONE]);
-    assert_eq!(rt; found, Some((Ok(Ended::Clean), true)));
 }
 
 // Whether the answer to the first message of the input is this text.

@@ -1,5 +1,5 @@
 use Rattle.std.proofs.Common.{◌≡◌, [], length, refl, sym, ap, ◌∙◌, vec_len, arith, rules}
-use Rattle.std.proofs.lemmas.Bool.{eqb-true, eqb-false}
+use Rattle.std.proofs.lemmas.Bool.{eqb-true}
 use Rattle.std.proofs.lemmas.List.{nil_from_length}
 use Rattle.st_index.proofs.row_list.more.Goals as goal
 
@@ -9,25 +9,3 @@ returns-then-is_empty g c =
     let none : c.args.held.items ≡ [] = nil_from_length c.args.held.items (held ∙ eqb-true _ _ (sym c.is_empty.ensures ∙ c.if-is_empty.true)) in
     let first : c.args.index ≡ 0 = let l = ap length none in let i = c.requires.index in omega (arith, l, i) in
     rw (none, first) refl
-
-pub unreachable-requires : goal.unreachable-requires
-unreachable-requires g c =
-    let held : length c.args.held.items ≡ vec_len c.args.held = search rules in
-    let none : length c.args.list.items ≡ vec_len c.args.list = search rules in
-    let empty = ap length c.requires.empty in
-    let n = eqb-false _ _ (sym c.is_empty.ensures ∙ c.if-is_empty.false) in
-    let room = c.requires.room (omega (arith, held, n)) in
-    let full = c.in_default.ensures.full in
-    omega (arith, held, none, empty, room, full)
-
-pub unreachable-requires-in_default-insert : goal.unreachable-requires-in_default-insert
-unreachable-requires-in_default-insert g c =
-    let held : length c.args.held.items ≡ vec_len c.args.held = search rules in
-    let none : length c.args.list.items ≡ vec_len c.args.list = search rules in
-    let empty = ap length c.requires.empty in
-    let n = eqb-false _ _ (sym c.is_empty.ensures ∙ c.if-is_empty.false) in
-    let room = c.requires.room (omega (arith, held, n)) in
-    let len = c.in-Ok.ensures.len in
-    let capacity = c.in-Ok.ensures.capacity in
-    let full = c.in_default-insert.ensures.full in
-    omega (arith, held, none, empty, room, len, capacity, full)

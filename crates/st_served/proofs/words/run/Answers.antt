@@ -7,6 +7,9 @@ serve-requires-clause-named g c κs within = (refl, refl, refl)
 pub serve-requires-clause-alike : goal.serve-requires-clause-alike
 serve-requires-clause-alike g c κs within = (refl, c.in_ok-both.ensures.alike)
 
+pub serve-requires-clause-opens : goal.serve-requires-clause-opens
+serve-requires-clause-opens g c κs within = c.in_ok-both.ensures.ok
+
 pub returns : goal.returns
 returns g c =
     let said = c.in_ok-said.said in

@@ -1,4 +1,4 @@
-use Rattle.std.proofs.Common.{◌≡◌, sym, ap, ◌∙◌}
+use Rattle.std.proofs.Common.{rules, ◌≡◌, sym, ap, ◌∙◌}
 use Rattle.std.proofs.lemmas.Result.{on_ok_weaker, on_err_weaker}
 use Rattle.st_dir.specs.Directory.{Directory}
 use Rattle.st_core.specs.Tables.{headings_of}
@@ -15,3 +15,6 @@ invariant_of-self g c =
           (λ e. ap (λ (f : Directory g.row.A.Denot). headings_of f.tables) e ∙ directory_stays c.args.asker.now c.args.request.now d at.not-CreateTable at.not-DropTable at.not-Period)
           (λ e. ap (λ (f : Directory g.row.A.Denot). headings_of f.tables) e)),
     )
+
+pub returns-in-Delete-clause-ok : goal.returns-in-Delete-clause-ok
+returns-in-Delete-clause-ok g c = search rules

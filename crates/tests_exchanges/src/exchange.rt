@@ -1,0 +1,93 @@
+//! Exchanges, each with a fresh service, and what they tell.
+
+use crate::fault::Fault;
+use crate::request::input_of;
+use crate::service::{opened, told_of};
+use st_service::Service;
+use std::alloc::Global;
+
+// An exchange that was asked, and what it told the user u.
+#[derive(Drop)]
+struct Asked<'t> {
+    name: &'t str,
+    told: Vec<u8>,
+}
+
+// Whether the exchange of this name told u these bytes too.
+fn likeness(asked: &[Asked<'_>], name: &str, told: &[u8]) -> Result<&'static str, Fault> {
+    match asked.iter().find(|one| one.name == name) {
+        Some(one) if one.told.as_slice() == told => Ok("alike"),
+        Some(_) => Ok("different"),
+        None => Err(Fault::NoExchange),
+    }
+}
+
+// Serves the lines of a connection, and tells what was answered. Lines that ask nothing are passed over.
+fn tell_connection(
+    alloc: Global,
+    service: &mut Service,
+    lines: &str,
+    told_to_u: &mut Vec<u8>,
+    told: &mut Vec<u8>,
+) -> Result<(), Fault> {
+    let input = input_of(alloc, lines)?;
+    if input.is_empty() {
+        return Ok(());
+    }
+    let answers = told_of(alloc, service, input.as_slice())?;
+    if lines.starts_with("u ") {
+        told_to_u.extend_from_slice(answers.as_slice())?;
+    }
+    told.extend_from_slice(answers.as_slice())?;
+    Ok(())
+}
+
+// Asks the connections of an exchange, and gives what u was told.
+fn tell_connections(
+    alloc: Global,
+    (names, connections): (&str, &str),
+    asked: &[Asked<'_>],
+    told: &mut Vec<u8>,
+) -> Result<Vec<u8>, Fault> {
+    let mut service = opened(alloc, names)?;
+    let mut told_to_u = Vec::new(alloc);
+    for connection in connections.split("\n\n") {
+        let lines = connection.trim_matches('\n');
+        if let Some(name) = lines.strip_prefix("= ") {
+            let likeness = likeness(asked, name, told_to_u.as_slice())?;
+            told.extend_from_slice(likeness.as_bytes())?;
+            told.push(b'\n')?;
+        } else {
+            tell_connection(alloc, &mut service, lines, &mut told_to_u, told)?;
+        }
+    }
+    Ok(told_to_u)
+}
+
+// Asks an exchange: tells its head, and then what its connections are answered.
+fn tell<'t>(
+    alloc: Global,
+    exchange: &'t str,
+    asked: &[Asked<'t>],
+    told: &mut Vec<u8>,
+) -> Result<Asked<'t>, Fault> {
+    let (head, connections) = exchange.split_once('\n').unwrap_or((exchange, ""));
+    let (name, names) = head.split_once(" / ").unwrap_or((head, ""));
+    told.extend_from_slice(b"# ")?;
+    told.extend_from_slice(head.as_bytes())?;
+    told.push(b'\n')?;
+    Ok(Asked {
+        name,
+        told: tell_connections(alloc, (names, connections), asked, told)?,
+    })
+}
+
+/// Asks the exchanges of a text one after another, and adds what they tell. What stands before the first is passed over.
+pub fn tell_all(alloc: Global, text: &str, told: &mut Vec<u8>) -> Result<(), Fault> {
+    let mut asked = Vec::new(alloc);
+    for exchange in text.split("\n# ").skip(1) {
+        let one = tell(alloc, exchange, asked.as_slice(), told)?;
+        asked.push(one)?;
+    }
+    Ok(())
+}
