@@ -1,5 +1,5 @@
 #!/usr/bin/env python3
-"""No client sees that st_served ends a connection after a million reads: the edge asks again what met the end.
+"""No client behind the edge sees that st_served ends a connection after a million reads.
 
     served_turns.py
 
