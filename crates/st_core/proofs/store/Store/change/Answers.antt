@@ -14,3 +14,6 @@ returns-in-Err-clause-state g c =
     let heard : asker_of c.args.self.now.directory c.args.asked.now.token ≡ Some c.in-Some.asker.now = search rules in
     let whole = step_refused c.args.self.now c.args.asked.now c.in-Some.asker.now c.in-Good.request heard c.in-Good.is c.in-Err.refusal (search rules) c.requires in
     rw whole (search rules)
+
+pub returns-clause-state : goal.returns-clause-state
+returns-clause-state g c = search rules

@@ -6,3 +6,6 @@ invariant_of-result g c = search rules
 
 pub returns-clause-fits : goal.returns-clause-fits
 returns-clause-fits g c = search rules
+
+pub returns-then-text-gt-MAX_NOTE-clause-fits : goal.returns-then-text-gt-MAX_NOTE-clause-fits
+returns-then-text-gt-MAX_NOTE-clause-fits g c = search rules

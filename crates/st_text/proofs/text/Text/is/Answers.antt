@@ -1,0 +1,5 @@
+use Rattle.std.proofs.Common.{rules}
+use Rattle.st_text.proofs.text.Text.is.Goals as goal
+
+pub returns : goal.returns
+returns g c = search rules
