@@ -1,35 +1,55 @@
 //! The answers whose texts are constant.
-ghost use Rattle.std.specs.Prelude.{◌≡◌};
+ghost use Rattle.std.specs.Prelude.{◌≡◌, true, false};
 ghost use Rattle.st_connection.specs.Render.{fault_text as fault_text_of, busy_text as busy_text_of, accepted_text as accepted_text_of};
 
 use st_http::fields::Reason;
 
 #[tactic(auto, unfolding(crate::specs::Render::render, st_http::specs::Reply::head_text))]
+// The answer to such a text, with its body.
+fn whole_fault_text(reason: Reason) -> &'static [u8]
+    ensures { result.now ≡ fault_text_of reason false }
+{
+    match reason {
+        Reason::Head =>
+            b"HTTP/1.1 400 Bad Request\r\nContent-Type: application/json\r\nContent-Length: 16\r\nConnection: close\r\n\r\n{\"error\":\"head\"}",
+        Reason::Host =>
+            b"HTTP/1.1 400 Bad Request\r\nContent-Type: application/json\r\nContent-Length: 16\r\nConnection: close\r\n\r\n{\"error\":\"host\"}",
+        Reason::Length =>
+            b"HTTP/1.1 411 Length Required\r\nContent-Type: application/json\r\nContent-Length: 18\r\nConnection: close\r\n\r\n{\"error\":\"length\"}",
+        Reason::Size =>
+            b"HTTP/1.1 413 Payload Too Large\r\nContent-Type: application/json\r\nContent-Length: 16\r\nConnection: close\r\n\r\n{\"error\":\"size\"}",
+        Reason::Headers =>
+            b"HTTP/1.1 431 Request Header Fields Too Large\r\nContent-Type: application/json\r\nContent-Length: 19\r\nConnection: close\r\n\r\n{\"error\":\"headers\"}",
+    }
+}
+
+#[tactic(auto, unfolding(crate::specs::Render::render, st_http::specs::Reply::head_text))]
+// The answer to such a HEAD request, which has no body.
+fn bare_fault_text(reason: Reason) -> &'static [u8]
+    ensures { result.now ≡ fault_text_of reason true }
+{
+    match reason {
+        Reason::Head =>
+            b"HTTP/1.1 400 Bad Request\r\nContent-Type: application/json\r\nConnection: close\r\n\r\n",
+        Reason::Host =>
+            b"HTTP/1.1 400 Bad Request\r\nContent-Type: application/json\r\nConnection: close\r\n\r\n",
+        Reason::Length =>
+            b"HTTP/1.1 411 Length Required\r\nContent-Type: application/json\r\nConnection: close\r\n\r\n",
+        Reason::Size =>
+            b"HTTP/1.1 413 Payload Too Large\r\nContent-Type: application/json\r\nConnection: close\r\n\r\n",
+        Reason::Headers =>
+            b"HTTP/1.1 431 Request Header Fields Too Large\r\nContent-Type: application/json\r\nConnection: close\r\n\r\n",
+    }
+}
+
 /// The answer to a text that is no message, after which the connection is closed. `bare` says whether it is that of a HEAD request.
 pub fn fault_text(reason: Reason, bare: bool) -> &'static [u8]
     ensures { result.now ≡ fault_text_of reason bare }
 {
-    match (reason, bare) {
-        (Reason::Head, false) =>
-            b"HTTP/1.1 400 Bad Request\r\nContent-Type: application/json\r\nContent-Length: 16\r\nConnection: close\r\n\r\n{\"error\":\"head\"}",
-        (Reason::Host, false) =>
-            b"HTTP/1.1 400 Bad Request\r\nContent-Type: application/json\r\nContent-Length: 16\r\nConnection: close\r\n\r\n{\"error\":\"host\"}",
-        (Reason::Length, false) =>
-            b"HTTP/1.1 411 Length Required\r\nContent-Type: application/json\r\nContent-Length: 18\r\nConnection: close\r\n\r\n{\"error\":\"length\"}",
-        (Reason::Size, false) =>
-            b"HTTP/1.1 413 Payload Too Large\r\nContent-Type: application/json\r\nContent-Length: 16\r\nConnection: close\r\n\r\n{\"error\":\"size\"}",
-        (Reason::Headers, false) =>
-            b"HTTP/1.1 431 Request Header Fields Too Large\r\nContent-Type: application/json\r\nContent-Length: 19\r\nConnection: close\r\n\r\n{\"error\":\"headers\"}",
-        (Reason::Head, true) =>
-            b"HTTP/1.1 400 Bad Request\r\nContent-Type: application/json\r\nConnection: close\r\n\r\n",
-        (Reason::Host, true) =>
-            b"HTTP/1.1 400 Bad Request\r\nContent-Type: application/json\r\nConnection: close\r\n\r\n",
-        (Reason::Length, true) =>
-            b"HTTP/1.1 411 Length Required\r\nContent-Type: application/json\r\nConnection: close\r\n\r\n",
-        (Reason::Size, true) =>
-            b"HTTP/1.1 413 Payload Too Large\r\nContent-Type: application/json\r\nConnection: close\r\n\r\n",
-        (Reason::Headers, true) =>
-            b"HTTP/1.1 431 Request Header Fields Too Large\r\nContent-Type: application/json\r\nConnection: close\r\n\r\n",
+    if bare {
+        bare_fault_text(reason)
+    } else {
+        whole_fault_text(reason)
     }
 }
 

@@ -1,5 +1,6 @@
 -- Seven texts appended in turn.
-use Rattle.std.proofs.Common.{◌≡◌, ◌∙◌, ℕ, List, ◌++◌, ap, append_assoc}
+use Rattle.std.proofs.Common.{◌≡◌, ◌∙◌, ℕ, List, [], ◌∷◌, ◌++◌, ap, refl, append_assoc}
+use Rattle.st_http.specs.Reply.{GrowsTo}
 
 -- one text more
 after : (out front all line : List ℕ) → all ≡ out ++ front → all ++ line ≡ out ++ (front ++ line)
@@ -16,3 +17,20 @@ seven_more out a b c d e f g one two three four five six seven at_a at_b at_c at
     ∙ after out ((a ++ b) ++ c) three d (at_c
     ∙ after out (a ++ b) two c (at_b
     ∙ after out a one b at_a)))))
+
+no_more : (text : List ℕ) → text ≡ text ++ []
+no_more [] = refl
+no_more (x ∷ text) = ap (λ l. x ∷ l) (no_more text)
+
+pub stays : (old new : List ℕ) → new ≡ old → GrowsTo old new
+stays old new e = ([], e ∙ no_more old)
+
+pub grows_by : (old new more : List ℕ) → new ≡ old ++ more → GrowsTo old new
+grows_by old new more e = (more, e)
+
+pub grows_on : (a b c : List ℕ) → GrowsTo a b → GrowsTo b c → GrowsTo a c
+grows_on a b c first next =
+    (first.0 ++ next.0, next.1 ∙ ap (λ text. text ++ next.0) first.1 ∙ append_assoc a first.0 next.0)
+
+pub three_more : (out a b c one two three : List ℕ) → one ≡ out ++ a → two ≡ one ++ b → three ≡ two ++ c → three ≡ out ++ ((a ++ b) ++ c)
+three_more out a b c one two three at_a at_b at_c = at_c ∙ after out (a ++ b) two c (at_b ∙ after out a one b at_a)

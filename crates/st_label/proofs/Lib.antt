@@ -17,4 +17,6 @@ pub mod Limits
 pub mod Shrinks
 pub mod Settled
 pub mod Gather
+pub mod Popped
+pub mod Ended
 pub mod NormalLabels

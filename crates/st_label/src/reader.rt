@@ -1,7 +1,7 @@
-ghost use Rattle.std.specs.Prelude.{◌≡◌, ◌≢◌, ℕ, IfOk, IsOkUnless, Ok, Err, Some, None, encode_utf8};
-ghost use Rattle.st_label.specs.Machine.{init, step_mode, step_start, step_done, with_sign, closed as closed_by, tree_of, class_of as class_at};
+ghost use Rattle.std.specs.Prelude.{◌≡◌, ◌≢◌, ℕ, [], IfOk, IsOkUnless, Ok, Err, Some, None, encode_utf8};
+ghost use Rattle.st_label.specs.Machine.{init, step_mode, step_start, step_done, with_sign, closed as closed_by, whole as whole_by, tree_of, class_of as class_at};
 ghost use Rattle.st_label.specs.Refusals.{max_depth};
-ghost use Rattle.st_label.specs.Views.{reader_view, tree_view, level_view, outer_view, unit_view, op_view, class_view, Steps};
+ghost use Rattle.st_label.specs.Views.{reader_view, tree_view, level_view, outer_view, unit_view, op_view, class_view, Steps, Ends};
 ghost use Rattle.st_label.specs.declared.reader.ReadFault.TheVariants.{NoMemory};
 
 use crate::class::{Class, class_of};
@@ -148,17 +148,26 @@ impl<A: Allocator + Copy> Reader<A> {
             unit,
         } = self;
         if !outer.is_empty() {
+            drop(unit);
+            drop(level);
             return Err(ReadFault::NotViable);
         }
-        match unit {
-            Unit::Start => match level {
-                Level::Free => Ok(Tree::Empty),
-                Level::Joined(_, _) => Err(ReadFault::NotViable),
-            },
-            Unit::Word(name) => Ok(closed(level, Tree::Term(name))?),
-            Unit::Quoted(_) | Unit::Escape(_) => Err(ReadFault::NotViable),
-            Unit::Done(tree) => Ok(closed(level, tree)?),
-        }
+        last(level, unit)
+    }
+}
+
+// The tree of a level with its last unit.
+fn last<A: Allocator>(level: Level<A>, unit: Unit<A>) -> Result<Tree<A>, ReadFault>
+    ensures { Ends (whole_by [] (level_view level) (unit_view unit)) result }
+{
+    match unit {
+        Unit::Start => match level {
+            Level::Free => Ok(Tree::Empty),
+            Level::Joined(_, _) => Err(ReadFault::NotViable),
+        },
+        Unit::Word(name) => Ok(closed(level, Tree::Term(name))?),
+        Unit::Quoted(_) | Unit::Escape(_) => Err(ReadFault::NotViable),
+        Unit::Done(tree) => Ok(closed(level, tree)?),
     }
 }
 

@@ -87,3 +87,40 @@ returns-clause-served g c = turns_spent _ _ _ _ _ _ _ _ _ _ c.reads.invariant.se
 
 pub returns-clause-at_end : goal.returns-clause-at_end
 returns-clause-at_end g c = search rules
+
+pub overflow_add-filled-in-reads : goal.overflow_add-filled-in-reads
+overflow_add-filled-in-reads g c =
+    let fits = part_within c.reads.buffer c.read.new.buffer c.reads.filled (c.reads.filled + 65536 - c.reads.filled) c.in-Ok.count c.reads.invariant.within c.in-Ok.ensures.room in
+    omega (arith, fits)
+
+pub slice_bounds-answer_all-end : goal.slice_bounds-answer_all-end
+slice_bounds-answer_all-end g c =
+    let fits = part_within c.reads.buffer c.read.new.buffer c.reads.filled (c.reads.filled + 65536 - c.reads.filled) c.in-Ok.count c.reads.invariant.within c.in-Ok.ensures.room in
+    omega (arith, fits)
+
+pub slice_bounds-answer_all-end-in-reads : goal.slice_bounds-answer_all-end-in-reads
+slice_bounds-answer_all-end-in-reads g c =
+    let fits = part_within c.reads.buffer c.read.new.buffer c.reads.filled (c.reads.filled + 65536 - c.reads.filled) c.in-Ok.count c.reads.invariant.within c.in-Ok.ensures.room in
+    omega (arith, front_length (put_mid c.reads.filled (c.reads.filled + 65536 - c.reads.filled) c.reads.buffer c.read.new.buffer) (c.reads.filled + c.in-Ok.count) fits)
+
+pub copy_within-requires-clause-start_le_end : goal.copy_within-requires-clause-start_le_end
+copy_within-requires-clause-start_le_end g c =
+    let n = front_at_most (put_mid c.reads.filled (c.reads.filled + 65536 - c.reads.filled) c.reads.buffer c.read.new.buffer) (c.reads.filled + c.in-Ok.count) in
+    let a = rw c.in-Ok-Waits.field-0-is at c.in-Ok-Waits.ensures.answered in
+    omega (arith, n, a.0)
+
+pub copy_within-requires-clause-in_bounds : goal.copy_within-requires-clause-in_bounds
+copy_within-requires-clause-in_bounds g c =
+    let fits = part_within c.reads.buffer c.read.new.buffer c.reads.filled (c.reads.filled + 65536 - c.reads.filled) c.in-Ok.count c.reads.invariant.within c.in-Ok.ensures.room in
+    omega (arith, fits)
+
+pub copy_within-requires-clause-dest_in_bounds : goal.copy_within-requires-clause-dest_in_bounds
+copy_within-requires-clause-dest_in_bounds g c =
+    let fits = part_within c.reads.buffer c.read.new.buffer c.reads.filled (c.reads.filled + 65536 - c.reads.filled) c.in-Ok.count c.reads.invariant.within c.in-Ok.ensures.room in
+    omega (arith, fits)
+
+pub overflow_sub-filled : goal.overflow_sub-filled
+overflow_sub-filled g c =
+    let n = front_at_most (put_mid c.reads.filled (c.reads.filled + 65536 - c.reads.filled) c.reads.buffer c.read.new.buffer) (c.reads.filled + c.in-Ok.count) in
+    let a = rw c.in-Ok-Waits.field-0-is at c.in-Ok-Waits.ensures.answered in
+    omega (arith, n, a.0)
