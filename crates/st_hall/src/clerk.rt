@@ -1,5 +1,5 @@
 //! The clerk, who makes changes and publishes them.
-ghost use Rattle.std.specs.Prelude.{◌≡◌, ◌+◌, ◌^◌, ◌<◌, [], ◌∷◌, ◌++◌, drop, fold, length, true, None, Some, IfOk, IfSome, MatchResult};
+ghost use Rattle.std.specs.Prelude.{◌≡◌, ◌+◌, ◌^◌, ◌<◌, [], ◌∷◌, ◌++◌, drop, fold, length, true, unwrap_or, Ok, Err, None, Some, IfOk, IfSome, OnOk, MatchResult};
 ghost use mathlib.Core.List.{IsPrefix};
 ghost use Rattle.st_core.specs.Step.{asks_for_change};
 ghost use Rattle.st_hall.specs.Steps.{reply_of, state_after};
@@ -8,7 +8,7 @@ ghost use Rattle.st_hall.specs.Rules.{Beside};
 
 use crate::desk::Desk;
 use crate::edition::{Agreeing, Consistent, Edition, Post};
-use crate::front::{Front, HallName, Head, Trace};
+use crate::front::{Front, HallName, Head};
 use crate::steps::{decide, replace};
 use core::mem::replace_with;
 use left_right::writer::Writer;
@@ -62,10 +62,10 @@ impl<H: HallName, R: Wait + Drop> Model for Clerk<H, R> {
 }
 
 // Lets a change wait.
-fn hold(waiting: &mut Option<Post>, asked: Asked, trace: Trace)
-    ensures { waiting.new ≡ Some (record { ask = asked; trail = trace }) }
+fn hold(waiting: &mut Option<Post>, post: Post)
+    ensures { waiting.new ≡ Some post }
 {
-    *waiting = Some(Post { asked, trace });
+    drop(waiting.replace(post));
 }
 
 // Queues what waits.
@@ -82,11 +82,80 @@ fn queue<H: HallName>(
     let Some(post) = waiting.take() else {
         return Ok(());
     };
-    if let Err(post) = writer.append(post) {
-        *waiting = Some(post);
+    match writer.append(post) {
+        Ok(()) => Ok(()),
+        Err(post) => {
+            hold(waiting, post);
+            Err(AllocError)
+        }
+    }
+}
+
+// A change for the queue, added to the history after all that a front has seen. An error where the history is longer.
+fn post_of<H: HallName>(head: &Head<H>, front: &Front<H>, asked: &Asked) -> Result<Post, AllocError>
+    ensures room { OnOk result (length front.now < 2 ^ 61) }
+    ensures ask { IfOk result (λ post. post.ask ≡ asked.now) }
+    ensures book { IfOk result (λ post. post.trail.book ≡ H.book) }
+    ensures list { IfOk result (λ post. post.trail.list ≡ front.now ++ asked.now ∷ []) }
+{
+    if front.len() >= MOST {
         return Err(AllocError);
     }
-    Ok(())
+    let copy = asked.copy()?;
+    let mut trace = front.trace().again();
+    if trace.add(head, asked) {
+        Ok(Post { asked: copy, trace })
+    } else {
+        drop(copy);
+        Err(AllocError)
+    }
+}
+
+// Makes what a decision does to the directory, counts the change at a desk, and gives the reply.
+fn settle<H: HallName>(
+    directory: &mut Directory,
+    book: &mut Book<H>,
+    desk: &mut Desk<H>,
+    decision: Decision,
+) -> Reply
+    requires { book.old.total < 2 ^ 61 }
+    ensures reply { result ≡ decision.reply }
+    ensures directory { directory.new ≡ unwrap_or decision.directory directory.old }
+    ensures total { book.new.total ≡ book.old.total + 1 }
+    ensures made { desk.new.made ≡ desk.old.made + 1 }
+    ensures seen { desk.new.seen ≡ desk.old.seen }
+{
+    let Decision {
+        reply,
+        directory: next,
+    } = decision;
+    replace(directory, next);
+    book.audit(&mut desk.share);
+    book.add(&mut desk.share, 1);
+    desk.made += 1;
+    reply
+}
+
+// The receipt of a change that was made.
+fn receipt_of<H: HallName>(
+    asked: Asked,
+    made: Result<(Reply, Option<Front<H>>), AllocError>,
+) -> Result<Receipt<H>, AllocError>
+    ensures { MatchResult result
+        (λ r. (r.asked ≡ asked) × (made ≡ Ok (r.reply, r.front)))
+        (λ e. made ≡ Err e) }
+{
+    match made {
+        Ok((reply, front)) => Ok(Receipt {
+            asked,
+            reply,
+            front,
+        }),
+        Err(fault) => {
+            drop(asked);
+            Err(fault)
+        }
+    }
 }
 
 // Publishes what is queued.
@@ -154,22 +223,40 @@ impl<H: HallName, R: Wait + Drop> Clerk<H, R> {
         ensures reply { IfOk result (λ r. r ≡ reply_of (state_after H.start self.old.list) asked.now) }
     {
         queue(&mut self.writer, &mut self.waiting)?;
-        if self.front.len() >= MOST {
-            return Err(AllocError);
+        let decision = decide(&self.directory, asked)?;
+        match post_of(&self.head, &self.front, asked) {
+            Ok(post) => {
+                self.front = Front::of(post.trace.again());
+                hold(&mut self.waiting, post);
+                Ok(settle(&mut self.directory, &mut self.book, desk, decision))
+            }
+            Err(fault) => {
+                drop(decision);
+                Err(fault)
+            }
         }
-        let copy = asked.copy()?;
-        let Decision { reply, directory } = decide(&self.directory, asked)?;
-        let mut trace = self.front.trace().again();
-        if !trace.add(&self.head, asked) {
-            return Err(AllocError);
+    }
+
+    // The reply to a change, and the front where it is published.
+    fn make<W: Wait>(
+        &mut self,
+        rt: &W,
+        desk: &mut Desk<H>,
+        asked: &Asked,
+    ) -> Result<(Reply, Option<Front<H>>), AllocError>
+        requires change { asks_for_change asked.now ≡ true }
+        ensures list { MatchResult result (λ _. self.new.list ≡ self.old.list ++ asked.now ∷ []) (λ _. self.new.list ≡ self.old.list) }
+        ensures made { MatchResult result (λ _. desk.new.made ≡ desk.old.made + 1) (λ _. desk.new.made ≡ desk.old.made) }
+        ensures seen { desk.new.seen ≡ desk.old.seen }
+        ensures reply { IfOk result (λ r. r.0 ≡ reply_of (state_after H.start self.old.list) asked.now) }
+        ensures front { IfOk result (λ r. IfSome r.1 (λ f. (f ≡ self.new.list) × (self.new.published ≡ self.new.list))) }
+    {
+        self.publish(rt)?;
+        let reply = self.add(desk, asked)?;
+        match self.publish(rt) {
+            Ok(()) => Ok((reply, Some(self.front.again()))),
+            Err(_) => Ok((reply, None)),
         }
-        hold(&mut self.waiting, copy, trace.again());
-        self.front = Front::of(trace);
-        replace(&mut self.directory, directory);
-        self.book.audit(&mut desk.share);
-        self.book.add(&mut desk.share, 1);
-        desk.made += 1;
-        Ok(reply)
     }
 
     /// Makes a change: publishes what is not published yet, adds the change, and publishes it where there is memory. Its receipt
@@ -188,17 +275,8 @@ impl<H: HallName, R: Wait + Drop> Clerk<H, R> {
         ensures reply { IfOk result (λ r. r.reply ≡ reply_of (state_after H.start self.old.list) asked) }
         ensures front { IfOk result (λ r. IfSome r.front (λ f. (f ≡ self.new.list) × (self.new.published ≡ self.new.list))) }
     {
-        self.publish(rt)?;
-        let reply = self.add(desk, &asked)?;
-        let front = match self.publish(rt) {
-            Ok(()) => Some(self.front.again()),
-            Err(_) => None,
-        };
-        Ok(Receipt {
-            asked,
-            reply,
-            front,
-        })
+        let made = self.make(rt, desk, &asked);
+        receipt_of(asked, made)
     }
 
     /// The users after the whole list.
@@ -243,13 +321,14 @@ impl<H: HallName, R: Wait + Drop> Drop for Clerk<H, R> {
     fn drop(self) {
         let Self {
             writer,
-            waiting: _waiting,
+            waiting,
             head: _head,
             front: _front,
             directory: _directory,
             book: _book,
             rt,
         } = self;
+        drop(waiting);
         drop(writer.take(&rt));
     }
 }

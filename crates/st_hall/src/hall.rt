@@ -1,16 +1,18 @@
 //! What opens a hall, and a change by any thread.
-ghost use Rattle.std.specs.Prelude.{◌≡◌, ◌+◌, [], true, List, IfOk, IfSome, MatchResult};
+ghost use Rattle.std.specs.Prelude.{◌≡◌, ◌+◌, [], drop, true, List, IfOk, IfSome, MatchResult};
 ghost use Rattle.st_core.specs.Step.{asks_for_change};
+ghost use Rattle.st_hall.specs.Editions.{Agrees};
 ghost use Rattle.st_hall.specs.Steps.{Ask};
 ghost use Rattle.st_hall.specs.declared.hall.HallFault.TheVariants.{NoMemory};
 ghost use Rattle.st_hall.specs.Views.{EndsWith};
 
 use crate::clerk::{Clerk, EditionWriter, Receipt};
-use crate::desk::Desk;
+use crate::desk::{Desk, EditionReader};
 use crate::edition::Edition;
-use crate::front::{HallName, Unnamed, begin};
+use crate::front::{HallName, Trace, Unnamed, begin};
 use left_right::writer::Writer;
 use st_core::{Asked, Store};
+use st_dir::Directory;
 use std::alloc::{AllocError, Global};
 use std::marker::PhantomData;
 use std::sync::{Mutex, Wait};
@@ -30,13 +32,94 @@ impl From<AllocError> for HallFault {
     }
 }
 
+#[tactic(auto, using(crate::proofs::Following::after_none))]
+// What publishes two copies of a state.
+fn writer_of<H: HallName>(
+    alloc: Global,
+    trace: &Trace,
+    first: Store,
+    second: Store,
+) -> Result<EditionWriter<H>, AllocError>
+    requires empty { (trace.now.book ≡ H.book) × (trace.now.list ≡ []) }
+    requires alike { (first ≡ H.start) × (second ≡ H.start) }
+    ensures state { IfOk result (λ writer. writer.desk.shown.value.state ≡ H.start) }
+    ensures trail { IfOk result (λ writer. writer.desk.shown.value.trail ≡ trace.now) }
+    ensures queued { IfOk result (λ writer. drop writer.behind writer.log.items ≡ []) }
+{
+    let first = Edition {
+        store: first,
+        trace: trace.again(),
+    };
+    let second = Edition {
+        store: second,
+        trace: trace.again(),
+    };
+    Writer::new(alloc, first, second, 2)
+}
+
+// A place for each of two readers.
+fn places<H: HallName>(writer: &EditionWriter<H>) -> Option<(EditionReader<H>, EditionReader<H>)> {
+    let one = writer.factory().reader().ok()?;
+    let two = writer.factory().reader().ok()?;
+    Some((one, two))
+}
+
+// The users of the published state, and a place for each of two readers.
+fn begun<H: HallName>(
+    writer: &EditionWriter<H>,
+) -> Result<(Directory, EditionReader<H>, EditionReader<H>), HallFault>
+    ensures { IfOk result (λ t. t.0 ≡ writer.now.desk.shown.value.state.directory) }
+{
+    let directory = writer.published().store.directory().copy()?;
+    match places(writer) {
+        Some((one, two)) => Ok((directory, one, two)),
+        None => {
+            drop(directory);
+            Err(HallFault::NoPlace)
+        }
+    }
+}
+
+#[tactic(auto, using(crate::proofs::Following::after_none))]
+// The users of a state, what publishes its two copies, and a place for each of two readers.
+fn copies<H: HallName, R: Wait + Drop>(
+    rt: &R,
+    alloc: Global,
+    trace: &Trace,
+    first: Store,
+    second: Store,
+) -> Result<
+    (
+        Directory,
+        EditionWriter<H>,
+        EditionReader<H>,
+        EditionReader<H>,
+    ),
+    HallFault,
+>
+    requires empty { (trace.now.book ≡ H.book) × (trace.now.list ≡ []) }
+    requires alike { (first ≡ H.start) × (second ≡ H.start) }
+    ensures directory { IfOk result (λ t. t.0 ≡ H.start.directory) }
+    ensures agrees { IfOk result (λ t. Agrees H.start H.book t.1.desk.shown.value) }
+    ensures shown { IfOk result (λ t. t.1.desk.shown.value.trail.list ≡ []) }
+    ensures queued { IfOk result (λ t. drop t.1.behind t.1.log.items ≡ []) }
+{
+    let writer = writer_of::<H>(alloc, trace, first, second)?;
+    match begun(&writer) {
+        Ok((directory, one, two)) => Ok((directory, writer, one, two)),
+        Err(fault) => {
+            drop(writer.take(rt));
+            Err(fault)
+        }
+    }
+}
+
 /// The calls of a hall that belong to no value of it.
 pub struct Hall<H: HallName> {
     of: PhantomData<H>,
 }
 
 impl<H: HallName> Hall<H> {
-    #[tactic(auto, using(crate::proofs::Following::after_none))]
     /// Opens a hall over two stores of one state. `NoPlace` where a reader's place was refused.
     pub fn open<R: Wait + Drop>(
         rt: R,
@@ -50,25 +133,10 @@ impl<H: HallName> Hall<H> {
         ensures clerk { IfOk result (λ t. (t.0.list ≡ []) × (t.0.published ≡ [])) }
         ensures desks { IfOk result (λ t. (t.1.seen ≡ []) × (t.1.made ≡ 0) × (t.2.seen ≡ []) × (t.2.made ≡ 0)) }
     {
-        let directory = first.directory().copy()?;
         let Unnamed { head, seen, blank } = name;
         let (head, front) = begin::<H>(head, seen);
+        let (directory, writer, one, two) = copies(&rt, alloc, front.trace(), first, second)?;
         let (book, mut share) = blank.open::<H>();
-        let editions = (
-            Edition {
-                store: first,
-                trace: front.trace().again(),
-            },
-            Edition {
-                store: second,
-                trace: front.trace().again(),
-            },
-        );
-        let writer: EditionWriter<H> = Writer::new(alloc, editions.0, editions.1, 2)?;
-        let (Ok(one), Ok(two)) = (writer.factory().reader(), writer.factory().reader()) else {
-            drop(writer.take(&rt));
-            return Err(HallFault::NoPlace);
-        };
         let other = share.split_off(1, 0);
         let one = Desk::new(one, front.again(), share);
         let two = Desk::new(two, front.again(), other);

@@ -62,7 +62,12 @@ fn told<H: HallName>(receipt: Receipt<H>) -> (Reply, Option<Front<H>>)
     ensures reply { result.0 ≡ receipt.reply }
     ensures front { result.1 ≡ receipt.front }
 {
-    let Receipt { reply, front, .. } = receipt;
+    let Receipt {
+        asked,
+        reply,
+        front,
+    } = receipt;
+    drop(asked);
     (reply, front)
 }
 
@@ -100,15 +105,15 @@ fn read<H: HallName, G: Gate>(
     worker: u64,
     call: u64,
     desk: &mut Desk<H>,
-    asked: Asked,
+    asked: &Asked,
 ) -> Result<Reply, AllocError>
-    requires { asks_for_change asked ≡ false }
-    ensures reply { IfOk result (λ r. r ≡ reply_of (state_after H.start desk.new.seen) asked) }
+    requires { asks_for_change asked.now ≡ false }
+    ensures reply { IfOk result (λ r. r ≡ reply_of (state_after H.start desk.new.seen) asked.now) }
     ensures seen { IsPrefix desk.old.seen desk.new.seen }
     ensures made { desk.new.made ≡ desk.old.made }
 {
     wait_at(gate, worker, call);
-    desk.read(&asked)
+    desk.read(asked)
 }
 
 impl<'a, H: HallName, R: Wait + Drop, G: Gate> Worker<'a, H, R, G> {
@@ -151,7 +156,9 @@ impl<'a, H: HallName, R: Wait + Drop, G: Gate> Worker<'a, H, R, G> {
         let reply = if asked.is_change() {
             change(rt, self.clerk, &mut self.desk, asked)
         } else {
-            read(self.gate, self.number, self.calls, &mut self.desk, asked)
+            let reply = read(self.gate, self.number, self.calls, &mut self.desk, &asked);
+            drop(asked);
+            reply
         };
         self.gate.answered(self.number, self.calls);
         reply
