@@ -1,8 +1,7 @@
 -- The command line: what the code builds, what it reads, and what it refuses.
-use Rattle.std.specs.Prelude.{Option, Some, None, Result, Ok, Err, map, option_map, unwrap_or}
+use Rattle.std.specs.Prelude.{Option, Some, None, map, option_map, unwrap_or}
 use Rattle.std.specs.Borrow.{Bor}
-use Rattle.std.proofs.Common.{ap, ap₂, ◌≡◌, ◌∙◌, ◌<◌, ◌^◌, ℕ, false, List, [], ◌∷◌, codes, inl, inr, refl, sym, subst}
-use Rattle.std.specs.Str.Parse.{ParsesUnsigned, IsNumeral, digits_value, without_leading_plus}
+use Rattle.std.proofs.Common.{ap, ap₂, ◌≡◌, ◌∙◌, ℕ, false, List, [], codes, inl, inr, refl, sym, subst}
 use Rattle.clap.specs.Built.{AddsArg}
 use Rattle.clap.specs.declared.builder.arg.Arg.{Arg}
 use Rattle.clap.specs.Words.{HasKind, IsAmong, app_of, fault_of, first_of, first_value, found_of, kind_of, matches_of, new_app, one_of, one_text, rule_of, with_rule}

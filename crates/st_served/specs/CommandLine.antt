@@ -1,6 +1,6 @@
 -- The command line `st_served --root DIGEST --port P [--connections N] [--timeout SECONDS] [NAME]...`: what its words say,
 -- and why words are refused.
-use Rattle.std.specs.Prelude.{◌≡◌, ◌⊎◌, ◌<◌, ◌^◌, ℕ, List, [], Option, Some, None, Result, Ok, Err, IsErr, codes, true, unwrap_or, pos}
+use Rattle.std.specs.Prelude.{◌≡◌, ◌⊎◌, ◌<◌, ◌^◌, ℕ, List, [], Option, Some, None, Ok, IsErr, codes, true, unwrap_or, pos}
 use Rattle.std.specs.Str.Parse.{IsNumeral, digits_value, without_leading_plus}
 use Rattle.hex.specs.Hex.{decode_sized}
 use Rattle.clap.specs.Words.{App, Rule, IsAmong, all_of, fault_of, first_of, found_of, kind_of, matches_of, new_app, new_rule, one_of, rows_of, with_rule}

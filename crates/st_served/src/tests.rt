@@ -7,7 +7,7 @@ use crate::stores::stores_for;
 use crate::words::serve_words;
 use crate::workers::serve_on;
 use st_core::Store;
-use st_hall::{Hall, HallName, Unnamed};
+use st_hall::{Clerk, Desk, Hall, HallName, Unnamed};
 use st_station::Station;
 use std::alloc::Global;
 use std::io::{Read, Write};
@@ -65,6 +65,13 @@ fn connect<R: Net<Listener = TcpListener, Stream = TcpStream> + Clock>(
     None
 }
 
+// What is read to the end of a connection.
+fn rest_of(alloc: Global, stream: &mut TcpStream) -> Option<Vec<u8>> {
+    let mut told = Vec::new(alloc);
+    stream.read_to_end(&mut told).ok()?;
+    Some(told)
+}
+
 // What is answered to a text, to the end of the connection.
 fn ask<R: Net<Listener = TcpListener, Stream = TcpStream> + Clock>(
     rt: &R,
@@ -73,9 +80,7 @@ fn ask<R: Net<Listener = TcpListener, Stream = TcpStream> + Clock>(
 ) -> Option<Vec<u8>> {
     let mut stream = connect(rt)?;
     stream.write_all(text).ok()?;
-    let mut told = Vec::new(alloc);
-    stream.read_to_end(&mut told).ok()?;
-    Some(told)
+    rest_of(alloc, &mut stream)
 }
 
 // Whether both connections are answered as they should be.
@@ -154,7 +159,56 @@ fn stores(alloc: Global, line: &[&str]) -> Option<(Store, Store)>
     }
 }
 
-// The status of a server that finds one connection and then can accept none, and what its client is told.
+// A listener that accepts one connection and then none, and the client's end of that connection, which has asked.
+fn asked_once<R: Net<Listener = TcpListener, Stream = TcpStream>>(
+    rt: &R,
+) -> Option<(TcpListener, TcpStream)> {
+    let address = SocketAddr::V4(SocketAddrV4::new(Ipv4Addr::LOCALHOST, 47005));
+    let listener = TcpListener::bind(rt, address).ok()?;
+    let mut stream = TcpStream::connect(rt, address).ok()?;
+    stream.write_all(ROWS).ok()?;
+    listener.set_nonblocking(true).ok()?;
+    Some((listener, stream))
+}
+
+// The status of a server between two stations whose listener accepts one connection, and what its client is told.
+fn ended_at<
+    'c,
+    H: HallName + Send + Sync,
+    R: Net<Listener = TcpListener, Stream = TcpStream> + Threads + Wait + Sync,
+>(
+    rt: &R,
+    alloc: Global,
+    one: Station<'_, H, &'c R, Open, R>,
+    two: Station<'_, H, &'c R, Open, R>,
+) -> Option<(u8, Vec<u8>)> {
+    let Some((listener, mut stream)) = asked_once(rt) else {
+        drop(one);
+        drop(two);
+        return None;
+    };
+    let fault = serve_on(rt, &listener, Duration::from_secs(10), one, two);
+    Some((fault.status(), rest_of(alloc, &mut stream)?))
+}
+
+// The same, between two desks.
+fn ended_between<
+    'c,
+    H: HallName + Send + Sync,
+    R: Net<Listener = TcpListener, Stream = TcpStream> + Threads + Wait + Sync,
+>(
+    rt: &'c R,
+    alloc: Global,
+    clerk: &Mutex<Clerk<H, &'c R>>,
+    one: Desk<H>,
+    two: Desk<H>,
+) -> Option<(u8, Vec<u8>)> {
+    let one = Station::new(rt, alloc, 1, one, clerk, &Open).ok()?;
+    let two = Station::new(rt, alloc, 2, two, clerk, &Open).ok()?;
+    ended_at(rt, alloc, one, two)
+}
+
+// The same, in a hall over the two stores.
 fn ended<
     H: HallName + Send + Sync,
     R: Net<Listener = TcpListener, Stream = TcpStream> + Threads + Wait + Sync,
@@ -162,19 +216,10 @@ fn ended<
     requires named { (name.seen.book ≡ H.book) × (name.blank.name ≡ H.name) × (H.parts ≡ 2) }
     requires alike { (both.0 ≡ H.start) × (both.1 ≡ H.start) }
 {
-    let (clerk, one, two) = Hall::<H>::open(rt, alloc, name, both.0, both.1).ok()?;
-    let clerk = Mutex::new(clerk);
-    let one = Station::new(rt, alloc, 1, one, &clerk, &Open).ok()?;
-    let two = Station::new(rt, alloc, 2, two, &clerk, &Open).ok()?;
-    let address = SocketAddr::V4(SocketAddrV4::new(Ipv4Addr::LOCALHOST, 47005));
-    let listener = TcpListener::bind(rt, address).ok()?;
-    let mut stream = TcpStream::connect(rt, address).ok()?;
-    stream.write_all(ROWS).ok()?;
-    listener.set_nonblocking(true).ok()?;
-    let fault = serve_on(rt, &listener, Duration::from_secs(10), one, two);
-    let mut told = Vec::new(alloc);
-    stream.read_to_end(&mut told).ok()?;
-    Some((fault.status(), told))
+    match Hall::<H>::open(rt, alloc, name, both.0, both.1) {
+        Ok((clerk, one, two)) => ended_between(rt, alloc, &Mutex::new(clerk), one, two),
+        Err(_) => None,
+    }
 }
 
 // Whether the connection is served to its end, and the status is that of an accept that failed.

@@ -1,5 +1,5 @@
 //! A server at a port of the loopback interface, by the words of a command line.
-ghost use Rattle.std.specs.Prelude.{◌≡◌, ◌⊎◌, ◌*◌, [], ◌∷◌, Some, IfOk, IfErr, OnOk, map, string_bytes, unwrap_or};
+ghost use Rattle.std.specs.Prelude.{◌≡◌, ◌⊎◌, ◌*◌, [], ◌∷◌, ℕ, Option, Err, Some, IfOk, IfErr, OnOk, codes, map, string_bytes, unwrap_or};
 ghost use Rattle.std.specs.Io.KnownBytes.{Appends};
 ghost use Rattle.std.specs.Net.Addr.{ipv4_octets};
 ghost use Rattle.std.specs.Net.Socket.{v4_ip, v4_port};
@@ -14,7 +14,7 @@ use crate::fault::Fault;
 use crate::stores::stores_for;
 use crate::workers::{serve_on, serve_some};
 use st_core::Store;
-use st_hall::{Hall, HallFault, HallName, Unnamed};
+use st_hall::{Clerk, Desk, Hall, HallFault, HallName, Unnamed};
 use st_station::Station;
 use std::alloc::Global;
 use std::io::Write;
@@ -67,6 +67,21 @@ fn limit_of(said: &Words<'_>) -> Duration
     Duration::from_secs(u64::from(said.timeout.unwrap_or(SECONDS)))
 }
 
+// Listens at the port, and tells so.
+fn begin<R: Net<Listener = TcpListener, Stream = TcpStream>, O: Write>(
+    rt: &R,
+    alloc: Global,
+    port: u16,
+    output: &mut O,
+) -> Result<TcpListener, Fault>
+    ensures ok { OnOk result (Appends (O.contents output.old) (O.contents output.new) (line (codes "listening") port)) }
+    ensures err { IfErr result (λ fault. (connections : Option ℕ) → Tells port connections (O.contents output.old) (O.contents output.new) (Err fault)) }
+{
+    let listener = listen(rt, port)?;
+    tell(alloc, output, "listening", port)?;
+    Ok(listener)
+}
+
 // Serves connections at two workers, and says how many.
 fn attend<'c, H: HallName + Send + Sync, R: Threads + Wait + Sync>(
     rt: &R,
@@ -87,6 +102,56 @@ fn attend<'c, H: HallName + Send + Sync, R: Threads + Wait + Sync>(
     Ok(connections)
 }
 
+// Serves connections at two stations, and tells of it.
+fn serve_at<
+    'c,
+    H: HallName + Send + Sync,
+    R: Net<Listener = TcpListener, Stream = TcpStream> + Threads + Wait + Sync,
+    O: Write,
+>(
+    rt: &R,
+    alloc: Global,
+    said: &Words<'_>,
+    one: Station<'_, H, &'c R, Open, R>,
+    two: Station<'_, H, &'c R, Open, R>,
+    output: &mut O,
+) -> Result<(), Fault>
+    ensures { Tells said.now.port said.now.connections (O.contents output.old) (O.contents output.new) result }
+{
+    let listener = match begin(rt, alloc, said.port, output) {
+        Ok(listener) => listener,
+        Err(fault) => {
+            drop(one);
+            drop(two);
+            return Err(fault);
+        }
+    };
+    let connections = attend(rt, alloc, &listener, said, one, two)?;
+    tell(alloc, output, "served", connections)
+}
+
+// Serves connections at two desks, and tells of it.
+fn serve_between<
+    'c,
+    H: HallName + Send + Sync,
+    R: Net<Listener = TcpListener, Stream = TcpStream> + Threads + Wait + Sync,
+    O: Write,
+>(
+    rt: &'c R,
+    alloc: Global,
+    said: &Words<'_>,
+    clerk: &Mutex<Clerk<H, &'c R>>,
+    one: Desk<H>,
+    two: Desk<H>,
+    output: &mut O,
+) -> Result<(), Fault>
+    ensures { Tells said.now.port said.now.connections (O.contents output.old) (O.contents output.new) result }
+{
+    let one = Station::new(rt, alloc, 1, one, clerk, &Open)?;
+    let two = Station::new(rt, alloc, 2, two, clerk, &Open)?;
+    serve_at(rt, alloc, said, one, two, output)
+}
+
 // Serves connections in a hall over the two stores, and tells of it.
 fn serve<
     H: HallName + Send + Sync,
@@ -105,18 +170,13 @@ fn serve<
     requires opens { Opens said.now.digest.now (map (λ name. name.now) said.now.names.items) both.0 }
     ensures { Tells said.now.port said.now.connections (O.contents output.old) (O.contents output.new) result }
 {
-    let (clerk, one, two) = match Hall::<H>::open(rt, alloc, name, both.0, both.1) {
-        Ok(hall) => hall,
-        Err(HallFault::NoPlace) => return Err(Fault::NoPlace),
-        Err(HallFault::NoMemory) => return Err(Fault::NoMemory),
-    };
-    let clerk = Mutex::new(clerk);
-    let one = Station::new(rt, alloc, 1, one, &clerk, &Open)?;
-    let two = Station::new(rt, alloc, 2, two, &clerk, &Open)?;
-    let listener = listen(rt, said.port)?;
-    tell(alloc, output, "listening", said.port)?;
-    let connections = attend(rt, alloc, &listener, said, one, two)?;
-    tell(alloc, output, "served", connections)
+    match Hall::<H>::open(rt, alloc, name, both.0, both.1) {
+        Ok((clerk, one, two)) => {
+            serve_between(rt, alloc, said, &Mutex::new(clerk), one, two, output)
+        }
+        Err(HallFault::NoPlace) => Err(Fault::NoPlace),
+        Err(HallFault::NoMemory) => Err(Fault::NoMemory),
+    }
 }
 
 // Serves by the words.

@@ -9,7 +9,7 @@ use crate::fault::Fault;
 use crossbeam_channel::{Receiver, Sender, unbounded};
 use st_hall::HallName;
 use st_station::Station;
-use std::alloc::Global;
+use std::alloc::{AllocError, Global};
 use std::io::ErrorKind;
 use std::net::{TcpListener, TcpStream};
 use std::sync::{Mutex, Wait};
@@ -34,15 +34,25 @@ fn accept(listener: &TcpListener) -> Result<TcpStream, Fault>
 }
 
 // Serves what comes to one worker, one after another.
+fn serve_each<H: HallName, C: Wait + Drop, R: Wait>(
+    rt: &R,
+    station: &mut Station<'_, H, C, Open, R>,
+    queue: &Receiver<TcpStream>,
+    limit: Duration,
+) {
+    for stream in queue.iter(rt) {
+        serve(station, stream, limit);
+    }
+}
+
+// Serves a worker's queue, whose sender ends it.
 fn serve_queue<H: HallName, C: Wait + Drop, R: Wait>(
     rt: &R,
     mut station: Station<'_, H, C, Open, R>,
     queue: Receiver<TcpStream>,
     limit: Duration,
 ) {
-    for stream in queue.iter(rt) {
-        serve(&mut station, stream, limit);
-    }
+    serve_each(rt, &mut station, &queue, limit);
 }
 
 // Whether a connection is for the first worker: the first, the third and so on are, where the first has number 0.
@@ -72,6 +82,47 @@ fn accept_all<R: Wait>(
     Ok(())
 }
 
+type Queue = (Sender<TcpStream>, Receiver<TcpStream>);
+
+// A queue for each worker.
+fn queues(alloc: Global) -> Result<(Queue, Queue), AllocError> {
+    Ok((unbounded(alloc)?, unbounded(alloc)?))
+}
+
+// Serves so many connections by two queues.
+fn serve_by<'c, H: HallName + Send + Sync, R: Threads + Wait + Sync>(
+    rt: &R,
+    both: (Queue, Queue),
+    listener: &TcpListener,
+    connections: u16,
+    limit: Duration,
+    one: Station<'_, H, &'c R, Open, R>,
+    two: Station<'_, H, &'c R, Open, R>,
+) -> Result<(), Fault>
+    ensures { IfErr result Stops }
+{
+    let ((to_one, for_one), (to_two, for_two)) = both;
+    thread::scope(
+        thread::scope_env(),
+        rt,
+        |scope| -> Result<(), Fault>
+            requires { IsSync R.row }
+            ensures { IfErr result Stops }
+        {
+            let is_first = scope
+                .spawn(move || serve_queue(rt, one, for_one, limit))
+                .is_ok();
+            let is_second = scope
+                .spawn(move || serve_queue(rt, two, for_two, limit))
+                .is_ok();
+            if !is_first || !is_second {
+                return Err(Fault::NoThread);
+            }
+            accept_all(rt, listener, connections, to_one, to_two)
+        },
+    )
+}
+
 /// Serves so many connections.
 pub fn serve_some<'c, H: HallName + Send + Sync, R: Threads + Wait + Sync>(
     rt: &R,
@@ -84,30 +135,14 @@ pub fn serve_some<'c, H: HallName + Send + Sync, R: Threads + Wait + Sync>(
 ) -> Result<(), Fault>
     ensures { IfErr result Stops }
 {
-    let (to_one, for_one) = unbounded(alloc)?;
-    let (to_two, for_two) = unbounded(alloc)?;
-    thread::scope(
-        thread::scope_env(),
-        rt,
-        |scope| -> Result<(), Fault>
-            requires { IsSync R.row }
-            ensures { IfErr result Stops }
-        {
-            if scope
-                .spawn(move || serve_queue(rt, one, for_one, limit))
-                .is_err()
-            {
-                return Err(Fault::NoThread);
-            }
-            if scope
-                .spawn(move || serve_queue(rt, two, for_two, limit))
-                .is_err()
-            {
-                return Err(Fault::NoThread);
-            }
-            accept_all(rt, listener, connections, to_one, to_two)
-        },
-    )
+    match queues(alloc) {
+        Ok(both) => serve_by(rt, both, listener, connections, limit, one, two),
+        Err(fault) => {
+            drop(one);
+            drop(two);
+            Err(fault.into())
+        }
+    }
 }
 
 // Where each worker accepts its next connection, until an accept fails.
@@ -134,9 +169,9 @@ impl Door<'_> {
 }
 
 // Serves what comes while a worker is free, until an accept fails.
-fn serve_door<H: HallName, C: Wait + Drop, R: Wait>(
+fn serve_while_open<H: HallName, C: Wait + Drop, R: Wait>(
     rt: &R,
-    mut station: Station<'_, H, C, Open, R>,
+    station: &mut Station<'_, H, C, Open, R>,
     door: &Door<'_>,
     limit: Duration,
 ) {
@@ -144,8 +179,18 @@ fn serve_door<H: HallName, C: Wait + Drop, R: Wait>(
         let Some(stream) = door.next(rt) else {
             return;
         };
-        serve(&mut station, stream, limit);
+        serve(station, stream, limit);
     }
+}
+
+// Serves at the door by one worker.
+fn serve_door<H: HallName, C: Wait + Drop, R: Wait>(
+    rt: &R,
+    mut station: Station<'_, H, C, Open, R>,
+    door: &Door<'_>,
+    limit: Duration,
+) {
+    serve_while_open(rt, &mut station, door, limit);
 }
 
 /// Serves all connections that come, until an accept fails.
@@ -170,10 +215,11 @@ pub fn serve_on<'c, H: HallName + Send + Sync, R: Threads + Wait + Sync>(
             requires { IsSync R.row }
             ensures { Stops result }
         {
-            if scope
+            let has_begun = scope
                 .spawn(move || serve_door(rt, one, door, limit))
-                .is_err()
-            {
+                .is_ok();
+            if !has_begun {
+                drop(two);
                 return Fault::NoThread;
             }
             serve_door(rt, two, door, limit);

@@ -2,7 +2,7 @@
 ghost use Rattle.std.specs.Prelude.{◌≡◌, ◌≢◌, ◌⊎◌, false};
 ghost use Rattle.st_core.specs.State.{State};
 ghost use Rattle.st_policy.specs.declared.reply.Reply.{Reply as Told};
-ghost use Rattle.st_service.specs.Answers.{Answers, Replied, IsFound, faulty, reply_status, reply_text};
+ghost use Rattle.st_service.specs.Answers.{Answers, AsksBy, Replied, IsFound, faulty, reply_status, reply_text};
 ghost use Rattle.st_service.specs.Bytes.{bytes_of};
 ghost use Rattle.st_connection.specs.Render.{busy_text};
 
@@ -11,7 +11,7 @@ use crate::asked::asked_of;
 use http::StatusCode;
 use st_connection::Failed;
 use st_connection::replies::Replies;
-use st_core::{Reply, Store};
+use st_core::{Asked, Reply, Store};
 use st_http::routes::Route;
 use st_http::take::Message;
 use st_json_reply::{encode, status};
@@ -83,20 +83,36 @@ impl<A: Allocator + Copy> Desk<A> {
         }
     }
 
+    // Answers what a message asks.
+    fn tell_step(&mut self, message: &Message<'_>, asked: &Asked<A>) -> Answer<A>
+        requires found { IsFound message.now }
+        requires asks { AsksBy message.now asked.now }
+        ensures { Replied self.old message.now (bytes_of result) self.new }
+    {
+        let close = message.close;
+        let bare = message.bare;
+        let Ok(reply) = self.store.take(asked) else {
+            return Answer::Busy { close, bare };
+        };
+        let answer = tell(self.alloc, &reply, close, bare);
+        drop(reply);
+        answer
+    }
+
     // Answers a message whose route is a line.
     fn answer(&mut self, message: &Message<'_>) -> Answer<A>
         requires { IsFound message.now }
         ensures { Replied self.old message.now (bytes_of result) self.new }
     {
-        let close = message.close;
-        let bare = message.bare;
         let Ok(asked) = asked_of(self.alloc, self.global, message) else {
-            return Answer::Busy { close, bare };
+            return Answer::Busy {
+                close: message.close,
+                bare: message.bare,
+            };
         };
-        let Ok(reply) = self.store.take(&asked) else {
-            return Answer::Busy { close, bare };
-        };
-        tell(self.alloc, &reply, close, bare)
+        let answer = self.tell_step(message, &asked);
+        drop(asked);
+        answer
     }
 }
 

@@ -1,5 +1,5 @@
 //! A service: a store that is asked over connections, one after another.
-ghost use Rattle.std.specs.Prelude.{◌≡◌, ◌+◌, ◌-◌, ◌^◌, ◌⊎◌, Ok, true, false, min, IfOk, IsErr, OnOk};
+ghost use Rattle.std.specs.Prelude.{◌≡◌, ◌≤◌, length, ◌+◌, ◌-◌, ◌^◌, ◌⊎◌, Ok, true, false, min, IfOk, IsErr, OnOk};
 ghost use Rattle.std.specs.Io.KnownBytes.{IsAtEnd};
 ghost use Rattle.st_service.specs.Answers.{Answers, Replied};
 ghost use Rattle.st_service.specs.Bytes.{bytes_of};
@@ -35,14 +35,23 @@ impl<A: Allocator + Copy> Model for Service<A> {
     ghost invariant = { λ s. 139264 ≤ length s.buffer.items };
 }
 
+// The table of routes, and the buffer of a connection.
+fn rooms<A: Allocator + Copy>(alloc: A, global: Global) -> Result<(Routes, Vec<u8, A>), AllocError>
+    ensures { IfOk result (λ both. 139264 ≤ length both.1.items) }
+{
+    let routes = Routes::new(global)?;
+    Ok((routes, vec![in alloc; 0u8; ROOM]?))
+}
+
 impl<A: Allocator + Copy> Service<A> {
     /// A service over a store. Its routes and the reading of bodies take memory of `global`, all else of `alloc`.
     pub fn new(alloc: A, global: Global, store: Store<A>) -> Result<Service<A>, AllocError>
         ensures { IfOk result (λ service. service ≡ store) }
     {
+        let (routes, buffer) = rooms(alloc, global)?;
         Ok(Service {
-            routes: Routes::new(global)?,
-            buffer: vec![in alloc; 0u8; ROOM]?,
+            routes,
+            buffer,
             desk: Desk::new(alloc, global, store),
         })
     }

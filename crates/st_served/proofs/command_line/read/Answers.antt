@@ -1,4 +1,4 @@
-use Rattle.std.proofs.Common.{ap, refl, sym, subst, [], ◌∙◌, ◌≡◌, codes, map, string_bytes}
+use Rattle.std.proofs.Common.{ap, refl, sym, subst, [], ◌∙◌, codes, map, string_bytes}
 use Rattle.std.specs.Prelude.{Some, option_map, unwrap_or}
 use Rattle.std.proofs.lemmas.Result.{err_from_is_err_and}
 use Rattle.clap.specs.Words.{all_of, first_of, found_of}
