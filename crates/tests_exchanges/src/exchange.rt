@@ -1,7 +1,7 @@
 //! Exchanges, each with a fresh service, and what they tell.
 
 use crate::fault::Fault;
-use crate::request::input_of;
+use crate::request::{input_of, is_connection};
 use crate::service::{opened, told_of};
 use st_service::Service;
 use std::alloc::Global;
@@ -22,7 +22,7 @@ fn likeness(asked: &[Asked<'_>], name: &str, told: &[u8]) -> Result<&'static str
     }
 }
 
-// Serves the lines of a connection, and tells what was answered. Lines that ask nothing are passed over.
+// Serves the lines of a connection, and tells what was answered. Comments alone are passed over.
 fn tell_connection(
     alloc: Global,
     service: &mut Service,
@@ -30,10 +30,10 @@ fn tell_connection(
     told_to_u: &mut Vec<u8>,
     told: &mut Vec<u8>,
 ) -> Result<(), Fault> {
-    let input = input_of(alloc, lines)?;
-    if input.is_empty() {
+    if !is_connection(lines) {
         return Ok(());
     }
+    let input = input_of(alloc, lines)?;
     let answers = told_of(alloc, service, input.as_slice())?;
     if lines.starts_with("u ") {
         told_to_u.extend_from_slice(answers.as_slice())?;
@@ -42,26 +42,75 @@ fn tell_connection(
     Ok(())
 }
 
-// Asks the connections of an exchange, and gives what u was told.
-fn tell_connections(
+// Tells whether the exchange of this name told u these bytes too.
+fn tell_likeness(
+    asked: &[Asked<'_>],
+    name: &str,
+    told_to_u: &[u8],
+    told: &mut Vec<u8>,
+) -> Result<(), Fault> {
+    let likeness = likeness(asked, name, told_to_u)?;
+    told.extend_from_slice(likeness.as_bytes())?;
+    told.push(b'\n')?;
+    Ok(())
+}
+
+// Asks a part of an exchange: a connection, or whether another exchange is like this one.
+fn tell_part(
     alloc: Global,
-    (names, connections): (&str, &str),
+    service: &mut Service,
+    lines: &str,
+    asked: &[Asked<'_>],
+    told_to_u: &mut Vec<u8>,
+    told: &mut Vec<u8>,
+) -> Result<(), Fault> {
+    match lines.strip_prefix("= ") {
+        Some(name) => tell_likeness(asked, name, told_to_u.as_slice(), told),
+        None => tell_connection(alloc, service, lines, told_to_u, told),
+    }
+}
+
+// Asks the parts of an exchange.
+fn tell_parts(
+    alloc: Global,
+    service: &mut Service,
+    parts: &str,
+    asked: &[Asked<'_>],
+    told_to_u: &mut Vec<u8>,
+    told: &mut Vec<u8>,
+) -> Result<(), Fault> {
+    for part in parts.split("\n\n") {
+        tell_part(
+            alloc,
+            service,
+            part.trim_matches('\n'),
+            asked,
+            told_to_u,
+            told,
+        )?;
+    }
+    Ok(())
+}
+
+// Asks the parts of an exchange, and gives what u was told.
+fn told_to_u(
+    alloc: Global,
+    (names, parts): (&str, &str),
     asked: &[Asked<'_>],
     told: &mut Vec<u8>,
 ) -> Result<Vec<u8>, Fault> {
-    let mut service = opened(alloc, names)?;
     let mut told_to_u = Vec::new(alloc);
-    for connection in connections.split("\n\n") {
-        let lines = connection.trim_matches('\n');
-        if let Some(name) = lines.strip_prefix("= ") {
-            let likeness = likeness(asked, name, told_to_u.as_slice())?;
-            told.extend_from_slice(likeness.as_bytes())?;
-            told.push(b'\n')?;
-        } else {
-            tell_connection(alloc, &mut service, lines, &mut told_to_u, told)?;
-        }
-    }
+    let mut service = opened(alloc, names)?;
+    tell_parts(alloc, &mut service, parts, asked, &mut told_to_u, told)?;
     Ok(told_to_u)
+}
+
+// Tells the head of an exchange.
+fn tell_head(head: &str, told: &mut Vec<u8>) -> Result<(), Fault> {
+    told.extend_from_slice(b"# ")?;
+    told.extend_from_slice(head.as_bytes())?;
+    told.push(b'\n')?;
+    Ok(())
 }
 
 // Asks an exchange: tells its head, and then what its connections are answered.
@@ -71,14 +120,12 @@ fn tell<'t>(
     asked: &[Asked<'t>],
     told: &mut Vec<u8>,
 ) -> Result<Asked<'t>, Fault> {
-    let (head, connections) = exchange.split_once('\n').unwrap_or((exchange, ""));
+    let (head, parts) = exchange.split_once('\n').unwrap_or((exchange, ""));
     let (name, names) = head.split_once(" / ").unwrap_or((head, ""));
-    told.extend_from_slice(b"# ")?;
-    told.extend_from_slice(head.as_bytes())?;
-    told.push(b'\n')?;
+    tell_head(head, told)?;
     Ok(Asked {
         name,
-        told: tell_connections(alloc, (names, connections), asked, told)?,
+        told: told_to_u(alloc, (names, parts), asked, told)?,
     })
 }
 

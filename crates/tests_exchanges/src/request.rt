@@ -47,18 +47,45 @@ fn push_request(input: &mut Vec<u8>, request: &Request<'_>) -> Result<(), Fault>
     Ok(())
 }
 
+// How often, and what text, a line of bytes says.
+fn bytes_of(line: &str) -> Option<(u32, &str)> {
+    let (times, text) = line.strip_prefix('|')?.split_once(' ')?;
+    if times.is_empty() {
+        return Some((1, text));
+    }
+    Some((times.parse().ok()?, text))
+}
+
+// Appends the bytes of a text so many times.
+fn push_times(input: &mut Vec<u8>, times: u32, text: &str) -> Result<(), Fault> {
+    for _ in 0..times {
+        push_bytes(input, text)?;
+    }
+    Ok(())
+}
+
+// Whether a line is there for its readers alone.
+fn is_comment(line: &str) -> bool {
+    line.starts_with("//")
+}
+
 // Appends what a line stands for.
 fn push_line(input: &mut Vec<u8>, line: &str) -> Result<(), Fault> {
-    if line.starts_with("//") {
+    if is_comment(line) {
         return Ok(());
     }
-    if let Some(text) = line.strip_prefix("| ") {
-        return push_bytes(input, text);
+    if let Some((times, text)) = bytes_of(line) {
+        return push_times(input, times, text);
     }
     let Some(request) = request_of(line) else {
         return Err(Fault::BadLine);
     };
     push_request(input, &request)
+}
+
+/// Whether the lines are a connection, with one line or more that is no comment.
+pub fn is_connection(lines: &str) -> bool {
+    lines.lines().any(|line| !is_comment(line))
 }
 
 /// The bytes that the lines of a connection stand for.

@@ -4,29 +4,14 @@ ghost use Rattle.st_core.specs.Step.{asks_for_change};
 
 use st_auth::Auths;
 use st_box::Query;
-use st_core::{Asked, Call, Reply, Store, Token};
+use st_core::{Asked, Call, Reply, Token};
 use st_dir::{Name, TableName};
 use st_hall::{Desk, Front, HallName, Receipt};
 use st_index::{Id, Note, Row};
 use st_key::Point;
 use st_label::Label;
 use st_policy::Request;
-use std::alloc::Global;
-
-// The SHA-256 of 32 zero bytes, which are root's secret.
-const DIGEST: [u8; 32] = [
-    0x66, 0x68, 0x7a, 0xad, 0xf8, 0x62, 0xbd, 0x77, 0x6c, 0x8f, 0xc1, 0x8b, 0x8e, 0x9f, 0x8e, 0x20,
-    0x08, 0x97, 0x14, 0x85, 0x6e, 0xe2, 0x33, 0xb3, 0x90, 0x2a, 0x59, 0x1d, 0x0d, 0x5f, 0x29, 0x25,
-];
-
-/// Two stores of one state.
-pub fn stores(alloc: Global) -> Option<(Store, Store)>
-    ensures { IfSome result (λ both. both.0 ≡ both.1) }
-{
-    let first = Store::open(alloc, DIGEST, &[]).ok()?;
-    let second = Store::open(alloc, DIGEST, &[]).ok()?;
-    Some((first, second))
-}
+use std::alloc::{AllocError, Global};
 
 // Root's token.
 fn token() -> Option<Token> {
@@ -36,13 +21,27 @@ fn token() -> Option<Token> {
     })
 }
 
+// An id of this text.
+fn id_of(alloc: Global, text: &str) -> Option<Id> {
+    Id::new(alloc, text).ok()?
+}
+
+// A note without text.
+fn no_note(alloc: Global) -> Option<Note> {
+    Note::new(alloc, "").ok()?
+}
+
 // A row of this id, which everybody may see.
 fn row(alloc: Global, id: &str) -> Option<Row> {
+    let point = Point::new(1, 2, 3).ok()?;
+    let label = Label::parse(alloc, "").ok()?;
+    let id = id_of(alloc, id)?;
+    let note = no_note(alloc)?;
     Some(Row {
-        id: Id::new(alloc, id).ok()??,
-        point: Point::new(1, 2, 3).ok()?,
-        label: Label::parse(alloc, "").ok()?,
-        note: Note::new(alloc, "").ok()??,
+        id,
+        point,
+        label,
+        note,
     })
 }
 
@@ -86,35 +85,58 @@ fn audit() -> Asked
 }
 
 /// The number of a count.
-pub fn number_in(reply: Reply) -> Option<u64> {
-    match reply {
-        Reply::Count(number) => Some(number),
+pub fn number_in(told: &Result<Reply, AllocError>) -> Option<u64> {
+    match told {
+        Ok(Reply::Count(number)) => Some(*number),
         _ => None,
     }
 }
 
 // How many entries a listing has.
-fn entries_in(reply: Reply) -> Option<usize> {
-    match reply {
-        Reply::Audit(entries) => Some(entries.len()),
+fn entries_in(told: &Result<Reply, AllocError>) -> Option<usize> {
+    match told {
+        Ok(Reply::Audit(entries)) => Some(entries.len()),
         _ => None,
     }
+}
+
+// The number that a desk tells of a count.
+fn number_of<H: HallName>(desk: &mut Desk<H>, asked: Asked) -> Option<u64>
+    requires { asks_for_change asked ≡ false }
+{
+    let told = desk.read(&asked);
+    drop(asked);
+    let number = number_in(&told);
+    drop(told);
+    number
 }
 
 /// How many rows a desk counts.
 pub fn rows<H: HallName>(alloc: Global, desk: &mut Desk<H>) -> Option<u64> {
     let asked = count(alloc)?;
-    number_in(desk.read(&asked).ok()?)
+    number_of(desk, asked)
+}
+
+// How many entries a desk tells in a listing.
+fn entries_of<H: HallName>(desk: &mut Desk<H>, asked: Asked) -> Option<usize>
+    requires { asks_for_change asked ≡ false }
+{
+    let told = desk.read(&asked);
+    drop(asked);
+    let count = entries_in(&told);
+    drop(told);
+    count
 }
 
 /// How many changes a desk lists that were asked for.
 pub fn entries<H: HallName>(desk: &mut Desk<H>) -> Option<usize> {
-    let asked = audit();
-    entries_in(desk.read(&asked).ok()?)
+    entries_of(desk, audit())
 }
 
 /// The front of a receipt.
-pub fn front_of<H: HallName>(receipt: Receipt<H>) -> Option<Front<H>> {
-    let Receipt { front, .. } = receipt;
-    front
+pub fn front_of<H: HallName>(told: &mut Result<Receipt<H>, AllocError>) -> Option<Front<H>> {
+    match told {
+        Ok(receipt) => receipt.front.take(),
+        Err(_) => None,
+    }
 }

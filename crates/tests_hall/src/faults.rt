@@ -4,7 +4,7 @@ ghost use Rattle.std.specs.Prelude.{◌≡◌, None, false};
 use crate::halls::{Always, INPUT, OUTPUT, stores};
 use st_connection::{Ended, Failed, IoFault, Sink, Source};
 use st_core::Store;
-use st_hall::{Hall, HallName, Unnamed};
+use st_hall::{Clerk, Desk, Hall, HallName, Unnamed};
 use st_station::{Station, work};
 use std::alloc::Global;
 use std::marker::Brand;
@@ -121,50 +121,64 @@ fn made_reader(trouble: Trouble, call: u64) -> Reader
     }
 }
 
-// How a connection ends that has this trouble at a call, how many bytes are written, and whether they begin the output.
+// How a connection ends, how many bytes are written, and whether they begin the output.
+type Worked = (Result<Ended, IoFault>, usize, bool);
+
+// What becomes of a connection to a station that has this trouble at a call.
+fn worked_by<H: HallName, C: Wait + Drop, R: Wait>(
+    alloc: Global,
+    station: &mut Station<'_, H, C, Always, R>,
+    (trouble, call, most): (Trouble, u64, usize),
+) -> Worked {
+    let mut reader = made_reader(trouble, call);
+    let mut writer = made_writer(alloc, trouble, call, most);
+    let ended = work(station, &mut reader, &mut writer);
+    let taken = writer.taken.as_slice();
+    (ended, taken.len(), OUTPUT.starts_with(taken))
+}
+
+// That of a connection to a station at this desk.
+fn worked_at<H: HallName, C: Wait + Drop, R: Wait>(
+    rt: &R,
+    alloc: Global,
+    clerk: &Mutex<Clerk<H, C>>,
+    desk: Desk<H>,
+    at: (Trouble, u64, usize),
+) -> Option<Worked> {
+    let mut station = Station::new(rt, alloc, 1, desk, clerk, &Always).ok()?;
+    let worked = worked_by(alloc, &mut station, at);
+    drop(station);
+    Some(worked)
+}
+
+// That of a station at the first desk of a hall.
 fn worked<H: HallName, R: Wait>(
     rt: &R,
     alloc: Global,
     name: Unnamed,
     both: (Store, Store),
-    mut reader: Reader,
-    mut writer: Writer,
-) -> Option<(Result<Ended, IoFault>, usize, bool)>
+    at: (Trouble, u64, usize),
+) -> Option<Worked>
     requires named { (name.seen.book ≡ H.book) × (name.blank.name ≡ H.name) × (H.parts ≡ 2) }
     requires alike { (both.0 ≡ H.start) × (both.1 ≡ H.start) }
-    requires reader_sound { reader.failed ≡ false }
-    requires writer_sound { writer.failed ≡ false }
 {
-    let (clerk, desk, _) = Hall::<H>::open(rt, alloc, name, both.0, both.1).ok()?;
+    let (clerk, desk, other) = Hall::<H>::open(rt, alloc, name, both.0, both.1).ok()?;
+    drop(other);
     let clerk = Mutex::new(clerk);
-    let mut station = Station::new(rt, alloc, 1, desk, &clerk, &Always).ok()?;
-    let ended = work(&mut station, &mut reader, &mut writer);
-    let taken = writer.taken.as_slice();
-    Some((ended, taken.len(), OUTPUT.starts_with(taken)))
+    let worked = worked_at(rt, alloc, &clerk, desk, at);
+    drop(clerk);
+    worked
 }
 
-fn found<R: Wait>(
-    rt: &R,
-    alloc: Global,
-    trouble: Trouble,
-    call: u64,
-    most: usize,
-) -> Option<(Result<Ended, IoFault>, usize, bool)> {
-    worked::<Brand, _>(
-        rt,
-        alloc,
-        Unnamed::new(),
-        stores(alloc)?,
-        made_reader(trouble, call),
-        made_writer(alloc, trouble, call, most),
-    )
+fn found<R: Wait>(rt: &R, alloc: Global, at: (Trouble, u64, usize)) -> Option<Worked> {
+    worked::<Brand, _>(rt, alloc, Unnamed::new(), stores(alloc, &["A"])?, at)
 }
 
 // Whether each call where the trouble may come ends the connection by a fault that tells what is written, which begins the
 // output, and whether a connection without it ends well, with all of it written.
 fn is_told<R: Wait>(rt: &R, alloc: Global, trouble: Trouble, most: usize) -> Option<bool> {
     for call in 1..1000 {
-        let (ended, written, is_front) = found(rt, alloc, trouble, call, most)?;
+        let (ended, written, is_front) = found(rt, alloc, (trouble, call, most))?;
         if !is_front {
             return Some(false);
         }

@@ -1,7 +1,8 @@
 //! What a desk sees before and after it learns.
 ghost use Rattle.std.specs.Prelude.{◌≡◌};
 
-use crate::asks::{front_of, put, rows, stores};
+use crate::asks::{front_of, put, rows};
+use crate::halls::stores;
 use st_core::Store;
 use st_hall::{Clerk, Desk, Front, Hall, HallName, Unnamed};
 use std::alloc::Global;
@@ -17,10 +18,43 @@ fn told<H: HallName, R: Wait + Drop, W: Wait>(
     desk: &mut Desk<H>,
     id: &str,
 ) -> Option<Front<H>> {
-    front_of(clerk.commit(rt, desk, put(alloc, id)?).ok()?)
+    let asked = put(alloc, id)?;
+    let mut told = clerk.commit(rt, desk, asked);
+    let front = front_of(&mut told);
+    drop(told);
+    front
+}
+
+// What a desk counts once it learned a front.
+fn rows_after<H: HallName>(
+    alloc: Global,
+    desk: &mut Desk<H>,
+    front: &Option<Front<H>>,
+) -> Option<u64> {
+    desk.learn(front.as_ref()?);
+    rows(alloc, desk)
 }
 
 // What a desk counts once it learned the first front, then that again, the second, and the first once more.
+fn learnt_by<H: HallName, R: Wait + Drop, W: Wait>(
+    rt: &W,
+    alloc: Global,
+    clerk: &mut Clerk<H, R>,
+    one: &mut Desk<H>,
+    two: &mut Desk<H>,
+) -> Option<[u64; 4]> {
+    let first = told(rt, alloc, clerk, one, "p");
+    let after_first = rows_after(alloc, two, &first);
+    let again = rows_after(alloc, two, &first);
+    let second = told(rt, alloc, clerk, one, "q");
+    let after_second = rows_after(alloc, two, &second);
+    drop(second);
+    let at_last = rows_after(alloc, two, &first);
+    drop(first);
+    Some([after_first?, again?, after_second?, at_last?])
+}
+
+// That of the second desk of a hall, with fronts of the first.
 fn learnt<H: HallName, R: Wait>(
     rt: &R,
     alloc: Global,
@@ -31,24 +65,47 @@ fn learnt<H: HallName, R: Wait>(
     requires alike { (both.0 ≡ H.start) × (both.1 ≡ H.start) }
 {
     let (mut clerk, mut one, mut two) = Hall::<H>::open(rt, alloc, name, both.0, both.1).ok()?;
-    let first = told(rt, alloc, &mut clerk, &mut one, "p")?;
-    two.learn(&first);
-    let after_first = rows(alloc, &mut two)?;
-    two.learn(&first);
-    let again = rows(alloc, &mut two)?;
-    let second = told(rt, alloc, &mut clerk, &mut one, "q")?;
-    two.learn(&second);
-    let after_second = rows(alloc, &mut two)?;
-    two.learn(&first);
-    let at_last = rows(alloc, &mut two)?;
-    Some([after_first, again, after_second, at_last])
+    let learnt = learnt_by(rt, alloc, &mut clerk, &mut one, &mut two);
+    drop(two);
+    drop(one);
+    drop(clerk);
+    learnt
 }
 
 fn found<R: Wait>(rt: &R, alloc: Global) -> Option<[u64; 4]> {
-    learnt::<Brand, _>(rt, alloc, Unnamed::new(), stores(alloc)?)
+    learnt::<Brand, _>(rt, alloc, Unnamed::new(), stores(alloc, &[])?)
+}
+
+// The front of a put at a clerk that is shared.
+fn told_shared<H: HallName, R: Wait + Drop, W: Wait>(
+    rt: &W,
+    alloc: Global,
+    clerk: &Mutex<Clerk<H, R>>,
+    desk: &mut Desk<H>,
+) -> Option<Front<H>> {
+    let asked = put(alloc, "p")?;
+    let mut told = Hall::change(rt, clerk, desk, asked);
+    let front = front_of(&mut told);
+    drop(told);
+    front
 }
 
 // What the second desk counts after a put at the first one, before it learned the front and once it did.
+fn late_by<H: HallName, R: Wait + Drop, W: Wait>(
+    rt: &W,
+    alloc: Global,
+    clerk: &Mutex<Clerk<H, R>>,
+    one: &mut Desk<H>,
+    two: &mut Desk<H>,
+) -> Option<(u64, u64)> {
+    let front = told_shared(rt, alloc, clerk, one);
+    let before = rows(alloc, two);
+    let after = rows_after(alloc, two, &front);
+    drop(front);
+    Some((before?, after?))
+}
+
+// That of the desks of a hall.
 fn late<H: HallName, R: Wait>(
     rt: &R,
     alloc: Global,
@@ -60,15 +117,15 @@ fn late<H: HallName, R: Wait>(
 {
     let (clerk, mut one, mut two) = Hall::<H>::open(rt, alloc, name, both.0, both.1).ok()?;
     let clerk = Mutex::new(clerk);
-    let receipt = Hall::change(rt, &clerk, &mut one, put(alloc, "p")?).ok()?;
-    let front = front_of(receipt)?;
-    let before = rows(alloc, &mut two)?;
-    two.learn(&front);
-    Some((before, rows(alloc, &mut two)?))
+    let late = late_by(rt, alloc, &clerk, &mut one, &mut two);
+    drop(two);
+    drop(one);
+    drop(clerk);
+    late
 }
 
 fn found_late<R: Wait>(rt: &R, alloc: Global) -> Option<(u64, u64)> {
-    late::<Brand, _>(rt, alloc, Unnamed::new(), stores(alloc)?)
+    late::<Brand, _>(rt, alloc, Unnamed::new(), stores(alloc, &[])?)
 }
 
 #[test]

@@ -31,13 +31,18 @@ pub const AUDIT: &[u8] =
 pub const ONE_ENTRY: &[u8] =
     b"HTTP/1.1 200 OK\r\nContent-Type: application/json\r\nContent-Length: 74\r\n\r\n{\"entries\":[{\"request\":\"put\",\"result\":0,\"target\":\"points\",\"user\":\"root\"}]}";
 
-/// Two stores of one state, whose root has the authorization A.
-pub fn stores(alloc: Global) -> Option<(Store, Store)>
+/// Two stores of one state, whose root has these authorizations.
+pub fn stores(alloc: Global, auths: &[&str]) -> Option<(Store, Store)>
     ensures { IfSome result (λ both. both.0 ≡ both.1) }
 {
-    let first = Store::open(alloc, DIGEST, &["A"]).ok()?;
-    let second = Store::open(alloc, DIGEST, &["A"]).ok()?;
-    Some((first, second))
+    let first = Store::open(alloc, DIGEST, auths).ok()?;
+    match Store::open(alloc, DIGEST, auths) {
+        Ok(second) => Some((first, second)),
+        Err(_) => {
+            drop(first);
+            None
+        }
+    }
 }
 
 /// Lets each read pass.

@@ -3,7 +3,7 @@ ghost use Rattle.std.specs.Prelude.{◌≡◌};
 
 use crate::halls::{AUDIT, Always, INPUT, ONE_ENTRY, OUTPUT, stores};
 use st_core::Store;
-use st_hall::{Hall, HallName, Unnamed};
+use st_hall::{Clerk, Desk, Hall, HallName, Unnamed};
 use st_http::routes::Routes;
 use st_http::take::{Message, Take};
 use st_station::Station;
@@ -38,26 +38,66 @@ fn answer<H: HallName, C: Wait + Drop, R: Wait>(
     }
 }
 
-// What a station answers to the messages of a text.
-fn answers<H: HallName, C: Wait + Drop, R: Wait>(
-    alloc: Global,
+// Answers the messages of a text.
+fn answer_all<H: HallName, C: Wait + Drop, R: Wait>(
     station: &mut Station<'_, H, C, Always, R>,
+    routes: &Routes,
     text: &[u8],
-) -> Option<Vec<u8>> {
-    let routes = Routes::new(alloc).ok()?;
-    let mut told = Vec::new(alloc);
+    told: &mut Vec<u8>,
+) -> Option<()> {
     let mut rest = text;
     for _ in 0..10 {
         if rest.is_empty() {
-            return Some(told);
+            return Some(());
         }
-        let used = answer(station, &routes, rest, &mut told)?;
+        let used = answer(station, routes, rest, told)?;
         rest = rest.get(used..)?;
     }
     None
 }
 
-// Whether the answers to the three messages are right, how many receipts the station got, and whether the listing has one entry.
+// Whether a station answers the messages of a text by these answers.
+fn is_answered<H: HallName, C: Wait + Drop, R: Wait>(
+    alloc: Global,
+    station: &mut Station<'_, H, C, Always, R>,
+    text: &[u8],
+    wanted: &[u8],
+) -> Option<bool> {
+    let routes = Routes::new(alloc).ok()?;
+    let mut told = Vec::new(alloc);
+    let answered = answer_all(station, &routes, text, &mut told);
+    let is_wanted = told.as_slice() == wanted;
+    drop(told);
+    drop(routes);
+    answered?;
+    Some(is_wanted)
+}
+
+// Whether a station answers the three messages rightly, how many receipts it got, and whether the listing has one entry.
+fn answered_by<H: HallName, C: Wait + Drop, R: Wait>(
+    alloc: Global,
+    station: &mut Station<'_, H, C, Always, R>,
+) -> Option<(bool, u64, bool)> {
+    let is_told = is_answered(alloc, station, INPUT, OUTPUT)?;
+    let made = station.made();
+    let is_listed = is_answered(alloc, station, AUDIT, ONE_ENTRY)?;
+    Some((is_told, made, is_listed))
+}
+
+// That of a station at this desk.
+fn answered_at<H: HallName, C: Wait + Drop, R: Wait>(
+    rt: &R,
+    alloc: Global,
+    clerk: &Mutex<Clerk<H, C>>,
+    desk: Desk<H>,
+) -> Option<(bool, u64, bool)> {
+    let mut station = Station::new(rt, alloc, 1, desk, clerk, &Always).ok()?;
+    let answered = answered_by(alloc, &mut station);
+    drop(station);
+    answered
+}
+
+// That of a station at the first desk of a hall.
 fn answered<H: HallName, R: Wait>(
     rt: &R,
     alloc: Global,
@@ -67,21 +107,16 @@ fn answered<H: HallName, R: Wait>(
     requires named { (name.seen.book ≡ H.book) × (name.blank.name ≡ H.name) × (H.parts ≡ 2) }
     requires alike { (both.0 ≡ H.start) × (both.1 ≡ H.start) }
 {
-    let (clerk, desk, _) = Hall::<H>::open(rt, alloc, name, both.0, both.1).ok()?;
+    let (clerk, desk, other) = Hall::<H>::open(rt, alloc, name, both.0, both.1).ok()?;
+    drop(other);
     let clerk = Mutex::new(clerk);
-    let mut station = Station::new(rt, alloc, 1, desk, &clerk, &Always).ok()?;
-    let told = answers(alloc, &mut station, INPUT)?;
-    let made = station.made();
-    let listed = answers(alloc, &mut station, AUDIT)?;
-    Some((
-        told.as_slice() == OUTPUT,
-        made,
-        listed.as_slice() == ONE_ENTRY,
-    ))
+    let answered = answered_at(rt, alloc, &clerk, desk);
+    drop(clerk);
+    answered
 }
 
 fn found<R: Wait>(rt: &R, alloc: Global) -> Option<(bool, u64, bool)> {
-    answered::<Brand, _>(rt, alloc, Unnamed::new(), stores(alloc)?)
+    answered::<Brand, _>(rt, alloc, Unnamed::new(), stores(alloc, &["A"])?)
 }
 
 #[test]

@@ -2,7 +2,8 @@
 ghost use Rattle.std.specs.Prelude.{◌≡◌};
 ghost use Rattle.std.specs.Thread.{IsSync};
 
-use crate::asks::{count, number_in, stores};
+use crate::asks::{count, number_in};
+use crate::halls::stores;
 use st_core::Store;
 use st_hall::{Clerk, Gate, Hall, HallName, Unnamed, Worker};
 use std::alloc::Global;
@@ -64,22 +65,37 @@ impl<R: Clock + Wait> Turns<'_, R> {
     }
 }
 
+// What a worker tells of a count.
+fn number_of<H: HallName, R: Clock + Wait>(
+    rt: &R,
+    alloc: Global,
+    worker: &mut Worker<'_, H, &R, Turns<'_, R>>,
+) -> Option<u64> {
+    let asked = count(alloc)?;
+    let told = worker.ask(rt, asked);
+    let number = number_in(&told);
+    drop(told);
+    number
+}
+
 // How many rows a worker counts.
 fn count_by<H: HallName, R: Clock + Wait>(
     rt: &R,
     alloc: Global,
     mut worker: Worker<'_, H, &R, Turns<'_, R>>,
 ) -> Option<u64> {
-    number_in(worker.ask(rt, count(alloc)?).ok()?)
+    number_of(rt, alloc, &mut worker)
 }
 
-// What two workers count while a third thread holds the clerk's lock, and whether both were let pass then.
+type Counted = (Option<u64>, Option<u64>, bool);
+
+// What each of two workers counts while a third thread holds the clerk's lock, and whether both were let pass then.
 fn counted<H: HallName + Send + Sync, R: Threads + Wait + Clock + Sync>(
     rt: &R,
     alloc: Global,
     name: Unnamed,
     both: (Store, Store),
-) -> Option<(u64, u64, bool)>
+) -> Option<Counted>
     requires named { (name.seen.book ≡ H.book) × (name.blank.name ≡ H.name) × (H.parts ≡ 2) }
     requires alike { (both.0 ≡ H.start) × (both.1 ≡ H.start) }
 {
@@ -101,14 +117,14 @@ fn counted<H: HallName + Send + Sync, R: Threads + Wait + Clock + Sync>(
             requires { IsSync R.row }
         { join(rt, || count_by(rt, alloc, one), || count_by(rt, alloc, two)) },
     );
-    Some((a?, b?, held && turns.gave_up.load(SeqCst) == 0))
+    Some((a, b, held && turns.gave_up.load(SeqCst) == 0))
 }
 
-fn found<R: Threads + Wait + Clock + Sync>(rt: &R, alloc: Global) -> Option<(u64, u64, bool)> {
-    counted::<Brand, _>(rt, alloc, Unnamed::new(), stores(alloc)?)
+fn found<R: Threads + Wait + Clock + Sync>(rt: &R, alloc: Global) -> Option<Counted> {
+    counted::<Brand, _>(rt, alloc, Unnamed::new(), stores(alloc, &[])?)
 }
 
 #[test]
 fn two_reads_at_once(rt: HostRuntime) {
-    assert_eq!(rt; found(&rt, rt.alloc()), Some((0, 0, true)));
+    assert_eq!(rt; found(&rt, rt.alloc()), Some((Some(0), Some(0), true)));
 }

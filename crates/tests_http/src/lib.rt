@@ -1,17 +1,12 @@
-//! Tests of HTTP: heads, routes, tokens, the limits of a message, and the loop of a connection.
+//! Tests of HTTP and of replies that no exchange shows: answers that wait, refused growths, what a message holds, and the
+//! greatest count.
 #![tactic(auto)]
 
 #[cfg(test)]
 mod blocks;
 #[cfg(test)]
-mod connections;
-#[cfg(test)]
-mod framing;
-#[cfg(test)]
 mod heads;
 #[cfg(test)]
-mod routing;
+mod json_replies;
 #[cfg(test)]
-mod sizes;
-#[cfg(test)]
-mod tokens;
+mod takes;

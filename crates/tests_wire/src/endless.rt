@@ -1,7 +1,7 @@
 //! A reader that never ends.
 ghost use Rattle.std.specs.Prelude.{None, false};
 
-use crate::pieces::opened;
+use crate::serving::opened;
 use st_service::{Ended, Failed, FromWrite, IoFault, Source};
 use std::alloc::Global;
 
@@ -56,6 +56,7 @@ fn served_without_end(alloc: Global) -> Option<(Result<Ended, IoFault>, u64, boo
     let mut reader = Endless { reads: 0 };
     let mut writer = FromWrite::new(Vec::new(alloc));
     let ended = service.serve(&mut reader, &mut writer);
+    drop(service);
     let is_answered = is_repeated(writer.into_inner().as_slice(), MESSAGES);
     Some((ended, reader.reads, is_answered))
 }

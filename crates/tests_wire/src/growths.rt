@@ -1,6 +1,6 @@
 //! Requests to a service whose growths are refused, each in turn.
 
-use crate::pieces::opened;
+use crate::serving::opened;
 use refusing_alloc::Refusing;
 use st_service::{FromRead, FromWrite, Service};
 use std::alloc::{Allocator, Global};
@@ -89,8 +89,23 @@ fn busy_turns<A: Allocator + Copy>(
     Some(busy)
 }
 
-// That of a fresh service to which some requests were made with ample memory, and of whose growths from there on this one
-// is refused.
+// That of a service to which some requests were made with ample memory, and of whose growths from there on this one is
+// refused. None where one of those was told that there was no memory.
+fn busy_turns_after<A: Allocator + Copy>(
+    heap: &Refusing<Global>,
+    global: Global,
+    service: &mut Service<A>,
+    n: u64,
+    (before, turns): (&[Turn<'_>], &[Turn<'_>]),
+) -> Option<u64> {
+    if busy_turns(global, service, before)? > 0 {
+        return None;
+    }
+    heap.arm(n);
+    busy_turns(global, service, turns)
+}
+
+// That of a fresh service.
 fn busy_turns_at(
     heap: &Refusing<Global>,
     global: Global,
@@ -100,11 +115,9 @@ fn busy_turns_at(
 ) -> Option<u64> {
     heap.arm(0);
     let mut service = opened(global, heap)?;
-    if busy_turns(global, &mut service, before)? > 0 {
-        return None;
-    }
-    heap.arm(n);
-    busy_turns(global, &mut service, turns)
+    let busy = busy_turns_after(heap, global, &mut service, n, (before, turns));
+    drop(service);
+    busy
 }
 
 /// Asks requests of a service one after another, each growth refused in turn. A request that is told that there was no memory

@@ -122,6 +122,7 @@ fn broken(
         failed: false,
     };
     let ended = service.serve(&mut reader, &mut writer);
+    drop(service);
     Some((ended, is_joined(writer.taken.as_slice(), answers)))
 }
 

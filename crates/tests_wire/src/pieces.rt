@@ -1,21 +1,9 @@
 //! A service of an input that comes in pieces.
 ghost use Rattle.std.specs.Prelude.{None, false};
 
-use st_core::Store;
-use st_service::{Ended, Failed, FromWrite, IoFault, Service, Source};
-use std::alloc::{Allocator, Global};
-
-// The SHA-256 of 32 zero bytes, which are root's secret.
-const DIGEST: [u8; 32] = [
-    0x66, 0x68, 0x7a, 0xad, 0xf8, 0x62, 0xbd, 0x77, 0x6c, 0x8f, 0xc1, 0x8b, 0x8e, 0x9f, 0x8e, 0x20,
-    0x08, 0x97, 0x14, 0x85, 0x6e, 0xe2, 0x33, 0xb3, 0x90, 0x2a, 0x59, 0x1d, 0x0d, 0x5f, 0x29, 0x25,
-];
-
-/// A service whose root has the authorizations A, B and C.
-pub fn opened<A: Allocator + Copy>(global: Global, alloc: A) -> Option<Service<A>> {
-    let store = Store::open(alloc, DIGEST, &["A", "B", "C"]).ok()?;
-    Service::new(alloc, global, store).ok()
-}
+use crate::serving::opened;
+use st_service::{Ended, Failed, FromWrite, IoFault, Source};
+use std::alloc::Global;
 
 // A reader that gives at most so many bytes per read.
 #[derive(Drop)]
@@ -60,6 +48,7 @@ pub fn served(
     };
     let mut writer = FromWrite::new(Vec::new(alloc));
     let ended = service.serve(&mut reader, &mut writer);
+    drop(service);
     Some((ended, writer.into_inner()))
 }
 

@@ -2,7 +2,7 @@
 
 use st_core::Store;
 use st_http::routes::Routes;
-use st_http::take::Take;
+use st_http::take::{Message, Take};
 use st_service::{Ended, FromRead, FromWrite, IoFault, Service};
 use std::alloc::{Allocator, Global};
 
@@ -46,6 +46,7 @@ pub fn served<A: Allocator + Copy>(
     let mut reader = FromRead::new(input);
     let mut writer = FromWrite::new(Vec::new(global));
     let ended = service.serve(&mut reader, &mut writer);
+    drop(service);
     Some((ended, writer.into_inner()))
 }
 
@@ -61,16 +62,24 @@ pub fn is_joined(text: &[u8], answers: &[&str]) -> bool {
     rest.is_empty()
 }
 
+// Whether a fresh service answers a message by this text.
+fn is_answer(global: Global, message: &Message<'_>, answer: &str) -> Option<bool> {
+    let mut service = opened(global, global)?;
+    let told = service.reply_to(message);
+    let is_told = is_joined(told.as_bytes(), &[answer]);
+    drop(service);
+    Some(is_told)
+}
+
 // Whether the answer to the first message of the input is this text.
 fn is_first_answer(global: Global, answer: &str) -> Option<bool> {
-    let mut service = opened(global, global)?;
     let routes = Routes::new(global).ok()?;
-    match routes.take(INPUT) {
-        Take::Message(message, _) => {
-            Some(is_joined(service.reply_to(&message).as_bytes(), &[answer]))
-        }
+    let told = match routes.take(INPUT) {
+        Take::Message(message, _) => is_answer(global, &message, answer),
         _ => None,
-    }
+    };
+    drop(routes);
+    told
 }
 
 #[test]

@@ -1,6 +1,6 @@
-//! Sets of authorizations, the truth of labels, and remembered verdicts.
+//! Sets of authorizations, and remembered verdicts.
 
-use st_auth::{Auths, AuthsFault, Verdicts, satisfies};
+use st_auth::{Auths, AuthsFault, Verdicts};
 use st_label::Label;
 use std::alloc::Global;
 use std::num::NonZeroUsize;
@@ -25,39 +25,12 @@ fn names(alloc: Global, names: &[&str], last: &str) -> Option<(usize, bool)> {
     Some((len, len > 0 && auths.get(len - 1) == last))
 }
 
-// The place of the first name of a set that another lacks, if it lacks one.
-fn first_missing(alloc: Global, held: &[&str], asked: &[&str]) -> Option<Option<usize>> {
-    let auths = set(alloc, held)?.copy().ok()?;
-    Some(auths.first_missing(asked))
-}
-
 #[test]
 fn sets(rt: HostRuntime) {
     let alloc = rt.alloc();
     assert_eq!(rt; names(alloc, &["A", "B", "A"], "A"), Some((3, true)));
-    let missing = first_missing(alloc, &["A", "B", "A"], &["B", "C", "D"]);
-    assert_eq!(rt; missing, Some(Some(1)));
-    let same = first_missing(alloc, &["A", "B", "A"], &["A", "B", "A"]);
-    assert_eq!(rt; same, Some(None));
     let bad = fault(alloc, &["A", ""]);
     assert_eq!(rt; bad, Some(AuthsFault::BadName { index: 1 }));
-}
-
-// Whether the label is true for a set of these names.
-fn is_true(alloc: Global, label: &str, names: &[&str]) -> Option<bool> {
-    let label = Label::parse(alloc, label).ok()?;
-    Some(satisfies(&label, &set(alloc, names)?))
-}
-
-#[test]
-fn truth(rt: HostRuntime) {
-    for (names, seen) in [
-        (&["A", "C"][..], true),
-        (&["A"][..], false),
-        (&["B", "C"][..], false),
-    ] {
-        assert_eq!(rt; is_true(rt.alloc(), "A&(B|C)", names), Some(seen));
-    }
 }
 
 // What is asked of a memory of verdicts: a label under a set.
@@ -70,16 +43,32 @@ const ASKED: [(&str, &[&str], bool); 6] = [
     ("B", &["A"], false),
 ];
 
+// What a memory of verdicts answers, asked by a label under the set of these names.
+fn answer(
+    alloc: Global,
+    verdicts: &mut Verdicts<Global>,
+    label: &str,
+    names: &[&str],
+) -> Option<bool> {
+    let label = Label::parse(alloc, label).ok()?;
+    let auths = set(alloc, names)?;
+    Some(verdicts.ask(&label, &auths))
+}
+
+// Whether a memory of verdicts answers each in turn.
+fn answers_each(alloc: Global, verdicts: &mut Verdicts<Global>) -> bool {
+    for (label, names, wanted) in ASKED {
+        if answer(alloc, verdicts, label, names) != Some(wanted) {
+            return false;
+        }
+    }
+    true
+}
+
 // Whether a memory of one verdict answers each in turn.
 fn are_answered(alloc: Global) -> Option<bool> {
     let mut verdicts = Verdicts::new(alloc, NonZeroUsize::MIN).ok()?;
-    for (label, names, wanted) in ASKED {
-        let label = Label::parse(alloc, label).ok()?;
-        if verdicts.ask(&label, &set(alloc, names)?) != wanted {
-            return Some(false);
-        }
-    }
-    Some(true)
+    Some(answers_each(alloc, &mut verdicts))
 }
 
 #[test]

@@ -1,4 +1,4 @@
-//! The directory that a server begins with.
+//! What the directory that a server begins with says of whom and of what it does not hold.
 
 use st_auth::Auths;
 use st_dir::{Directory, Permission, TableName};
@@ -10,38 +10,20 @@ const DIGEST: [u8; 32] = [
     0x08, 0x97, 0x14, 0x85, 0x6e, 0xe2, 0x33, 0xb3, 0x90, 0x2a, 0x59, 0x1d, 0x0d, 0x5f, 0x29, 0x25,
 ];
 
-/// The directory that a server begins with, whose root has the authorization A and a secret of zero bytes.
-pub fn first(alloc: Global) -> Option<Directory> {
+// The directory that a server begins with, whose root has the authorization A and a secret of zero bytes.
+fn first(alloc: Global) -> Option<Directory> {
     let auths = Auths::from_list(alloc, &["A"]).ok()?;
     Directory::new(alloc, DIGEST, auths).ok()
 }
 
-// Whether a user's secret is taken.
-fn is_taken(alloc: Global, user: &str, secret: [u8; 32]) -> Option<bool> {
-    Some(first(alloc)?.authenticate(user, &secret))
+// How many authorizations who is no user has.
+fn authorizations(alloc: Global) -> Option<usize> {
+    Some(first(alloc)?.auths_of("zoe").len())
 }
 
 #[test]
-fn secrets(rt: HostRuntime) {
-    for (user, byte, taken) in [("root", 0, true), ("root", 1, false), ("zoe", 0, false)] {
-        assert_eq!(rt;
-            is_taken(rt.alloc(), user, [byte; 32]),
-            Some(taken),
-            "{user}"
-        );
-    }
-}
-
-// Whether root has the authorization A, and how many who is no user has.
-fn authorizations(alloc: Global) -> Option<(bool, usize)> {
-    let directory = first(alloc)?;
-    let has = directory.auths_of("root").has("A");
-    Some((has, directory.auths_of("zoe").len()))
-}
-
-#[test]
-fn authorizations_of_users(rt: HostRuntime) {
-    assert_eq!(rt; authorizations(rt.alloc()), Some((true, 0)));
+fn authorizations_of_no_user(rt: HostRuntime) {
+    assert_eq!(rt; authorizations(rt.alloc()), Some(0));
 }
 
 // Whether a user has this permission on the system.
@@ -53,8 +35,8 @@ fn on_system(alloc: Global, user: &str, permission: Permission) -> Option<bool> 
 fn permissions_on_the_system(rt: HostRuntime) {
     for (user, permission, held) in [
         ("root", Permission::System, true),
-        ("zoe", Permission::System, false),
         ("root", Permission::Read, false),
+        ("zoe", Permission::System, false),
         ("zoe", Permission::Read, false),
     ] {
         assert_eq!(rt;
@@ -63,7 +45,6 @@ fn permissions_on_the_system(rt: HostRuntime) {
             "{user}"
         );
     }
-    assert_eq!(rt; Permission::CreateUser.name(), "CREATE_USER");
 }
 
 // Whether root has this permission on the table, and who is no user.

@@ -1,4 +1,4 @@
-//! Labels, where a text is none, and normal forms.
+//! Copies of labels, their limits, and normal forms for which memory is wanting.
 
 use refusing_alloc::Refusing;
 use st_label::{Label, LabelFault};
@@ -9,78 +9,38 @@ fn fault(alloc: Global, text: &str) -> Option<LabelFault> {
     Label::parse(alloc, text).err()
 }
 
-const NO_LABELS: [(&str, usize); 12] = [
-    ("A|B&C", 3),
-    ("A|B|", 4),
-    ("A&|B", 2),
-    ("()", 1),
-    (")", 0),
-    ("A=B", 1),
-    ("dog|!cat", 4),
-    ("\"\"", 1),
-    ("(A", 2),
-    ("\"A", 2),
-    ("\"\\n", 2),
-    ("é", 0),
+// Labels, and whether each is its own normal form.
+const LABELS: [(&str, bool); 16] = [
+    ("", true),
+    ("A", true),
+    ("A|B", true),
+    ("A&B", true),
+    ("A|B|C", true),
+    ("(B|C)&A", true),
+    ("\"é\"", true),
+    ("\"a b\"|a", true),
+    ("B|A", false),
+    ("\"A\"", false),
+    ("\"A\"|A", false),
+    ("A&(B|C)", false),
+    ("A&(B&A)", false),
+    ("(C|B)&A&A", false),
+    ("((A|B)|(C&C))", false),
+    ("((B|A)&(A|B))|C", false),
 ];
 
-#[test]
-fn places(rt: HostRuntime) {
-    for (text, at) in NO_LABELS {
-        let wanted = Some(LabelFault::BadLabel { at });
-        assert_eq!(rt; fault(rt.alloc(), text), wanted, "{text}");
-    }
-}
-
-// Labels and their normal forms.
-const NORMAL_FORMS: [(&str, &str); 13] = [
-    ("", ""),
-    ("A", "A"),
-    ("A&(B|C)", "(B|C)&A"),
-    ("\"A\"", "A"),
-    ("(C|B)&A&A", "(B|C)&A"),
-    ("\"A\"|A", "A"),
-    ("((A|B)|(C&C))", "A|B|C"),
-    ("\"é\"", "\"é\""),
-    ("\"a b\"|a", "\"a b\"|a"),
-    ("A&(B&A)", "A&B"),
-    ("B|A", "A|B"),
-    ("((B|A)&(A|B))|C", "A|B|C"),
-    ("A|B", "A|B"),
-];
-
-// A label's normal form, copied.
-fn normal_form(label: &Label) -> Option<Label> {
-    label.normal().ok()?.copy().ok()
-}
-
-// Whether the label is its own normal form, and this text.
-fn is_settled_as(label: &Label, text: &str) -> Option<bool> {
+// Whether a copy of a label is written as this text, and is its own normal form.
+fn copied(alloc: Global, text: &str) -> Option<(bool, bool)> {
+    let label = Label::parse(alloc, text).ok()?.copy().ok()?;
     let is_normal = label.is_normal().ok()?;
-    Some(is_normal && label.text() == text)
-}
-
-// Whether a label's normal form is this text and its own normal form, and the label's own where it is the same text.
-fn has_normal_form(label: &Label, normal: &str) -> Option<bool> {
-    let is_normal = label.is_normal().ok()?;
-    let is_settled = is_settled_as(&normal_form(label)?, normal)?;
-    Some(is_settled && is_normal == (label.text() == normal))
-}
-
-// Whether the text is a label whose normal form is the other text.
-fn is_normal_form(alloc: Global, text: &str, normal: &str) -> Option<bool> {
-    let label = Label::parse(alloc, text).ok()?;
-    Some(has_normal_form(&label, normal)? && label.text() == text)
+    Some((label.text() == text, is_normal))
 }
 
 #[test]
-fn normal_forms(rt: HostRuntime) {
-    for (text, normal) in NORMAL_FORMS {
-        assert_eq!(rt;
-            is_normal_form(rt.alloc(), text, normal),
-            Some(true),
-            "{text}"
-        );
+fn own_normal_forms(rt: HostRuntime) {
+    for (text, is_normal) in LABELS {
+        let found = copied(rt.alloc(), text);
+        assert_eq!(rt; found, Some((true, is_normal)), "{text}");
     }
 }
 

@@ -1,4 +1,4 @@
-//! Tests of texts, labels, authorizations, the directory and the policy.
+//! Tests of texts, labels, authorizations, the directory and the policy that no exchange shows.
 #![tactic(auto)]
 
 #[cfg(test)]
@@ -7,8 +7,6 @@ mod authorizations;
 mod directories;
 #[cfg(test)]
 mod labels;
-#[cfg(test)]
-mod names;
 #[cfg(test)]
 mod policies;
 #[cfg(test)]

@@ -1,16 +1,14 @@
-//! Requests: their names, whether they change anything, and their tables.
+//! Requests that no audit listing shows: their names, that they change nothing, and their tables.
 
 use st_auth::Auths;
 use st_box::Query;
 use st_dir::TableName;
-use st_index::{Id, Note, Row};
-use st_key::Point;
 use st_label::Label;
 use st_policy::Request;
 use std::alloc::Global;
 
-/// A count of all points of a table, by these authorizations.
-pub fn count(alloc: Global, table: &str, auths: &[&str]) -> Option<Request> {
+// A count of all points of a table, by these authorizations.
+fn count(alloc: Global, table: &str, auths: &[&str]) -> Option<Request> {
     Some(Request::Count {
         table: TableName::new(table).ok()?,
         query: Query::new(0, 2_097_151, 0, 2_097_151, 0, 19_818_086_399).ok()?,
@@ -18,25 +16,8 @@ pub fn count(alloc: Global, table: &str, auths: &[&str]) -> Option<Request> {
     })
 }
 
-fn row(alloc: Global, label: &str) -> Option<Row> {
-    Some(Row {
-        id: Id::new(alloc, "p").ok()??,
-        point: Point::new(1, 2, 3).ok()?,
-        label: Label::parse(alloc, label).ok()?,
-        note: Note::new(alloc, "").ok()??,
-    })
-}
-
-/// A put of a row under a label.
-pub fn put(alloc: Global, table: &str, label: &str) -> Option<Request> {
-    Some(Request::Put {
-        table: TableName::new(table).ok()?,
-        row: row(alloc, label)?,
-    })
-}
-
-/// A label's normal form.
-pub fn label(alloc: Global, label: &str) -> Option<Request> {
+// A label's normal form.
+fn label(alloc: Global, label: &str) -> Option<Request> {
     Some(Request::Label {
         label: Label::parse(alloc, label).ok()?,
     })
@@ -51,17 +32,25 @@ fn is_of(request: &Request, table: Option<&str>) -> bool {
     }
 }
 
-// Whether the request has this name, is a change, and is of this table.
-fn is_told(request: Option<Request>, name: &str, is_change: bool, table: Option<&str>) -> bool {
-    request.is_some_and(|request| {
-        request.name() == name && request.is_change() == is_change && is_of(&request, table)
-    })
+// Whether the request has this name, changes nothing, and is of this table.
+fn is_told(request: &Request, name: &str, table: Option<&str>) -> bool {
+    request.name() == name && !request.is_change() && is_of(request, table)
+}
+
+// Whether a count is told as one, of its table.
+fn is_count(alloc: Global) -> Option<bool> {
+    let request = count(alloc, "points", &[])?;
+    Some(is_told(&request, "count", Some("points")))
+}
+
+// Whether a request for a normal form is told as one, of no table.
+fn is_label(alloc: Global) -> Option<bool> {
+    let request = label(alloc, "S")?;
+    Some(is_told(&request, "label", None))
 }
 
 #[test]
 fn names_of_requests(rt: HostRuntime) {
-    let alloc = rt.alloc();
-    assert!(rt; is_told(count(alloc, "points", &[]), "count", false, Some("points")));
-    assert!(rt; is_told(put(alloc, "t", ""), "put", true, Some("t")));
-    assert!(rt; is_told(label(alloc, "S"), "label", false, None));
+    assert_eq!(rt; is_count(rt.alloc()), Some(true));
+    assert_eq!(rt; is_label(rt.alloc()), Some(true));
 }
