@@ -5,7 +5,7 @@ ghost use Rattle.st_connection.specs.Render.{fault_text as fault_text_of, busy_t
 use st_http::fields::Reason;
 
 #[tactic(auto, unfolding(crate::specs::Render::render, st_http::specs::Reply::head_text))]
-// The answer to such a text, with its body.
+// The answer to a text that is no message, with its body.
 fn whole_fault_text(reason: Reason) -> &'static [u8]
     ensures { result.now ≡ fault_text_of reason false }
 {
@@ -24,7 +24,7 @@ fn whole_fault_text(reason: Reason) -> &'static [u8]
 }
 
 #[tactic(auto, unfolding(crate::specs::Render::render, st_http::specs::Reply::head_text))]
-// The answer to such a HEAD request, which has no body.
+// The answer to a HEAD request that is no message, which has no body.
 fn bare_fault_text(reason: Reason) -> &'static [u8]
     ensures { result.now ≡ fault_text_of reason true }
 {

@@ -1,5 +1,6 @@
--- Seven texts appended in turn.
-use Rattle.std.proofs.Common.{◌≡◌, ◌∙◌, ℕ, List, [], ◌∷◌, ◌++◌, ap, refl, append_assoc}
+-- Texts appended in turn.
+use Rattle.std.proofs.Common.{◌≡◌, ◌∙◌, ℕ, List, [], ◌++◌, ap, sym, append_assoc}
+use Rattle.std.proofs.lemmas.List.{append-nil}
 use Rattle.st_http.specs.Reply.{GrowsTo}
 
 -- one text more
@@ -18,12 +19,8 @@ seven_more out a b c d e f g one two three four five six seven at_a at_b at_c at
     ∙ after out (a ++ b) two c (at_b
     ∙ after out a one b at_a)))))
 
-no_more : (text : List ℕ) → text ≡ text ++ []
-no_more [] = refl
-no_more (x ∷ text) = ap (λ l. x ∷ l) (no_more text)
-
 pub stays : (old new : List ℕ) → new ≡ old → GrowsTo old new
-stays old new e = ([], e ∙ no_more old)
+stays old new e = ([], e ∙ sym (append-nil old))
 
 pub grows_by : (old new more : List ℕ) → new ≡ old ++ more → GrowsTo old new
 grows_by old new more e = (more, e)

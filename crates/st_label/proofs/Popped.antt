@@ -10,10 +10,6 @@ use Rattle.st_label.specs.declared.tree.Operator.{Operator}
 use Rattle.st_label.specs.declared.tree.Tree.{Tree, Empty, And, Or}
 use Rattle.st_label.proofs.Seen.{view-And, view-Or, view-Empty}
 
-pub no_more : {T : Type 0} (xs : List T) → xs ≡ xs ++ []
-no_more [] = refl
-no_more (x ∷ xs) = ap (λ l. x ∷ l) (no_more xs)
-
 pub one_popped : {A : Type 0} (whole xs ys : List (Tree A)) (tree : Tree A) (done : List label.Tree) → map tree_view whole ≡ map tree_view xs ++ done → xs ≡ ys ++ tree ∷ []
     → map tree_view whole ≡ map tree_view ys ++ (tree_view tree ∷ done)
 one_popped whole xs ys tree done e p =

@@ -1,12 +1,13 @@
 use Rattle.std.specs.Prelude.{vec_len}
 use Rattle.std.proofs.Common.{arith, [], ◌∷◌, sym, ap, ◌∙◌, map}
+use Rattle.std.proofs.lemmas.List.{append-nil}
 use Rattle.st_label.specs.Normal.{insert_all, parts, gathered}
 use Rattle.st_label.specs.Views.{tree_view, op_view}
-use Rattle.st_label.proofs.Popped.{no_more, one_popped, all_popped, nothing_left}
+use Rattle.st_label.proofs.Popped.{one_popped, all_popped, nothing_left}
 use Rattle.st_label.proofs.normal.gather.Goals as goal
 
 pub loop-tree-init : goal.loop-tree-init
-loop-tree-init g c = ([], no_more _, ap (map tree_view) c.new-all.ensures)
+loop-tree-init g c = ([], sym (append-nil _), ap (map tree_view) c.new-all.ensures)
 
 pub loop-tree-preserved : goal.loop-tree-preserved
 loop-tree-preserved g c =
