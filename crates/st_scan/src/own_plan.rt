@@ -8,6 +8,10 @@ use st_box::Query;
 use st_key::{Key, Period};
 use st_plan::{Plan, Range, plan};
 use std::alloc::Allocator;
+use std::mem;
+
+// After how many regions a walk makes a plan of its own.
+const FEW: u64 = 256;
 
 // The most ranges of each part of a plan.
 const BUDGET: u32 = 16;
@@ -33,8 +37,19 @@ impl<A: Allocator + Copy> OwnPlan<A> {
         }
     }
 
-    /// The plan, which is made now if it is due.
-    pub fn made(self, query: &Query, period: Period) -> OwnPlan<A>
+    /// Makes the plan if it is due, which it is once the walk has opened more than [`FEW`] regions.
+    pub fn make_after(&mut self, opened: u64, query: &Query, period: Period)
+        requires { IsOwnExact period query.now self.old }
+        ensures { IsOwnExact period query.now self.new }
+    {
+        if opened > FEW && matches!(self, OwnPlan::Due(_)) {
+            let own = mem::replace(self, OwnPlan::Never);
+            *self = own.made(query, period);
+        }
+    }
+
+    // The plan, which is made now if it is due.
+    fn made(self, query: &Query, period: Period) -> OwnPlan<A>
         requires { IsOwnExact period query.now self }
         ensures { IsOwnExact period query.now result }
     {

@@ -18,10 +18,6 @@ use st_key::Key;
 use st_plan::Plan;
 use std::alloc::Allocator;
 use std::marker::Model;
-use std::mem;
-
-// After how many regions a walk makes a plan of its own.
-const FEW: u64 = 256;
 
 /// A walk over the rows of an index that are inside a query, in scan order.
 #[derive(Drop)]
@@ -63,7 +59,7 @@ impl<'a, 'p, I: RowIndex> Walk<'a, 'p, I> {
     }
 
     /// A walk from the first row whose key does not come before this one. It makes a plan of its own once
-    /// it has opened [`FEW`] regions, if one is of use and there is memory for it.
+    /// it has opened many regions, if one is of use and there is memory for it.
     pub(crate) fn with_own_plan(alloc: I::Alloc, index: &'a I, query: &Query, from: Key) -> Self
         requires in_period { rank from ≤ key_end (I.period_of index.now) }
         ensures left { result.left ≡ filter (has_row_from (I.period_of index.now) query.now (rank from)) (I.content index.now) }
@@ -123,32 +119,8 @@ impl<'a, 'p, I: RowIndex> Walk<'a, 'p, I> {
         ensures period { self.new.period ≡ self.old.period }
         ensures regions { self.new.regions ≡ self.old.regions }
     {
-        self.plan_if_due();
-        self.advance()
-    }
-
-    /// Makes the walk's own plan, if it is due.
-    fn plan_if_due(&mut self)
-        ensures { self.new ≡ self.old }
-    {
-        if self.at.opened > FEW && matches!(self.own, OwnPlan::Due(_)) {
-            let own = mem::replace(&mut self.own, OwnPlan::Never);
-            self.own = own.made(&self.test.query, self.test.period);
-        }
-    }
-
-    /// The next row, by the plans that there are.
-    fn advance(&mut self) -> Option<&'a Row<I::Alloc>>
-        ensures some { IfSome result (λ row. self.old.left ≡ row.now ∷ self.new.left) }
-        ensures none { IfNone result (self.old.left ≡ []) }
-        ensures end { IfNone result (self.new.left ≡ []) }
-        ensures opened { IfSome result (λ row. Count (MeetsUpTo self.old.period self.old.query self.old.start (place_of self.old.period row.now)) self.old.regions self.new.opened) }
-        ensures opened_all { IfNone result (Count (Meets self.old.period self.old.query self.old.start) self.old.regions self.new.opened) }
-        ensures start { self.new.start ≡ self.old.start }
-        ensures query { self.new.query ≡ self.old.query }
-        ensures period { self.new.period ≡ self.old.period }
-        ensures regions { self.new.regions ≡ self.old.regions }
-    {
+        self.own
+            .make_after(self.at.opened, &self.test.query, self.test.period);
         forward(
             self.index,
             &self.test,

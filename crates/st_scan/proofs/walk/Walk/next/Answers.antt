@@ -4,7 +4,7 @@ use Rattle.st_index.specs.Rows.{place_of}
 use Rattle.st_scan.specs.Regions.{Count, Meets}
 use Rattle.st_scan.specs.Walks.{AreExact, MeetsUpTo}
 use Rattle.st_scan.proofs.Positions.{given_at, given_opened}
-use Rattle.st_scan.proofs.walk.Walk.advance.Goals as goal
+use Rattle.st_scan.proofs.walk.Walk.next.Goals as goal
 
 pub forward-requires-clause-exact : goal.forward-requires-clause-exact
 forward-requires-clause-exact g c = subst (AreExact c.self.inside.test.period c.self.inside.test.query) (sym c.as_slice.ensures.value) c.self.invariant.exact
@@ -27,7 +27,7 @@ pub invariant_of-self-2 : goal.invariant_of-self-2
 invariant_of-self-2 g c = record {
   same_period = c.self.invariant.same_period;
   exact = c.self.invariant.exact;
-  own_exact = c.self.invariant.own_exact;
+  own_exact = c.make_after.ensures;
   follow = c.self.invariant.follow;
   few = c.self.invariant.few;
   at = given_at c.self.inside.test.period c.self.inside.test.query (g.I.RowIndex.content c.self.inside.index.now) (g.I.RowIndex.regions c.self.inside.index.now) c.forward.new.at _ _ c.forward.ensures.at c.in-Some.ensures.some;
