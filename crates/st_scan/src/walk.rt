@@ -64,11 +64,6 @@ impl<'a, 'p, I: RowIndex> Walk<'a, 'p, I> {
         requires in_period { rank from ≤ key_end (I.period_of index.now) }
         ensures left { result.left ≡ filter (has_row_from (I.period_of index.now) query.now (rank from)) (I.content index.now) }
         ensures few { length result.left < 2 ^ 64 }
-        ensures opened { result.opened ≡ 0 }
-        ensures start { result.start ≡ rank from }
-        ensures query { result.query ≡ query.now }
-        ensures period { result.period ≡ I.period_of index.now }
-        ensures regions { result.regions ≡ I.regions index.now }
     {
         Walk::begin(index, query, ArrayVec::new(), OwnPlan::Due(alloc), from)
     }
