@@ -1,0 +1,66 @@
+//! The stores that a digest and names open.
+ghost use Rattle.std.specs.Prelude.{◌≡◌, ◌⊎◌, ℕ, Ok, Some, None, IfOk, IfErr, IsErr, OnOk, List, map};
+ghost use Rattle.clap.specs.Words.{App};
+ghost use Rattle.hex.specs.Hex.{decode_sized};
+ghost use Rattle.st_text.specs.Texts.{Text};
+ghost use Rattle.st_auth.specs.Names.{first_bad};
+ghost use Rattle.st_core.specs.State.{first_state};
+ghost use Rattle.st_command.specs.Line.{SaysRoot, Refuses};
+ghost use Rattle.st_command.specs.Opening.{Opens};
+ghost use Rattle.st_command.specs.declared.fault.Fault.TheVariants.{BadDigest, BadName, NoMemory};
+
+use crate::fault::Fault;
+use st_auth::AuthsFault;
+use st_core::Store;
+use st_service::Service;
+use std::alloc::Global;
+
+// The bytes that 64 hexadecimal digits write.
+fn digest_of(text: &str) -> Result<[u8; 32], Fault>
+    ensures ok { IfOk result (λ digest. decode_sized text.now 32 ≡ Ok digest) }
+    ensures err { IfErr result (λ fault. (fault ≡ BadDigest) × IsErr (decode_sized text.now 32)) }
+{
+    let mut digest = [0; 32];
+    match hex::decode_to_slice(text, &mut digest) {
+        Ok(()) => Ok(digest),
+        Err(_) => Err(Fault::BadDigest),
+    }
+}
+
+// A store of the state that a digest and names open.
+fn store_for(alloc: Global, digest: [u8; 32], names: &[&str]) -> Result<Store, Fault>
+    ensures ok { IfOk result (λ store. store ≡ first_state digest (map (λ name. name.now) names.now)) }
+    ensures good { OnOk result (first_bad (map (λ name. name.now) names.now) ≡ None) }
+    ensures err { IfErr result (λ fault. (fault ≡ NoMemory) ⊎ ((fault ≡ BadName) × (place : ℕ) × (first_bad (map (λ name. name.now) names.now) ≡ Some place))) }
+{
+    match Store::open(alloc, digest, names) {
+        Ok(store) => Ok(store),
+        Err(AuthsFault::BadName { .. }) => Err(Fault::BadName),
+        Err(AuthsFault::NoMemory) => Err(Fault::NoMemory),
+    }
+}
+
+/// The service over a store of the state that a text of 64 hexadecimal digits and names open. The digest is
+/// judged first.
+pub fn service_for(alloc: Global, digits: &str, names: &[&str]) -> Result<Service, Fault>
+    ensures ok { IfOk result (Opens digits.now (map (λ name. name.now) names.now)) }
+    ensures err { IfErr result (λ fault. (line : App) (words : List Text)
+        → SaysRoot line words digits.now (map (λ name. name.now) names.now) → Refuses line words fault) }
+{
+    let digest = digest_of(digits)?;
+    let store = store_for(alloc, digest, names)?;
+    Ok(Service::new(alloc, alloc, store)?)
+}
+
+/// Two stores of the state that a text of 64 hexadecimal digits and names open. The digest is judged first.
+pub fn stores_for(alloc: Global, digits: &str, names: &[&str]) -> Result<(Store, Store), Fault>
+    ensures alike { IfOk result (λ both. both.1 ≡ both.0) }
+    ensures ok { IfOk result (λ both. Opens digits.now (map (λ name. name.now) names.now) both.0) }
+    ensures err { IfErr result (λ fault. (line : App) (words : List Text)
+        → SaysRoot line words digits.now (map (λ name. name.now) names.now) → Refuses line words fault) }
+{
+    let digest = digest_of(digits)?;
+    let first = store_for(alloc, digest, names)?;
+    let second = store_for(alloc, digest, names)?;
+    Ok((first, second))
+}

@@ -1,4 +1,0 @@
-pub mod Crossing
-pub mod Refusing
-pub mod Telling
-mod WorkedWords
