@@ -1,12 +1,9 @@
-//! Tests of HTTP and of replies that no exchange shows: answers that wait, refused growths, what a message holds, and the
-//! greatest count.
+//! Tests of HTTP that no exchange shows: answers that wait, refused growths, and what a message holds.
 #![tactic(auto)]
 
 #[cfg(test)]
 mod blocks;
 #[cfg(test)]
 mod heads;
-#[cfg(test)]
-mod json_replies;
 #[cfg(test)]
 mod takes;

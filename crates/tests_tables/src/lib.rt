@@ -1,4 +1,4 @@
-//! Tests of tables.
+//! Tests of tables: beside a plain list, pages of each limit, and each growth refused.
 #![tactic(auto)]
 
 #[cfg(test)]
@@ -7,7 +7,5 @@ mod growths;
 mod mirrored;
 #[cfg(test)]
 mod paging;
-#[cfg(test)]
-mod tables;
 #[cfg(test)]
 mod tabling;

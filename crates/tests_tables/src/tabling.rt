@@ -1,6 +1,5 @@
 //! Tables made of short lists of rows, and what their reads show as text.
 
-use st_auth::Auths;
 use st_box::Query;
 use st_index::{Id, Note, Row};
 use st_key::{Period, Place, Point};
@@ -18,8 +17,8 @@ fn id_of<A: Allocator + Copy>(alloc: A, text: &str) -> Option<Id<A>> {
     Id::new(alloc, text).ok()?
 }
 
-/// A note of this text.
-pub fn note_of<A: Allocator + Copy>(alloc: A, text: &str) -> Option<Note<A>> {
+// A note of this text.
+fn note_of<A: Allocator + Copy>(alloc: A, text: &str) -> Option<Note<A>> {
     Note::new(alloc, text).ok()?
 }
 
@@ -53,8 +52,8 @@ pub fn empty<A: Allocator + Copy>(alloc: A, period: Period) -> Option<Table<UbTr
     Table::new(alloc, tree).ok()
 }
 
-/// Puts a row without a note into a table.
-pub fn put<A: Allocator + Copy>(alloc: A, table: &mut Table<UbTree<A>>, said: Said) -> Option<()> {
+// Puts a row without a note into a table.
+fn put<A: Allocator + Copy>(alloc: A, table: &mut Table<UbTree<A>>, said: Said) -> Option<()> {
     let row = row_of(alloc, said)?;
     table.put(&row).ok()
 }
@@ -87,60 +86,9 @@ pub fn told<A: Allocator + Copy>(alloc: Global, rows: &[&Row<A>]) -> Option<Stri
     Some(lines)
 }
 
-// What a get by a set of authorizations shows.
-fn told_of(alloc: Global, table: &Table<UbTree>, id: &str, auths: &Auths) -> Option<String> {
-    let rows = table.get(id, auths).ok()?;
-    told(alloc, rows.as_slice())
-}
-
-/// What a get shows.
-pub fn got(alloc: Global, table: &Table<UbTree>, id: &str, auths: &[&str]) -> Option<String> {
-    let auths = Auths::from_list(alloc, auths).ok()?;
-    told_of(alloc, table, id, &auths)
-}
-
-/// What a count of a box shows.
-pub fn counted(
-    alloc: Global,
-    table: &Table<UbTree>,
-    asked: [u64; 6],
-    auths: &[&str],
-) -> Option<u64> {
-    let auths = Auths::from_list(alloc, auths).ok()?;
-    Some(table.count(&query_of(asked)?, &auths))
-}
-
 /// A place, which need name no row.
 pub fn place_at(alloc: Global, point: Point, id: &str, label: &str) -> Option<Place> {
     let id = Words::new(alloc, id).ok()?;
     let label = Words::new(alloc, label).ok()?;
     Some(Place { point, id, label })
-}
-
-/// A place of these numbers.
-pub fn place_of(alloc: Global, id: &str, label: &str, [x, y, t]: [u64; 3]) -> Option<Place> {
-    place_at(alloc, Point::new(x, y, t).ok()?, id, label)
-}
-
-/// What a page of a box shows after a place, and whether more follow.
-pub fn paged(
-    alloc: Global,
-    table: &Table<UbTree>,
-    auths: &[&str],
-    after: Option<&Place>,
-    limit: usize,
-) -> Option<(String, bool)> {
-    let auths = Auths::from_list(alloc, auths).ok()?;
-    let page = table.page(&query_of(WHOLE)?, &auths, after, limit).ok()?;
-    Some((told(alloc, page.rows.as_slice())?, page.more))
-}
-
-/// Whether the text is this one.
-pub fn is_text(text: Option<String>, wanted: &str) -> bool {
-    text.is_some_and(|text| text.as_str() == wanted)
-}
-
-/// Whether the page is this one.
-pub fn is_page(page: Option<(String, bool)>, wanted: &str, more: bool) -> bool {
-    page.is_some_and(|(text, follow)| text.as_str() == wanted && follow == more)
 }

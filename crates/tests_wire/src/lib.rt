@@ -17,6 +17,8 @@ mod growths_tables;
 #[cfg(test)]
 mod growths_users;
 #[cfg(test)]
+mod json_replies;
+#[cfg(test)]
 mod long_bodies;
 #[cfg(test)]
 mod narrow;

@@ -1,13 +1,8 @@
-//! Copies of labels, their limits, and normal forms for which memory is wanting.
+//! Copies of labels, and normal forms for which memory is wanting.
 
 use refusing_alloc::Refusing;
-use st_label::{Label, LabelFault};
+use st_label::Label;
 use std::alloc::Global;
-
-// Why the text is no label.
-fn fault(alloc: Global, text: &str) -> Option<LabelFault> {
-    Label::parse(alloc, text).err()
-}
 
 // Labels, and whether each is its own normal form.
 const LABELS: [(&str, bool); 16] = [
@@ -41,34 +36,6 @@ fn own_normal_forms(rt: HostRuntime) {
     for (text, is_normal) in LABELS {
         let found = copied(rt.alloc(), text);
         assert_eq!(rt; found, Some((true, is_normal)), "{text}");
-    }
-}
-
-// A name of so many bytes within so many parentheses.
-fn nested(alloc: Global, depth: usize, len: usize) -> Option<String> {
-    let mut text = String::new(alloc);
-    for (part, count) in [('(', depth), ('A', len), (')', depth)] {
-        for _ in 0..count {
-            text.push(part).ok()?;
-        }
-    }
-    Some(text)
-}
-
-// Why a name of so many bytes within so many parentheses is no label.
-fn nested_fault(alloc: Global, depth: usize, len: usize) -> Option<Option<LabelFault>> {
-    Some(fault(alloc, nested(alloc, depth, len)?.as_str()))
-}
-
-#[test]
-fn limits(rt: HostRuntime) {
-    for (depth, len, wanted) in [
-        (0, 256, None),
-        (0, 257, Some(LabelFault::TooLong)),
-        (16, 1, None),
-        (17, 1, Some(LabelFault::TooDeep { at: 16 })),
-    ] {
-        assert_eq!(rt; nested_fault(rt.alloc(), depth, len), Some(wanted));
     }
 }
 
