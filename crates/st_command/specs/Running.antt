@@ -8,11 +8,11 @@ use Rattle.st_connection.specs.Connection.{Served}
 use Rattle.st_connection.specs.declared.connection.Ended.{Ended}
 use Rattle.st_connection.specs.declared.connection.Ended.TheVariants.{Clean, Closed, Cut, TurnsSpent, Lost}
 use Rattle.st_connection.specs.declared.connection.IoFault.{IoFault}
-use Rattle.st_command.specs.declared.fault.Fault.{Fault}
-use Rattle.st_command.specs.Line.{SaysRoot, Refuses}
+use Rattle.st_command_line.specs.declared.fault.Fault.{Fault}
+use Rattle.st_command_line.specs.Line.{SaysRoot, Refuses}
 use Rattle.st_command.specs.Opening.{Opens}
-use Rattle.st_command.specs.RunLine.{run_line}
-use Rattle.st_command.specs.Status.{status_of}
+use Rattle.st_command_line.specs.RunLine.{run_line}
+use Rattle.st_command_line.specs.Status.{status_of}
 
 -- the status after a connection ended so
 abbrev pub status_after : Result Ended IoFault → ℕ

@@ -5,12 +5,12 @@ ghost use Rattle.hex.specs.Hex.{decode_sized};
 ghost use Rattle.st_text.specs.Texts.{Text};
 ghost use Rattle.st_auth.specs.Names.{first_bad};
 ghost use Rattle.st_core.specs.State.{first_state};
-ghost use Rattle.st_command.specs.Line.{SaysRoot, Refuses};
+ghost use Rattle.st_command_line.specs.Line.{SaysRoot, Refuses};
 ghost use Rattle.st_command.specs.Opening.{Opens};
-ghost use Rattle.st_command.specs.declared.fault.Fault.TheVariants.{BadDigest, BadName, NoMemory};
+ghost use Rattle.st_command_line.specs.declared.fault.Fault.TheVariants.{BadDigest, BadName, NoMemory};
 
-use crate::fault::Fault;
 use st_auth::AuthsFault;
+use st_command_line::Fault;
 use st_core::Store;
 use st_service::Service;
 use std::alloc::Global;

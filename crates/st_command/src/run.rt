@@ -1,11 +1,10 @@
 //! One connection from a reader to a writer, by the words of a command line.
 ghost use Rattle.std.specs.Prelude.{◌≡◌, false, map, string_bytes};
 ghost use Rattle.st_command.specs.Running.{Serves, Ran};
-ghost use Rattle.st_command.specs.Status.{status_given};
+ghost use Rattle.st_command_line.specs.Status.{status_given};
 
-use crate::fault::{Fault, give_up};
 use crate::opening::service_for;
-use crate::run_line::read;
+use st_command_line::{Fault, RunLine, give_up};
 use st_service::{Ended, IoFault, Service, Sink, Source};
 use std::alloc::Global;
 use std::io::Write;
@@ -39,7 +38,7 @@ fn run<R: Source, W: Sink>(
     requires writer_sound { W.has_failed writer.old ≡ false }
     ensures { Ran (map string_bytes words.now) (R.left reader.old) (R.left reader.new) (W.held writer.old) (W.held writer.new) (R.has_failed reader.new) (status_given result) }
 {
-    let said = read(alloc, words)?;
+    let said = RunLine::read(alloc, words)?;
     let mut service = service_for(alloc, said.digest, &said.names)?;
     converse(&mut service, reader, writer)
 }

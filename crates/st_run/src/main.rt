@@ -1,7 +1,8 @@
 //! `st_run --root DIGEST [NAME]...` serves standard input to standard output, as one connection.
 #![tactic(auto)]
 
-use st_command::{give_up, run_words, words_of};
+use st_command::run_words;
+use st_command_line::{give_up, words_of};
 use st_connection::{FromRead, FromWrite};
 use std::process::ExitCode;
 

@@ -2,7 +2,8 @@
 //! port of the loopback interface.
 #![tactic(auto)]
 
-use st_command::{give_up, serve_words, words_of};
+use st_command_line::{give_up, words_of};
+use st_loopback::serve_words;
 use std::process::ExitCode;
 
 fn main(rt: HostRuntime) -> ExitCode {

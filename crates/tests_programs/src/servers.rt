@@ -2,9 +2,10 @@
 ghost use Rattle.std.specs.Prelude.{◌≡◌, IfSome};
 
 use crate::words::{DIGEST, words_for};
-use st_command::{Open, serve_on, serve_words, stores_for};
+use st_command::stores_for;
 use st_core::Store;
 use st_hall::{Clerk, Desk, Hall, HallName, Unnamed};
+use st_loopback::{Open, serve_on, serve_words};
 use st_station::Station;
 use std::alloc::Global;
 use std::io::{Read, Write};

@@ -2,8 +2,8 @@ use Rattle.std.specs.Borrow.{Bor}
 use Rattle.std.proofs.Common.{List, inr, map, refl, string_bytes, subst, sym}
 use Rattle.std.proofs.lemmas.Result.{err_from_is_err_and}
 use Rattle.st_text.specs.Texts.{Text}
-use Rattle.st_command.specs.Line.{Refuses, SaysRoot}
-use Rattle.st_command.specs.RunLine.{run_line}
+use Rattle.st_command_line.specs.Line.{Refuses, SaysRoot}
+use Rattle.st_command_line.specs.RunLine.{run_line}
 use Rattle.st_command.proofs.run.run.Goals as goal
 
 pub returns-in_err-service : goal.returns-in_err-service

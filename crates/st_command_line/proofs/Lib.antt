@@ -1,0 +1,4 @@
+pub mod Numbers
+pub mod Refusing
+mod WorkedRun
+mod WorkedServed

@@ -1,0 +1,59 @@
+-- What both command lines have, `--root DIGEST` and `[NAME]...`: what words say by it, and why words are refused.
+use Rattle.std.specs.Prelude.{◌≡◌, ℕ, List, [], Some, Ok, IsErr, codes, true, unwrap_or}
+use Rattle.hex.specs.Hex.{decode_sized}
+use Rattle.clap.specs.Words.{App, Rule, IsAmong, all_of, fault_of, first_of, found_of, kind_of, matches_of, new_rule, rows_of}
+use Rattle.clap.specs.declared.parser.matches.ArgMatches.{ArgMatches}
+use Rattle.clap.specs.declared.builder.action.ArgAction.TheVariants.{Append, Set}
+use Rattle.st_text.specs.Texts.{Text}
+use Rattle.st_auth.specs.Names.{first_bad}
+use Rattle.st_command_line.specs.declared.fault.Fault.{Fault}
+use Rattle.st_command_line.specs.declared.fault.Fault.TheVariants.{Usage, BadDigest, BadName, NoMemory}
+
+-- the option `--root DIGEST`, which must be there, once
+abbrev pub root_option : Rule
+root_option = record (new_rule (codes "root")) {
+  long = Some (codes "root");
+  value_names = 1;
+  action = Some Set;
+  required = true;
+}
+
+-- the names, any number of them
+abbrev pub name_operand : Rule
+name_operand = record (new_rule (codes "NAME")) { action = Some Append }
+
+-- the words are such a command line, and these are their matches
+pub record IsParsed (line : App) (words : List Text) (matches : ArgMatches) : Type 0 where
+  pub whole : fault_of line words ≡ []
+  pub rows_are : rows_of (found_of matches) ≡ matches_of line words
+
+-- the words are such a command line, with this digest and these names
+pub record SaysRoot (line : App) (words : List Text) (digits : Text) (names : List Text) : Type 0 where
+  pub whole : fault_of line words ≡ []
+  pub digits_are : first_of (codes "root") (matches_of line words) ≡ Some digits
+  pub names_are : unwrap_or (all_of (codes "NAME") (matches_of line words)) [] ≡ names
+
+-- the digest is not 64 hexadecimal digits
+pub record HasBadDigest (line : App) (words : List Text) : Type 0 where
+  pub digits : Text
+  pub names : List Text
+  pub says : SaysRoot line words digits names
+  pub bad : IsErr (decode_sized digits 32)
+
+-- the digest is one, and a name is no authorization
+pub record HasBadName (line : App) (words : List Text) : Type 0 where
+  pub digits : Text
+  pub names : List Text
+  pub says : SaysRoot line words digits names
+  pub digest : List ℕ
+  pub written : decode_sized digits 32 ≡ Ok digest
+  pub place : ℕ
+  pub bad : first_bad names ≡ Some place
+
+-- why the words are refused; where memory is wanting, nothing is said of them
+abbrev pub Refuses : App → List Text → Fault → Type 0
+Refuses line words (Usage error) = IsAmong (kind_of error) (fault_of line words)
+Refuses line words BadDigest = HasBadDigest line words
+Refuses line words BadName = HasBadName line words
+Refuses line words NoMemory = Unit {0}
+Refuses line words _ = ⊥

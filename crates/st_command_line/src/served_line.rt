@@ -1,0 +1,141 @@
+//! The command line `st_served --root DIGEST --port P [--connections N] [--timeout SECONDS] [NAME]...`.
+ghost use Rattle.std.specs.Prelude.{◌≡◌, ◌*◌, [], ◌∷◌, IfOk, IfErr, IsSome, codes, map, string_bytes, unwrap_or};
+ghost use Rattle.std.specs.Net.Addr.{ipv4_octets};
+ghost use Rattle.std.specs.Net.Socket.{v4_ip, v4_port};
+ghost use Rattle.std.specs.Duration.{as_nanos};
+ghost use Rattle.clap.specs.Built.{FitsChain};
+ghost use Rattle.clap.specs.Words.{first_value, found_of, one_text, rule_of};
+ghost use Rattle.st_command_line.specs.Line.{IsParsed};
+ghost use Rattle.st_command_line.specs.ServedLine.{Gives, IsUnread, Says, Refuses, served_line, port_option, connections_option, timeout_option};
+ghost use Rattle.st_command_line.specs.declared.fault.Fault.TheVariants.{BadNumber};
+
+use crate::fault::Fault;
+use crate::line::{names, root};
+use clap::{Arg, ArgAction, ArgMatches, Command};
+use std::alloc::Global;
+use std::net::{Ipv4Addr, SocketAddrV4};
+use std::time::Duration;
+
+// So many seconds a read or a write of a connection may wait, where the words do not say.
+const SECONDS: u16 = 30;
+
+/// What a command line says.
+#[derive(Drop)]
+pub struct ServedLine<'a> {
+    /// Meant to be the 64 hexadecimal digits of the hash of root's secret.
+    pub digest: &'a str,
+    pub port: u16,
+    /// How many connections are served. All that come, where it is not given.
+    pub connections: Option<u16>,
+    /// How many seconds a read or a write of a connection may wait.
+    pub timeout: Option<u16>,
+    /// Meant to be root's authorizations.
+    pub names: Vec<&'a str>,
+}
+
+// The option `--port P`.
+fn port<'a>(alloc: Global) -> Arg<'a>
+    ensures id { result.id.now ≡ codes "port" }
+    ensures rule { rule_of result ≡ port_option }
+    ensures fits { FitsChain result }
+{
+    Arg::new(alloc, "port")
+        .long("port")
+        .value_name("P")
+        .required(true)
+        .action(ArgAction::Set)
+        .value_parser(clap::value_parser!(u16).range(1..))
+}
+
+// The option `--connections N`.
+fn connections<'a>(alloc: Global) -> Arg<'a>
+    ensures id { result.id.now ≡ codes "connections" }
+    ensures rule { rule_of result ≡ connections_option }
+    ensures fits { FitsChain result }
+{
+    Arg::new(alloc, "connections")
+        .long("connections")
+        .value_name("N")
+        .action(ArgAction::Set)
+        .value_parser(clap::value_parser!(u16).range(0..=1000))
+}
+
+// The option `--timeout SECONDS`.
+fn timeout<'a>(alloc: Global) -> Arg<'a>
+    ensures id { result.id.now ≡ codes "timeout" }
+    ensures rule { rule_of result ≡ timeout_option }
+    ensures fits { FitsChain result }
+{
+    Arg::new(alloc, "timeout")
+        .long("timeout")
+        .value_name("SECONDS")
+        .action(ArgAction::Set)
+        .value_parser(clap::value_parser!(u16).range(1..=3600))
+}
+
+// Reads the words by what a command line may have.
+fn parse<'a>(alloc: Global, words: &'a [String]) -> Result<ArgMatches<'a>, Fault>
+    ensures ok { IfOk result (IsParsed served_line (map string_bytes words.now)) }
+    ensures root { IfOk result (λ matches. IsSome (first_value (found_of matches) (codes "root"))) }
+    ensures err { IfErr result (λ fault. Refuses (map string_bytes words.now) fault) }
+{
+    let command = Command::new(alloc, "st_served")
+        .arg(root(alloc))?
+        .arg(port(alloc))?
+        .arg(connections(alloc))?
+        .arg(timeout(alloc))?
+        .arg(names(alloc))?;
+    Ok(command.try_get_matches_from(words)?)
+}
+
+// The number of an option that may be left out.
+fn number(matches: &ArgMatches<'_>, id: &str) -> Result<Option<u16>, Fault>
+    ensures ok { IfOk result (Gives (one_text (found_of matches.now) id.now)) }
+    ensures err { IfErr result (λ fault. (fault ≡ BadNumber) × IsUnread (one_text (found_of matches.now) id.now)) }
+{
+    match matches.try_get_one::<u16>(id) {
+        Ok(number) => Ok(number),
+        Err(_) => Err(Fault::BadNumber),
+    }
+}
+
+impl<'a> ServedLine<'a> {
+    /// Reads a command line, the program's own name first among its words.
+    pub fn read(alloc: Global, words: &'a [String]) -> Result<ServedLine<'a>, Fault>
+        ensures ok { IfOk result (λ said. Says (map string_bytes words.now) said.digest.now said.port said.connections said.timeout (map (λ name. name.now) said.names.items)) }
+        ensures err { IfErr result (λ fault. Refuses (map string_bytes words.now) fault) }
+    {
+        let matches = parse(alloc, words)?;
+        let Some(digest) = matches.get_str("root") else {
+            unreachable!()
+        };
+        let Some(port) = number(&matches, "port")? else {
+            return Err(Fault::BadNumber);
+        };
+        let connections = number(&matches, "connections")?;
+        let timeout = number(&matches, "timeout")?;
+        let names = matches.get_strs("NAME").unwrap_or(&[]);
+        Ok(ServedLine {
+            digest,
+            port,
+            connections,
+            timeout,
+            names: Vec::from_slice(alloc, names)?,
+        })
+    }
+
+    /// The port of the loopback interface, 127.0.0.1.
+    pub fn address(&self) -> SocketAddrV4
+        ensures ip { ipv4_octets (v4_ip result) ≡ 127 ∷ 0 ∷ 0 ∷ 1 ∷ [] }
+        ensures port { v4_port result ≡ self.now.port }
+    {
+        SocketAddrV4::new(Ipv4Addr::LOCALHOST, self.port)
+    }
+
+    /// How long a read or a write of a connection may wait: 30 seconds, where the words do not say.
+    pub fn limit(&self) -> Duration
+        ensures { as_nanos result ≡ unwrap_or self.now.timeout 30 * 1000000000 }
+    {
+        Duration::from_secs(u64::from(self.timeout.unwrap_or(SECONDS)))
+    }
+}

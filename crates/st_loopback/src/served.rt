@@ -1,0 +1,191 @@
+//! A server at a port of the loopback interface, by the words of a command line.
+ghost use Rattle.std.specs.Prelude.{◌≡◌, ◌⊎◌, Err, Some, IfOk, IfErr, OnOk, codes, map, string_bytes};
+ghost use Rattle.std.specs.Io.KnownBytes.{Appends};
+ghost use Rattle.st_command.specs.Opening.{Opens};
+ghost use Rattle.st_loopback.specs.Serving.{Ran, Stops, Tells, line};
+ghost use Rattle.st_command_line.specs.Status.{status_given};
+ghost use Rattle.st_command_line.specs.declared.fault.Fault.TheVariants.{Bind, Write as Unwritten, NoMemory};
+
+use crate::connection::Open;
+use crate::workers::{serve_on, serve_some};
+use st_command::stores_for;
+use st_command_line::{Fault, ServedLine, give_up};
+use st_core::Store;
+use st_hall::{Clerk, Desk, Hall, HallFault, HallName, Unnamed};
+use st_station::Station;
+use std::alloc::Global;
+use std::io::Write;
+use std::marker::Brand;
+use std::net::{Net, SocketAddr, SocketAddrV4, TcpListener, TcpStream};
+use std::sync::{Mutex, Wait};
+use std::thread::Threads;
+
+// Listens at the address.
+fn listen<R: Net<Listener = TcpListener, Stream = TcpStream>>(
+    rt: &R,
+    address: SocketAddrV4,
+) -> Result<TcpListener, Fault>
+    ensures { IfErr result (λ fault. fault ≡ Bind) }
+{
+    match TcpListener::bind(rt, SocketAddr::V4(address)) {
+        Ok(listener) => Ok(listener),
+        Err(_) => Err(Fault::Bind),
+    }
+}
+
+// Writes a line.
+fn tell<O: Write>(alloc: Global, output: &mut O, what: &str, number: u16) -> Result<(), Fault>
+    ensures ok { OnOk result (Appends (O.contents output.old) (O.contents output.new) (line what.now number)) }
+    ensures err { IfErr result (λ fault. (fault ≡ Unwritten) ⊎ ((fault ≡ NoMemory) × (O.contents output.new ≡ O.contents output.old))) }
+{
+    let text = format!(in alloc; "{what} {number}\n")?;
+    match output.write_all(text.as_bytes()) {
+        Ok(()) => Ok(()),
+        Err(_) => Err(Fault::Write),
+    }
+}
+
+// Listens at the port of the loopback interface, and tells so.
+fn begin<R: Net<Listener = TcpListener, Stream = TcpStream>, O: Write>(
+    rt: &R,
+    alloc: Global,
+    said: &ServedLine<'_>,
+    output: &mut O,
+) -> Result<TcpListener, Fault>
+    ensures ok { OnOk result (Appends (O.contents output.old) (O.contents output.new) (line (codes "listening") said.now.port)) }
+    ensures err { IfErr result (λ fault. Tells said.now.port said.now.connections (O.contents output.old) (O.contents output.new) (Err fault)) }
+{
+    let listener = listen(rt, said.address())?;
+    tell(alloc, output, "listening", said.port)?;
+    Ok(listener)
+}
+
+// Serves connections at two workers, and says how many.
+fn attend<'c, H: HallName + Send + Sync, R: Threads + Wait + Sync>(
+    rt: &R,
+    alloc: Global,
+    listener: &TcpListener,
+    said: &ServedLine<'_>,
+    one: Station<'_, H, &'c R, Open, R>,
+    two: Station<'_, H, &'c R, Open, R>,
+) -> Result<u16, Fault>
+    ensures ok { IfOk result (λ number. said.now.connections ≡ Some number) }
+    ensures err { IfErr result Stops }
+{
+    let limit = said.limit();
+    let Some(connections) = said.connections else {
+        return Err(serve_on(rt, listener, limit, one, two));
+    };
+    serve_some(rt, alloc, listener, connections, limit, one, two)?;
+    Ok(connections)
+}
+
+// Serves connections at two stations, and tells of it.
+fn serve_at<
+    'c,
+    H: HallName + Send + Sync,
+    R: Net<Listener = TcpListener, Stream = TcpStream> + Threads + Wait + Sync,
+    O: Write,
+>(
+    rt: &R,
+    alloc: Global,
+    said: &ServedLine<'_>,
+    one: Station<'_, H, &'c R, Open, R>,
+    two: Station<'_, H, &'c R, Open, R>,
+    output: &mut O,
+) -> Result<(), Fault>
+    ensures { Tells said.now.port said.now.connections (O.contents output.old) (O.contents output.new) result }
+{
+    let listener = match begin(rt, alloc, said, output) {
+        Ok(listener) => listener,
+        Err(fault) => {
+            drop(one);
+            drop(two);
+            return Err(fault);
+        }
+    };
+    let connections = attend(rt, alloc, &listener, said, one, two)?;
+    tell(alloc, output, "served", connections)
+}
+
+// Serves connections at two desks, and tells of it.
+fn serve_between<
+    'c,
+    H: HallName + Send + Sync,
+    R: Net<Listener = TcpListener, Stream = TcpStream> + Threads + Wait + Sync,
+    O: Write,
+>(
+    rt: &'c R,
+    alloc: Global,
+    said: &ServedLine<'_>,
+    clerk: &Mutex<Clerk<H, &'c R>>,
+    one: Desk<H>,
+    two: Desk<H>,
+    output: &mut O,
+) -> Result<(), Fault>
+    ensures { Tells said.now.port said.now.connections (O.contents output.old) (O.contents output.new) result }
+{
+    let one = Station::new(rt, alloc, 1, one, clerk, &Open)?;
+    let two = Station::new(rt, alloc, 2, two, clerk, &Open)?;
+    serve_at(rt, alloc, said, one, two, output)
+}
+
+// Serves connections in a hall over the two stores, and tells of it.
+fn serve<
+    H: HallName + Send + Sync,
+    R: Net<Listener = TcpListener, Stream = TcpStream> + Threads + Wait + Sync,
+    O: Write,
+>(
+    rt: &R,
+    alloc: Global,
+    name: Unnamed,
+    both: (Store, Store),
+    said: &ServedLine<'_>,
+    output: &mut O,
+) -> Result<(), Fault>
+    requires named { (name.seen.book ≡ H.book) × (name.blank.name ≡ H.name) × (H.parts ≡ 2) }
+    requires alike { (both.0 ≡ H.start) × (both.1 ≡ H.start) }
+    requires opens { Opens said.now.digest.now (map (λ name. name.now) said.now.names.items) both.0 }
+    ensures { Tells said.now.port said.now.connections (O.contents output.old) (O.contents output.new) result }
+{
+    match Hall::<H>::open(rt, alloc, name, both.0, both.1) {
+        Ok((clerk, one, two)) => {
+            serve_between(rt, alloc, said, &Mutex::new(clerk), one, two, output)
+        }
+        Err(HallFault::NoPlace) => Err(Fault::NoPlace),
+        Err(HallFault::NoMemory) => Err(Fault::NoMemory),
+    }
+}
+
+// Serves by the words.
+fn run<R: Net<Listener = TcpListener, Stream = TcpStream> + Threads + Wait + Sync, O: Write>(
+    rt: &R,
+    alloc: Global,
+    words: &[String],
+    output: &mut O,
+) -> Result<(), Fault>
+    ensures { Ran (map string_bytes words.now) (O.contents output.old) (O.contents output.new) (status_given result) }
+{
+    let said = ServedLine::read(alloc, words)?;
+    let both = stores_for(alloc, said.digest, &said.names)?;
+    serve::<Brand, _, _>(rt, alloc, Unnamed::new(), both, &said, output)
+}
+
+/// Opens a store by the words, the program's own name first among them, binds the port of the loopback
+/// interface, tells `listening` and the port, serves connections by two workers, each on a thread, over two
+/// copies of the store, tells `served` and their number, and gives the status: 0 after so many connections
+/// as the words say; 2 where the words are no command line, the digest is not 64 hexadecimal digits, or a
+/// name is no authorization; 5 where the port was not bound, a connection was not accepted, or the output
+/// took no more; 6 where there was no memory, no place or no thread. Each but 0 has its text in `faults`.
+pub fn serve_words<
+    R: Net<Listener = TcpListener, Stream = TcpStream> + Threads + Wait + Sync,
+    O: Write,
+    F: Write,
+>(rt: &R, alloc: Global, words: &[String], output: &mut O, faults: &mut F) -> u8
+    ensures { Ran (map string_bytes words.now) (O.contents output.old) (O.contents output.new) result }
+{
+    match run(rt, alloc, words, output) {
+        Ok(()) => 0,
+        Err(fault) => give_up("st_served", fault, faults),
+    }
+}
