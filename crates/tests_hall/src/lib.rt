@@ -1,5 +1,5 @@
-//! Tests of two copies, a clerk and two desks, and of the stations at these desks: messages that they answer, and connections
-//! that fail.
+//! Tests of two copies, a clerk and two desks, of the stations at these desks: messages that they answer, and connections that
+//! fail; and of what the two programs do by the words of their command lines.
 #![tactic(auto)]
 
 #[cfg(test)]
@@ -14,5 +14,11 @@ mod halls;
 mod messages;
 #[cfg(test)]
 mod puts;
+#[cfg(test)]
+mod runs;
+#[cfg(test)]
+mod servers;
+#[cfg(test)]
+mod words;
 #[cfg(test)]
 mod workers;

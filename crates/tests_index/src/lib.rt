@@ -1,4 +1,4 @@
-//! Tests of labels, sets of authorizations, indexes, the UB-tree and walks over it, and of the allocator that refuses.
+//! Tests of labels, sets of authorizations, indexes, the UB-tree, walks over it and tables, and of the allocator that refuses.
 #![tactic(auto)]
 
 #[cfg(test)]
@@ -8,9 +8,17 @@ mod indexes;
 #[cfg(test)]
 mod labels;
 #[cfg(test)]
+mod mirrored;
+#[cfg(test)]
+mod paging;
+#[cfg(test)]
 mod putting;
 #[cfg(test)]
 mod refusals;
+#[cfg(test)]
+mod table_growths;
+#[cfg(test)]
+mod tabling;
 #[cfg(test)]
 mod trees;
 #[cfg(test)]

@@ -1,7 +1,9 @@
-//! Tests of the service of a connection: narrow reads and writes, hostile input, requests whose growths are refused, and the
-//! server's state.
+//! Tests of HTTP that no exchange shows, and of the service of a connection: narrow reads and writes, hostile input, requests
+//! whose growths are refused, and the server's state.
 #![tactic(auto)]
 
+#[cfg(test)]
+mod blocks;
 #[cfg(test)]
 mod cuts;
 #[cfg(test)]
@@ -17,6 +19,8 @@ mod growths_tables;
 #[cfg(test)]
 mod growths_users;
 #[cfg(test)]
+mod heads;
+#[cfg(test)]
 mod json_replies;
 #[cfg(test)]
 mod long_bodies;
@@ -30,3 +34,5 @@ mod refusals;
 mod runs;
 #[cfg(test)]
 mod serving;
+#[cfg(test)]
+mod takes;

@@ -1,4 +1,4 @@
-use Rattle.tests_programs.proofs.servers.is_served_to_its_end.Given as goal
+use Rattle.tests_hall.proofs.servers.is_served_to_its_end.Given as goal
 
 -- the hall that is opened here
 abbrev pub ghosts-ended-H-HallName : goal.ghosts-ended-H-HallName
