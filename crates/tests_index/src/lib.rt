@@ -8,10 +8,6 @@ mod indexes;
 #[cfg(test)]
 mod labels;
 #[cfg(test)]
-mod mirrored;
-#[cfg(test)]
-mod paging;
-#[cfg(test)]
 mod putting;
 #[cfg(test)]
 mod refusals;

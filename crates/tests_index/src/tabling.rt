@@ -2,10 +2,9 @@
 
 use st_box::Query;
 use st_index::{Id, Note, Row};
-use st_key::{Period, Place, Point};
+use st_key::{Period, Point};
 use st_label::Label;
 use st_table::Table;
-use st_text::Words;
 use st_ubtree::UbTree;
 use std::alloc::{Allocator, Global};
 
@@ -22,13 +21,8 @@ fn note_of<A: Allocator + Copy>(alloc: A, text: &str) -> Option<Note<A>> {
     Note::new(alloc, text).ok()?
 }
 
-/// A row at a point, without a note.
-pub fn row_at<A: Allocator + Copy>(
-    alloc: A,
-    point: Point,
-    id: &str,
-    label: &str,
-) -> Option<Row<A>> {
+// A row at a point, without a note.
+fn row_at<A: Allocator + Copy>(alloc: A, point: Point, id: &str, label: &str) -> Option<Row<A>> {
     let label = Label::parse(alloc, label).ok()?;
     let id = id_of(alloc, id)?;
     let note = note_of(alloc, "")?;
@@ -46,8 +40,8 @@ pub fn row_of<A: Allocator + Copy>(alloc: A, (id, label, point): Said) -> Option
     row_at(alloc, Point::new(x, y, t).ok()?, id, label)
 }
 
-/// A table of no rows over a UB-tree.
-pub fn empty<A: Allocator + Copy>(alloc: A, period: Period) -> Option<Table<UbTree<A>>> {
+// A table of no rows over a UB-tree.
+fn empty<A: Allocator + Copy>(alloc: A, period: Period) -> Option<Table<UbTree<A>>> {
     let tree = UbTree::new(alloc, period).ok()?;
     Table::new(alloc, tree).ok()
 }
@@ -84,11 +78,4 @@ pub fn told<A: Allocator + Copy>(alloc: Global, rows: &[&Row<A>]) -> Option<Stri
         write!(lines, "{id} {label} {x} {y} {t}{}\n", row.note.as_str()).ok()?;
     }
     Some(lines)
-}
-
-/// A place, which need name no row.
-pub fn place_at(alloc: Global, point: Point, id: &str, label: &str) -> Option<Place> {
-    let id = Words::new(alloc, id).ok()?;
-    let label = Words::new(alloc, label).ok()?;
-    Some(Place { point, id, label })
 }
