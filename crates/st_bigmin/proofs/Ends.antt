@@ -1,14 +1,13 @@
 -- The first and the last address of a box in a cell.
-use Rattle.std.proofs.Common.{◌≡◌, ℕ, suc, ◌+◌, ◌-◌, ◌*◌, ◌/◌, ◌^◌, ◌<◌, ◌≤◌, sym, ap, ◌∙◌, subst, arith}
-use Rattle.std.proofs.Math.Nat.{div-mul-le_self}
-use Rattle.std.proofs.lemmas.Nat.{pow-add, pow_pos, shr_below, mul-le}
+use Rattle.std.proofs.Common.{◌≡◌, ℕ, ◌+◌, ◌-◌, ◌*◌, ◌/◌, ◌^◌, ◌<◌, ◌≤◌, sym, ap, ◌∙◌, subst, arith}
+use Rattle.std.proofs.lemmas.Nat.{pow-add, shr_below, mul-le}
 use Rattle.st_key.specs.Order.{Spot}
 use Rattle.st_box.specs.declared.zbox.ZBox.{ZBox}
 use Rattle.st_box.specs.Corner.{IsWithin, spot_at, address_at, later_of, earlier_of}
 use Rattle.st_box.specs.ZBox.{IsInside, first_of, last_of}
 use Rattle.st_bigmin.specs.Run.{IsLeastInCell, IsGreatestInCell}
 use Rattle.st_box.proofs.Cells.{after_first, before_last, in_cell, address-mono, address-spot, spot_in_cube, last_prefix, within-cube}
-use Rattle.st_box.proofs.Boxes.{cell_first, cell_last, Meets, meets, box_in_cube, box_ordered, inside_at}
+use Rattle.st_box.proofs.Boxes.{cell_first, cell_last, meets, box_in_cube, box_ordered, inside_at}
 
 -- the cell of an address ends below 2^63
 pub cell_room : (k p a : ℕ) → k < 64 → a < 2 ^ 63 → a / 2 ^ k ≡ p → k ≤ 63 → (p + 1) * 2 ^ k ≤ 2 ^ 63

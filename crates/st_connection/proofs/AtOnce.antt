@@ -1,5 +1,5 @@
 -- A connection where no answer is held back.
-use Rattle.std.proofs.Common.{◌≡◌, ◌≢◌, ℕ, Bool, Option, Ok, Err, List, refl}
+use Rattle.std.proofs.Common.{◌≢◌, ℕ, Bool, Option, Ok, Err, List, refl}
 use Rattle.std.specs.Prelude.{Result}
 use Rattle.st_http.specs.First.{First}
 use Rattle.st_connection.specs.Connection.{EndsSo, EndsWithin, Served, ServedWithin}

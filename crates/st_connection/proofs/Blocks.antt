@@ -1,13 +1,12 @@
 -- Answers that are held back, and what comes of them.
-use Rattle.std.proofs.Common.{◌≡◌, ◌≢◌, ◌⊎◌, inl, inr, ◌∙◌, ℕ, ◌+◌, ◌*◌, ◌^◌, ◌<◌, ◌≤◌, Bool, true, false, Option, Ok, Err, List, [], ◌∷◌, ◌++◌, length, take, drop, refl, sym, ap, subst, arith, append_assoc, append-nil, length-append}
+use Rattle.std.proofs.Common.{◌≡◌, ◌⊎◌, inl, inr, ◌∙◌, ℕ, ◌+◌, ◌*◌, ◌^◌, ◌≤◌, Bool, true, false, Option, Ok, Err, List, [], ◌∷◌, ◌++◌, length, take, drop, refl, sym, ap, subst, arith, append_assoc, append-nil, length-append}
 use Rattle.std.specs.List.{concat}
 use Rattle.std.specs.Io.KnownBytes.{Appends}
-use Rattle.std.proofs.KnownBytes.{Appends-nil, Appends-trans}
+use Rattle.std.proofs.KnownBytes.{Appends-trans}
 use Rattle.std.proofs.lemmas.List.Folds.{concat-append}
-use Rattle.std.proofs.lemmas.Grind.{common_steps}
-use Rattle.st_http.specs.First.{First, more, IsFirst}
-use Rattle.st_connection.specs.Items.{Begins, is_closed, closes, after_item}
-use Rattle.st_connection.specs.Connection.{Run, Reaches, ReachesWithin, all_but_last, Amid, KeptPast, Whole, Broken, Loses, One, Sent, Passed}
+use Rattle.st_http.specs.First.{First, more}
+use Rattle.st_connection.specs.Items.{Begins, is_closed}
+use Rattle.st_connection.specs.Connection.{Run, Reaches, ReachesWithin, all_but_last, Amid, Whole, Broken, Loses, One, Sent, Passed}
 use Rattle.st_connection.specs.declared.connection.Stopped.{Stopped}
 use Rattle.st_connection.specs.declared.connection.Stopped.TheVariants as stopped
 use Rattle.st_connection.proofs.Reading.{begins_one, begins_none, begins_join, closed_one, closed_join}

@@ -1,8 +1,5 @@
 -- One item, answered.
-use Rattle.std.proofs.Common.{◌≡◌, ◌≢◌, ℕ, ◌^◌, ◌<◌, ◌≤◌, ◌⊎◌, Bool, true, false, Option, Ok, Err, List, [], ◌∷◌, ◌++◌, length, drop, refl, sym, ap, ◌∙◌, subst, arith}
-use Rattle.std.specs.List.{concat}
-use Rattle.std.specs.Io.KnownBytes.{Appends}
-use Rattle.std.proofs.lemmas.Grind.{common_steps}
+use Rattle.std.proofs.Common.{◌≡◌, ℕ, ◌^◌, ◌<◌, ◌≤◌, ◌⊎◌, Bool, true, false, Option, Ok, Err, List, [], ◌++◌, length, drop, refl, sym, ap, ◌∙◌, subst, arith}
 use Rattle.httparse.specs.Grammar.{RequestHead}
 use Rattle.st_http.specs.declared.take.Take.TheVariants as takes
 use Rattle.st_http.specs.declared.take.Message.{Message}
@@ -11,7 +8,6 @@ use Rattle.st_http.specs.Take.{Takes, ShowsMessage}
 use Rattle.st_http.specs.First.{First, message, fault, more, IsFirst, size_of}
 use Rattle.st_http.specs.Items.{after_message}
 use Rattle.st_http.proofs.ItemLemmas.{message_size}
-use Rattle.st_connection.specs.Items.{closes, after_item}
 use Rattle.st_connection.specs.Connection.{One, Passed, AnsweredNext}
 use Rattle.st_connection.specs.declared.connection.Stopped.{Stopped}
 use Rattle.st_connection.specs.declared.connection.Next.TheVariants as nexts

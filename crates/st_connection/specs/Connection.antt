@@ -5,7 +5,6 @@ use Rattle.std.specs.Io.KnownBytes.{Appends, Consumes}
 use Rattle.st_http.specs.First.{First, more, IsFirst}
 use Rattle.st_http.specs.Items.{Items}
 use Rattle.st_connection.specs.Items.{Begins, is_closed, closes, after_item}
-use Rattle.st_connection.specs.declared.streams.Failed.{Failed}
 use Rattle.st_connection.specs.declared.connection.Ended.{Ended}
 use Rattle.st_connection.specs.declared.connection.Ended.TheVariants.{Clean, Closed, Cut, TurnsSpent, Lost}
 use Rattle.st_connection.specs.declared.connection.IoFault.{IoFault}

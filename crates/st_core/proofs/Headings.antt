@@ -1,5 +1,5 @@
 -- The headings of the directory's tables.
-use Rattle.std.proofs.Common.{◌≡◌, List, [], ◌∷◌, filter, find, map, Bool, true, false, not, if◌then◌else◌, Option, Some, None, refl, sym, ap, ◌∙◌}
+use Rattle.std.proofs.Common.{◌≡◌, List, [], ◌∷◌, filter, find, Bool, true, false, not, Option, Some, None, refl, sym, ap, ◌∙◌}
 use Rattle.std.specs.Prelude.{is_some, option_map}
 use Rattle.std.specs.Option.{option_map_or}
 use Rattle.st_text.specs.Texts.{Text, same, comes_before, put_in_order, in_order}
@@ -11,7 +11,7 @@ use Rattle.st_dir.specs.Order.{table_key}
 use Rattle.st_dir.specs.declared.table.TableInfo.{TableInfo}
 use Rattle.st_policy.specs.declared.request.Request.{Request}
 use Rattle.st_core.specs.Changes.{directory_after}
-use Rattle.st_core.specs.Tables.{Heading, heading_key, heading_named, headings_of, headings_with, headings_without, is_of}
+use Rattle.st_core.specs.Tables.{Heading, heading_key, heading_named, headings_of, headings_with, headings_without}
 
 abbrev heading : TableInfo → Heading
 heading info = record { table = info.table; period = info.period }

@@ -5,7 +5,7 @@ use Rattle.st_text.proofs.Same.{same-eq}
 use Rattle.st_text.proofs.Resorting.{filter_in_order}
 use Rattle.st_policy.specs.declared.request.Request.{Request}
 use Rattle.st_policy.specs.Requests.{table_of}
-use Rattle.st_table.specs.Rows.{Held, full_name, is_held, put_row, rows_of, without_row, without_table}
+use Rattle.st_table.specs.Rows.{Held, full_name, is_held, put_row, rows_of, without_row}
 use Rattle.st_core.specs.Changes.{rows_after}
 
 differ : (own table : Text) → (Some own ≡ Some table → ⊥) → same own table ≡ false

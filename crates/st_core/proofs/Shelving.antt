@@ -1,5 +1,5 @@
 -- What a change of one table makes of the list of tables.
-use Rattle.std.proofs.Common.{◌≡◌, ◌<◌, ℕ, zero, suc, List, [], ◌∷◌, ◌++◌, length, filter, find, map, Bool, true, false, not, if◌then◌else◌, Option, Some, None, Result, Ok, Err, OnOk, OnErr, IsOk, refl, sym, ap, ◌∙◌, subst, arith}
+use Rattle.std.proofs.Common.{◌≡◌, ◌<◌, ℕ, zero, suc, List, [], ◌∷◌, ◌++◌, length, filter, map, Bool, true, false, not, Some, None, Result, Ok, Err, OnOk, OnErr, IsOk, refl, sym, ap, ◌∙◌, subst, arith}
 use Rattle.std.specs.Prelude.{slice_index_or, slice_set, is_some}
 use Rattle.std.specs.List.{insert, remove}
 use Rattle.std.proofs.Math.Seq.{map-set_same}
@@ -10,16 +10,16 @@ use Rattle.st_text.specs.Texts.{Text, same, in_order}
 use Rattle.st_text.proofs.Same.{same-eq, same-refl}
 use Rattle.st_key.specs.declared.period.Period.{Period}
 use Rattle.st_dir.specs.Sorted.{IsAlone, IsPlace, NoneOf, Rises, ComesFirst, NoneBefore}
-use Rattle.st_dir.proofs.Sorted.{changed, found, none_found, none_from_find, none_taken, put_in, taken_out, back, rises_changed, rises_filter, rises_in}
+use Rattle.st_dir.proofs.Sorted.{changed, found, none_found, none_from_find, put_in, taken_out, back, rises_changed, rises_filter, rises_in}
 use Rattle.st_dir.proofs.Keys.{own_name}
 use Rattle.st_index.specs.declared.row.Row.{Row}
 use Rattle.st_index.specs.Order.{InScanOrder, scan_key}
 use Rattle.st_table.specs.Rows.{Held, all_held, full_name, put_row, rows_of, without_row, without_table}
-use Rattle.st_table.specs.Table.{HasEachOnce, TableValue, rows_by_label, with_row, without as without_named}
+use Rattle.st_table.specs.Table.{HasEachOnce, rows_by_label, with_row, without as without_named}
 use Rattle.st_table.proofs.Storing.{elsewhere, table_put, table_delete, table_dropped, resorted}
 use Rattle.st_table.proofs.Reading.{seen_is}
 use Rattle.st_table.proofs.Getting.{got_is}
-use Rattle.st_core.specs.Tables.{Heading, TablesValue, heading_key, heading_named, headings_with, headings_without, is_of, without}
+use Rattle.st_core.specs.Tables.{Heading, heading_key, heading_named, headings_with, headings_without, is_of, without}
 use Rattle.st_core.specs.Shelves.{heading_of, headings_in, rows_in, tables_in}
 use Rattle.st_core.specs.declared.tables.Shelf.{Shelf}
 

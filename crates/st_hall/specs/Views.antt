@@ -1,4 +1,4 @@
--- What contracts see of a desk and of a clerk.
+-- What contracts see of a desk, a worker and a clerk.
 use Rattle.std.specs.Prelude.{ℕ, ◌≡◌, List, [], ◌∷◌, ◌++◌}
 use Rattle.st_hall.specs.Steps.{Ask, State, Told, reply_of, state_after}
 
@@ -6,6 +6,12 @@ use Rattle.st_hall.specs.Steps.{Ask, State, Told, reply_of, state_after}
 pub record Seat : Type 0 where
   pub seen : List Ask
   pub made : ℕ
+
+-- a worker's number, how many calls it has answered (2^64 - 1 also where there were more), and its desk
+pub record Post : Type 0 where
+  pub number : ℕ
+  pub calls : ℕ
+  pub seat : Seat
 
 -- the one list of changes, and the part of it that is published
 pub record Roll : Type 0 where

@@ -1,5 +1,5 @@
 //! A worker, who answers requests one after the other at a desk.
-ghost use Rattle.std.specs.Prelude.{◌≡◌, ◌+◌, ◌≤◌, true, false, List, IfOk, MatchResult};
+ghost use Rattle.std.specs.Prelude.{◌≡◌, ◌+◌, ◌-◌, ◌^◌, ◌≤◌, true, false, min, List, IfOk, MatchResult};
 ghost use mathlib.Core.List.{IsPrefix};
 ghost use Rattle.st_core.specs.Step.{asks_for_change};
 ghost use Rattle.st_hall.specs.Steps.{Ask, reply_of, state_after};
@@ -29,7 +29,7 @@ pub trait Gate {
     fn gave_up(&self, worker: u64, call: u64);
 }
 
-/// A worker at a desk, with the clerk and a gate. Contracts see it as the desk.
+/// A worker at a desk, with the clerk and a gate. Contracts see its number, its calls and the desk.
 #[derive(Drop)]
 pub struct Worker<'a, H: HallName, R: Wait + Drop, G: Gate> {
     number: u64,
@@ -40,11 +40,11 @@ pub struct Worker<'a, H: HallName, R: Wait + Drop, G: Gate> {
 }
 
 impl<'a, H: HallName, R: Wait + Drop, G: Gate> Model for Worker<'a, H, R, G> {
-    ghost use Rattle.st_hall.specs.Views.{Seat};
+    ghost use Rattle.st_hall.specs.Views.{Post};
 
-    ghost Value = { Seat };
+    ghost Value = { Post };
 
-    ghost view = { λ s. s.desk };
+    ghost view = { λ s. record { number = s.number; calls = s.calls; seat = s.desk } };
 }
 
 // Asks the gate until it lets the read pass, or often enough.
@@ -124,7 +124,9 @@ impl<'a, H: HallName, R: Wait + Drop, G: Gate> Worker<'a, H, R, G> {
         clerk: &'a Mutex<Clerk<H, R>>,
         gate: &'a G,
     ) -> Worker<'a, H, R, G>
-        ensures { result ≡ desk }
+        ensures number { result.number ≡ number }
+        ensures calls { result.calls ≡ 0 }
+        ensures seat { result.seat ≡ desk }
     {
         Worker {
             number,
@@ -137,7 +139,7 @@ impl<'a, H: HallName, R: Wait + Drop, G: Gate> Worker<'a, H, R, G> {
 
     /// How many receipts were got at the desk.
     pub fn made(&self) -> u64
-        ensures { result ≡ self.now.made }
+        ensures { result ≡ self.now.seat.made }
     {
         self.desk.made()
     }
@@ -145,12 +147,14 @@ impl<'a, H: HallName, R: Wait + Drop, G: Gate> Worker<'a, H, R, G> {
     /// Answers one request. A change is made by the clerk, and its front is learnt where it has one. A read waits at the gate first,
     /// and is then answered without waiting. On a want of memory a change is not made, and a read may have seen more changes.
     pub fn ask<W: Wait>(&mut self, rt: &W, asked: Asked) -> Result<Reply, AllocError>
-        ensures seen { IsPrefix self.old.seen self.new.seen }
+        ensures number { self.new.number ≡ self.old.number }
+        ensures calls { self.new.calls ≡ min (self.old.calls + 1) (2 ^ 64 - 1) }
+        ensures seen { IsPrefix self.old.seat.seen self.new.seat.seen }
         ensures change { asks_for_change asked ≡ true
-            → MatchResult result (λ _. self.new.made ≡ self.old.made + 1) (λ _. self.new.made ≡ self.old.made) }
+            → MatchResult result (λ _. self.new.seat.made ≡ self.old.seat.made + 1) (λ _. self.new.seat.made ≡ self.old.seat.made) }
         ensures changed { asks_for_change asked ≡ true → IfOk result (λ r. (list : List Ask) × EndsWith H.start list asked r) }
-        ensures read { asks_for_change asked ≡ false → self.new.made ≡ self.old.made }
-        ensures shown { asks_for_change asked ≡ false → IfOk result (λ r. r ≡ reply_of (state_after H.start self.new.seen) asked) }
+        ensures read { asks_for_change asked ≡ false → self.new.seat.made ≡ self.old.seat.made }
+        ensures shown { asks_for_change asked ≡ false → IfOk result (λ r. r ≡ reply_of (state_after H.start self.new.seat.seen) asked) }
     {
         self.calls = self.calls.saturating_add(1);
         let reply = if asked.is_change() {

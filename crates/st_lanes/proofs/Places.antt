@@ -1,8 +1,8 @@
 -- A place in a box, by its address.
-use Rattle.std.proofs.Common.{◌≡◌, ◌↔◌, ℕ, ◌<◌, ◌≤◌, ◌^◌, ap, sym, subst, arith}
+use Rattle.std.proofs.Common.{◌↔◌, ℕ, ◌<◌, ◌^◌, subst}
 use Rattle.st_key.specs.Morton.{address_of}
 use Rattle.st_key.specs.Order.{Spot}
-use Rattle.st_box.specs.Corner.{spot_at, IsWithin}
+use Rattle.st_box.specs.Corner.{IsWithin}
 use Rattle.st_box.specs.declared.zbox.ZBox.{ZBox}
 use Rattle.st_box.specs.ZBox.{IsInside, first_of, last_of}
 use Rattle.st_box.proofs.Boxes.{inside_at}

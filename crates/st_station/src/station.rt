@@ -31,7 +31,7 @@ impl<'a, H: HallName, R: Wait + Drop, G: Gate, W: Wait> Model for Answering<'a, 
 
     ghost Value = { Seat };
 
-    ghost view = { λ a. a.worker };
+    ghost view = { λ a. a.worker.seat };
 }
 
 impl<'a, H: HallName, R: Wait + Drop, G: Gate, W: Wait> Answering<'a, H, R, G, W> {

@@ -1,5 +1,5 @@
 -- Rows put one after another into a table of no rows.
-use Rattle.std.proofs.Common.{◌≡◌, ℕ, ◌+◌, ◌≤◌, ◌<◌, ◌^◌, suc, length, List, [], ◌∷◌, ◌++◌, filter, Bool, true, false, ◌&&◌, nat_le, Option, Some, None, refl, sym, ap, ◌∙◌, subst, arith}
+use Rattle.std.proofs.Common.{◌≡◌, ◌+◌, ◌≤◌, length, List, [], ◌∷◌, ◌++◌, filter, Bool, true, false, ◌&&◌, nat_le, Option, Some, None, refl, sym, ap, ◌∙◌, subst, arith}
 use Rattle.std.proofs.lemmas.List.{append_assoc}
 use Rattle.std.proofs.lemmas.List.Elements.{filter-append as filter_append}
 use Rattle.std.proofs.lemmas.Bool.{le-leb}
@@ -19,10 +19,10 @@ use Rattle.st_text.proofs.Resorting.{Apart, R, filter_in_order, in_order_again, 
 use Rattle.st_text.proofs.Same.{same-refl}
 use Rattle.st_index.specs.declared.row.Row.{Row}
 use Rattle.st_index.specs.Order.{scan_key}
-use Rattle.st_index.specs.Rows.{Name, name_of}
+use Rattle.st_index.specs.Rows.{name_of}
 use Rattle.st_scan.specs.Rows.{has_row}
 use Rattle.st_table.specs.Names.{IsTied, key_at}
-use Rattle.st_table.specs.Table.{HasEachOnce, IsAt, IsFound, is_named, rows_named, with_row, without}
+use Rattle.st_table.specs.Table.{HasEachOnce, IsFound, is_named, rows_named, with_row, without}
 use Rattle.st_table.specs.declared.row_name.RowName.{RowName}
 use Rattle.st_table.proofs.Naming.{none_fails}
 use Rattle.st_table.proofs.Replacing.{bears}

@@ -1,22 +1,20 @@
 -- Putting a row in place of the one of its name.
-use Rattle.std.proofs.Common.{◌≡◌, ℕ, ◌+◌, ◌*◌, ◌/◌, ◌%◌, ◌^◌, ◌<◌, List, [], ◌∷◌, ◌++◌, filter, Bool, true, false, not, ◌&&◌, nat_eq, Option, Some, None, refl, sym, ap, ◌∙◌, subst, arith, get_or}
+use Rattle.std.proofs.Common.{◌≡◌, ℕ, ◌+◌, ◌<◌, List, [], ◌∷◌, ◌++◌, filter, Bool, true, false, not, ◌&&◌, Option, Some, None, refl, sym, ap, ◌∙◌, subst, arith, get_or}
 use Rattle.std.specs.List.{All}
 use Rattle.std.specs.Prelude.{IfSome, IfNone}
 use Rattle.std.proofs.lemmas.Bool.{eqb-true, eq-eqb}
 use Rattle.std.proofs.Math.Dec.{eqb}
-use Rattle.std.proofs.lemmas.List.Elements.{All-head, All-tail, All-append, All-cons, filter-append as filter_append}
-use Rattle.st_key.specs.declared.key.Key.{Key}
+use Rattle.std.proofs.lemmas.List.Elements.{All-head, All-tail, All-cons, filter-append as filter_append}
 use Rattle.st_key.specs.declared.period.Period.{Period}
-use Rattle.st_key.specs.Key.{rank}
-use Rattle.st_text.specs.Texts.{Text, same, in_order}
+use Rattle.st_text.specs.Texts.{same, in_order}
 use Rattle.st_text.proofs.Same.{same-eq, same-refl}
 use Rattle.st_index.specs.declared.row.Row.{Row}
 use Rattle.st_index.specs.Index.{Adds, Swaps, Holds, IsAbsent}
 use Rattle.st_index.specs.Order.{InScanOrder, scan_key}
 use Rattle.st_index.specs.Rows.{Name, key_end, name_of, place_of}
 use Rattle.st_index.proofs.Scanning.{scan_apart}
-use Rattle.st_table.specs.Table.{IsAt, IsFound, is_named, rows_named, with_row, without}
-use Rattle.st_table.proofs.Naming.{One, Passing, both_fail, cut, cut_fails, none_fails, one}
+use Rattle.st_table.specs.Table.{IsAt, is_named, rows_named, with_row, without}
+use Rattle.st_table.proofs.Naming.{Passing, both_fail, cut_fails, none_fails, one}
 use Rattle.st_index.proofs.Sorting.{all_without, middle, place_below, placed, scan_filter}
 
 module _ {A : Type 0} where

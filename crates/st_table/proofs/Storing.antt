@@ -1,5 +1,5 @@
 -- A table's changes among the rows of all tables.
-use Rattle.std.proofs.Common.{◌≡◌, ◌+◌, ◌≤◌, suc, length, List, [], ◌∷◌, ◌++◌, filter, map, Bool, true, false, not, ◌&&◌, refl, sym, ap, ◌∙◌, subst, arith}
+use Rattle.std.proofs.Common.{◌≡◌, ◌+◌, ◌≤◌, length, List, [], ◌∷◌, ◌++◌, filter, map, Bool, true, false, not, refl, sym, ap, ◌∙◌, subst, arith}
 use Rattle.std.proofs.lemmas.List.{append_assoc}
 use Rattle.std.proofs.lemmas.List.Elements.{filter-append as filter_append}
 use Rattle.st_key.specs.declared.period.Period.{Period}
@@ -8,7 +8,7 @@ use Rattle.st_text.proofs.Same.{same-refl}
 use Rattle.st_index.specs.declared.row.Row.{Row}
 use Rattle.st_index.specs.Order.{InScanOrder, scan_key}
 use Rattle.st_table.specs.Rows.{Held, full_name, is_held, put_row, without_row, without_table}
-use Rattle.st_index.specs.Rows.{Name, name_of}
+use Rattle.st_index.specs.Rows.{name_of}
 use Rattle.st_table.specs.Table.{HasEachOnce, is_named, rows_named, with_row, without}
 use Rattle.st_index.proofs.Sorting.{in_order_already, scan_filter}
 use Rattle.st_text.proofs.Resorting.{Apart, filter_in_order, in_order_anywhere}

@@ -4,7 +4,7 @@ use Rattle.std.specs.Prelude.{IfSome, IfNone}
 use Rattle.std.proofs.lemmas.Map.Lookups.{exact_bytes}
 use Rattle.std.specs.Cmp.{tied_itself}
 use Rattle.std.specs.Cmp.Lexicographic.{slice_cmp, nat_list_cmp_total}
-use Rattle.std.specs.Ordering.{nat_cmp, is_eq, ordering_then}
+use Rattle.std.specs.Ordering.{nat_cmp, is_eq}
 use Rattle.std.specs.declared.cmp.Ordering.{Ordering}
 use Rattle.std.specs.declared.cmp.Ordering.TheVariants.{Less, Equal, Greater}
 use Rattle.st_key.specs.declared.key.Key.{Key}
@@ -14,11 +14,11 @@ use Rattle.st_text.specs.Texts.{Text, comes_before, put_in_order, in_order}
 use Rattle.st_index.specs.declared.row.Row.{Row}
 use Rattle.st_index.specs.Index.{Adds, IsAbsent}
 use Rattle.st_index.specs.Order.{InScanOrder, scan_key}
-use Rattle.st_index.specs.Rows.{Name, name_cmp, name_of, place_of}
+use Rattle.st_index.specs.Rows.{Name, name_of, place_of}
 use Rattle.st_table.specs.Names.{AreShort, IsTied, is_short, joined, key_at, same_text}
 use Rattle.st_table.specs.Table.{IsAt, IsFound, is_named, rows_named, with_row, without}
 use Rattle.st_table.specs.declared.row_name.RowName.{RowName}
-use Rattle.st_table.proofs.Naming.{cut_fails, none_fails}
+use Rattle.st_table.proofs.Naming.{cut_fails}
 use Rattle.st_table.proofs.Replacing.{bears, holds, named}
 use Rattle.st_index.proofs.Sorting.{in_order_already, middle, scan_filter}
 

@@ -1,12 +1,12 @@
 -- What a table is seen as, and what changes make of it.
-use Rattle.std.specs.Prelude.{◌≡◌, ℕ, ◌≤◌, length, List, [], ◌∷◌, ◌++◌, Bool, ◌&&◌, not, filter, Option, Some, None}
+use Rattle.std.specs.Prelude.{◌≡◌, ℕ, ◌≤◌, length, List, [], ◌∷◌, Bool, ◌&&◌, not, filter, Option, Some, None}
 use Rattle.st_text.specs.Texts.{Text, same, in_order}
 use Rattle.st_key.specs.declared.key.Key.{Key}
 use Rattle.st_key.specs.declared.period.Period.{Period}
 use Rattle.st_key.specs.Key.{rank}
 use Rattle.st_index.specs.declared.row.Row.{Row}
 use Rattle.st_index.specs.Order.{scan_key}
-use Rattle.st_index.specs.Rows.{Name, name_of, place_of}
+use Rattle.st_index.specs.Rows.{Name, place_of}
 
 -- a table's period, and its rows in scan order
 pub record TableValue (A : Type 0) : Type 0 where

@@ -1,4 +1,4 @@
-use Rattle.std.proofs.Common.{◌≡◌, ◌+◌, ◌/◌, ◌≤◌, ◌↔◌, IsTrue, inl, inr, refl, sym, ap, subst, ◌∙◌, arith, rules}
+use Rattle.std.proofs.Common.{◌≡◌, ◌+◌, ◌/◌, ◌≤◌, inl, inr, sym, ap, subst, ◌∙◌, arith, rules}
 use Rattle.st_key.specs.Period.{seconds_of}
 use Rattle.st_box.specs.Query.{IsBoxIn}
 use Rattle.st_box.specs.ZBox.{IsInside}

@@ -1,4 +1,4 @@
-use Rattle.std.proofs.Common.{◌≡◌, ◌≤◌, subst, sym}
+use Rattle.std.proofs.Common.{◌≤◌, subst, sym}
 use Rattle.st_box.specs.ZBox.{IsInside}
 use Rattle.st_bigmin.proofs.FirstKeys as keys
 use Rattle.st_bigmin.proofs.first.first_in.Goals as goal

@@ -3,7 +3,7 @@ use Rattle.st_box.specs.Corner.{IsWithin, spot_at, address_at, later_of}
 use Rattle.st_box.specs.ZBox.{first_of}
 use Rattle.st_bigmin.specs.Jump.{IsLeastAbove}
 use Rattle.st_bigmin.proofs.Jumps as jumps
-use Rattle.st_box.proofs.Boxes.{Meets, cell_first, cell_last}
+use Rattle.st_box.proofs.Boxes.{cell_first}
 use Rattle.st_bigmin.proofs.Jumps.{meets_from, meets_to}
 use Rattle.st_bigmin.proofs.jump.bigmin.Goals as goal
 use Rattle.st_bigmin.proofs.jump.bigmin.Goals.{then-prefix-eq0+else-is_within, else-is_within-via-then-is_within+else-is_within-2, else-is_within-via-else-is_within, else-prefix-eq0}

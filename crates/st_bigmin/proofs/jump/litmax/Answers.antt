@@ -3,7 +3,7 @@ use Rattle.st_box.specs.Corner.{IsWithin, spot_at, address_at, earlier_of}
 use Rattle.st_box.specs.ZBox.{last_of}
 use Rattle.st_bigmin.specs.Jump.{IsGreatestBelow}
 use Rattle.st_bigmin.proofs.Jumps as jumps
-use Rattle.st_box.proofs.Boxes.{Meets, cell_first, cell_last}
+use Rattle.st_box.proofs.Boxes.{cell_last}
 use Rattle.st_bigmin.proofs.Jumps.{meets_from, meets_to}
 use Rattle.st_bigmin.proofs.jump.litmax.Goals as goal
 use Rattle.st_bigmin.proofs.jump.litmax.Goals.{then-prefix-eq1+else-is_within, else-is_within-via-then-is_within+else-is_within-2, else-is_within-via-else-is_within, else-prefix-eq1}

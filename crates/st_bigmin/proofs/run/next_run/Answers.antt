@@ -1,4 +1,4 @@
-use Rattle.std.proofs.Common.{◌≡◌, ◌<◌, ◌≤◌, inl, inr, sym, subst, arith, rules}
+use Rattle.std.proofs.Common.{◌≡◌, inl, inr, subst, arith, rules}
 use Rattle.std.proofs.lemmas.Bool.{cases_lt}
 use Rattle.st_bigmin.specs.Jump.{IsLeastAbove}
 use Rattle.st_box.specs.ZBox.{IsInside}

@@ -1,4 +1,4 @@
-use Rattle.std.proofs.Common.{refl, take, ◌∙◌, arith, sym}
+use Rattle.std.proofs.Common.{refl, take, ◌∙◌, arith}
 use Rattle.st_connection.proofs.Joins.{whole_none}
 use Rattle.st_connection.proofs.Blocks.{gathered_none}
 use Rattle.st_connection.proofs.Buffer.{front_at_most}

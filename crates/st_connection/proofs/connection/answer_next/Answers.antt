@@ -1,6 +1,5 @@
-use Rattle.std.proofs.Common.{List, [], take, ℕ, Bool, false, true, refl, inl, sym, subst, arith, ◌∙◌}
+use Rattle.std.proofs.Common.{List, [], take, ℕ, Bool, false, true, refl, inl, sym, subst, arith}
 use Rattle.std.proofs.KnownBytes.{Appends-nil}
-use Rattle.std.proofs.lemmas.Result.{err_from_is_err_and}
 use Rattle.httparse.specs.Grammar.{RequestHead}
 use Rattle.st_http.specs.Take.{ShowsMessage}
 use Rattle.st_http.specs.First.{message, fault}

@@ -1,4 +1,3 @@
-use Rattle.std.proofs.Common.{refl}
 use Rattle.st_connection.proofs.Blocks.{sent_behind}
 use Rattle.st_connection.proofs.connection.pass.Goals as goal
 

@@ -1,4 +1,3 @@
-use Rattle.std.proofs.Common.{rules}
 use Rattle.st_json_reply.proofs.rows.write_place_or_null.Goals as goal
 
 pub returns-in-Some : goal.returns-in-Some

@@ -1,4 +1,3 @@
-use Rattle.std.proofs.Common.{arith}
 use Rattle.st_plan.proofs.QueryPlans.{next_part}
 use Rattle.st_plan.proofs.query_plan.plan_parts.Goals as goal
 

@@ -1,6 +1,5 @@
 use Rattle.st_key.specs.Key.{rank}
 use Rattle.st_index.specs.Index.{region}
-use Rattle.st_index.specs.Rows.{Name}
 use Rattle.st_table.proofs.Finding.{is_row, never_absent}
 use Rattle.st_table.proofs.Replacing.{reached}
 use Rattle.st_table.proofs.lookup.row_at.Goals as goal

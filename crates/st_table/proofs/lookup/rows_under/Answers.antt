@@ -1,4 +1,4 @@
-use Rattle.std.proofs.Common.{◌≡◌, ◌∷◌, ◌++◌, map, sym, ap, ◌∙◌}
+use Rattle.std.proofs.Common.{◌++◌, map, sym, ap, ◌∙◌}
 use Rattle.st_key.specs.declared.key.Key.{Key}
 use Rattle.st_text.specs.Texts.{Text}
 use Rattle.st_scan.specs.Seen.{is_visible}

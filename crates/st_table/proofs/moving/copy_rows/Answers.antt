@@ -1,4 +1,4 @@
-use Rattle.std.proofs.Common.{◌≡◌, OnOk, sym, ap, ◌∙◌, subst}
+use Rattle.std.proofs.Common.{◌≡◌, OnOk, sym, ◌∙◌, subst}
 use Rattle.st_box.specs.Query.{HasKey}
 use Rattle.st_text.specs.Texts.{in_order}
 use Rattle.st_index.specs.Order.{scan_key}

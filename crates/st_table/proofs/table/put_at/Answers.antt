@@ -1,16 +1,14 @@
-use Rattle.std.proofs.Common.{rules, ◌≡◌, [], ℕ, ◌<◌, List, Option, Some, None, sym, ap, ◌∙◌, subst, refl}
+use Rattle.std.proofs.Common.{◌≡◌, [], sym, ap, ◌∙◌, subst}
 use Rattle.std.proofs.lemmas.Map.Lookups.{exact_unsigned}
 use Rattle.std.specs.Cmp.{nat_cmp_total, tied_itself}
 use Rattle.std.specs.Ordering.{nat_cmp}
-use Rattle.std.specs.declared.cmp.Ordering.TheVariants.{Equal}
-use Rattle.st_key.specs.declared.key.Key.{Key}
 use Rattle.st_key.specs.Key.{rank}
 use Rattle.st_index.specs.Index.{Adds, Swaps, Holds, IsAbsent}
 use Rattle.st_index.specs.Order.{InScanOrder}
 use Rattle.st_index.specs.declared.row.Row.{Row}
-use Rattle.st_index.specs.Rows.{Name, key_end, name_of, place_of}
-use Rattle.st_table.specs.Table.{IsAt, IsFound, rows_named, with_row, without}
-use Rattle.st_table.proofs.Replacing.{elsewhere, holds, none_absent, not_absent, put_moved, put_away, put_new, put_same, reached}
+use Rattle.st_index.specs.Rows.{name_of, place_of}
+use Rattle.st_table.specs.Table.{IsAt, IsFound, rows_named}
+use Rattle.st_table.proofs.Replacing.{elsewhere, holds, none_absent, put_away, put_new, put_same}
 use Rattle.st_table.proofs.table.put_at.Goals as goal
 
 pub insert-requires-clause-absent : goal.insert-requires-clause-absent

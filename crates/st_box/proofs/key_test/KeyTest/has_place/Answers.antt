@@ -1,4 +1,4 @@
-use Rattle.std.proofs.Common.{◌≡◌, ◌/◌, ◌<◌, ◌^◌, true, false, sym, ◌∙◌, arith}
+use Rattle.std.proofs.Common.{◌≡◌, ◌/◌, true, false, sym, ◌∙◌, arith}
 use Rattle.st_key.specs.Morton.{x_of, y_of}
 use Rattle.st_key.proofs.MortonLemmas.{gather-lt}
 use Rattle.st_box.proofs.KeyTests.{between}

@@ -1,4 +1,4 @@
-use Rattle.std.proofs.Common.{◌≡◌, ◌/◌, ◌<◌, ◌^◌, ◌≤◌, true, false, sym, ◌∙◌, subst, arith}
+use Rattle.std.proofs.Common.{◌≡◌, ◌/◌, ◌≤◌, true, false, sym, ◌∙◌, subst, arith}
 use Rattle.st_key.specs.Morton.{offset_of}
 use Rattle.st_key.proofs.MortonLemmas.{gather-lt}
 use Rattle.st_key.proofs.PeriodLemmas.{period}

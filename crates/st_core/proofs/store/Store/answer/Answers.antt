@@ -1,4 +1,4 @@
-use Rattle.std.proofs.Common.{rules, ◌≡◌, Some, IfOk, ap, sym, subst}
+use Rattle.std.proofs.Common.{rules, ◌≡◌, Some, IfOk, sym, subst}
 use Rattle.st_policy.specs.declared.reply.Reply.{Reply}
 use Rattle.st_core.specs.Step.{asker_of}
 use Rattle.st_core.proofs.Steps.{step_shown, told_refused}

@@ -1,5 +1,4 @@
-use Rattle.std.proofs.Common.{rules, ◌≡◌, sym, ap, ◌∙◌}
-use Rattle.std.proofs.lemmas.Result.{on_ok_weaker, on_err_weaker}
+use Rattle.std.proofs.Common.{rules, sym, ap, ◌∙◌}
 use Rattle.st_dir.specs.Directory.{Directory}
 use Rattle.st_core.specs.Tables.{headings_of}
 use Rattle.st_core.proofs.Headings.{directory_stays}

@@ -1,4 +1,4 @@
-use Rattle.std.proofs.Common.{◌≡◌, List, map, sym, ap, ◌∙◌, subst}
+use Rattle.std.proofs.Common.{List, map, ap, ◌∙◌}
 use Rattle.st_index.specs.declared.row.Row.{Row}
 use Rattle.st_scan.specs.Seen.{is_seen}
 use Rattle.st_policy.specs.declared.reply.Reply.{Reply}

@@ -1,4 +1,4 @@
-use Rattle.std.proofs.Common.{◌≡◌, true, Some, sym, ap, subst, ◌∙◌}
+use Rattle.std.proofs.Common.{◌≡◌, true, sym, ap, subst, ◌∙◌}
 use Rattle.st_dir.specs.Directory.{is_table}
 use Rattle.st_core.specs.State.{State}
 use Rattle.st_dir.specs.Directory.{period_of}

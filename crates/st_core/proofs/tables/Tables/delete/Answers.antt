@@ -1,4 +1,4 @@
-use Rattle.std.proofs.Common.{◌≡◌, List, ◌∙◌, sym, ap, subst}
+use Rattle.std.proofs.Common.{List, ◌∙◌, ap}
 use Rattle.st_table.specs.Rows.{without_row}
 use Rattle.st_core.specs.Tables.{TablesValue}
 use Rattle.st_core.specs.Shelves.{heading_of}

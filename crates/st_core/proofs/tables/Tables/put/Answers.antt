@@ -1,4 +1,4 @@
-use Rattle.std.proofs.Common.{◌≡◌, List, ◌∙◌, sym, ap, subst}
+use Rattle.std.proofs.Common.{List, ◌∙◌, ap}
 use Rattle.st_index.specs.declared.row.Row.{Row}
 use Rattle.st_table.specs.Rows.{put_row}
 use Rattle.std.proofs.lemmas.Result.{on_ok_weaker, on_err_weaker}

@@ -1,4 +1,4 @@
-use Rattle.std.proofs.Common.{◌≡◌, List, ◌∙◌, sym, ap, subst}
+use Rattle.std.proofs.Common.{List, ◌∙◌, sym, ap, subst}
 use Rattle.st_dir.specs.Sorted.{Rises}
 use Rattle.st_core.specs.Tables.{heading_key, without}
 use Rattle.st_core.specs.Shelves.{headings_in, tables_in}

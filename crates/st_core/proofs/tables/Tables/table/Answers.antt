@@ -1,7 +1,6 @@
-use Rattle.std.proofs.Common.{◌≡◌, List, Bool, Some, ◌∙◌, sym, ap, subst, filter}
-use Rattle.st_text.specs.Texts.{Text, in_order}
+use Rattle.std.proofs.Common.{◌≡◌, List, Some, ◌∙◌, sym, ap, subst, filter}
+use Rattle.st_text.specs.Texts.{in_order}
 use Rattle.st_index.specs.Order.{scan_key}
-use Rattle.st_index.specs.declared.row.Row.{Row}
 use Rattle.st_table.specs.Rows.{rows_of}
 use Rattle.st_table.specs.Table.{TableValue, rows_by_label}
 use Rattle.st_core.specs.Tables.{TablesValue, heading_named}

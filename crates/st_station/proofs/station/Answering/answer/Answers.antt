@@ -8,11 +8,11 @@ returns-in_default g c = seated_unasked g.H.HallName.start c.args.self.now c.arg
 pub returns-in_default-ask : goal.returns-in_default-ask
 returns-in_default-ask g c =
     let ensures = c.in_default-ask.ensures in
-    rw (sym c.self.view_is) (seated_wanting g.H.HallName.start c.self.inside.worker c.ask.new.self c.args.message.now _ c.in-Ok.asked refl
+    rw (sym c.self.view_is) (seated_wanting g.H.HallName.start c.self.inside.worker.seat c.ask.new.self.seat c.args.message.now _ c.in-Ok.asked refl
     ensures.seen ensures.change ensures.read)
 
 pub returns : goal.returns
 returns g c =
     let ensures = c.in-Ok-ask.ensures in
-    rw (sym c.self.view_is) (seated_told g.H.HallName.start c.self.inside.worker c.ask.new.self c.args.message.now _ c.in-Ok.asked c.requires c.in-Ok.ensures
+    rw (sym c.self.view_is) (seated_told g.H.HallName.start c.self.inside.worker.seat c.ask.new.self.seat c.args.message.now _ c.in-Ok.asked c.requires c.in-Ok.ensures
     c.in-Ok-ask.reply ensures.seen ensures.change ensures.changed ensures.read ensures.shown c.tell.ensures)

@@ -1,7 +1,6 @@
-use Rattle.std.proofs.Common.{◌≡◌, cond, Some, List, Option, subst, sym, ◌∙◌, ap}
-use Rattle.st_key.specs.declared.key.Key.{Key as Place}
+use Rattle.std.proofs.Common.{◌≡◌, cond, Some, subst, ◌∙◌}
 use Rattle.st_index.specs.Rows.{Name}
-use Rattle.st_table.specs.Names.{joined, is_short, key_at, same_text, text_of}
+use Rattle.st_table.specs.Names.{joined, key_at, same_text, text_of}
 use Rattle.st_table.specs.declared.row_name.RowName.{RowName}
 use Rattle.st_table.proofs.Tying.{short_put}
 use Rattle.st_table.proofs.names.KeysByName.put.Goals as goal

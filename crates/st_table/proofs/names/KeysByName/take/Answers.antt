@@ -1,6 +1,5 @@
-use Rattle.std.proofs.Common.{◌≡◌, cond, None, List, Option, subst, sym, ◌∙◌, ap, false}
+use Rattle.std.proofs.Common.{◌≡◌, cond, None, subst, sym, ◌∙◌, ap, false}
 use Rattle.std.specs.Prelude.{is_some}
-use Rattle.st_key.specs.declared.key.Key.{Key as Place}
 use Rattle.st_index.specs.Rows.{Name}
 use Rattle.st_table.specs.Names.{joined, is_short, key_at, same_text, text_of}
 use Rattle.st_table.specs.declared.row_name.RowName.{RowName}

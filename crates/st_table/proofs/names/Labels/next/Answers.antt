@@ -1,4 +1,4 @@
-use Rattle.std.proofs.Common.{◌≡◌, ◌++◌, sym, ap, ◌∙◌}
+use Rattle.std.proofs.Common.{◌++◌, sym, ap, ◌∙◌}
 use Rattle.st_table.proofs.Labelling.{labels_end, labels_next}
 use Rattle.st_table.proofs.names.Labels.next.Goals as goal
 

@@ -1,8 +1,7 @@
-use Rattle.std.proofs.Common.{◌≡◌, [], List, sym, ap, ◌∙◌, subst}
+use Rattle.std.proofs.Common.{◌≡◌, [], sym, ◌∙◌, subst}
 use Rattle.st_key.specs.Key.{rank}
-use Rattle.st_index.specs.declared.row.Row.{Row}
 use Rattle.st_index.specs.Rows.{Name}
-use Rattle.st_table.specs.Names.{IsTied, key_at}
+use Rattle.st_table.specs.Names.{IsTied}
 use Rattle.st_table.specs.Table.{IsAt, IsFound, is_named, rows_named, without}
 use Rattle.st_table.proofs.Naming.{none_fails}
 use Rattle.st_table.proofs.Tying.{taken, tied_delete}
