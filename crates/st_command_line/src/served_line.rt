@@ -24,6 +24,7 @@ const SECONDS: u16 = 30;
 pub struct ServedLine<'a> {
     /// Meant to be the 64 hexadecimal digits of the hash of root's secret.
     pub digest: &'a str,
+    /// The port of 127.0.0.1 that is listened at, 1 to 65535.
     pub port: u16,
     /// How many connections are served. All that come, where it is not given.
     pub connections: Option<u16>,

@@ -59,8 +59,10 @@ fn place_of(grants: &[Grant], user: &str, scope: &Scope, permission: Permission)
 // Whether the grant at a place is this one.
 fn is_at(grants: &[Grant], place: usize, user: &str, scope: &Scope, permission: Permission) -> bool
     ensures inside { result ≡ true → place < length grants.now }
-    ensures yes_at { result ≡ true → (d : Declared.Grant) → same_grant (record { user = user.now; scope = scope.now; permission = permission }) (slice_index_or grants.now place d) ≡ true }
-    ensures not_at { result ≡ false → (d : Declared.Grant) → place < length grants.now → same_grant (record { user = user.now; scope = scope.now; permission = permission }) (slice_index_or grants.now place d) ≡ false }
+    ensures yes_at { result ≡ true → (d : Declared.Grant)
+        → same_grant (record { user = user.now; scope = scope.now; permission = permission }) (slice_index_or grants.now place d) ≡ true }
+    ensures not_at { result ≡ false → (d : Declared.Grant) → place < length grants.now
+        → same_grant (record { user = user.now; scope = scope.now; permission = permission }) (slice_index_or grants.now place d) ≡ false }
 {
     place < grants.len() && grants[place].gives(user, scope, permission)
 }

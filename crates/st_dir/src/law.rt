@@ -34,10 +34,12 @@ pub fn grants_name_each_user_once<A: Allocator>()
 
 /// What is granted on a namespace holds for each of its tables.
 pub fn namespace_grants_hold<A: Allocator>()
-    ensures { (d : Directory A) (user namespace table : Text) (p : Permission) → namespace_of table ≡ Some namespace → has_table (granted user (OnNamespace namespace) p d) user table p ≡ true }
+    ensures { (d : Directory A) (user namespace table : Text) (p : Permission) → namespace_of table ≡ Some namespace
+        → has_table (granted user (OnNamespace namespace) p d) user table p ≡ true }
 {}
 
 /// What is granted on a namespace changes nothing on a table that is not in it.
 pub fn namespace_grants_hold_nowhere_else<A: Allocator>()
-    ensures { (d : Directory A) (user namespace table asker : Text) (p q : Permission) → (namespace_of table ≡ Some namespace → ⊥) → has_table (granted user (OnNamespace namespace) p d) asker table q ≡ has_table d asker table q }
+    ensures { (d : Directory A) (user namespace table asker : Text) (p q : Permission) → (namespace_of table ≡ Some namespace → ⊥)
+        → has_table (granted user (OnNamespace namespace) p d) asker table q ≡ has_table d asker table q }
 {}

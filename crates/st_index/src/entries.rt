@@ -57,10 +57,12 @@ pub fn put<A: Allocator + Copy>(
     requires room { vec_len entries.old < vec_capacity entries.old }
     requires rows_room { All (λ (e : EntryValue A). e.at ≡ rank key → 0 < length e.rows → length e.rows < vec_capacity rows) entries.old.items }
     ensures added { Adds row (rows_of entries.old.items) (rows_of entries.new.items) }
-    ensures rising { (period : Period) (lo hi : _) → rank key ≡ place_of period row → Rises period lo hi entries.old.items → lo ≤ rank key → rank key < hi → IsAbsent period (rank key) (name_of row) (rows_of entries.old.items) → Rises period lo hi entries.new.items }
+    ensures rising { (period : Period) (lo hi : _) → rank key ≡ place_of period row → Rises period lo hi entries.old.items → lo ≤ rank key
+        → rank key < hi → IsAbsent period (rank key) (name_of row) (rows_of entries.old.items) → Rises period lo hi entries.new.items }
     ensures longer { vec_len entries.old ≤ vec_len entries.new }
     ensures at_most_one { vec_len entries.new ≤ vec_len entries.old + 1 }
-    ensures new_key { (period : Period) (lo hi : _) → Rises period lo hi entries.old.items → vec_len entries.old < vec_len entries.new → All (λ (e : EntryValue A). e.at ≡ rank key → ⊥) entries.old.items }
+    ensures new_key { (period : Period) (lo hi : _) → Rises period lo hi entries.old.items → vec_len entries.old < vec_len entries.new
+        → All (λ (e : EntryValue A). e.at ≡ rank key → ⊥) entries.old.items }
     ensures capacity { vec_capacity entries.old ≤ vec_capacity entries.new }
 {
     match find(entries, key) {
@@ -86,7 +88,9 @@ pub fn take<A: Allocator + Copy>(
     ensures some { IfSome result (λ row. Adds row (rows_of entries.new.items) (rows_of entries.old.items) × ((name_of row) ≡ record { id = id.now; label = label.now })) }
     ensures placed { IfSome result (λ row. (period : Period) (lo hi : _) → Rises period lo hi entries.old.items → place_of period row ≡ rank key) }
     ensures none { IfNone result (entries.new.items ≡ entries.old.items) }
-    ensures absent { IfNone result ((period : Period) (lo hi : _) → Rises period lo hi entries.old.items → IsAbsent period (rank key) (record { id = id.now; label = label.now }) (rows_of entries.old.items)) }
+    ensures absent { IfNone result
+        ((period : Period) (lo hi : _) → Rises period lo hi entries.old.items
+        → IsAbsent period (rank key) (record { id = id.now; label = label.now }) (rows_of entries.old.items)) }
     ensures rising { (period : Period) (lo hi : _) → Rises period lo hi entries.old.items → Rises period lo hi entries.new.items }
     ensures shorter { vec_len entries.new ≤ vec_len entries.old }
     ensures at_most_one { vec_len entries.old ≤ vec_len entries.new + 1 }

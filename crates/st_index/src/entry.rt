@@ -52,7 +52,8 @@ impl<A: Allocator + Copy> Entry<A> {
         requires room { 0 < length self.old.rows → length self.old.rows < vec_capacity rows }
         ensures at { self.new.at ≡ self.old.at }
         ensures added { Adds row self.old.rows self.new.rows }
-        ensures named { (period : Period) → NamesRise self.old.rows → IsAbsent period (place_of period row) (name_of row) self.old.rows → All (λ r. place_of period r ≡ place_of period row) self.old.rows → NamesRise self.new.rows }
+        ensures named { (period : Period) → NamesRise self.old.rows → IsAbsent period (place_of period row) (name_of row) self.old.rows
+            → All (λ r. place_of period r ≡ place_of period row) self.old.rows → NamesRise self.new.rows }
     {
         let place = match self.rows().find(row.id.as_str(), row.label.text()) {
             Ok(place) => place,

@@ -69,7 +69,9 @@ fn write_three<A: Allocator>(
     second: (&str, &str),
     third: (&str, &str),
 ) -> Result<(), AllocError>
-    ensures { OnOk result (Adds out.old out.new (tokens_of (of ((first.entry.0.now, string first.entry.1.now) ∷ (second.entry.0.now, string second.entry.1.now) ∷ (third.entry.0.now, string third.entry.1.now) ∷ [])))) }
+    ensures { OnOk result (Adds out.old out.new
+        (tokens_of (of ((first.entry.0.now, string first.entry.1.now) ∷ (second.entry.0.now, string second.entry.1.now)
+        ∷ (third.entry.0.now, string third.entry.1.now) ∷ [])))) }
 {
     out.begin_object()?;
     write_text(out, first.0, first.1)?;

@@ -26,7 +26,9 @@ fn fill<'a, I: RowIndex, B: Allocator, C: Allocator + Copy>(
     after: Option<&Place<C>>,
     limit: usize,
 ) -> Result<Page<'a, I::Alloc>, ScanFault>
-    ensures page { IfOk result (λ page. IsPage limit (filter (is_shown period (option_copied after.entry) verdicts.old) walk.old.left) (map (λ row. row.now) page.rows.items) page.more) }
+    ensures page { IfOk result
+        (λ page. IsPage limit (filter (is_shown period (option_copied after.entry) verdicts.old) walk.old.left)
+        (map (λ row. row.now) page.rows.items) page.more) }
     ensures no_memory { IfErr result (λ fault. fault ≡ NoMemory) }
 {
     let mut rows = Vec::new(alloc);
@@ -52,7 +54,9 @@ pub fn page<'a, I: RowIndex, B: Allocator, C: Allocator + Copy>(
     after: Option<&Place<C>>,
     limit: usize,
 ) -> Result<Page<'a, I::Alloc>, ScanFault>
-    ensures page { IfOk result (λ page. IsPage limit (seen_after (I.period_of index.now) query.now auths.now (option_copied after.entry) (I.content index.now)) (map (λ row. row.now) page.rows.items) page.more) }
+    ensures page { IfOk result
+        (λ page. IsPage limit (seen_after (I.period_of index.now) query.now auths.now (option_copied after.entry) (I.content index.now))
+        (map (λ row. row.now) page.rows.items) page.more) }
     ensures limit { IsOk result → (1 ≤ limit) × (limit ≤ 1000) }
     ensures bad_limit { IfErr result (λ fault. fault ≡ BadLimit ↔ ((limit ≡ 0) ⊎ (1000 < limit))) }
     ensures no_grid { IfErr result (λ fault. fault ≡ BadGrid → ⊥) }

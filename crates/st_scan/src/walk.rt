@@ -37,7 +37,13 @@ impl<'a, 'p, I: RowIndex> Model for Walk<'a, 'p, I> {
     ghost use Rattle.st_key.specs.Key.{rank};
     ghost use Rattle.st_scan.specs.Walks.{IsWalk, left_of};
 
-    ghost view = { λ w. record { period = w.test.period; query = w.test.query; regions = I.regions w.index.now; start = rank w.at.start; left = left_of w.test.period w.test.query (I.content w.index.now) w.at; opened = w.at.opened } };
+    ghost view = { λ w. record {
+        period = w.test.period;
+        query = w.test.query;
+        regions = I.regions w.index.now;
+        start = rank w.at.start;
+        left = left_of w.test.period w.test.query (I.content w.index.now) w.at;
+        opened = w.at.opened } };
 
     ghost invariant = { λ w. IsWalk (I.period_of w.index.now) (I.regions w.index.now) w.test.period w.test.query w.parts.items w.own w.at };
 }
@@ -107,7 +113,9 @@ impl<'a, 'p, I: RowIndex> Walk<'a, 'p, I> {
         ensures some { IfSome result (λ row. self.old.left ≡ row.now ∷ self.new.left) }
         ensures none { IfNone result (self.old.left ≡ []) }
         ensures end { IfNone result (self.new.left ≡ []) }
-        ensures opened { IfSome result (λ row. Count (MeetsUpTo self.old.period self.old.query self.old.start (place_of self.old.period row.now)) self.old.regions self.new.opened) }
+        ensures opened { IfSome result
+            (λ row. Count (MeetsUpTo self.old.period self.old.query self.old.start (place_of self.old.period row.now)) self.old.regions
+            self.new.opened) }
         ensures opened_all { IfNone result (Count (Meets self.old.period self.old.query self.old.start) self.old.regions self.new.opened) }
         ensures start { self.new.start ≡ self.old.start }
         ensures query { self.new.query ≡ self.old.query }

@@ -24,7 +24,9 @@ fn find_row<'a, A: Allocator + Copy>(
 ) -> Option<&'a Row<A>>
     ensures held { IfSome result (λ row. Contains (rows_of held.now) row.now) }
     ensures named { IfSome result (λ row. name_of row.now ≡ record { id = id.now; label = label.now }) }
-    ensures absent { IfNone result ((period : Period) (lo hi : _) → Rises period lo hi held.now → IsAbsent period (rank key) (record { id = id.now; label = label.now }) (rows_of held.now)) }
+    ensures absent { IfNone result
+        ((period : Period) (lo hi : _) → Rises period lo hi held.now
+        → IsAbsent period (rank key) (record { id = id.now; label = label.now }) (rows_of held.now)) }
 {
     let Ok(at) = entries::find(held, key) else {
         return None;

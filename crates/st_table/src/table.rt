@@ -164,7 +164,9 @@ impl<I: RowIndex> Table<I> {
         after: Option<&Place<C>>,
         limit: usize,
     ) -> Result<Page<'_, I::Alloc>, ScanFault>
-        ensures page { IfOk result (λ page. IsPage limit (seen_after self.now.period query.now auths.now (option_copied after.entry) self.now.rows) (map (λ row. row.now) page.rows.items) page.more) }
+        ensures page { IfOk result
+            (λ page. IsPage limit (seen_after self.now.period query.now auths.now (option_copied after.entry) self.now.rows)
+            (map (λ row. row.now) page.rows.items) page.more) }
         ensures limit { IsOk result → (1 ≤ limit) × (limit ≤ 1000) }
         ensures bad_limit { IfErr result (λ fault. fault ≡ BadLimit ↔ ((limit ≡ 0) ⊎ (1000 < limit))) }
         ensures no_grid { IfErr result (λ fault. fault ≡ BadGrid → ⊥) }

@@ -57,7 +57,9 @@ impl<A: Allocator> Model for Node<A> {
 /// How many children begin at or before the key.
 fn count_up_to<A: Allocator + Copy>(kids: &[Node<A>], key: Key) -> usize
     ensures bound { result ≤ length kids.now }
-    ensures place { IsPartitionedBy (λ (v : NodeValue A). not (ltb (rank key) v.first)) kids.now → IsPartitionPoint (λ (v : NodeValue A). not (ltb (rank key) v.first) ≡ true) (λ (v : NodeValue A). not (ltb (rank key) v.first) ≡ false) kids.now result }
+    ensures place { IsPartitionedBy (λ (v : NodeValue A). not (ltb (rank key) v.first)) kids.now
+        → IsPartitionPoint (λ (v : NodeValue A). not (ltb (rank key) v.first) ≡ true)
+        (λ (v : NodeValue A). not (ltb (rank key) v.first) ≡ false) kids.now result }
 {
     kids.partition_point(
         |kid: &Node<A>| -> bool
