@@ -38,12 +38,13 @@ impl<'a, 'p, I: RowIndex> Model for Walk<'a, 'p, I> {
     ghost use Rattle.st_scan.specs.Walks.{IsWalk, left_of};
 
     ghost view = { λ w. record {
-        period = w.test.period;
-        query = w.test.query;
-        regions = I.regions w.index.now;
-        start = rank w.at.start;
-        left = left_of w.test.period w.test.query (I.content w.index.now) w.at;
-        opened = w.at.opened } };
+      period = w.test.period;
+      query = w.test.query;
+      regions = I.regions w.index.now;
+      start = rank w.at.start;
+      left = left_of w.test.period w.test.query (I.content w.index.now) w.at;
+      opened = w.at.opened;
+    } };
 
     ghost invariant = { λ w. IsWalk (I.period_of w.index.now) (I.regions w.index.now) w.test.period w.test.query w.parts.items w.own w.at };
 }

@@ -23,8 +23,6 @@ mod heads;
 #[cfg(test)]
 mod json_replies;
 #[cfg(test)]
-mod long_bodies;
-#[cfg(test)]
 mod narrow;
 #[cfg(test)]
 mod pieces;
@@ -34,5 +32,3 @@ mod refusals;
 mod runs;
 #[cfg(test)]
 mod serving;
-#[cfg(test)]
-mod takes;
