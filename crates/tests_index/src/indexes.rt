@@ -9,7 +9,7 @@ use std::alloc::Global;
 fn filled(alloc: Global) -> Option<ListIndex> {
     let mut index = ListIndex::new(alloc, Period::Week);
     for (x, id, label) in [(1, "b", "A"), (2, "a", "A"), (1, "b", ""), (1, "a", "B")] {
-        put_at(&mut index, alloc, x, (id, label), "")?;
+        put_at(&mut index, alloc, x, (id, label))?;
     }
     Some(index)
 }
@@ -50,7 +50,7 @@ fn taken(alloc: Global, labels: [&str; 3]) -> Option<[bool; 3]> {
     let mut index = filled(alloc)?;
     let mut out = [false; 3];
     for (at, label) in labels.iter().enumerate() {
-        out[at] = take_at(&mut index, alloc, 1, ("b", *label))?.is_some();
+        out[at] = take_at(&mut index, alloc, 1, ("b", *label))?;
     }
     Some(out)
 }

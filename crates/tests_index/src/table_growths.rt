@@ -8,7 +8,7 @@ use st_table::Table;
 use st_ubtree::UbTree;
 use std::alloc::{Allocator, Global};
 
-const ROWS: [Said; 3] = [
+const ROWS: [Said<'static>; 3] = [
     ("p", "A", [0, 0, 0]),
     ("p", "B", [1, 0, 0]),
     ("q", "", [2, 0, 0]),
@@ -67,7 +67,7 @@ fn growths<B: Allocator, A: Allocator + Copy>(
     over: A,
     alloc: Global,
     call: Call,
-    said: Said,
+    said: Said<'_>,
 ) -> Option<u64> {
     let mut table = table_of(over, &ROWS)?;
     let row = row_of(over, said)?;
@@ -87,13 +87,13 @@ fn growths<B: Allocator, A: Allocator + Copy>(
 }
 
 // How many growths a call takes, if each refusal leaves all as it was.
-fn growths_of(alloc: Global, call: Call, said: Said) -> Option<u64> {
+fn growths_of(alloc: Global, call: Call, said: Said<'_>) -> Option<u64> {
     let heap = Refusing::new(alloc);
     growths(&heap, &heap, alloc, call, said)
 }
 
 // Whether a call grows, and each refusal leaves all as it was.
-fn is_safe(alloc: Global, call: Call, said: Said) -> bool {
+fn is_safe(alloc: Global, call: Call, said: Said<'_>) -> bool {
     growths_of(alloc, call, said).is_some_and(|count| count > 0)
 }
 

@@ -9,7 +9,7 @@ use st_ubtree::UbTree;
 use std::alloc::{Allocator, Global};
 
 /// What a test says of a row: its id, its label, and its point.
-pub type Said = (&'static str, &'static str, [u64; 3]);
+pub type Said<'a> = (&'a str, &'a str, [u64; 3]);
 
 // An id of this text.
 fn id_of<A: Allocator + Copy>(alloc: A, text: &str) -> Option<Id<A>> {
@@ -35,7 +35,7 @@ fn row_at<A: Allocator + Copy>(alloc: A, point: Point, id: &str, label: &str) ->
 }
 
 /// A row without a note.
-pub fn row_of<A: Allocator + Copy>(alloc: A, (id, label, point): Said) -> Option<Row<A>> {
+pub fn row_of<A: Allocator + Copy>(alloc: A, (id, label, point): Said<'_>) -> Option<Row<A>> {
     let [x, y, t] = point;
     row_at(alloc, Point::new(x, y, t).ok()?, id, label)
 }
@@ -47,13 +47,13 @@ fn empty<A: Allocator + Copy>(alloc: A, period: Period) -> Option<Table<UbTree<A
 }
 
 // Puts a row without a note into a table.
-fn put<A: Allocator + Copy>(alloc: A, table: &mut Table<UbTree<A>>, said: Said) -> Option<()> {
+fn put<A: Allocator + Copy>(alloc: A, table: &mut Table<UbTree<A>>, said: Said<'_>) -> Option<()> {
     let row = row_of(alloc, said)?;
     table.put(&row).ok()
 }
 
 /// A week table of these rows.
-pub fn table_of<A: Allocator + Copy>(alloc: A, rows: &[Said]) -> Option<Table<UbTree<A>>> {
+pub fn table_of<A: Allocator + Copy>(alloc: A, rows: &[Said<'_>]) -> Option<Table<UbTree<A>>> {
     let mut table = empty(alloc, Period::Week)?;
     for said in rows {
         put(alloc, &mut table, *said)?;

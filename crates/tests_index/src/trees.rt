@@ -1,8 +1,7 @@
-//! The UB-tree, alone and beside the index of one region.
+//! The UB-tree.
 
 use crate::putting::{growths_at, put_at, take_at};
 use refusing_alloc::Refusing;
-use st_index::ListIndex;
 use st_key::Period;
 use st_ubtree::UbTree;
 use std::alloc::{Allocator, Global};
@@ -11,7 +10,7 @@ use std::alloc::{Allocator, Global};
 fn filled(alloc: Global, count: u64) -> Option<UbTree> {
     let mut tree = UbTree::new(alloc, Period::Week).ok()?;
     for x in 0..count {
-        put_at(&mut tree, alloc, x, ("a", ""), "")?;
+        put_at(&mut tree, alloc, x, ("a", ""))?;
     }
     Some(tree)
 }
@@ -49,14 +48,14 @@ fn split(alloc: Global, count: u64) -> Option<String> {
 // The bounds of a tree of 65 rows whose first was taken out.
 fn merged(alloc: Global) -> Option<String> {
     let mut tree = filled(alloc, 65)?;
-    take_at(&mut tree, alloc, 0, ("a", ""))??;
+    take_at(&mut tree, alloc, 0, ("a", ""))?;
     bounds(alloc, &tree)
 }
 
 // How many rows a tree of 65 rows has once the first is taken out.
 fn len_of_merged(alloc: Global) -> Option<u64> {
     let mut tree = filled(alloc, 65)?;
-    take_at(&mut tree, alloc, 0, ("a", ""))??;
+    take_at(&mut tree, alloc, 0, ("a", ""))?;
     Some(tree.len())
 }
 
@@ -76,7 +75,7 @@ fn pages_split_and_merge(rt: HostRuntime) {
 // How many regions and rows a tree of 32 rows has once a further row of the first key is put in.
 fn crowded(alloc: Global) -> Option<(usize, u64)> {
     let mut tree = filled(alloc, 32)?;
-    put_at(&mut tree, alloc, 0, ("b", ""), "")?;
+    put_at(&mut tree, alloc, 0, ("b", ""))?;
     Some((tree.regions().ok()?.len(), tree.len()))
 }
 
@@ -85,130 +84,9 @@ fn rows_of_one_key(rt: HostRuntime) {
     assert_eq!(rt; crowded(rt.alloc()), Some((1, 33)));
 }
 
-// A tree, and beside it an index of one region.
-#[derive(Drop)]
-struct Pair {
-    tree: UbTree,
-    list: ListIndex,
-}
-
-// One of four names.
-fn named(name: u64) -> (&'static str, &'static str) {
-    let id = if name % 2 == 0 { "a" } else { "b" };
-    let label = if name / 2 % 2 == 0 { "" } else { "A" };
-    (id, label)
-}
-
-impl Pair {
-    fn new(alloc: Global) -> Option<Pair> {
-        Some(Pair {
-            tree: UbTree::new(alloc, Period::Week).ok()?,
-            list: ListIndex::new(alloc, Period::Week),
-        })
-    }
-
-    // Puts a row into both. Gives the length of the note that it replaces in each.
-    fn put(&mut self, alloc: Global, x: u64, name: u64, note: &str) -> Option<[Option<usize>; 2]> {
-        let one = put_at(&mut self.tree, alloc, x, named(name), note)?;
-        let other = put_at(&mut self.list, alloc, x, named(name), note)?;
-        Some([one, other])
-    }
-
-    // Takes a row out of both. Gives the length of its note in each.
-    fn take(&mut self, alloc: Global, x: u64, name: u64) -> Option<[Option<usize>; 2]> {
-        let one = take_at(&mut self.tree, alloc, x, named(name))?;
-        let other = take_at(&mut self.list, alloc, x, named(name))?;
-        Some([one, other])
-    }
-}
-
-// Whether rising rows are new to both.
-fn rises(alloc: Global, pair: &mut Pair) -> Option<bool> {
-    for x in 0..2_000 {
-        if pair.put(alloc, x, 0, "n")? != [None; 2] {
-            return Some(false);
-        }
-    }
-    Some(true)
-}
-
-// Whether both have the rows as they are taken out, the last first.
-fn falls(alloc: Global, pair: &mut Pair) -> Option<bool> {
-    for x in 0..2_000 {
-        if pair.take(alloc, 1_999 - x, 0)? != [Some(1); 2] {
-            return Some(false);
-        }
-    }
-    Some(true)
-}
-
-// Whether rows rise and fall, and how many regions and rows the tree then has.
-fn rise_and_fall(alloc: Global) -> Option<(bool, bool, usize, u64)> {
-    let mut pair = Pair::new(alloc)?;
-    let rose = rises(alloc, &mut pair)?;
-    let fell = falls(alloc, &mut pair)?;
-    let regions = pair.tree.regions().ok()?.len();
-    Some((rose, fell, regions, pair.tree.len()))
-}
-
-#[test]
-fn rising_and_falling(rt: HostRuntime) {
-    assert_eq!(rt; rise_and_fall(rt.alloc()), Some((true, true, 1, 0)));
-}
-
-// Puts a row into both or takes it out of both, as the number says. Gives what each answers.
-fn step(alloc: Global, pair: &mut Pair, state: u64, note: &str) -> Option<[Option<usize>; 2]> {
-    let (x, name) = (state >> 40 & 511, state >> 50 & 3);
-    if state >> 60 < 9 {
-        pair.put(alloc, x, name, note)
-    } else {
-        pair.take(alloc, x, name)
-    }
-}
-
-// The first of many steps, in no order, whose answers differ.
-fn differing_step(alloc: Global, pair: &mut Pair) -> Option<Option<u64>> {
-    let mut state = 1u64;
-    for at in 0..5_000u64 {
-        state = state
-            .wrapping_mul(6_364_136_223_846_793_005)
-            .wrapping_add(1_442_695_040_888_963_407);
-        let note = if at % 2 == 0 { "even" } else { "n" };
-        let [one, other] = step(alloc, pair, state, note)?;
-        if one != other {
-            return Some(Some(at));
-        }
-    }
-    Some(None)
-}
-
-// Takes out each row that may be held. Gives the first place whose answers differ.
-fn differing_place(alloc: Global, pair: &mut Pair) -> Option<Option<u64>> {
-    for place in 0..2_048 {
-        let [one, other] = pair.take(alloc, place / 4, place % 4)?;
-        if one != other {
-            return Some(Some(place));
-        }
-    }
-    Some(None)
-}
-
-// The first step and the first place whose answers differ, and how many rows the tree has at the end.
-fn differences(alloc: Global) -> Option<(Option<u64>, Option<u64>, u64)> {
-    let mut pair = Pair::new(alloc)?;
-    let step = differing_step(alloc, &mut pair)?;
-    let place = differing_place(alloc, &mut pair)?;
-    Some((step, place, pair.tree.len()))
-}
-
-#[test]
-fn as_a_list(rt: HostRuntime) {
-    assert_eq!(rt; differences(rt.alloc()), Some((None, None, 0)));
-}
-
 // Puts a further row into the tree, if it has as many rows as that. Whether it then is a row more.
 fn put_next<A: Allocator + Copy>(alloc: A, tree: &mut UbTree<A>, x: u64) -> bool {
-    tree.len() == x && put_at(tree, alloc, x, ("a", ""), "") == Some(None)
+    tree.len() == x && put_at(tree, alloc, x, ("a", "")).is_some()
 }
 
 // Puts a further row into the tree. Gives how many growths it takes, if none of them changes the tree.
@@ -249,7 +127,7 @@ fn growths_of_one_key(heap: &Refusing<Global>) -> Option<[u64; 3]> {
     let mut counts = [0; 3];
     for (at, id) in ["b", "a", "c"].iter().enumerate() {
         counts[at] = growths_at(heap, &tree, 0, (*id, ""))?;
-        put_at(&mut tree, heap, 0, (*id, ""), "")?;
+        put_at(&mut tree, heap, 0, (*id, ""))?;
     }
     Some(counts)
 }

@@ -62,7 +62,7 @@ impl<I: RowIndex> RowIndex for Counted<I> {
 fn tree(alloc: Global) -> Option<UbTree> {
     let mut tree = UbTree::new(alloc, Period::Week).ok()?;
     for x in 0..33 {
-        put_at(&mut tree, alloc, x, ("a", ""), "")?;
+        put_at(&mut tree, alloc, x, ("a", ""))?;
     }
     Some(tree)
 }
