@@ -60,8 +60,49 @@ fn held<A: Allocator + Copy>(alloc: Global, table: &Table<UbTree<A>>) -> Option<
     told(alloc, page.rows.as_slice())
 }
 
-// Refuses each growth of a call in turn; the table is over the heap that refuses. Gives how many there are, if no refused call changes the table, and none that needs all
-// its growths is answered.
+// Whether a table holds this.
+fn holds<A: Allocator + Copy>(alloc: Global, table: &Table<UbTree<A>>, all: &str) -> Option<bool> {
+    Some(held(alloc, table)?.as_str() == all)
+}
+
+// Refuses each growth of a call in turn. Gives how many there are, if no refused call changes the table, which holds this,
+// and none that needs all its growths is answered.
+fn growths_over<B: Allocator, A: Allocator + Copy>(
+    heap: &Refusing<B>,
+    alloc: Global,
+    table: &mut Table<UbTree<A>>,
+    row: &Row<A>,
+    call: Call,
+    all: &str,
+) -> Option<u64> {
+    for n in 1..100u64 {
+        heap.arm(n);
+        let is_answered = answers(alloc, table, row, call)?;
+        if heap.is_armed() {
+            heap.arm(0);
+            return is_answered.then_some(n - 1);
+        }
+        if is_answered && call.needs_all() || !holds(alloc, table, all)? {
+            return None;
+        }
+    }
+    None
+}
+
+// That of a call with the row that is said.
+fn growths_with<B: Allocator, A: Allocator + Copy>(
+    heap: &Refusing<B>,
+    (over, alloc): (A, Global),
+    table: &mut Table<UbTree<A>>,
+    call: Call,
+    said: Said<'_>,
+) -> Option<u64> {
+    let row = row_of(over, said)?;
+    let all = held(alloc, table)?;
+    growths_over(heap, alloc, table, &row, call, all.as_str())
+}
+
+// That of a call of a table of rows, which is over the heap that refuses.
 fn growths<B: Allocator, A: Allocator + Copy>(
     heap: &Refusing<B>,
     over: A,
@@ -70,20 +111,9 @@ fn growths<B: Allocator, A: Allocator + Copy>(
     said: Said<'_>,
 ) -> Option<u64> {
     let mut table = table_of(over, &ROWS)?;
-    let row = row_of(over, said)?;
-    let before = held(alloc, &table)?;
-    for n in 1..100u64 {
-        heap.arm(n);
-        let is_answered = answers(alloc, &mut table, &row, call)?;
-        if heap.is_armed() {
-            heap.arm(0);
-            return is_answered.then_some(n - 1);
-        }
-        if is_answered && call.needs_all() || held(alloc, &table)?.as_str() != before.as_str() {
-            return None;
-        }
-    }
-    None
+    let count = growths_with(heap, (over, alloc), &mut table, call, said);
+    drop(table);
+    count
 }
 
 // How many growths a call takes, if each refusal leaves all as it was.
