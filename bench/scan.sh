@@ -1,6 +1,6 @@
 #!/usr/bin/env bash
-# What a count costs in a table, against a sorted array in plain Rust over the same rows, and what a page, a put and a row
-# cost. Of three runs each, the quickest counts. First build it: (cd crates/bench_scan && rt run > /dev/null).
+# What a count costs in a table, against a sorted array in plain Rust over the same rows (of three runs each, the quickest
+# counts), and what a page, a put and a row cost. First build it: (cd crates/bench_scan && rt run > /dev/null).
 set -eu
 cd "$(dirname "$0")/.."
 program=crates/bench_scan/out/bench_scan
@@ -12,18 +12,21 @@ python3 bench/scan_data.py --boxes > "$folder/boxes"
 rustc -O -C target-cpu=native -o "$folder/baseline" bench/scan_baseline.rs
 for run in 1 2 3; do
     "$folder/baseline" "$folder/points" "$folder/boxes" > "$folder/plain.$run"
-    "$program" "$folder/points" "$folder/boxes" > "$folder/proved.$run"
+    "$program" "$folder/points" "$folder/boxes" > "$folder/shown.$run" 2> "$folder/proved.$run"
 done
 python3 - "$folder" <<'END'
 import sys
 
-def quickest(kind):
-    runs = [open(f"{sys.argv[1]}/{kind}.{run}").read().splitlines() for run in (1, 2, 3)]
-    return [min((line.split() for line in lines), key=lambda words: int(words[8])) for lines in zip(*runs)]
+def runs(kind):
+    return [[line.split() for line in open(f"{sys.argv[1]}/{kind}.{run}")] for run in (1, 2, 3)]
 
-for plain, proved in zip(quickest("plain"), quickest("proved")):
-    assert plain[4] == proved[4], "the counts differ"
+def quickest(kind, at):
+    return [min(lines, key=lambda words: int(words[at])) for lines in zip(*runs(kind))]
+
+times = {words[0]: int(words[1]) for words in quickest("proved", 1) if words[0] not in ("put:", "page")}
+for plain, shown in zip(quickest("plain", 8), runs("shown")[0]):
+    assert plain[4] == shown[4], "the counts differ"
     print(f"box of {plain[0][:-1]} of a side, {int(plain[4]) // int(plain[1])} rows: "
-          f"{int(proved[8]):,} ns, sorted array {int(plain[8]):,} ns, {int(proved[8]) / int(plain[8]):.1f} times")
+          f"{times[plain[0]]:,} ns, sorted array {int(plain[8]):,} ns, {times[plain[0]] / int(plain[8]):.1f} times")
 END
-"$program" "$count"
+grep -h -e put -e page "$folder"/proved.*

@@ -1,10 +1,6 @@
 //! Boxes in which rows are counted.
-ghost use Rattle.std.specs.Prelude.{◌*◌, ◌<◌, ◌^◌};
-
-use crate::numbers::Numbers;
-use crate::rows::{SPAN, number_of};
+use crate::rows::number_of;
 use st_box::Query;
-use st_key::Point;
 use std::alloc::{AllocError, Global};
 
 /// How large a box is: a share of each side, and a day, a week or all of the time.
@@ -43,43 +39,6 @@ impl Size {
             _ => None,
         }
     }
-
-    /// How wide a box of this size is, and how many seconds it lasts.
-    fn extent(self) -> (u64, u64)
-        ensures side { result.0 < 2 ^ 20 }
-        ensures seconds { result.1 < 4 * 604800 }
-    {
-        match self {
-            Size::Small => (41_943, 86_400),
-            Size::Middle => (209_715, 604_800),
-            Size::Large => (838_860, SPAN - 1),
-        }
-    }
-}
-
-/// A box of this size at a place without a pattern, or none where its bounds make none.
-fn next_box(numbers: &mut Numbers, size: Size) -> Option<Asked> {
-    let (side, seconds) = size.extent();
-    let x = numbers.below(Point::SIDE) % (Point::SIDE - side);
-    let y = numbers.below(Point::SIDE) % (Point::SIDE - side);
-    let t = numbers.below(SPAN) % (SPAN - seconds);
-    match Query::new(x, x + side, y, y + side, t, t + seconds) {
-        Ok(query) => Some(Asked { size, query }),
-        Err(_) => None,
-    }
-}
-
-/// So many boxes of each size, at places without a pattern.
-pub fn boxes(alloc: Global, numbers: &mut Numbers, each: u64) -> Result<Vec<Asked>, AllocError> {
-    let mut boxes = Vec::new(alloc);
-    for size in Size::ALL {
-        for _ in 0..each {
-            if let Some(asked) = next_box(numbers, size) {
-                boxes.push(asked)?;
-            }
-        }
-    }
-    Ok(boxes)
 }
 
 /// The box of a line `share x0 x1 y0 y1 t0 t1`.

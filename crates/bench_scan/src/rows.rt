@@ -1,5 +1,4 @@
 //! Rows to be put into a table.
-use crate::numbers::Numbers;
 use st_index::{Id, Note, Row};
 use st_key::Point;
 use st_label::Label;
@@ -7,31 +6,6 @@ use std::alloc::{AllocError, Global};
 
 /// The authorizations that each count asks for.
 pub const HELD: [&str; 4] = ["A", "B", "D", "G"];
-
-/// The seconds of four weeks.
-pub const SPAN: u64 = 4 * 604_800;
-
-/// The labels of rows without a pattern. Eleven of the sixteen are satisfied by those authorizations.
-fn label_at(number: u64) -> &'static str {
-    match number % 16 {
-        0 => "A&B",
-        1 => "A|B",
-        2 => "A|C",
-        3 => "B|C",
-        4 => "A&D",
-        5 => "B&D",
-        6 => "A|D",
-        7 => "A&G",
-        8 => "D|G",
-        9 => "D|E",
-        10 => "G|H",
-        11 => "A&C",
-        12 => "C|E",
-        13 => "E&F",
-        14 => "G&H",
-        _ => "C&E",
-    }
-}
 
 /// A row of these parts, or none where one of them is none.
 fn row_with(point: Point, label: Label, id: Option<Id>, note: Option<Note>) -> Option<Row> {
@@ -61,20 +35,6 @@ fn row_of(
     let id = Id::new(alloc, id)?;
     let note = Note::new(alloc, "")?;
     Ok(row_with(point, label, id, note))
-}
-
-/// The row of this number, at a place without a pattern: an id of 8 bytes, and a label of 3.
-pub fn next_row(
-    alloc: Global,
-    numbers: &mut Numbers,
-    number: u64,
-) -> Result<Option<Row>, AllocError> {
-    let id = format!(in alloc; "{:08}", number % 100_000_000)?;
-    let x = numbers.below(Point::SIDE);
-    let y = numbers.below(Point::SIDE);
-    let t = numbers.below(SPAN);
-    let label = label_at(numbers.below(16));
-    row_of(alloc, id.as_str(), [x, y, t], label)
 }
 
 /// The row of a line `id,x,y,t,label`.

@@ -1,7 +1,6 @@
 //! What is timed.
 use crate::boxes::{Asked, Size};
-use crate::numbers::Numbers;
-use crate::rows::{HELD, next_row, row_in};
+use crate::rows::{HELD, row_in};
 use st_auth::Auths;
 use st_index::Row;
 use st_key::{Period, Place};
@@ -83,25 +82,28 @@ impl Bench {
         })
     }
 
-    /// Puts in so many rows at places without a pattern, numbered from here on.
-    pub fn fill(&mut self, numbers: &mut Numbers, from: u64, count: u64) -> Result<(), AllocError> {
-        for number in 0..count {
-            let row = next_row(self.alloc, numbers, from.wrapping_add(number))?;
-            if let Some(row) = row {
-                self.table.put(&row)?;
-            }
+    /// Puts in the rows of a text's lines. Gives the nanoseconds of the puts.
+    pub fn fill(&mut self, rt: &HostRuntime, text: &str) -> io::Result<u64> {
+        let mut nanoseconds = 0u64;
+        for line in text.lines() {
+            nanoseconds = nanoseconds.wrapping_add(self.put_line(rt, line)?);
         }
-        Ok(())
+        Ok(nanoseconds)
     }
 
-    /// Puts in the rows of a text's lines.
-    pub fn fill_from(&mut self, text: &str) -> Result<(), AllocError> {
-        for line in text.lines() {
-            if let Some(row) = row_in(self.alloc, line)? {
-                self.table.put(&row)?;
-            }
+    /// Puts in the row of a line.
+    fn put_line(&mut self, rt: &HostRuntime, line: &str) -> io::Result<u64> {
+        match row_in(self.alloc, line)? {
+            Some(row) => self.time_put(rt, &row),
+            None => Ok(0),
         }
-        Ok(())
+    }
+
+    /// Times the put of a row.
+    fn time_put(&mut self, rt: &HostRuntime, row: &Row) -> io::Result<u64> {
+        let start = Instant::now(rt)?;
+        self.table.put(row)?;
+        since(rt, start)
     }
 
     /// Times a count of each of the boxes that are of this size.
@@ -150,34 +152,4 @@ impl Bench {
             Err(_) => Err(AllocError),
         }
     }
-
-    /// Times the put of each of these rows.
-    pub fn puts(&mut self, rt: &HostRuntime, rows: &[Row]) -> io::Result<u64> {
-        let start = Instant::now(rt)?;
-        put_all(&mut self.table, rows)?;
-        Ok(since(rt, start)? / (rows.len() as u64).max(1))
-    }
-}
-
-/// So many rows at places without a pattern, numbered from here on.
-pub fn rows_of(
-    alloc: Global,
-    numbers: &mut Numbers,
-    from: u64,
-    count: u64,
-) -> Result<Vec<Row>, AllocError> {
-    let mut rows = Vec::new(alloc);
-    for number in 0..count {
-        if let Some(row) = next_row(alloc, numbers, from.wrapping_add(number))? {
-            rows.push(row)?;
-        }
-    }
-    Ok(rows)
-}
-
-fn put_all(table: &mut Table<UbTree>, rows: &[Row]) -> Result<(), AllocError> {
-    for row in rows {
-        table.put(row)?;
-    }
-    Ok(())
 }
