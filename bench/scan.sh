@@ -23,10 +23,10 @@ def runs(kind):
 def quickest(kind, at):
     return [min(lines, key=lambda words: int(words[at])) for lines in zip(*runs(kind))]
 
-times = {words[0]: int(words[1]) for words in quickest("proved", 1) if words[0] not in ("put:", "page")}
+times = {words[0]: int(words[1]) for words in quickest("proved", 1)}
 for plain, shown in zip(quickest("plain", 8), runs("shown")[0]):
     assert plain[4] == shown[4], "the counts differ"
     print(f"box of {plain[0][:-1]} of a side, {int(plain[4]) // int(plain[1])} rows: "
           f"{times[plain[0]]:,} ns, sorted array {int(plain[8]):,} ns, {times[plain[0]] / int(plain[8]):.1f} times")
 END
-grep -h -e put -e page "$folder"/proved.*
+grep -h -e put: -e page: "$folder"/proved.*

@@ -52,7 +52,7 @@ fn print_pages(rt: &HostRuntime, bench: &Bench, boxes: &[Asked]) -> io::Result<(
     let mut times = bench.pages(rt, boxes, Size::Large)?;
     let middle = times.middle()?;
     println!(rt; "{} pages of {} rows in all", times.each.len(), times.rows)?;
-    eprintln!(rt; "page of 100 rows: {middle} ns the middle one")
+    eprintln!(rt; "page: {middle} ns the middle one of 100 rows")
 }
 
 /// Prints what counts and pages show and take.
