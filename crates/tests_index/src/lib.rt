@@ -1,12 +1,23 @@
-//! Tests of labels, sets of authorizations, indexes, the UB-tree, walks over it and tables, and of the allocator that refuses.
+//! Tests of keys, boxes, jumps, plans and lanes, of labels and sets of authorizations, of indexes, the UB-tree, walks over it and
+//! tables, and of the allocator that refuses.
 #![tactic(auto)]
 
 #[cfg(test)]
 mod authorizations;
 #[cfg(test)]
+mod boxes;
+#[cfg(test)]
 mod indexes;
 #[cfg(test)]
+mod jumps;
+#[cfg(test)]
+mod keys;
+#[cfg(test)]
 mod labels;
+#[cfg(test)]
+mod lanes;
+#[cfg(test)]
+mod plans;
 #[cfg(test)]
 mod putting;
 #[cfg(test)]
