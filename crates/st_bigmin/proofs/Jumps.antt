@@ -9,6 +9,7 @@ use Rattle.st_box.specs.declared.zbox.ZBox.{ZBox}
 use Rattle.st_box.specs.Corner.{IsWithin, spot_at, address_at, later_of, earlier_of}
 use Rattle.st_box.specs.ZBox.{IsInside, first_of, last_of}
 use Rattle.st_bigmin.specs.Jump.{IsLeastAbove, IsGreatestBelow}
+use Rattle.st_bigmin.specs.Run.{IsBetween}
 use Rattle.st_box.proofs.Cells.{after_first, before_last, in_cell, address-mono, address-spot, spot_in_cube, above_prefix, last_prefix, within-cube}
 use Rattle.st_box.proofs.Boxes.{cell_first, cell_last, Meets, meets, box_in_cube, box_ordered, inside_at}
 
@@ -24,8 +25,13 @@ NoneNear b z k = (a : ℕ) → IsInside b a → z < a → z / 2 ^ k < a / 2 ^ k
 pub half_prefix : (k n : ℕ) → n / 2 ^ (k + 1) ≡ n / 2 ^ k / 2
 half_prefix k n = sym (shr-shr n k 1)
 
-pub none_near-zero : (b : ZBox) (z : ℕ) → NoneNear b z 0
-none_near-zero b z a inside above = omega arith
+-- where the box is between two places, and none between these has the prefix, none of the box has
+pub none_near-start : (b : ZBox) (z k : ℕ) (s t : Spot) → s ≡ first_of b → t ≡ last_of b
+    → ((a : ℕ) → IsBetween s t a → z < a → z / 2 ^ k < a / 2 ^ k) → NoneNear b z k
+none_near-start b z k s t s_is t_is none a inside = none a (record {
+  from_first = subst (λ u. IsWithin u (spot_at a)) (sym s_is) inside.from_first;
+  to_last = subst (λ u. IsWithin (spot_at a) u) (sym t_is) inside.to_last;
+})
 
 -- where the cell beside z is no address's, or misses the box, the next level has none near either
 pub none_near-suc : (b : ZBox) (z k : ℕ) → NoneNear b z k → (z / 2 ^ k % 2 ≡ 0 → Meets b k (z / 2 ^ k + 1) → ⊥) → NoneNear b z (k + 1)
@@ -71,9 +77,6 @@ least_above b z k none room meet =
 -- no address of the box below z has the prefix of z at this level
 abbrev pub NoneNearBelow : ZBox → ℕ → ℕ → Type 0
 NoneNearBelow b z k = (a : ℕ) → IsInside b a → a < z → a / 2 ^ k < z / 2 ^ k
-
-pub none_near_below-zero : (b : ZBox) (z : ℕ) → NoneNearBelow b z 0
-none_near_below-zero b z a inside below = omega arith
 
 pub none_near_below-suc : (b : ZBox) (z k : ℕ) → NoneNearBelow b z k → (z / 2 ^ k % 2 ≡ 1 → Meets b k (z / 2 ^ k - 1) → ⊥) → NoneNearBelow b z (k + 1)
 none_near_below-suc b z k none apart a inside below =

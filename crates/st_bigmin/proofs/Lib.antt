@@ -2,3 +2,4 @@ pub mod Ends
 pub mod FirstKeys
 pub mod Jumps
 pub mod Runs
+pub mod Starts

@@ -1,7 +1,8 @@
 //! The neighbours of a number among the addresses of a box.
-ghost use Rattle.std.specs.Prelude.{◌≡◌, ℕ, ◌^◌, ◌<◌, ◌≤◌, ◌+◌, ◌-◌, ◌*◌, IfSome, IfNone};
+ghost use Rattle.std.specs.Prelude.{◌≡◌, ℕ, ◌^◌, ◌<◌, ◌≤◌, ◌+◌, ◌-◌, ◌*◌, ◌/◌, IfSome, IfNone};
 ghost use Rattle.st_box.specs.Corner.{spot_at};
 ghost use Rattle.st_bigmin.specs.Jump.{IsLeastAbove, IsGreatestBelow};
+ghost use Rattle.st_bigmin.specs.Run.{IsBetween};
 ghost use Rattle.st_box.specs.ZBox.{IsInside};
 
 use st_box::{Corner, ZBox};
@@ -19,6 +20,18 @@ pub(crate) fn cell(prefix: u64, level: u32) -> (Corner, Corner)
     (Corner::at(first), Corner::at(last))
 }
 
+/// A level at which no address between two corners is both above `z` and in the cell of `z`. It
+/// is the highest bit at which `z` differs from the address of the place between them that is
+/// nearest to its own: that place is in each cell of `z` that has a place between them.
+fn first_level(z: u64, first: &Corner, last: &Corner) -> u32
+    requires in_range { z < 2 ^ 63 }
+    ensures { (a : ℕ) → IsBetween first.now last.now a → z < a → z / 2 ^ result < a / 2 ^ result }
+{
+    let not_past = last.earlier_address(&Corner::at(z));
+    let nearest = first.later_address(&Corner::at(not_past));
+    63u32.saturating_sub((z ^ nearest).leading_zeros())
+}
+
 /// The least address of the box that is greater than `z`.
 pub fn bigmin(z: u64, zbox: &ZBox) -> Option<u64>
     ensures some { IfSome result (IsLeastAbove zbox.now z) }
@@ -29,7 +42,7 @@ pub fn bigmin(z: u64, zbox: &ZBox) -> Option<u64>
     }
     let first = zbox.first();
     let last = zbox.last();
-    for level in 0..63u32 {
+    for level in first_level(z, &first, &last)..63 {
         let prefix = z >> level;
         if prefix % 2 == 0 {
             let (cell_first, cell_last) = cell(prefix + 1, level);

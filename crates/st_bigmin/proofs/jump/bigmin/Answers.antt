@@ -42,4 +42,5 @@ pub returns-clause-none : goal.returns-clause-none
 returns-clause-none c = jumps.none_above c.args.zbox.now c.args.z c.loop-level.level c.loop-level.invariant (omega arith)
 
 pub loop-level-init : goal.loop-level-init
-loop-level-init c = search rules
+loop-level-init c =
+    jumps.none_near-start c.args.zbox.now c.args.z c.first_level-level.result _ _ c.first-first.ensures c.last-last.ensures c.first_level-level.ensures
