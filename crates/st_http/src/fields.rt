@@ -54,7 +54,7 @@ impl Reason {
 }
 
 // How many fields have a name, and the value of a lone one.
-#[derive(Clone, Copy, Debug)]
+#[derive(Clone, Copy)]
 pub(crate) enum Named<'b> {
     Missing,
     Once(&'b [u8]),

@@ -17,7 +17,7 @@ pub const FIELD_LIMIT: usize = 64;
 const FIELDS_IN_WINDOW: usize = 2730;
 
 // What a window holds.
-#[derive(Clone, Copy, Debug, PartialEq, Eq)]
+#[derive(Clone, Copy)]
 pub(crate) enum HeadRead {
     // A head that is a prefix.
     Whole(RequestSpans),

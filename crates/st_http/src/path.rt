@@ -6,7 +6,7 @@ ghost use Rattle.st_http.specs.Paths.{pattern_of, lines_of, line_of, allow_of};
 use crate::routes::Line;
 
 /// A path of the table of requests.
-#[derive(Clone, Copy, Debug, PartialEq, Eq)]
+#[derive(Clone, Copy)]
 pub(crate) enum Path {
     Whoami,
     Tables,

@@ -71,7 +71,7 @@ pub enum Line {
 }
 
 /// What a method and a target name.
-#[derive(Clone, Copy, Debug)]
+#[derive(Clone, Copy)]
 pub enum Route<'a> {
     /// A line, and the name in the path, of any form; the empty text where the path has none.
     Found(Line, &'a str),

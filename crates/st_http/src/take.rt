@@ -16,7 +16,7 @@ use httparse::spans::{EMPTY_HEADER_SPAN, HeaderSpan, RequestSpans};
 use std::str::from_utf8;
 
 /// A request.
-#[derive(Clone, Copy, Debug)]
+#[derive(Clone, Copy)]
 pub struct Message<'a> {
     /// What its method and its target name.
     pub route: Route<'a>,
@@ -31,7 +31,7 @@ pub struct Message<'a> {
 }
 
 /// What stands in a message's place. The connection is closed after it.
-#[derive(Clone, Copy, Debug)]
+#[derive(Clone, Copy)]
 pub struct Fault {
     /// The rule that is broken.
     pub reason: Reason,
@@ -40,7 +40,7 @@ pub struct Fault {
 }
 
 /// The first item of a text.
-#[derive(Clone, Copy, Debug)]
+#[derive(Clone, Copy)]
 pub enum Take<'a> {
     /// A message, and how many bytes it has.
     Message(Message<'a>, usize),

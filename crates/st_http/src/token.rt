@@ -12,7 +12,7 @@ use httparse::spans::HeaderSpan;
 use std::str::from_utf8;
 
 /// What a bearer token names.
-#[derive(Clone, Copy, Debug)]
+#[derive(Clone, Copy)]
 pub struct Credentials<'a> {
     /// 1 to 32 bytes of `A-Z a-z 0-9 _`.
     pub user: &'a str,
