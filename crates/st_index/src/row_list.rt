@@ -103,18 +103,10 @@ impl<A: Allocator + Copy> RowList<A> {
         ensures value { result ≡ get_or self.old index result }
         ensures rows { self.new ≡ set self.old index row }
     {
-        let place = mem::replace(&mut self.place, Place::Nowhere);
-        match place {
+        match &mut self.place {
             Place::Nowhere => unreachable!(),
-            Place::Inline(out) => {
-                self.place = Place::Inline(row);
-                out
-            }
-            Place::Heap(mut rows) => {
-                let out = mem::replace(&mut rows[index], row);
-                self.place = Place::Heap(rows);
-                out
-            }
+            Place::Inline(held) => mem::replace(held, row),
+            Place::Heap(rows) => mem::replace(&mut rows[index], row),
         }
     }
 }
