@@ -158,16 +158,10 @@ fn found<R: Threads + Wait + Sync>(rt: &R, alloc: Global, is_own: bool) -> Optio
 
 #[test]
 fn each_own_put_is_made_once(rt: HostRuntime) {
-    assert_eq!(rt;
-        found(&rt, rt.alloc(), true),
-        Some((100, 100, 200, Some((200, 200))))
-    );
+    assert!(rt; found(&rt, rt.alloc(), true) == Some((100, 100, 200, Some((200, 200)))));
 }
 
 #[test]
 fn each_equal_put_is_made_once(rt: HostRuntime) {
-    assert_eq!(rt;
-        found(&rt, rt.alloc(), false),
-        Some((100, 100, 200, Some((1, 200))))
-    );
+    assert!(rt; found(&rt, rt.alloc(), false) == Some((100, 100, 200, Some((1, 200)))));
 }

@@ -42,14 +42,14 @@ fn run_by(
 #[test]
 fn a_run_ends_well(rt: HostRuntime) {
     let found = run_by(rt.alloc(), DIGEST, COUNT.as_bytes(), ZERO, "");
-    assert_eq!(rt; found, Some((0, true, true)));
+    assert!(rt; found == Some((0, true, true)));
 }
 
 #[test]
 fn an_input_is_cut(rt: HostRuntime) {
     let cut = b"POST /tables/points/count HTTP/1.1\r\nHost: a\r\n";
     let found = run_by(rt.alloc(), DIGEST, cut, "", "st_run: cut\n");
-    assert_eq!(rt; found, Some((3, true, true)));
+    assert!(rt; found == Some((3, true, true)));
 }
 
 #[test]
@@ -62,5 +62,5 @@ fn a_digest_lacks_a_digit(rt: HostRuntime) {
         "",
         "st_run: bad digest\n",
     );
-    assert_eq!(rt; found, Some((2, true, true)));
+    assert!(rt; found == Some((2, true, true)));
 }

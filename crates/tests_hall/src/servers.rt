@@ -221,7 +221,7 @@ fn is_served_to_its_end<R: Net<Listener = TcpListener, Stream = TcpStream> + Thr
 
 #[test]
 fn no_more_connections(rt: HostRuntime) {
-    assert_eq!(rt; is_served_to_its_end(&rt, rt.alloc()), Some(true));
+    assert!(rt; is_served_to_its_end(&rt, rt.alloc()) == Some(true));
 }
 
 #[test]
@@ -243,5 +243,5 @@ fn a_port_that_is_taken(rt: HostRuntime) {
 
 #[test]
 fn loopback(rt: HostRuntime) {
-    assert_eq!(rt; served(&rt, rt.alloc()), Some((0, true, (true, true))));
+    assert!(rt; served(&rt, rt.alloc()) == Some((0, true, (true, true))));
 }

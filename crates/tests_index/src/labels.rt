@@ -35,7 +35,7 @@ fn copied(alloc: Global, text: &str) -> Option<(bool, bool)> {
 fn own_normal_forms(rt: HostRuntime) {
     for (text, is_normal) in LABELS {
         let found = copied(rt.alloc(), text);
-        assert_eq!(rt; found, Some((true, is_normal)), "{text}");
+        assert!(rt; found == Some((true, is_normal)));
     }
 }
 
@@ -66,5 +66,5 @@ fn growths(alloc: Global) -> Option<u64> {
 #[test]
 fn each_growth_refused(rt: HostRuntime) {
     let count = growths(rt.alloc());
-    assert!(rt; count.is_some_and(|count| count >= 3), "{count:?}");
+    assert!(rt; count.is_some_and(|count| count >= 3));
 }

@@ -145,8 +145,5 @@ fn each_growth_refused(rt: HostRuntime) {
 // A row that moves to a point of its own lies in its entry there.
 #[test]
 fn a_move_to_a_free_point(rt: HostRuntime) {
-    assert_eq!(rt;
-        growths_of(rt.alloc(), Call::Put, ("p", "A", [9, 9, 9])),
-        Some(0)
-    );
+    assert!(rt; growths_of(rt.alloc(), Call::Put, ("p", "A", [9, 9, 9])) == Some(0));
 }

@@ -115,6 +115,6 @@ fn counted_leaves(rt: HostRuntime) {
         ([0, 32, 0, 0, 0, 0], 40, 33, 2),
     ] {
         let wanted = (Steps { rows, opened }, opened);
-        assert_eq!(rt; walked(rt.alloc(), asked, count), Some(wanted));
+        assert!(rt; walked(rt.alloc(), asked, count) == Some(wanted));
     }
 }

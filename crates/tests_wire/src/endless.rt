@@ -64,5 +64,5 @@ fn served_without_end(alloc: Global) -> Option<(Result<Ended, IoFault>, u64, boo
 #[test]
 fn turns_are_spent(rt: HostRuntime) {
     let found = served_without_end(rt.alloc());
-    assert_eq!(rt; found, Some((Ok(Ended::TurnsSpent), 1_000_000, true)));
+    assert!(rt; found == Some((Ok(Ended::TurnsSpent), 1_000_000, true)));
 }

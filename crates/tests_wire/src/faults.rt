@@ -49,7 +49,7 @@ fn ended_at(alloc: Global, fields: &str, answer: &str) -> Option<Result<Ended, I
 fn faults_end_it(rt: HostRuntime) {
     for (fields, answer) in FAULTS {
         let found = ended_at(rt.alloc(), fields, answer);
-        assert_eq!(rt; found, Some(Ok(Ended::Closed)), "{fields}");
+        assert!(rt; found == Some(Ok(Ended::Closed)));
     }
 }
 
@@ -68,9 +68,9 @@ fn ended_begun(alloc: Global, count: usize, answer: &str) -> Option<Result<Ended
 #[test]
 fn long_heads(rt: HostRuntime) {
     let found = ended_begun(rt.alloc(), 8_191, "");
-    assert_eq!(rt; found, Some(Ok(Ended::Cut)));
+    assert!(rt; found == Some(Ok(Ended::Cut)));
     for count in [8_192, 200_000] {
         let found = ended_begun(rt.alloc(), count, HEADERS);
-        assert_eq!(rt; found, Some(Ok(Ended::Closed)));
+        assert!(rt; found == Some(Ok(Ended::Closed)));
     }
 }

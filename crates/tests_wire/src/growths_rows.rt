@@ -155,12 +155,12 @@ const SHOWN: [Turn<'static>; 7] = [
 fn changes_of_rows(rt: HostRuntime) {
     for (turns, least) in [(&LABELLED[..], 4), (&TWO_LABELS[..], 6), (&MOVED[..], 5)] {
         let runs = busy_runs(rt.alloc(), &[], turns);
-        assert!(rt; runs.is_some_and(|runs| runs >= least), "{runs:?}");
+        assert!(rt; runs.is_some_and(|runs| runs >= least));
     }
 }
 
 #[test]
 fn reads_of_rows(rt: HostRuntime) {
     let runs = busy_runs(rt.alloc(), &[], &SHOWN);
-    assert!(rt; runs.is_some_and(|runs| runs >= 7), "{runs:?}");
+    assert!(rt; runs.is_some_and(|runs| runs >= 7));
 }

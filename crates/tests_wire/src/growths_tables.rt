@@ -145,17 +145,17 @@ const GRANTS: [Turn<'static>; 9] = [
 #[test]
 fn tables_are_made_anew(rt: HostRuntime) {
     let runs = busy_runs(rt.alloc(), &USERS, &MADE_ANEW);
-    assert!(rt; runs.is_some_and(|runs| runs >= 9), "{runs:?}");
+    assert!(rt; runs.is_some_and(|runs| runs >= 9));
 }
 
 #[test]
 fn tables_are_kept_anew(rt: HostRuntime) {
     let runs = busy_runs(rt.alloc(), &TWO_ROWS, &KEPT_ANEW);
-    assert!(rt; runs.is_some_and(|runs| runs >= 7), "{runs:?}");
+    assert!(rt; runs.is_some_and(|runs| runs >= 7));
 }
 
 #[test]
 fn grants_are_given_and_taken(rt: HostRuntime) {
     let runs = busy_runs(rt.alloc(), &USERS, &GRANTS);
-    assert!(rt; runs.is_some_and(|runs| runs >= 9), "{runs:?}");
+    assert!(rt; runs.is_some_and(|runs| runs >= 9));
 }

@@ -84,11 +84,11 @@ const HELD: [Turn<'static>; 3] = [
 #[test]
 fn users_are_made(rt: HostRuntime) {
     let runs = busy_runs(rt.alloc(), &[], &MADE);
-    assert!(rt; runs.is_some_and(|runs| runs >= 7), "{runs:?}");
+    assert!(rt; runs.is_some_and(|runs| runs >= 7));
 }
 
 #[test]
 fn users_are_dropped(rt: HostRuntime) {
     let runs = busy_runs(rt.alloc(), &HELD, &DROPPED);
-    assert!(rt; runs.is_some_and(|runs| runs >= 7), "{runs:?}");
+    assert!(rt; runs.is_some_and(|runs| runs >= 7));
 }

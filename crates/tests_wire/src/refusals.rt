@@ -91,7 +91,7 @@ fn each_growth_refused(rt: HostRuntime) {
         &[ZERO, DONE, BUSY][..],
     ];
     let runs = busy_runs(&heap, rt.alloc(), INPUT, &[ZERO, DONE, ONE], &busy);
-    assert!(rt; runs.is_some_and(|runs| runs > 10), "{runs:?}");
+    assert!(rt; runs.is_some_and(|runs| runs > 10));
 }
 
 // So is the answer to a request for the normal form of a label.
@@ -99,5 +99,5 @@ fn each_growth_refused(rt: HostRuntime) {
 fn each_growth_refused_to_a_label(rt: HostRuntime) {
     let heap = Refusing::new(rt.alloc());
     let runs = busy_runs(&heap, rt.alloc(), LABEL, &[NORMAL], &[&[BUSY][..]]);
-    assert!(rt; runs.is_some_and(|runs| runs > 10), "{runs:?}");
+    assert!(rt; runs.is_some_and(|runs| runs > 10));
 }
