@@ -7,7 +7,7 @@ pub record Seat : Type 0 where
   pub seen : List Ask
   pub made : ℕ
 
--- a worker's number, how many calls it has answered (2^64 - 1 also where there were more), and its desk
+-- a worker's number, how often it has been asked (2^64 - 1 also where it was more often), and its desk
 pub record Post : Type 0 where
   pub number : ℕ
   pub calls : ℕ
