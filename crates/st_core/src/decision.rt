@@ -1,7 +1,8 @@
 //! Changes, as the directory alone decides them.
-ghost use Rattle.std.specs.Prelude.{◌≡◌, true, IfOk, unwrap_or};
+ghost use Rattle.std.specs.Prelude.{◌≡◌, None, true, IfOk, unwrap_or};
 ghost use Rattle.st_text.specs.Texts.{Text};
-ghost use Rattle.st_dir.specs.Directory.{Directory as Lists};
+ghost use Rattle.st_dir.specs.Directory.{Directory as Lists, is_user};
+ghost use Rattle.st_policy.specs.Policy.{refusal_of};
 ghost use Rattle.st_core.specs.Changes.{directory_after};
 ghost use Rattle.st_core.specs.State.{State};
 ghost use Rattle.st_core.specs.Step.{asks_for_change, step};
@@ -9,7 +10,7 @@ ghost use Rattle.st_core.specs.Step.{asks_for_change, step};
 use crate::asked::{Asked, Call};
 use crate::change::change_directory;
 use crate::store::{Store, asker};
-use st_dir::Directory;
+use st_dir::{Directory, Name};
 use st_policy::{Denial, Refusal, Reply, Request, decide};
 use std::alloc::{AllocError, Allocator, Global};
 
@@ -37,6 +38,29 @@ fn is_of_rows<A: Allocator>(request: &Request<A>) -> bool
     matches!(request, Request::Put { .. } | Request::Delete { .. })
 }
 
+// The directory that an allowed change leaves, where that is another.
+fn changed<A: Allocator + Copy>(
+    directory: &Directory<A>,
+    asker: &Name,
+    request: &Request<A>,
+) -> Result<Option<Directory<A>>, AllocError>
+    requires known { is_user directory.now asker.now ≡ true }
+    requires allowed { refusal_of directory.now asker.now request.now ≡ None }
+    ensures { IfOk result (λ next. unwrap_or next directory.now ≡ directory_after asker.now request.now directory.now) }
+{
+    if is_of_rows(request) {
+        return Ok(None);
+    }
+    let mut next = directory.copy()?;
+    match change_directory(&mut next, asker, request) {
+        Ok(()) => Ok(Some(next)),
+        Err(fault) => {
+            drop(next);
+            Err(fault)
+        }
+    }
+}
+
 impl<A: Allocator + Copy> Decision<A> {
     #[tactic(auto, using(crate::proofs::Allowed::asker_known))]
     /// Decides a change by a directory: what each state with this directory replies, and the directory
@@ -56,14 +80,10 @@ impl<A: Allocator + Copy> Decision<A> {
         if let Err(refusal) = decide(directory, asker, request) {
             return Ok(told(Reply::Refused(refusal)));
         }
-        if is_of_rows(request) {
-            return Ok(told(Reply::Accepted));
-        }
-        let mut next = directory.copy()?;
-        change_directory(&mut next, asker, request)?;
+        let next = changed(directory, asker, request)?;
         Ok(Decision {
             reply: Reply::Accepted,
-            directory: Some(next),
+            directory: next,
         })
     }
 }

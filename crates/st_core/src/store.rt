@@ -48,6 +48,23 @@ fn first_tables<A: Allocator + Copy>(alloc: A) -> Result<Tables<A>, AllocError>
     Ok(tables)
 }
 
+// The table points and the listing of no changes.
+fn first_parts<A: Allocator + Copy>(
+    alloc: A,
+) -> Result<(Tables<A>, HeapCircularBuffer<Entry, A>), AllocError>
+    ensures tables { IfOk result (λ parts. parts.0 ≡ record { headings = record { table = codes "points"; period = Week } ∷ []; rows = [] }) }
+    ensures audit { IfOk result (λ parts. (parts.1.items ≡ []) × (parts.1.capacity ≡ 1024)) }
+{
+    let tables = first_tables(alloc)?;
+    match HeapCircularBuffer::with_capacity(alloc, AUDIT_LEN) {
+        Ok(audit) => Ok((tables, audit)),
+        Err(fault) => {
+            drop(tables);
+            Err(fault)
+        }
+    }
+}
+
 // The name of the table that a server begins with.
 fn points() -> TableName
     ensures { result ≡ codes "points" }
@@ -87,12 +104,19 @@ impl<A: Allocator + Copy> Store<A> {
         ensures fault { IfErr result (λ fault. Refuses (map (λ name. name.now) auths.now) fault) }
     {
         let auths = Auths::from_list(alloc, auths)?;
-        Ok(Store {
-            alloc,
-            directory: Directory::new(alloc, digest, auths)?,
-            tables: first_tables(alloc)?,
-            audit: HeapCircularBuffer::with_capacity(alloc, AUDIT_LEN)?,
-        })
+        let directory = Directory::new(alloc, digest, auths)?;
+        match first_parts(alloc) {
+            Ok((tables, audit)) => Ok(Store {
+                alloc,
+                directory,
+                tables,
+                audit,
+            }),
+            Err(fault) => {
+                drop(directory);
+                Err(AuthsFault::from(fault))
+            }
+        }
     }
 
     // The allocator of its parts.

@@ -159,7 +159,7 @@ impl<A: Allocator + Copy> Tables<A> {
         ensures { self.new ≡ without name.now self.old }
     {
         let place = position(&self.shelves, name);
-        let _ = self.shelves.remove(place);
+        drop(self.shelves.remove(place));
     }
 
     /// Keeps a table's rows by the keys of another period, or leaves all as it was where there is no memory for it.

@@ -18,8 +18,8 @@ returns-in_err-reply-clause-stopped g c =
 
 pub loop-one-preserved : goal.loop-one-preserved
 loop-one-preserved g c = (
-  one_more_told _ _ _ _ _ _ _ _ _ c.loop-one-test.true c.one-item.is c.in_ok-reply.ensures.state c.in_ok-reply.ensures.reply c.in-Ok.ensures.items c.loop-one.invariant.0,
-  omega (arith, c.loop-one.invariant.1, c.push.ensures.capacity),
+  one_more_told _ _ _ _ _ _ _ _ _ c.loop-one-test.true c.one-item.is c.in_ok-reply.ensures.state c.in_ok-reply.ensures.reply c.put.ensures.items c.loop-one.invariant.0,
+  omega (arith, c.loop-one.invariant.1, c.put.ensures.capacity),
 )
 
 pub returns-clause-replies : goal.returns-clause-replies

@@ -1,5 +1,4 @@
-use Rattle.std.proofs.Common.{rules, ◌≡◌, Some, None, sym, subst}
-use Rattle.st_policy.specs.Policy.{refusal_of}
+use Rattle.std.proofs.Common.{rules, ◌≡◌, Some, sym}
 use Rattle.st_core.specs.Step.{asker_of}
 use Rattle.st_core.proofs.Decisions.{refused_by, allowed_by}
 use Rattle.st_core.proofs.Steps.{is_allowed}
@@ -29,7 +28,5 @@ returns-clause-directory g c s same =
     let by = allowed_by s c.args.directory.now same c.args.asked.now c.in-Some.asker.now c.in-Good.request heard c.in-Good.is c.requires (search rules) in
     search (rules, sym by.1)
 
-pub change_directory-requires-clause-allowed : goal.change_directory-requires-clause-allowed
-change_directory-requires-clause-allowed g c =
-    let allowed : refusal_of c.args.directory.now c.in-Some.asker.now c.in-Good.request ≡ None = is_allowed _ (search rules) in
-    subst (λ d. refusal_of d c.in-Some.asker.now c.in-Good.request ≡ None) (sym c.in_ok-next.ensures) allowed
+pub changed-requires-clause-allowed : goal.changed-requires-clause-allowed
+changed-requires-clause-allowed g c = is_allowed _ (search rules)
