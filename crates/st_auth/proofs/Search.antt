@@ -23,7 +23,7 @@ use Rattle.st_auth.specs.Order.{IsOrder, name_at}
 self_equal : (a : Text) → slice_cmp nat_cmp a a ≡ Equal
 self_equal a = (Equal-is (slice_cmp nat_cmp a a)).0 (is_eq-slice_cmp a a ∙ same-refl a)
 
-same_when_equal : (a b : Text) → slice_cmp nat_cmp a b ≡ Equal → same b a ≡ true
+pub same_when_equal : (a b : Text) → slice_cmp nat_cmp a b ≡ Equal → same b a ≡ true
 same_when_equal a b e =
     let is : a ≡ b = same-eq a b (sym (is_eq-slice_cmp a b) ∙ ap is_eq e) in
     rw is (same-refl b)
@@ -34,15 +34,15 @@ other_by a b true e h =
     let is : b ≡ a = same-eq b a e in
     absurd (h (rw is (self_equal a)))
 
-other_when_less : (a b : Text) → slice_cmp nat_cmp a b ≡ Less → same b a ≡ false
+pub other_when_less : (a b : Text) → slice_cmp nat_cmp a b ≡ Less → same b a ≡ false
 other_when_less a b e = other_by a b _ refl (λ k. let both : Less ≡ Equal = sym e ∙ k in cc)
 
-other_when_greater : (a b : Text) → slice_cmp nat_cmp a b ≡ Greater → same b a ≡ false
+pub other_when_greater : (a b : Text) → slice_cmp nat_cmp a b ≡ Greater → same b a ≡ false
 other_when_greater a b e = other_by a b _ refl (λ k. let both : Greater ≡ Equal = sym e ∙ k in cc)
 
 -- ---- the search
 
-all_names : (names : List Text) → names ≡ map (name_at names) (range_with_len 0 (length names))
+pub all_names : (names : List Text) → names ≡ map (name_at names) (range_with_len 0 (length names))
 all_names names = fill_by_all (name_at names) names (length names) [] refl (λ k less. refl)
 
 pub places_inside : (names : List Text) (order : List ℕ) → IsOrder names order → All (λ place. place < length names) order
@@ -57,7 +57,7 @@ among_in_order names order name h =
     ap (list_any (same name)) (all_names names)
     ∙ list_any-IsPermutation (same name) (map (name_at names) (range_with_len 0 (length names))) (map (name_at names) order) (IsPermutation-map (name_at names) (range_with_len 0 (length names)) order h.whole)
 
-none_of : (names : List Text) (order : List ℕ) (name : Text) → ((k : ℕ) → k < length order → same name (name_at names (get_or order k 0)) ≡ false) → list_any (same name) (map (name_at names) order) ≡ false
+pub none_of : (names : List Text) (order : List ℕ) (name : Text) → ((k : ℕ) → k < length order → same name (name_at names (get_or order k 0)) ≡ false) → list_any (same name) (map (name_at names) order) ≡ false
 none_of names [] name h = refl
 none_of names (i ∷ order) name h = rw (h 0 (omega arith)) (none_of names order name (λ k less. h (suc k) (omega arith)))
 

@@ -11,6 +11,6 @@ pub returns : goal.returns
 returns g c = record {
   whole = search rules;
   rises =
-      c.sort_unstable_by.ensures.sorted (λ x y. is_lt (slice_cmp nat_cmp (name_at c.args.names.now x) (name_at c.args.names.now y))) (ranks_by nat_list_cmp_total (name_at c.args.names.now))
+      c.in_ok-sort_by.ensures.sorted (λ x y. is_lt (slice_cmp nat_cmp (name_at c.args.names.now x) (name_at c.args.names.now y))) (ranks_by nat_list_cmp_total (name_at c.args.names.now))
       (always_returns_same _ _ _ (λ a r f' k. search rules));
 }
