@@ -87,21 +87,29 @@ follows_prefix book xs (e ∷ es) ys f =
     let p = follows_prefix book e.trail.list es ys f.2 in
     (e.ask ∷ p.0, sym (append_assoc xs (e.ask ∷ []) p.0) ∙ (ap (λ (l : List Ask). l ++ p.0) (sym f.1) ∙ p.1))
 
+-- one entry more, of a change that is added to the list
+pub enters : (book : Book) (xs : List Ask) (es es' : List Added) (front front' : List Ask) (asked : Ask) (post : Added) → es' ≡ es → post.ask ≡ asked
+    → post.trail.book ≡ book → post.trail.list ≡ front ++ asked ∷ [] → front' ≡ front ++ asked ∷ [] → Follows book xs es front → Follows book xs (es' ++ post ∷ []) front'
+enters book xs es es' front front' asked post same is_ask is_book is_list is_front f =
+    let list : post.trail.list ≡ front ++ post.ask ∷ [] = is_list ∙ ap (λ (a : Ask). front ++ a ∷ []) (sym is_ask) in
+    subst (λ (l : List Added). Follows book xs (l ++ post ∷ []) front') (sym same)
+    (subst (Follows book xs (es ++ post ∷ [])) (is_list ∙ sym is_front) (follows_snoc book xs es front post f is_book list))
+
+-- what is decided after a list holds in the state after it
+pub at_state : {D E : Type 0} (P : D → State → Type 0) (directory : Directory Global) (s : State) (r : Result D E) → directory ≡ s.directory
+    → IfOk r (λ d. (t : State) → t.directory ≡ directory → P d t) → IfOk r (λ d. P d s)
+at_state P directory s (Ok d) is h = h s (sym is)
+at_state P directory s (Err e) is h = tt
+
 -- what the clerk keeps holds again once a change was added, which waits
-pub adds : (start : State) (book : Book) (shown shown' : Copy) (es es' : List Added) (front front' : List Ask) (directory directory' : Directory Global) (total total' : ℕ)
-    (asked copy : Ask) (trail : Trail)
-    → Agrees start book shown → Follows book shown.trail.list es front → directory ≡ (state_after start front).directory → total ≡ length front
-    → shown' ≡ shown → es' ≡ es → copy ≡ asked → trail.book ≡ book → trail.list ≡ front ++ asked ∷ [] → front' ≡ front ++ asked ∷ []
-    → ((s : State) → s.directory ≡ directory → directory' ≡ (next s asked).directory) → total' ≡ total + 1
-    → Agrees start book shown' × Follows book shown'.trail.list (es' ++ record { ask = copy; trail = trail } ∷ []) front' × (directory' ≡ (state_after start front').directory) × (total' ≡ length front')
-adds start book shown shown' es es' front front' directory directory' total total' asked copy trail agrees follows is_after counted same_shown same_queue is_copy is_book is_list is_front decides one_more =
-    let e : Added = record { ask = copy; trail = trail } in
-    let list : trail.list ≡ front ++ copy ∷ [] = is_list ∙ ap (λ (a : Ask). front ++ a ∷ []) (sym is_copy) in
-    let snoc : Follows book shown.trail.list (es ++ e ∷ []) trail.list = follows_snoc book shown.trail.list es front e follows is_book list in
-    let ends_so : Follows book shown.trail.list (es ++ e ∷ []) front' = subst (Follows book shown.trail.list (es ++ e ∷ [])) (is_list ∙ sym is_front) snoc in
-    let decided : directory' ≡ (next (state_after start front) asked).directory = decides (state_after start front) (sym is_after) in (
-      rw same_shown agrees,
-      rw (same_shown, same_queue) ends_so,
-      decided ∙ (ap (λ (s : State). s.directory) (sym (after_snoc start front asked)) ∙ ap (λ (l : List Ask). (state_after start l).directory) (sym is_front)),
-      omega (arith, one_more, counted, ap length is_front, length-append front (asked ∷ [])),
-    )
+pub adds : (start : State) (book : Book) (shown shown' : Copy) (es es' : List Added) (front front' : List Ask) (directory directory' : Directory Global) (total total' : ℕ) (asked : Ask)
+    → Agrees start book shown → Follows book shown.trail.list es front → total ≡ length front
+    → shown' ≡ shown → ((xs : List Ask) → Follows book xs es front → Follows book xs es' front') → front' ≡ front ++ asked ∷ []
+    → directory' ≡ (state_after start (front ++ asked ∷ [])).directory → total' ≡ total + 1
+    → Agrees start book shown' × Follows book shown'.trail.list es' front' × (directory' ≡ (state_after start front').directory) × (total' ≡ length front')
+adds start book shown shown' es es' front front' directory directory' total total' asked agrees follows counted same_shown grows is_front decided one_more = (
+  rw same_shown agrees,
+  rw same_shown (grows shown.trail.list follows),
+  decided ∙ ap (λ (l : List Ask). (state_after start l).directory) (sym is_front),
+  omega (arith, one_more, counted, ap length is_front, length-append front (asked ∷ [])),
+)

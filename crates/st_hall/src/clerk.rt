@@ -1,9 +1,9 @@
 //! The clerk, who makes changes and publishes them.
-ghost use Rattle.std.specs.Prelude.{◌≡◌, ◌+◌, ◌^◌, ◌<◌, [], ◌∷◌, ◌++◌, drop, fold, length, true, unwrap_or, Ok, Err, None, Some, IfOk, IfSome, OnOk, MatchResult};
+ghost use Rattle.std.specs.Prelude.{◌≡◌, ◌+◌, ◌^◌, ◌<◌, List, [], ◌∷◌, ◌++◌, drop, fold, length, true, unwrap_or, Ok, Err, None, Some, IfOk, IfSome, OnOk, MatchResult};
 ghost use mathlib.Core.List.{IsPrefix};
 ghost use Rattle.st_core.specs.Step.{asks_for_change};
-ghost use Rattle.st_hall.specs.Steps.{reply_of, state_after};
-ghost use Rattle.st_hall.specs.Editions.{Agrees, taken, waiting_list};
+ghost use Rattle.st_hall.specs.Steps.{Ask, reply_of, state_after};
+ghost use Rattle.st_hall.specs.Editions.{Agrees, Follows, taken, waiting_list};
 ghost use Rattle.st_hall.specs.Rules.{Beside};
 
 use crate::desk::Desk;
@@ -111,28 +111,48 @@ fn post_of<H: HallName>(head: &Head<H>, front: &Front<H>, asked: &Asked) -> Resu
     }
 }
 
-// Makes what a decision does to the directory, counts the change at a desk, and gives the reply.
-fn settle<H: HallName>(
-    directory: &mut Directory,
-    book: &mut Book<H>,
-    desk: &mut Desk<H>,
-    decision: Decision,
-) -> Reply
+// Adds a change to the list, after all that is queued or waits. It waits then.
+fn enter<H: HallName>(
+    writer: &mut EditionWriter<H>,
+    waiting: &mut Option<Post>,
+    head: &Head<H>,
+    front: &mut Front<H>,
+    asked: &Asked,
+) -> Result<(), AllocError>
+    ensures desk { writer.new.desk ≡ writer.old.desk }
+    ensures list { MatchResult result (λ _. (front.new ≡ front.old ++ asked.now ∷ []) × (length front.old < 2 ^ 61)) (λ _. front.new ≡ front.old) }
+    ensures follows { (xs : List Ask) → Follows H.book xs (drop writer.old.behind writer.old.log.items ++ waiting_list waiting.old) front.old
+        → Follows H.book xs (drop writer.new.behind writer.new.log.items ++ waiting_list waiting.new) front.new }
+{
+    queue(writer, waiting)?;
+    let post = post_of(head, front, asked)?;
+    *front = Front::of(post.trace.again());
+    hold(waiting, post);
+    Ok(())
+}
+
+// Counts a change at a desk.
+fn count<H: HallName>(book: &mut Book<H>, desk: &mut Desk<H>)
     requires { book.old.total < 2 ^ 61 }
-    ensures reply { result ≡ decision.reply }
-    ensures directory { directory.new ≡ unwrap_or decision.directory directory.old }
     ensures total { book.new.total ≡ book.old.total + 1 }
     ensures made { desk.new.made ≡ desk.old.made + 1 }
     ensures seen { desk.new.seen ≡ desk.old.seen }
+{
+    book.audit(&mut desk.share);
+    book.add(&mut desk.share, 1);
+    desk.made += 1;
+}
+
+// Makes what a decision does to the directory, and gives the reply.
+fn settle(directory: &mut Directory, decision: Decision) -> Reply
+    ensures reply { result ≡ decision.reply }
+    ensures directory { directory.new ≡ unwrap_or decision.directory directory.old }
 {
     let Decision {
         reply,
         directory: next,
     } = decision;
     replace(directory, next);
-    book.audit(&mut desk.share);
-    book.add(&mut desk.share, 1);
-    desk.made += 1;
     reply
 }
 
@@ -212,6 +232,16 @@ impl<H: HallName, R: Wait + Drop> Clerk<H, R> {
         replace_with(&mut self.writer, rt, show::<H, W>)
     }
 
+    // What a change comes to after the whole list.
+    fn decided(&self, asked: &Asked) -> Result<Decision, AllocError>
+        requires { asks_for_change asked.now ≡ true }
+        ensures reply { IfOk result (λ decision. decision.reply ≡ reply_of (state_after H.start self.now.list) asked.now) }
+        ensures directory { IfOk result (λ decision. unwrap_or decision.directory (state_after H.start self.now.list).directory
+            ≡ (state_after H.start (self.now.list ++ asked.now ∷ [])).directory) }
+    {
+        decide(self.directory(), asked)
+    }
+
     /// Adds a change to the list, and does not publish it: decides it by the directory after the whole list, and makes there what
     /// it does to the directory. On a want of memory nothing is added.
     pub fn add(&mut self, desk: &mut Desk<H>, asked: &Asked) -> Result<Reply, AllocError>
@@ -222,13 +252,18 @@ impl<H: HallName, R: Wait + Drop> Clerk<H, R> {
         ensures seen { desk.new.seen ≡ desk.old.seen }
         ensures reply { IfOk result (λ r. r ≡ reply_of (state_after H.start self.old.list) asked.now) }
     {
-        queue(&mut self.writer, &mut self.waiting)?;
-        let decision = decide(&self.directory, asked)?;
-        match post_of(&self.head, &self.front, asked) {
-            Ok(post) => {
-                self.front = Front::of(post.trace.again());
-                hold(&mut self.waiting, post);
-                Ok(settle(&mut self.directory, &mut self.book, desk, decision))
+        let decision = self.decided(asked)?;
+        let entered = enter(
+            &mut self.writer,
+            &mut self.waiting,
+            &self.head,
+            &mut self.front,
+            asked,
+        );
+        match entered {
+            Ok(()) => {
+                count(&mut self.book, desk);
+                Ok(settle(&mut self.directory, decision))
             }
             Err(fault) => {
                 drop(decision);

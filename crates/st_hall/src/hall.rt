@@ -9,12 +9,13 @@ ghost use Rattle.st_hall.specs.Views.{EndsWith};
 use crate::clerk::{Clerk, EditionWriter, Receipt};
 use crate::desk::{Desk, EditionReader};
 use crate::edition::Edition;
-use crate::front::{HallName, Trace, Unnamed, begin};
+use crate::front::{Front, HallName, Trace, Unnamed, begin};
 use left_right::writer::Writer;
 use st_core::{Asked, Store};
 use st_dir::Directory;
 use std::alloc::{AllocError, Global};
 use std::marker::PhantomData;
+use std::sync::ledger::Share;
 use std::sync::{Mutex, Wait};
 
 /// What keeps a hall from opening.
@@ -114,6 +115,24 @@ fn copies<H: HallName, R: Wait + Drop>(
     }
 }
 
+// A desk at each of two places, with one of two shares.
+fn desks<H: HallName>(
+    one: EditionReader<H>,
+    two: EditionReader<H>,
+    front: &Front<H>,
+    mut share: Share<H>,
+) -> (Desk<H>, Desk<H>)
+    requires { (share.parts ≡ 2) × (share.amount ≡ 0) }
+    ensures one { (result.0.seen ≡ front.now) × (result.0.made ≡ 0) }
+    ensures two { (result.1.seen ≡ front.now) × (result.1.made ≡ 0) }
+{
+    let other = share.split_off(1, 0);
+    (
+        Desk::new(one, front.again(), share),
+        Desk::new(two, front.again(), other),
+    )
+}
+
 /// The calls of a hall that belong to no value of it.
 pub struct Hall<H: HallName> {
     of: PhantomData<H>,
@@ -136,10 +155,8 @@ impl<H: HallName> Hall<H> {
         let Unnamed { head, seen, blank } = name;
         let (head, front) = begin::<H>(head, seen);
         let (directory, writer, one, two) = copies(&rt, alloc, front.trace(), first, second)?;
-        let (book, mut share) = blank.open::<H>();
-        let other = share.split_off(1, 0);
-        let one = Desk::new(one, front.again(), share);
-        let two = Desk::new(two, front.again(), other);
+        let (book, share) = blank.open::<H>();
+        let (one, two) = desks(one, two, &front, share);
         Ok((
             Clerk::new(writer, head, front, directory, book, rt),
             one,

@@ -94,7 +94,8 @@ fn change<H: HallName, R: Wait + Drop, W: Wait>(
     ensures seen { IsPrefix desk.old.seen desk.new.seen }
     ensures reply { IfOk result (λ r. (list : List Ask) × EndsWith H.start list asked r) }
 {
-    let (reply, front) = told(Hall::change(rt, clerk, desk, asked)?);
+    let receipt = Hall::change(rt, clerk, desk, asked)?;
+    let (reply, front) = told(receipt);
     learn(desk, front);
     Ok(reply)
 }

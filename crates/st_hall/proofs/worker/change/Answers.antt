@@ -9,4 +9,4 @@ returns-clause-seen g c = subst (λ (l : List Ask). IsPrefix l c.learn.new.desk.
 
 pub returns-clause-reply : goal.returns-clause-reply
 returns-clause-reply g c =
-    subst (λ (r : Told). (list : List Ask) × EndsWith g.H.HallName.start list c.args.asked r) (sym c.told-reply.ensures.reply) c.in_ok-change.ensures.reply
+    subst (λ (r : Told). (list : List Ask) × EndsWith g.H.HallName.start list c.args.asked r) (sym c.told-reply.ensures.reply) c.in_ok-receipt.ensures.reply
