@@ -1,5 +1,5 @@
 -- What follows from entries that follow each other.
-use Rattle.std.proofs.Common.{◌≡◌, ℕ, ◌+◌, subst, List, [], ◌∷◌, ◌++◌, length, fold, refl, ap, sym, ◌∙◌, arith, length-append, append_assoc, Result, Ok, Err, MatchResult, IfOk}
+use Rattle.std.proofs.Common.{◌≡◌, ◌+◌, subst, List, [], ◌∷◌, ◌++◌, length, fold, refl, ap, sym, ◌∙◌, arith, length-append, append_assoc, Result, Ok, Err, MatchResult, IfOk}
 use Rattle.std.proofs.lemmas.List.{append-nil}
 use mathlib.Core.List.{IsPrefix}
 use Rattle.logbook.specs.Pages.{Book}
@@ -8,7 +8,6 @@ use Rattle.st_core.specs.Step.{after, step}
 use Rattle.st_hall.specs.Steps.{Ask, State, Told, next, state_after, reply_of}
 use Rattle.st_hall.specs.Views.{EndsWith}
 use Rattle.st_dir.specs.Directory.{Directory}
-use Rattle.st_hall.specs.Trails.{Trail}
 use Rattle.st_hall.specs.Editions.{Copy, Added, taken, Agrees, Follows}
 
 run_snoc : (s : State) (xs : List Ask) (a : Ask) → after s (xs ++ a ∷ []) ≡ (step (after s xs) a).state
@@ -100,16 +99,3 @@ pub at_state : {D E : Type 0} (P : D → State → Type 0) (directory : Director
     → IfOk r (λ d. (t : State) → t.directory ≡ directory → P d t) → IfOk r (λ d. P d s)
 at_state P directory s (Ok d) is h = h s (sym is)
 at_state P directory s (Err e) is h = tt
-
--- what the clerk keeps holds again once a change was added, which waits
-pub adds : (start : State) (book : Book) (shown shown' : Copy) (es es' : List Added) (front front' : List Ask) (directory directory' : Directory Global) (total total' : ℕ) (asked : Ask)
-    → Agrees start book shown → Follows book shown.trail.list es front → total ≡ length front
-    → shown' ≡ shown → ((xs : List Ask) → Follows book xs es front → Follows book xs es' front') → front' ≡ front ++ asked ∷ []
-    → directory' ≡ (state_after start (front ++ asked ∷ [])).directory → total' ≡ total + 1
-    → Agrees start book shown' × Follows book shown'.trail.list es' front' × (directory' ≡ (state_after start front').directory) × (total' ≡ length front')
-adds start book shown shown' es es' front front' directory directory' total total' asked agrees follows counted same_shown grows is_front decided one_more = (
-  rw same_shown agrees,
-  rw same_shown (grows shown.trail.list follows),
-  decided ∙ ap (λ (l : List Ask). (state_after start l).directory) (sym is_front),
-  omega (arith, one_more, counted, ap length is_front, length-append front (asked ∷ [])),
-)
