@@ -22,14 +22,14 @@ use st_key::{Key, Period};
 use std::alloc::Allocator;
 
 /// The rows of an entry.
-fn rows_in<A: Allocator + Copy>(entry: &Entry<A>) -> RowsView<'_, A>
+pub(crate) fn rows_in<A: Allocator + Copy>(entry: &Entry<A>) -> RowsView<'_, A>
     ensures { viewed result ≡ entry.now.rows }
 {
     entry.rows()
 }
 
 /// The key of an entry.
-fn key_of<A: Allocator + Copy>(entry: &Entry<A>) -> Key
+pub(crate) fn key_of<A: Allocator + Copy>(entry: &Entry<A>) -> Key
     ensures { rank result ≡ entry.now.at }
 {
     entry.key
@@ -115,7 +115,7 @@ fn open_next<'a, I: RowIndex>(
 }
 
 /// The position in the next region that meets the query.
-fn enter_region<'a, I: RowIndex>(
+pub(crate) fn enter_region<'a, I: RowIndex>(
     index: &'a I,
     query: &Query,
     period: Period,

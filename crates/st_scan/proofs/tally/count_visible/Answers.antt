@@ -1,14 +1,36 @@
-use Rattle.std.proofs.Common.{length, filter, sym, ap, ◌∙◌, arith}
+use Rattle.std.proofs.Common.{◌≡◌, ◌<◌, length, sym, ap, ◌∙◌, arith}
 use Rattle.st_label.specs.Reading.{is_true}
 use Rattle.st_text.specs.Texts.{is_among}
 use Rattle.st_scan.specs.Seen.{is_visible}
-use Rattle.st_scan.proofs.Visible.{filter_le, keep}
+use Rattle.st_scan.proofs.Counts.{no_more, one_more}
+use Rattle.st_scan.proofs.Visible.{filter_le}
 use Rattle.st_scan.proofs.tally.count_visible.Goals as goal
+use Rattle.st_scan.proofs.tally.count_visible.Goals.{then-ask, else-ask}
 
 pub overflow_add-count : goal.overflow_add-count
 overflow_add-count g c =
+    let rows = c.args.rows.now in
+    let i = c.loop-row.row-index in
+    let below : i < length rows = omega arith in
     let visible = is_visible c.args.verdicts.now in
-    let told = ap (λ names. is_true (is_among names) c.in-Some.row.now.label) (sym c.rows.invariant.set) ∙ sym c.ask.ensures.value ∙ c.if-ask.true in
-    let kept = ap (λ rows. length (filter visible rows)) c.in-Some.ensures.some ∙ ap length (keep visible c.in-Some.row.now c.next.new.self.left told) in
-    let le = filter_le visible c.args.walk.now.left in
-    omega (arith, kept, le, c.rows.invariant.count, c.requires)
+    let told : is_true (is_among c.args.verdicts.now) c.row-item.result.label ≡ c.ask.result = ap (λ names. is_true (is_among names) c.row-item.result.label) (sym c.loop-row.invariant.set) ∙ sym c.ask.ensures.value in
+    let more = one_more rows i c.row-item.result below c.row-item.is visible (told ∙ c.if-ask.true) in
+    let le = filter_le visible rows in
+    omega (arith, more, le, c.loop-row.invariant.count)
+
+pub loop-row-preserved : goal.loop-row-preserved
+loop-row-preserved g c =
+    let rows = c.args.rows.now in
+    let i = c.loop-row.row-index in
+    let below : i < length rows = omega arith in
+    let visible = is_visible c.args.verdicts.now in
+    let told : is_true (is_among c.args.verdicts.now) c.row-item.result.label ≡ c.ask.result = ap (λ names. is_true (is_among names) c.row-item.result.label) (sym c.loop-row.invariant.set) ∙ sym c.ask.ensures.value in
+    let set = c.ask.ensures.set ∙ c.loop-row.invariant.set in
+    elim c.if-ask.branch [
+      | then-ask w ↦
+          let more = one_more rows i c.row-item.result below c.row-item.is visible (told ∙ w.if-ask.true) in
+          record { count = omega (arith, more, w.count-is, c.loop-row.invariant.count); set = set }
+      | else-ask w ↦
+          let more = no_more rows i c.row-item.result below c.row-item.is visible (told ∙ w.if-ask.false) in
+          record { count = omega (arith, more, w.count-is, c.loop-row.invariant.count); set = set }
+    ]

@@ -1,12 +1,9 @@
-use Rattle.std.proofs.Common.{◌≡◌, ◌+◌, length, filter}
+use Rattle.std.proofs.Common.{◌≡◌, ◌+◌, drop, length, filter}
 use Rattle.st_scan.specs.Seen.{is_visible}
 use Rattle.st_scan.proofs.tally.count_visible.Given as goal
 
-abbrev pub invariant-rows : goal.invariant-rows
-invariant-rows g l = record {
-  count : l.count + length (filter (is_visible l.initial.verdicts) l.walk.left) ≡ length (filter (is_visible l.initial.verdicts) l.initial.walk.left);
+abbrev pub invariant-loop-row : goal.invariant-loop-row
+invariant-loop-row g l = record {
+  count : l.count + length (filter (is_visible l.initial.verdicts) (drop l.row-index l.rows)) ≡ length (filter (is_visible l.initial.verdicts) l.rows);
   set : l.verdicts ≡ l.initial.verdicts;
 }
-
-abbrev pub decreases-rows : goal.decreases-rows
-decreases-rows g l = length l.walk.left
