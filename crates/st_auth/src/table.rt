@@ -16,6 +16,9 @@ const PLACES: usize = 64;
 // At how many places after each other a label may be.
 const STEPS: usize = 4;
 
+// The factor of the hash of a text, whose highest bits depend on all bits that are multiplied.
+const FACTOR: u32 = 0x8b52_9b4b;
+
 // A label's text and whether it is true.
 #[derive(Drop)]
 struct Known {
@@ -124,13 +127,21 @@ impl<A: Allocator> Table<A> {
     }
 }
 
-// The first place of a label's text, by its hash (FNV-1a).
+// The first place of a label's text, by a hash of its length and of four of its bytes.
 fn place_of(text: &str) -> usize
     ensures { result < PLACES }
 {
-    let mut hash: u32 = 2166136261;
-    for b in text.as_bytes() {
-        hash = (hash ^ *b as u32).wrapping_mul(16777619);
-    }
-    ((hash ^ (hash >> 16)) % 64) as usize
+    let bytes = text.as_bytes();
+    let Some(last) = bytes.last() else {
+        return 0;
+    };
+    let count = bytes.len();
+    let some = [
+        bytes[0],
+        bytes[count / 2],
+        bytes[count - 1 - count / 4],
+        *last,
+    ];
+    let hash = (u32::from_le_bytes(some) ^ (count % 16) as u32).wrapping_mul(FACTOR);
+    ((hash >> 26) % 64) as usize
 }
