@@ -3,3 +3,4 @@ pub mod Sorted
 mod First
 mod Sets
 mod Laws
+mod Order
