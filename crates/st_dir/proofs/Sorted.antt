@@ -1,6 +1,6 @@
 -- Searching, putting in and taking out where items stand by their keys.
-use Rattle.std.proofs.Common.{◌≡◌, ℕ, zero, suc, ◌<◌, ◌≤◌, List, [], ◌∷◌, map, length, filter, find, Bool, true, false, not, if◌then◌else◌, Some, None, refl, sym, ap, subst, ◌∙◌, arith}
-use Rattle.std.specs.Prelude.{slice_index_or, slice_set}
+use Rattle.std.proofs.Common.{◌≡◌, ℕ, zero, suc, ◌<◌, ◌≤◌, List, [], ◌∷◌, map, length, filter, find, Bool, true, false, not, if◌then◌else◌, Option, Some, None, refl, sym, ap, subst, ◌∙◌, arith}
+use Rattle.std.specs.Prelude.{slice_index_or, slice_set, is_some}
 use Rattle.std.specs.List.{list_any, insert, remove}
 use Rattle.std.specs.List.Sorted.{IsPartitionedBy, IsPartitionPoint}
 use Rattle.std.specs.Cmp.Lexicographic.{slice_cmp}
@@ -23,6 +23,10 @@ lt_less : (o : Ordering) → is_lt o ≡ true → o ≡ Less
 lt_less Less e = refl
 lt_less Equal e = absurd (clash e)
 lt_less Greater e = absurd (clash e)
+
+pub not_found : {X : Type 0} (found : Option X) → is_some found ≡ false → found ≡ None
+not_found None e = refl
+not_found (Some x) e = absurd (clash (sym e))
 
 -- ---- keys
 

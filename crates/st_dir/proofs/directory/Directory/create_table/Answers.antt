@@ -1,5 +1,13 @@
-use Rattle.std.proofs.Common.{rules}
+use Rattle.std.proofs.Common.{rules, find, sym, ◌∙◌}
+use Rattle.st_text.specs.Texts.{same}
+use Rattle.st_dir.specs.Directory.{table_named}
+use Rattle.st_dir.proofs.Sorted.{not_found}
 use Rattle.st_dir.proofs.directory.Directory.create_table.Goals as goal
+
+pub add-requires : goal.add-requires
+add-requires g c =
+    let none = not_found (table_named c.args.self.now c.args.table.now) (sym c.has_table.ensures ∙ c.if-has_table.false) in
+    (λ i. find (λ info. same info.table (c.copy.ensures i)) (c.self.view_is i).tables) ∙ none
 
 pub returns-in-Err-clause-err : goal.returns-in-Err-clause-err
 returns-in-Err-clause-err g c = search rules
