@@ -1,5 +1,5 @@
 //! Changes of users.
-ghost use Rattle.std.specs.Prelude.{◌≡◌, true, false, Ok, Err, IfErr, IsOk, OnOk, OnErr};
+ghost use Rattle.std.specs.Prelude.{◌≡◌, [], true, false, Ok, Err, IfErr, IsOk, OnOk, OnErr};
 ghost use Rattle.st_dir.specs.Changes.{user_added, user_dropped, digest_set, auths_set, system_granted, system_revoked};
 ghost use Rattle.st_dir.specs.Directory.{is_user};
 ghost use Rattle.st_dir.specs.declared.fault.DirectoryFault.TheVariants.{NoUser, UserExists, NoMemory};
@@ -12,6 +12,18 @@ use crate::system_permissions::SystemPermissions;
 use crate::user::User;
 use st_auth::Auths;
 use std::alloc::Allocator;
+
+// A user without permissions.
+fn new_user<A: Allocator>(name: &Name, digest: [u8; 32], auths: Auths<A>) -> User<A>
+    ensures { result ≡ record { name = name.now; digest = digest; auths = auths; permissions = [] } }
+{
+    User {
+        name: name.copy(),
+        digest,
+        auths,
+        permissions: SystemPermissions::none(),
+    }
+}
 
 impl<A: Allocator + Copy> Directory<A> {
     /// Makes a user without permissions. `UserExists` comes before `NoMemory`; an error leaves the
@@ -30,12 +42,7 @@ impl<A: Allocator + Copy> Directory<A> {
         if self.has_user(user.as_str()) {
             return Err(DirectoryFault::UserExists);
         }
-        let made = User {
-            name: user.copy(),
-            digest,
-            auths,
-            permissions: SystemPermissions::none(),
-        };
+        let made = new_user(user, digest, auths);
         match self.users.add(made) {
             Ok(()) => Ok(()),
             Err(_) => Err(DirectoryFault::NoMemory),
