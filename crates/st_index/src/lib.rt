@@ -9,6 +9,7 @@ pub mod law;
 mod list_index;
 mod note;
 pub mod order;
+mod room;
 mod row;
 mod row_list;
 mod rows_view;

@@ -4,6 +4,7 @@ ghost use Rattle.std.specs.List.{insert, remove};
 ghost use Rattle.st_index.specs.RowLists.{placed_rows};
 ghost use Rattle.st_index.specs.RowViews.{viewed};
 
+use crate::room::{put, with_room};
 use crate::row::Row;
 use crate::rows_view::RowsView;
 use std::alloc::{Allocator, Global};
@@ -142,31 +143,8 @@ fn two<A: Allocator + Copy>(
     requires room { 1 < vec_capacity list }
     ensures { result.items ≡ insert (held ∷ []) index row }
 {
-    let Ok(()) = list.push(held) else {
-        unreachable!()
-    };
-    let Ok(()) = list.insert(index, row) else {
-        unreachable!()
-    };
-    list
-}
-
-// The rows that are held, in a list with room for one more: their own, or the new one where that is full.
-fn with_room<A: Allocator + Copy>(
-    mut held: Vec<Row<A>, A>,
-    mut list: Vec<Row<A>, A>,
-) -> Vec<Row<A>, A>
-    requires empty { list.items ≡ [] }
-    requires room { length held.items < vec_capacity list }
-    ensures same { result.items ≡ held.items }
-    ensures room { length held.items < vec_capacity result }
-{
-    if held.len() < held.capacity() {
-        return held;
-    }
-    let Ok(()) = list.append(&mut held) else {
-        unreachable!()
-    };
+    put(&mut list, 0, held);
+    put(&mut list, index, row);
     list
 }
 
@@ -186,9 +164,7 @@ fn more<A: Allocator + Copy>(
         return Place::Inline(row);
     }
     let mut rows = with_room(held, list);
-    let Ok(()) = rows.insert(index, row) else {
-        unreachable!()
-    };
+    put(&mut rows, index, row);
     Place::Heap(rows)
 }
 

@@ -1,9 +1,9 @@
-use Rattle.std.proofs.Common.{◌≡◌, [], length, subst, sym, ap, ◌∙◌}
-use Rattle.std.proofs.lemmas.List.{nil_from_length}
+use Rattle.std.proofs.Common.{◌≡◌, [], length, set, arith, refl, subst, sym, ap, ◌∙◌}
+use Rattle.std.proofs.lemmas.List.{nil_from_length, set-get_or}
 use Rattle.std.proofs.lemmas.Bool.{eqb-true, eqb-false}
 use Rattle.std.specs.List.{remove}
 use Rattle.st_key.specs.Key.{rank}
-use Rattle.st_index.specs.Rows.{EntryValue, rows_of}
+use Rattle.st_index.specs.Rows.{EntryValue, Rises, rows_of}
 use Rattle.st_index.specs.Index.{IsAbsent}
 use Rattle.st_index.proofs.Names.{nat_equal}
 use Rattle.st_index.proofs.Taking.{missing_absent, absent_around, taken_adds, emptied, emptied_rows, emptied_rising, changed_rising, taken_entry, taken_placed, around}
@@ -66,3 +66,62 @@ returns-clause-rising g c = λ period lo hi h.
           (changed_rising period es c.in-Ok.i e f bound c.index_mut-entry.ensures.value lo hi c.in_ok-row.ensures.at
           (taken_entry period e f c.in_ok-row.row c.in_ok-row.ensures.some.0 c.in_ok-row.ensures.at some c.in_ok-row.ensures.named) h)
     ]
+
+pub returns-in_default-clause-rising : goal.returns-in_default-clause-rising
+returns-in_default-clause-rising g c = λ period lo hi h. h
+
+pub returns-in_default-clause-shorter : goal.returns-in_default-clause-shorter
+returns-in_default-clause-shorter g c = omega arith
+
+pub returns-in_default-clause-at_most_one : goal.returns-in_default-clause-at_most_one
+returns-in_default-clause-at_most_one g c = omega arith
+
+pub returns-in_err-row-clause-some : goal.returns-in_err-row-clause-some
+returns-in_err-row-clause-some g c = rw c.from_residual.ensures tt
+
+pub returns-in_err-row-clause-placed : goal.returns-in_err-row-clause-placed
+returns-in_err-row-clause-placed g c = rw c.from_residual.ensures tt
+
+same : (g : _) (c : goal.After-from_residual g) → set c.args.entries.now.items c.in-Ok.i c.take.new.self ≡ c.args.entries.now.items
+same g c =
+    let es = c.args.entries.now.items in
+    ap (λ e. set es c.in-Ok.i e) (c.in_err-row.ensures.none ∙ c.index_mut-entry.ensures.value) ∙ set-get_or es c.in-Ok.i c.index_mut-entry.result.now
+
+pub returns-in_err-row-clause-none : goal.returns-in_err-row-clause-none
+returns-in_err-row-clause-none g c = rw c.from_residual.ensures (same g c)
+
+pub returns-in_err-row-clause-rising : goal.returns-in_err-row-clause-rising
+returns-in_err-row-clause-rising g c = λ period lo hi h. subst (λ es. Rises period lo hi es) (sym (same g c)) h
+
+pub returns-in_err-row-clause-shorter : goal.returns-in_err-row-clause-shorter
+returns-in_err-row-clause-shorter g c = omega arith
+
+pub returns-in_err-row-clause-at_most_one : goal.returns-in_err-row-clause-at_most_one
+returns-in_err-row-clause-at_most_one g c = omega arith
+
+pub returns-in_err-row-clause-capacity : goal.returns-in_err-row-clause-capacity
+returns-in_err-row-clause-capacity g c = refl
+
+pub returns-clause-shorter : goal.returns-clause-shorter
+returns-clause-shorter g c = elim c.if-is_empty.branch [
+  | then-is_empty w ↦ rw w.entries-is (omega (arith, w.remove.ensures.len))
+  | else-is_empty w ↦ rw w.entries-is (omega arith)
+]
+
+pub returns-clause-at_most_one : goal.returns-clause-at_most_one
+returns-clause-at_most_one g c = elim c.if-is_empty.branch [
+  | then-is_empty w ↦ rw w.entries-is (omega (arith, w.remove.ensures.len))
+  | else-is_empty w ↦ rw w.entries-is (omega arith)
+]
+
+pub returns-clause-capacity : goal.returns-clause-capacity
+returns-clause-capacity g c = elim c.if-is_empty.branch [
+  | then-is_empty w ↦ rw w.entries-is w.remove.ensures.capacity
+  | else-is_empty w ↦ rw w.entries-is refl
+]
+
+pub returns-clause-none : goal.returns-clause-none
+returns-clause-none g c = tt
+
+pub returns-clause-absent : goal.returns-clause-absent
+returns-clause-absent g c = tt

@@ -1,0 +1,36 @@
+//! Lists that have room for what is put in.
+ghost use Rattle.std.specs.Prelude.{◌≡◌, ◌<◌, ◌≤◌, [], length, vec_capacity};
+ghost use Rattle.std.specs.List.{insert};
+
+use std::alloc::Allocator;
+
+/// Puts an item in at an index. The list takes it without more memory.
+pub(crate) fn put<T: Drop, A: Allocator>(items: &mut Vec<T, A>, index: usize, item: T)
+    requires index { index ≤ length items.old.items }
+    requires room { length items.old.items < vec_capacity items.old }
+    ensures items { items.new.items ≡ insert items.old.items index item }
+    ensures capacity { vec_capacity items.old ≤ vec_capacity items.new }
+{
+    let Ok(()) = items.insert(index, item) else {
+        unreachable!()
+    };
+}
+
+/// The items that are held, in a list with room for one more: their own, or the new one where that is full.
+pub(crate) fn with_room<T: Drop, A: Allocator>(
+    mut held: Vec<T, A>,
+    mut list: Vec<T, A>,
+) -> Vec<T, A>
+    requires empty { list.items ≡ [] }
+    requires room { length held.items < vec_capacity list }
+    ensures same { result.items ≡ held.items }
+    ensures room { length held.items < vec_capacity result }
+{
+    if held.len() < held.capacity() {
+        return held;
+    }
+    let Ok(()) = list.append(&mut held) else {
+        unreachable!()
+    };
+    list
+}
