@@ -10,8 +10,8 @@ ghost use Rattle.st_index.specs.Rows.{EntryValue, name_of, Rises, rows_of, place
 ghost use Rattle.st_index.specs.Index.{Adds, Swaps, IsAbsent};
 
 use crate::entry::Entry;
-use crate::order;
 use crate::row::Row;
+use crate::{order, room};
 use st_key::Key;
 use std::alloc::{AllocError, Allocator};
 use std::cmp::Ordering;
@@ -70,11 +70,7 @@ pub fn put<A: Allocator + Copy>(
             let entry = &mut entries[i];
             entry.put(row, rows);
         }
-        Err(i) => {
-            let Ok(()) = entries.insert(i, Entry::new(key, row)) else {
-                unreachable!()
-            };
-        }
+        Err(i) => room::put(entries, i, Entry::new(key, row)),
     }
 }
 

@@ -3,10 +3,10 @@ ghost use Rattle.std.specs.Prelude.{◌≡◌, ◌-◌, [], ◌∷◌};
 ghost use Rattle.st_index.specs.Rows.{key_end, rows_of};
 ghost use Rattle.st_index.specs.Index.{region};
 
-use crate::entries;
 use crate::entry::Entry;
 use crate::index::{Leaf, RowIndex};
 use crate::row::Row;
+use crate::{entries, room};
 use st_key::{Key, Period};
 use std::alloc::{AllocError, Allocator, Global};
 use std::marker::Model;
@@ -93,9 +93,7 @@ impl<A: Allocator + Copy> RowIndex for ListIndex<A> {
 
     fn insert(&mut self, row: Row<A>, spare: ListSpare<A>) {
         let ListSpare { mut entries, rows } = spare;
-        let Ok(()) = entries.append(&mut self.entries) else {
-            unreachable!()
-        };
+        room::take_over(&mut entries, &mut self.entries);
         let key = row.key(self.period);
         entries::put(&mut entries, key, row, rows);
         self.entries = entries;

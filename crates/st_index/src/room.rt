@@ -1,5 +1,5 @@
 //! Lists that have room for what is put in.
-ghost use Rattle.std.specs.Prelude.{◌≡◌, ◌<◌, ◌≤◌, [], length, vec_capacity};
+ghost use Rattle.std.specs.Prelude.{◌≡◌, ◌+◌, ◌<◌, ◌≤◌, [], length, vec_len, vec_capacity};
 ghost use Rattle.std.specs.List.{insert};
 
 use std::alloc::Allocator;
@@ -9,9 +9,22 @@ pub(crate) fn put<T: Drop, A: Allocator>(items: &mut Vec<T, A>, index: usize, it
     requires index { index ≤ length items.old.items }
     requires room { length items.old.items < vec_capacity items.old }
     ensures items { items.new.items ≡ insert items.old.items index item }
+    ensures longer { vec_len items.new ≡ vec_len items.old + 1 }
     ensures capacity { vec_capacity items.old ≤ vec_capacity items.new }
 {
     let Ok(()) = items.insert(index, item) else {
+        unreachable!()
+    };
+}
+
+/// Moves all items of a list into one that has none, and room for one more.
+pub(crate) fn take_over<T: Drop, A: Allocator>(list: &mut Vec<T, A>, from: &mut Vec<T, A>)
+    requires empty { list.old.items ≡ [] }
+    requires room { length from.old.items < vec_capacity list.old }
+    ensures items { list.new.items ≡ from.old.items }
+    ensures room { length from.old.items < vec_capacity list.new }
+{
+    let Ok(()) = list.append(from) else {
         unreachable!()
     };
 }
@@ -29,8 +42,13 @@ pub(crate) fn with_room<T: Drop, A: Allocator>(
     if held.len() < held.capacity() {
         return held;
     }
-    let Ok(()) = list.append(&mut held) else {
-        unreachable!()
-    };
+    take_over(&mut list, &mut held);
     list
+}
+
+/// Lets a value lie where another did, which is let go.
+pub(crate) fn overwrite<T: Drop>(at: &mut T, value: T)
+    ensures { at.new ≡ value }
+{
+    *at = value;
 }

@@ -4,7 +4,7 @@ ghost use Rattle.std.specs.List.{insert, remove};
 ghost use Rattle.st_index.specs.RowLists.{placed_rows};
 ghost use Rattle.st_index.specs.RowViews.{viewed};
 
-use crate::room::{put, with_room};
+use crate::room::{overwrite, put, with_room};
 use crate::row::Row;
 use crate::rows_view::RowsView;
 use std::alloc::{Allocator, Global};
@@ -77,7 +77,7 @@ impl<A: Allocator + Copy> RowList<A> {
         ensures { self.new ≡ insert self.old index row }
     {
         let place = mem::replace(&mut self.place, Place::Nowhere);
-        self.place = with_row(place, index, row, list);
+        overwrite(&mut self.place, with_row(place, index, row, list));
     }
 
     /// Takes out the row at an index.
@@ -87,15 +87,9 @@ impl<A: Allocator + Copy> RowList<A> {
         ensures rows { self.new ≡ remove self.old index }
     {
         let place = mem::replace(&mut self.place, Place::Nowhere);
-        match place {
-            Place::Nowhere => unreachable!(),
-            Place::Inline(row) => row,
-            Place::Heap(mut rows) => {
-                let row = rows.remove(index);
-                self.place = settled(rows);
-                row
-            }
-        }
+        let (row, left) = without_row(place, index);
+        overwrite(&mut self.place, left);
+        row
     }
 
     /// Puts a row in the place of the one at an index.
@@ -166,6 +160,22 @@ fn more<A: Allocator + Copy>(
     let mut rows = with_room(held, list);
     put(&mut rows, index, row);
     Place::Heap(rows)
+}
+
+// The row at an index of a place, and the place of the others.
+fn without_row<A: Allocator + Copy>(place: Place<A>, index: usize) -> (Row<A>, Place<A>)
+    requires { index < length (placed_rows place) }
+    ensures value { result.0 ≡ get_or (placed_rows place) index result.0 }
+    ensures left { placed_rows result.1 ≡ remove (placed_rows place) index }
+{
+    match place {
+        Place::Nowhere => unreachable!(),
+        Place::Inline(row) => (row, Place::Nowhere),
+        Place::Heap(mut rows) => {
+            let row = rows.remove(index);
+            (row, settled(rows))
+        }
+    }
 }
 
 // The place of rows that lie in a list: a single one lies there no more.

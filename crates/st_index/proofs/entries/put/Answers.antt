@@ -29,14 +29,14 @@ returns-in-Ok-clause-rising g c = λ period lo hi key h a b absent.
     (rw c.deref.ensures.value at c.in-Ok.ensures.bound) c.index_mut-entry.ensures.value c.put.ensures.added
     c.put.ensures.at at (c.put.ensures.named period) lo hi h (subst (λ n. IsAbsent period n (name_of c.args.row) (rows_of c.args.entries.now.items)) key absent)
 
-pub returns-in-Ok-insert-clause-added : goal.returns-in-Ok-insert-clause-added
-returns-in-Ok-insert-clause-added g c =
-    rw (c.in-Ok-insert.ensures.items, c.new.ensures) (missing_added c.args.row c.args.entries.now.items c.in-Err.i _)
+pub returns-in-Err-clause-added : goal.returns-in-Err-clause-added
+returns-in-Err-clause-added g c =
+    rw (c.put-in-Err.ensures.items, c.new.ensures) (missing_added c.args.row c.args.entries.now.items c.in-Err.i _)
 
-pub returns-in-Ok-insert-clause-rising : goal.returns-in-Ok-insert-clause-rising
-returns-in-Ok-insert-clause-rising g c = λ period lo hi key h a b absent.
+pub returns-in-Err-clause-rising : goal.returns-in-Err-clause-rising
+returns-in-Err-clause-rising g c = λ period lo hi key h a b absent.
     let found = rw (c.deref.ensures.value, key) at c.in-Err.ensures.place in
-    rw (c.in-Ok-insert.ensures.items, c.new.ensures, key) (missing_rising period c.args.row c.args.entries.now.items c.in-Err.i lo hi found h (rw key at a) (rw key at b))
+    rw (c.put-in-Err.ensures.items, c.new.ensures, key) (missing_rising period c.args.row c.args.entries.now.items c.in-Err.i lo hi found h (rw key at a) (rw key at b))
 
-pub returns-in-Ok-insert-clause-new_key : goal.returns-in-Ok-insert-clause-new_key
-returns-in-Ok-insert-clause-new_key g c = λ period lo hi h longer. missing_key period (rank c.args.key) c.args.entries.now.items c.in-Err.i lo hi h (rw c.deref.ensures.value at c.in-Err.ensures.place)
+pub returns-in-Err-clause-new_key : goal.returns-in-Err-clause-new_key
+returns-in-Err-clause-new_key g c = λ period lo hi h longer. missing_key period (rank c.args.key) c.args.entries.now.items c.in-Err.i lo hi h (rw c.deref.ensures.value at c.in-Err.ensures.place)
