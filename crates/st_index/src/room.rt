@@ -1,4 +1,4 @@
-//! Lists that have room for what is put in.
+//! Putting in values of any type: into lists that have room for them, and in the place of others.
 ghost use Rattle.std.specs.Prelude.{◌≡◌, ◌+◌, ◌<◌, ◌≤◌, [], length, vec_len, vec_capacity};
 ghost use Rattle.std.specs.List.{insert};
 
