@@ -1,17 +1,17 @@
--- The reader over a character's bytes, and over the text so far.
-use Rattle.std.proofs.Common.{◌≡◌, ℕ, ◌+◌, ◌/◌, ◌<◌, ◌≤◌, ◌==◌, nat_le, List, [], ◌∷◌, ◌++◌, length, take, Bool, true, false, Option, Some, None, sym, ap, ◌∙◌, refl, arith, append_assoc, option_and_then, ◌&&◌}
+-- The reader over a character's bytes, and over a label's.
+use Rattle.std.proofs.Common.{◌≡◌, ℕ, ◌+◌, ◌/◌, ◌<◌, ◌≤◌, ◌==◌, nat_le, List, [], ◌∷◌, ◌++◌, length, Bool, true, false, Option, Some, None, sym, ap, ◌∙◌, refl, arith, append_assoc, option_and_then, ◌&&◌}
 use lib.Utf8.{encode, next}
 use lib.Dec.{ltb}
-use Rattle.std.proofs.Math.Seq.{take-append_seam, take-append-add}
 use Rattle.std.proofs.lemmas.Bool.{lt-leb, ltb-true, ltb-false}
 use Rattle.std.proofs.lemmas.Bool.Decides.{nat_tests}
 use Rattle.std.proofs.lemmas.Str.{encode_ascii, length-encode, len_utf8_bounds}
-use Rattle.std.proofs.lemmas.List.{append-nil, length-append}
+use Rattle.std.proofs.lemmas.List.{append-nil}
 use Rattle.st_label.specs.Tree.{Tree}
 use Rattle.st_label.specs.Grammar.{is_plain, between, Reads}
-use Rattle.st_label.specs.Refusals.{max_depth, Begins, Viable, StopsAt, EndsAt, TooDeepAt}
+use Rattle.st_label.specs.Refusals.{max_depth, Begins, Viable, EndsAt}
+use Rattle.st_label.specs.Reading.{reading, IsLabel}
 use Rattle.st_label.specs.Machine.{Other, class_of, Frame, Mode, Start, Word, Quoted, Escape, Done, State, state, init, step_mode, step, run, tree_of}
-use Rattle.st_label.proofs.Places.{takes, runs_begins, runs_reads, run_append, run_mono, no_step, begins_runs}
+use Rattle.st_label.proofs.Places.{takes, runs_begins, run_append, run_mono, begins_runs}
 
 -- bytes past ASCII
 abbrev pub AllHigh : List ℕ → Type 0
@@ -85,88 +85,12 @@ char_run_by room st f m c false h =
 pub char_run : (room : ℕ) (st : List Frame) (f : Frame) (m : Mode) (c : ℕ) → run room (state st f m) (encode c) ≡ step_mode room st f (encode c) (class_of c) m
 char_run room st f m c = char_run_by room st f m c _ refl
 
--- The first byte of a character that isn't taken isn't taken.
-pub record FirstByte (st : List Frame) (f : Frame) (m : Mode) (c : ℕ) : Type 0 where
-  pub first : ℕ
-  pub others : List ℕ
-  pub bytes : encode c ≡ first ∷ others
-  pub none : (room : ℕ) → step_mode room st f (encode c) (class_of c) m ≡ None → step room (state st f m) first ≡ None
-  pub deep : (room wide : ℕ) (next : State) → step_mode room st f (encode c) (class_of c) m ≡ None → step_mode wide st f (encode c) (class_of c) m ≡ Some next → step wide (state st f m) first ≡ Some next
-
-other_none : (room : ℕ) (st : List Frame) (f : Frame) (m : Mode) (b : ℕ) (bs : List ℕ) → step_mode room st f (b ∷ bs) Other m ≡ None → step_mode room st f (b ∷ []) Other m ≡ None
-other_none room st f Start b bs h = refl
-other_none room st f (Word w) b bs h = refl
-other_none room st f (Quoted n) b bs h = cc
-other_none room st f (Escape n) b bs h = refl
-other_none room st f (Done r) b bs h = refl
-
--- Past ASCII room makes no difference.
-other_deep : {X : Type 0} (room wide : ℕ) (st : List Frame) (f : Frame) (m : Mode) (bs : List ℕ) (next : State) → step_mode room st f bs Other m ≡ None → step_mode wide st f bs Other m ≡ Some next → X
-other_deep room wide st f Start bs next h k = cc
-other_deep room wide st f (Word w) bs next h k = cc
-other_deep room wide st f (Quoted n) bs next h k = cc
-other_deep room wide st f (Escape n) bs next h k = cc
-other_deep room wide st f (Done r) bs next h k = cc
-
-first_byte_by : (st : List Frame) (f : Frame) (m : Mode) (c : ℕ) (v : Bool) → ltb c 128 ≡ v → FirstByte st f m c
-first_byte_by st f m c true h =
-    let one = encode_ascii c (ltb-true c 128 h) in
-    record { first = c; others = []; bytes = one; none = λ room e. rw one at e; deep = λ room wide next h k. rw one at k }
-first_byte_by st f m c false h =
-    let high : 128 ≤ c = ltb-false c 128 h in
-    let bytes = some_bytes c in
-    let all : AllHigh (bytes.0 ∷ bytes.1) = rw bytes.2 at (encode_high c high) in
-    record {
-      first = bytes.0;
-      others = bytes.1;
-      bytes = bytes.2;
-      none = λ room e. rw (class_high bytes.0 all.0) (other_none room st f m bytes.0 bytes.1 (rw (bytes.2, class_high c high) at e));
-      deep = λ room wide next h k. other_deep room wide st f m (encode c) next (rw (class_high c high) at h) (rw (class_high c high) at k);
-    }
-
-pub first_byte : (st : List Frame) (f : Frame) (m : Mode) (c : ℕ) → FirstByte st f m c
-first_byte st f m c = first_byte_by st f m c _ refl
-
 -- The reader stands at s behind the first bytes of the text, and before the rest.
 pub record Behind (text : List ℕ) (at : ℕ) (rest : List ℕ) (s : State) : Type 0 where
   pub front : List ℕ
   pub parts : text ≡ front ++ rest
   pub place : at ≡ length front
   pub runs : run max_depth init front ≡ Some s
-
-pub at_first : (text rest : List ℕ) (at : ℕ) (s : State) → at ≡ 0 → rest ≡ text → s ≡ init → Behind text at rest s
-at_first text rest at s h k e = record { front = []; parts = sym k; place = h; runs = ap Some (sym e) }
-
--- One more character.
-pub one_more : (text rest left : List ℕ) (at next c : ℕ) (s t : State) → Behind text at rest s → rest ≡ encode c ++ left → next ≡ at + length (encode c) →
-    step_mode max_depth s.stack s.frame (encode c) (class_of c) s.mode ≡ Some t → Behind text next left t
-one_more text rest left at next c s t h k e stepped = record {
-  front = h.front ++ encode c;
-  parts = h.parts ∙ ap (λ x. h.front ++ x) k ∙ sym (append_assoc h.front (encode c) left);
-  place = let place = h.place in omega (arith, length-append h.front (encode c));
-  runs =
-      let taken : run max_depth s (encode c) ≡ Some t = char_run max_depth s.stack s.frame s.mode c ∙ stepped in
-      run_append h.front max_depth init (encode c) ∙ rw h.runs taken;
-}
-
-take_front : (front rest : List ℕ) → take (length front) (front ++ rest) ≡ front
-take_front front rest = take-append_seam front rest
-
-take_one : (front rest : List ℕ) (b : ℕ) → take (length front + 1) (front ++ b ∷ rest) ≡ front ++ b ∷ []
-take_one front rest b = take-append-add front (b ∷ rest) 1
-
--- A character that no room takes.
-pub stops : (text rest left : List ℕ) (at c : ℕ) (s : State) → Behind text at rest s → rest ≡ encode c ++ left →
-    ((room : ℕ) → step_mode room s.stack s.frame (encode c) (class_of c) s.mode ≡ None) → StopsAt text at
-stops text rest left at c s h k none =
-    let byte = first_byte s.stack s.frame s.mode c in
-    let whole : text ≡ h.front ++ byte.first ∷ (byte.others ++ left) = h.parts ∙ ap (λ x. h.front ++ x) (k ∙ ap (λ x. x ++ left) byte.bytes) in
-    let place = h.place in
-    record {
-      inside = rw (whole, place) (omega (arith, length-append h.front (byte.first ∷ (byte.others ++ left))));
-      before = rw (whole, place, take_front h.front (byte.first ∷ (byte.others ++ left))) (runs_begins max_depth h.front s h.runs);
-      here = rw (whole, place, take_one h.front (byte.others ++ left) byte.first) (no_step max_depth h.front byte.first s h.runs (λ wide. byte.none wide (none wide)));
-    }
 
 -- A character that more room takes.
 pub no_step_within : (p : List ℕ) (b : ℕ) (s : State) → run max_depth init p ≡ Some s → step max_depth s b ≡ None → Begins max_depth (p ++ b ∷ []) → ⊥
@@ -185,21 +109,8 @@ one_wider p b wide s t h k =
     let all : run (wide + max_depth) init (p ++ b ∷ []) ≡ Some t = run_append p (wide + max_depth) init (b ∷ []) ∙ rw front last in
     (wide + max_depth, runs_begins (wide + max_depth) (p ++ b ∷ []) t all)
 
-pub too_deep_at : (text rest left : List ℕ) (at c wide : ℕ) (s t : State) → Behind text at rest s → rest ≡ encode c ++ left →
-    step_mode max_depth s.stack s.frame (encode c) (class_of c) s.mode ≡ None → step_mode wide s.stack s.frame (encode c) (class_of c) s.mode ≡ Some t → TooDeepAt text at
-too_deep_at text rest left at c wide s t h k none some =
-    let byte = first_byte s.stack s.frame s.mode c in
-    let whole : text ≡ h.front ++ byte.first ∷ (byte.others ++ left) = h.parts ∙ ap (λ x. h.front ++ x) (k ∙ ap (λ x. x ++ left) byte.bytes) in
-    let place = h.place in
-    record {
-      inside = rw (whole, place) (omega (arith, length-append h.front (byte.first ∷ (byte.others ++ left))));
-      before = rw (whole, place, take_front h.front (byte.first ∷ (byte.others ++ left))) (runs_begins max_depth h.front s h.runs);
-      viable = rw (whole, place, take_one h.front (byte.others ++ left) byte.first) (one_wider h.front byte.first wide s t h.runs (byte.deep max_depth wide t none some));
-      here = rw (whole, place, take_one h.front (byte.others ++ left) byte.first) (no_step_within h.front byte.first s h.runs (byte.none max_depth none));
-    }
-
 -- the end, where the text is none of the language
-some_none : (o : Option Tree) (r : Tree) → o ≡ Some r → o ≡ None → ⊥
+pub some_none : (o : Option Tree) (r : Tree) → o ≡ Some r → o ≡ None → ⊥
 some_none o r h k = cc
 
 pub ends : (text rest : List ℕ) (at : ℕ) (s : State) → Behind text at rest s → length rest ≡ 0 → tree_of s ≡ None → EndsAt text (length text)
@@ -220,13 +131,31 @@ ends text rest at s h none fails =
     nil_from_length [] h = refl
     nil_from_length (x ∷ xs) h = absurd (omega arith)
 
--- the end, where it is one
-pub ends_well : (text rest : List ℕ) (at : ℕ) (s : State) (r : Tree) → Behind text at rest s → length rest ≡ 0 → tree_of s ≡ Some r → Reads max_depth text r
-ends_well text rest at s r h none tree =
-    let empty : rest ≡ [] = nil_from_length rest none in
-    let whole : text ≡ h.front = h.parts ∙ rw (empty, append-nil) refl in
-    rw whole (runs_reads max_depth h.front s r h.runs tree)
-  where
-    nil_from_length : (rest : List ℕ) → length rest ≡ 0 → rest ≡ []
-    nil_from_length [] h = refl
-    nil_from_length (x ∷ xs) h = absurd (omega arith)
+-- The reader of a label goes on as the machine does over all of its bytes.
+pub by_char : (s : State) (rest left : List ℕ) (c : ℕ) → rest ≡ encode c ++ left →
+    run max_depth s rest ≡ option_and_then (λ t. run max_depth t left) (step_mode max_depth s.stack s.frame (encode c) (class_of c) s.mode)
+by_char s rest left c k =
+    rw k (run_append (encode c) max_depth s left ∙ ap (option_and_then (λ t. run max_depth t left)) (char_run max_depth s.stack s.frame s.mode c))
+
+pub one_more : (s t : State) (text rest left : List ℕ) (c : ℕ) → rest ≡ encode c ++ left → step_mode max_depth s.stack s.frame (encode c) (class_of c) s.mode ≡ Some t →
+    run max_depth s rest ≡ run max_depth init text → run max_depth t left ≡ run max_depth init text
+one_more s t text rest left c k e h = sym (by_char s rest left c k ∙ ap (option_and_then (λ next. run max_depth next left)) e) ∙ h
+
+pub never_refused : (s : State) (text rest left : List ℕ) (c : ℕ) → IsLabel text → rest ≡ encode c ++ left → run max_depth s rest ≡ run max_depth init text →
+    step_mode max_depth s.stack s.frame (encode c) (class_of c) s.mode ≡ None → ⊥
+never_refused s text rest left c label k h none =
+    let all = takes label.reads max_depth (omega arith) in
+    let failed : run max_depth s rest ≡ None = by_char s rest left c k ∙ ap (option_and_then (λ next. run max_depth next left)) none in
+    let both : Some all.last ≡ None = sym all.runs ∙ sym h ∙ failed in
+    cc
+
+pub whole_label : (s : State) (text rest : List ℕ) → IsLabel text → length rest ≡ 0 → run max_depth s rest ≡ run max_depth init text → tree_of s ≡ Some (reading text)
+whole_label s text [] label none h =
+    let all = takes label.reads max_depth (omega arith) in
+    let both : Some s ≡ Some all.last = h ∙ all.runs in
+    let same : s ≡ all.last = cc in
+    ap tree_of same ∙ all.tree
+whole_label s text (b ∷ rest) label none h = absurd (omega arith)
+
+pub same_tree : (o : Option Tree) (r s : Tree) → o ≡ Some r → o ≡ Some s → r ≡ s
+same_tree o r s h k = let both : Some r ≡ Some s = sym h ∙ k in cc

@@ -6,5 +6,6 @@ pub mod Machine
 pub mod Truth
 pub mod Reading
 pub mod Views
+pub mod Gives
 pub mod Faults
 pub mod Normal

@@ -1,11 +1,9 @@
 //! A label: its written text, and what it says.
 ghost use Rattle.std.specs.Prelude.{◌≡◌, ◌↔◌, ◌<◌, ◌≤◌, IfOk, IfErr, IsTrue, length, string_bytes};
-ghost use Rattle.st_label.specs.Grammar.{Reads};
-ghost use Rattle.st_label.specs.Refusals.{max_len, max_depth};
 ghost use Rattle.st_label.specs.Reading.{reading, is_true, IsLabel};
 ghost use Rattle.st_label.specs.Views.{tree_view};
 ghost use Rattle.st_label.specs.declared.label.LabelFault.TheVariants.{NoMemory};
-ghost use Rattle.st_label.specs.Normal.{normal_text};
+ghost use Rattle.st_label.specs.Normal.{normal as normal_of, normal_text, text_of};
 ghost use Rattle.st_label.specs.Faults.{Refuses};
 
 use crate::normal::normal;
@@ -140,9 +138,29 @@ fn normal_form<A: Allocator + Copy>(alloc: A, label: &str) -> Result<String<A>, 
     requires { IsLabel label.now }
     ensures { IfOk result (λ text. string_bytes text ≡ normal_text label.now) }
 {
-    let tree = normal(alloc, &tree_of(alloc, label)?)?;
+    let tree = normal_tree(alloc, label)?;
+    let text = printed(alloc, &tree);
+    drop(tree);
+    text
+}
+
+// The normal form of what a label says.
+fn normal_tree<A: Allocator + Copy>(alloc: A, label: &str) -> Result<Tree<A>, AllocError>
+    requires { IsLabel label.now }
+    ensures { IfOk result (λ tree. tree_view tree ≡ normal_of (reading label.now)) }
+{
+    let tree = tree_of(alloc, label)?;
+    let other = normal(alloc, &tree);
+    drop(tree);
+    other
+}
+
+// The text of a tree.
+fn printed<A: Allocator + Copy>(alloc: A, tree: &Tree<A>) -> Result<String<A>, AllocError>
+    ensures { IfOk result (λ text. string_bytes text ≡ text_of (tree_view tree.now)) }
+{
     let mut text = String::new(alloc);
-    push_tree(&mut text, &tree)?;
+    push_tree(&mut text, tree)?;
     Ok(text)
 }
 
@@ -151,35 +169,17 @@ fn tree_of<A: Allocator + Copy>(alloc: A, label: &str) -> Result<Tree<A>, AllocE
     requires { IsLabel label.now }
     ensures { IfOk result (λ tree. tree_view tree ≡ reading label.now) }
 {
-    match read(alloc, label) {
-        Ok(tree) => Ok(tree),
-        Err(fault) => match fault {
-            LabelFault::NoMemory => Err(AllocError),
-            _ => unreachable!(),
-        },
-    }
-}
-
-// The tree of a text within the length.
-fn read<A: Allocator + Copy>(alloc: A, text: &str) -> Result<Tree<A>, LabelFault>
-    requires { length text.now ≤ max_len }
-    ensures label { IfOk result (λ _. IsLabel text.now) }
-    ensures tree { IfOk result (λ tree. tree_view tree ≡ reading text.now) }
-    ensures fault { IfErr result (λ fault. Refuses text.now fault) }
-{
-    let mut reader = Reader::new(alloc)?;
-    for (at, c) in text.char_indices() {
+    let mut reader = Reader::new(alloc);
+    for c in label.chars() {
         reader = match reader.step(c) {
             Ok(next) => next,
-            Err(ReadFault::NotViable) => return Err(LabelFault::BadLabel { at }),
-            Err(ReadFault::TooDeep) => return Err(LabelFault::TooDeep { at }),
-            Err(ReadFault::NoMemory) => return Err(LabelFault::NoMemory),
+            Err(ReadFault::NoMemory) => return Err(AllocError),
+            Err(ReadFault::Refused) => unreachable!(),
         };
     }
     match reader.finish() {
         Ok(tree) => Ok(tree),
-        Err(ReadFault::NotViable) => Err(LabelFault::BadLabel { at: text.len() }),
-        Err(ReadFault::TooDeep) => unreachable!(),
-        Err(ReadFault::NoMemory) => Err(LabelFault::NoMemory),
+        Err(ReadFault::NoMemory) => Err(AllocError),
+        Err(ReadFault::Refused) => unreachable!(),
     }
 }

@@ -1,7 +1,8 @@
-ghost use Rattle.std.specs.Prelude.{◌≡◌, ◌≢◌, ℕ, [], IfOk, IsOkUnless, Ok, Err, Some, None, encode_utf8};
-ghost use Rattle.st_label.specs.Machine.{init, step_mode, step_start, step_done, with_sign, closed as closed_by, whole as whole_by, tree_of, class_of as class_at};
+ghost use Rattle.std.specs.Prelude.{◌≡◌, ◌++◌, ◌∷◌, [], Option, IfOk, option_map, Ok, Err, Some, map, string_bytes, encode_utf8};
+ghost use Rattle.st_label.specs.Machine.{Mode, Open, Word, Quoted, Done, Joined as JoinedOf, init, state, step_mode, step_start, step_done, popped, with_sign, closed as closed_by, whole as whole_by, tree_of, class_of as class_at};
 ghost use Rattle.st_label.specs.Refusals.{max_depth};
-ghost use Rattle.st_label.specs.Views.{reader_view, tree_view, level_view, outer_view, unit_view, op_view, class_view, Steps, Ends};
+ghost use Rattle.st_label.specs.Views.{reader_view, tree_view, level_view, outer_view, unit_view, op_view, class_view};
+ghost use Rattle.st_label.specs.Gives.{Gives, named};
 ghost use Rattle.st_label.specs.declared.reader.ReadFault.TheVariants.{NoMemory};
 
 use crate::class::{Class, class_of};
@@ -14,8 +15,8 @@ pub const MAX_DEPTH: usize = 16;
 /// Why a character is not taken.
 #[derive(Drop)]
 pub enum ReadFault {
-    NotViable,
-    TooDeep,
+    /// No label goes on so.
+    Refused,
     NoMemory,
 }
 
@@ -78,22 +79,49 @@ fn reader_at<A: Allocator>(
     })
 }
 
+// A reader with these parts, or what kept its unit from being.
+fn with_unit<A: Allocator>(
+    alloc: A,
+    outer: Vec<Level<A>, A>,
+    level: Level<A>,
+    unit: Result<Unit<A>, ReadFault>,
+) -> Result<Reader<A>, ReadFault>
+    ensures { (next : Option Mode) → Gives unit_view next unit → Gives reader_view (option_map (state (outer_view outer.items) (level_view level)) next) result }
+{
+    match unit {
+        Ok(unit) => reader_at(alloc, outer, level, unit),
+        Err(fault) => {
+            drop(outer);
+            drop(level);
+            Err(fault)
+        }
+    }
+}
+
+// The levels are given up, since no label goes on so.
+fn refused<A: Allocator>(outer: Vec<Level<A>, A>, level: Level<A>) -> Result<Reader<A>, ReadFault>
+    ensures { result ≡ Err ReadFault.Refused }
+{
+    drop(outer);
+    drop(level);
+    Err(ReadFault::Refused)
+}
+
 impl<A: Allocator + Copy> Reader<A> {
-    pub fn new(alloc: A) -> Result<Reader<A>, AllocError>
-        ensures { IfOk result (λ reader. reader_view reader ≡ init) }
+    pub fn new(alloc: A) -> Reader<A>
+        ensures { reader_view result ≡ init }
     {
-        let outer = Vec::new(alloc);
-        Ok(Reader {
+        Reader {
             alloc,
-            outer,
+            outer: Vec::new(alloc),
             level: Level::Free,
             unit: Unit::Start,
-        })
+        }
     }
 
     /// The reader behind one more character.
     pub fn step(self, c: char) -> Result<Reader<A>, ReadFault>
-        ensures { Steps (λ room. step_mode room (outer_view self.outer.items) (level_view self.level) (encode_utf8 c) (class_at c) (unit_view self.unit)) result }
+        ensures { Gives reader_view (step_mode max_depth (outer_view self.outer.items) (level_view self.level) (encode_utf8 c) (class_at c) (unit_view self.unit)) result }
     {
         let Reader {
             alloc,
@@ -104,32 +132,23 @@ impl<A: Allocator + Copy> Reader<A> {
         let class = class_of(c);
         match unit {
             Unit::Start => start(alloc, outer, level, c, class),
-            Unit::Word(mut name) => match class {
-                Class::Plain => {
-                    name.push(c)?;
-                    reader_at(alloc, outer, level, Unit::Word(name))
-                }
+            Unit::Word(name) => match class {
+                Class::Plain => with_unit(alloc, outer, level, word(name, c)),
                 _ => behind(alloc, outer, level, Tree::Term(name), class),
             },
-            Unit::Quoted(mut name) => match class {
-                Class::Quote => {
-                    if name.is_empty() {
-                        return Err(ReadFault::NotViable);
-                    }
-                    reader_at(alloc, outer, level, Unit::Done(Tree::Term(name)))
-                }
+            Unit::Quoted(name) => match class {
+                Class::Quote => with_unit(alloc, outer, level, unquoted(name)),
                 Class::Backslash => reader_at(alloc, outer, level, Unit::Escape(name)),
-                _ => {
-                    name.push(c)?;
-                    reader_at(alloc, outer, level, Unit::Quoted(name))
-                }
+                _ => with_unit(alloc, outer, level, quoted(name, c)),
             },
-            Unit::Escape(mut name) => match class {
+            Unit::Escape(name) => match class {
                 Class::Quote | Class::Backslash => {
-                    name.push(c)?;
-                    reader_at(alloc, outer, level, Unit::Quoted(name))
+                    with_unit(alloc, outer, level, quoted(name, c))
                 }
-                _ => Err(ReadFault::NotViable),
+                _ => {
+                    drop(name);
+                    refused(outer, level)
+                }
             },
             Unit::Done(tree) => behind(alloc, outer, level, tree, class),
         }
@@ -137,9 +156,7 @@ impl<A: Allocator + Copy> Reader<A> {
 
     /// The tree of the whole text.
     pub fn finish(self) -> Result<Tree<A>, ReadFault>
-        ensures ok { IfOk result (λ tree. tree_of (reader_view self) ≡ Some (tree_view tree)) }
-        ensures not_viable { result ≡ Err ReadFault.NotViable → tree_of (reader_view self) ≡ None }
-        ensures never_too_deep { result ≢ Err ReadFault.TooDeep }
+        ensures { Gives tree_view (tree_of (reader_view self)) result }
     {
         let Reader {
             alloc: _,
@@ -147,10 +164,12 @@ impl<A: Allocator + Copy> Reader<A> {
             level,
             unit,
         } = self;
-        if !outer.is_empty() {
+        let is_closed = outer.is_empty();
+        drop(outer);
+        if !is_closed {
             drop(unit);
             drop(level);
-            return Err(ReadFault::NotViable);
+            return Err(ReadFault::Refused);
         }
         last(level, unit)
     }
@@ -158,73 +177,123 @@ impl<A: Allocator + Copy> Reader<A> {
 
 // The tree of a level with its last unit.
 fn last<A: Allocator>(level: Level<A>, unit: Unit<A>) -> Result<Tree<A>, ReadFault>
-    ensures { Ends (whole_by [] (level_view level) (unit_view unit)) result }
+    ensures { Gives tree_view (whole_by [] (level_view level) (unit_view unit)) result }
 {
     match unit {
         Unit::Start => match level {
             Level::Free => Ok(Tree::Empty),
-            Level::Joined(_, _) => Err(ReadFault::NotViable),
+            Level::Joined(_, _) => Err(ReadFault::Refused),
         },
         Unit::Word(name) => Ok(closed(level, Tree::Term(name))?),
-        Unit::Quoted(_) | Unit::Escape(_) => Err(ReadFault::NotViable),
+        Unit::Quoted(_) | Unit::Escape(_) => Err(ReadFault::Refused),
         Unit::Done(tree) => Ok(closed(level, tree)?),
     }
+}
+
+// A word with one more character.
+fn word<A: Allocator>(mut name: String<A>, c: char) -> Result<Unit<A>, ReadFault>
+    ensures { Gives unit_view (Some (Word (string_bytes name ++ encode_utf8 c))) result }
+{
+    name.push(c)?;
+    Ok(Unit::Word(name))
+}
+
+// A name between quotes with one more character.
+fn quoted<A: Allocator>(mut name: String<A>, c: char) -> Result<Unit<A>, ReadFault>
+    ensures { Gives unit_view (Some (Quoted (string_bytes name ++ encode_utf8 c))) result }
+{
+    name.push(c)?;
+    Ok(Unit::Quoted(name))
+}
+
+// A quote closes a name of one byte or more.
+fn unquoted<A: Allocator>(name: String<A>) -> Result<Unit<A>, ReadFault>
+    ensures { Gives unit_view (named (string_bytes name)) result }
+{
+    if name.is_empty() {
+        return Err(ReadFault::Refused);
+    }
+    Ok(Unit::Done(Tree::Term(name)))
+}
+
+// A level with its last unit is a unit.
+fn done<A: Allocator>(level: Level<A>, tree: Tree<A>) -> Result<Unit<A>, ReadFault>
+    ensures { Gives unit_view (Some (Done (closed_by (level_view level) (tree_view tree)))) result }
+{
+    Ok(Unit::Done(closed(level, tree)?))
 }
 
 // A unit begins.
 fn start<A: Allocator + Copy>(
     alloc: A,
-    mut outer: Vec<Level<A>, A>,
+    outer: Vec<Level<A>, A>,
     level: Level<A>,
     c: char,
     class: Class,
 ) -> Result<Reader<A>, ReadFault>
-    ensures { Steps (λ room. step_start room (outer_view outer.items) (level_view level) (encode_utf8 c) (class_view class)) result }
+    ensures { Gives reader_view (step_start max_depth (outer_view outer.items) (level_view level) (encode_utf8 c) (class_view class)) result }
 {
     match class {
-        Class::Plain => {
-            let mut name = String::new(alloc);
-            name.push(c)?;
-            reader_at(alloc, outer, level, Unit::Word(name))
-        }
-        Class::Quote => {
-            let name = String::new(alloc);
-            reader_at(alloc, outer, level, Unit::Quoted(name))
-        }
-        Class::Open => {
-            if outer.len() >= MAX_DEPTH {
-                return Err(ReadFault::TooDeep);
-            }
-            outer.push(level)?;
-            reader_at(alloc, outer, Level::Free, Unit::Start)
-        }
-        _ => Err(ReadFault::NotViable),
+        Class::Plain => with_unit(alloc, outer, level, word(String::new(alloc), c)),
+        Class::Quote => reader_at(alloc, outer, level, Unit::Quoted(String::new(alloc))),
+        Class::Open => opened(alloc, outer, level),
+        _ => refused(outer, level),
     }
+}
+
+// A parenthesis opens.
+fn opened<A: Allocator>(
+    alloc: A,
+    mut outer: Vec<Level<A>, A>,
+    level: Level<A>,
+) -> Result<Reader<A>, ReadFault>
+    ensures { Gives reader_view (step_start max_depth (outer_view outer.items) (level_view level) [] Open) result }
+{
+    if outer.len() >= MAX_DEPTH {
+        return refused(outer, level);
+    }
+    outer.push(level)?;
+    reader_at(alloc, outer, Level::Free, Unit::Start)
 }
 
 // What comes behind a whole unit.
 fn behind<A: Allocator + Copy>(
     alloc: A,
-    mut outer: Vec<Level<A>, A>,
+    outer: Vec<Level<A>, A>,
     level: Level<A>,
     tree: Tree<A>,
     class: Class,
 ) -> Result<Reader<A>, ReadFault>
-    ensures { Steps (λ room. step_done (outer_view outer.items) (level_view level) (tree_view tree) (class_view class)) result }
+    ensures { Gives reader_view (step_done (outer_view outer.items) (level_view level) (tree_view tree) (class_view class)) result }
 {
     match class {
         Class::Sign(operator) => {
             let level = joined(alloc, operator, level, tree)?;
             reader_at(alloc, outer, level, Unit::Start)
         }
-        Class::Close => match outer.pop() {
-            None => Err(ReadFault::NotViable),
-            Some(around) => {
-                let tree = closed(level, tree)?;
-                reader_at(alloc, outer, around, Unit::Done(tree))
-            }
-        },
-        _ => Err(ReadFault::NotViable),
+        Class::Close => left(alloc, outer, level, tree),
+        _ => {
+            drop(tree);
+            refused(outer, level)
+        }
+    }
+}
+
+// A parenthesis closes.
+fn left<A: Allocator>(
+    alloc: A,
+    mut outer: Vec<Level<A>, A>,
+    level: Level<A>,
+    tree: Tree<A>,
+) -> Result<Reader<A>, ReadFault>
+    ensures { Gives reader_view (popped (outer_view outer.items) (closed_by (level_view level) (tree_view tree))) result }
+{
+    match outer.pop() {
+        None => {
+            drop(tree);
+            refused(outer, level)
+        }
+        Some(around) => with_unit(alloc, outer, around, done(level, tree)),
     }
 }
 
@@ -235,24 +304,31 @@ fn joined<A: Allocator + Copy>(
     level: Level<A>,
     tree: Tree<A>,
 ) -> Result<Level<A>, ReadFault>
-    ensures ok { IfOk result (λ next. with_sign (op_view operator) (level_view level) (tree_view tree) ≡ Some (level_view next)) }
-    ensures not_viable { result ≡ Err ReadFault.NotViable → with_sign (op_view operator) (level_view level) (tree_view tree) ≡ None }
-    ensures never_too_deep { result ≢ Err ReadFault.TooDeep }
+    ensures { Gives level_view (with_sign (op_view operator) (level_view level) (tree_view tree)) result }
 {
     match level {
-        Level::Free => {
-            let mut trees = Vec::new(alloc);
-            trees.push(tree)?;
-            Ok(Level::Joined(operator, trees))
-        }
-        Level::Joined(first, mut trees) => {
+        Level::Free => joined_to(operator, Vec::new(alloc), tree),
+        Level::Joined(first, trees) => {
             if first != operator {
-                return Err(ReadFault::NotViable);
+                drop(tree);
+                drop(trees);
+                return Err(ReadFault::Refused);
             }
-            trees.push(tree)?;
-            Ok(Level::Joined(operator, trees))
+            joined_to(operator, trees, tree)
         }
     }
+}
+
+// The units of a level with one more.
+fn joined_to<A: Allocator>(
+    operator: Operator,
+    mut trees: Vec<Tree<A>, A>,
+    tree: Tree<A>,
+) -> Result<Level<A>, ReadFault>
+    ensures { Gives level_view (Some (JoinedOf (op_view operator) (map tree_view trees.items ++ tree_view tree ∷ []))) result }
+{
+    trees.push(tree)?;
+    Ok(Level::Joined(operator, trees))
 }
 
 // The level with its last unit.

@@ -1,19 +1,14 @@
-use Rattle.std.proofs.Common.{rules, arith}
+use Rattle.std.proofs.Common.{◌∙◌, sym, arith}
 use Rattle.std.specs.Prelude.{vec_len}
-use Rattle.st_label.proofs.Ended.{ends_ok, ends_not_viable, never_too_deep, empty_by}
+use Rattle.st_label.specs.Views.{outer_view}
+use Rattle.st_label.proofs.Seen.{outer_length}
+use Rattle.st_label.proofs.Ended.{empty_by, some_by, ends_empty, ends_open}
 use Rattle.st_label.proofs.reader.Reader.finish.Goals as goal
 
-pub returns-then-not-is_empty-clause-ok : goal.returns-then-not-is_empty-clause-ok
-returns-then-not-is_empty-clause-ok g c = search rules
+pub returns-then-not-is_closed : goal.returns-then-not-is_closed
+returns-then-not-is_closed g c =
+    ends_open (outer_view c.args.self.outer.items) _ _ (λ none. some_by c.args.self.outer.items (vec_len c.args.self.outer) (omega (arith, c.args.self.outer.ok.0)) (sym c.if-not-is_closed.true ∙ c.is_empty-is_closed.ensures) (sym (outer_length c.args.self.outer.items) ∙ none))
 
-pub returns-then-not-is_empty-clause-never_too_deep : goal.returns-then-not-is_empty-clause-never_too_deep
-returns-then-not-is_empty-clause-never_too_deep g c = λ e. cc
-
-pub returns-clause-ok : goal.returns-clause-ok
-returns-clause-ok g c = ends_ok c.args.self.outer.items _ _ c.last.result (empty_by c.args.self.outer.items (vec_len c.args.self.outer) (omega (arith, c.args.self.outer.ok.0)) c.if-not-is_empty.ensures) c.last.ensures
-
-pub returns-clause-not_viable : goal.returns-clause-not_viable
-returns-clause-not_viable g c = ends_not_viable c.args.self.outer.items _ _ c.last.result (empty_by c.args.self.outer.items (vec_len c.args.self.outer) (omega (arith, c.args.self.outer.ok.0)) c.if-not-is_empty.ensures) c.last.ensures
-
-pub returns-clause-never_too_deep : goal.returns-clause-never_too_deep
-returns-clause-never_too_deep g c = never_too_deep _ c.last.result c.last.ensures
+pub returns : goal.returns
+returns g c =
+    ends_empty c.args.self.outer.items _ _ c.last.result (empty_by c.args.self.outer.items (vec_len c.args.self.outer) (omega (arith, c.args.self.outer.ok.0)) (sym c.if-not-is_closed.false ∙ c.is_empty-is_closed.ensures)) c.last.ensures
