@@ -1,5 +1,5 @@
 -- Two children side by side that are evened.
-use Rattle.std.proofs.Common.{◌≡◌, ℕ, ◌+◌, ◌≤◌, List, [], ◌∷◌, ◌++◌, length, get_or, refl, sym, ap, subst, ◌∙◌, arith, Option, Some, None}
+use Rattle.std.proofs.Common.{◌≡◌, ℕ, ◌+◌, ◌≤◌, List, [], ◌∷◌, ◌++◌, length, get_or, refl, sym, ap, subst, ◌∙◌, arith, Option, Some, None, Vec, vec_len}
 use Rattle.std.proofs.lemmas.List.{append-nil}
 use Rattle.std.proofs.lemmas.List.Elements.{All-append}
 use Rattle.std.specs.List.{All}
@@ -13,6 +13,13 @@ use Rattle.st_ubtree.proofs.Inside.{rows_three}
 use Rattle.st_ubtree.proofs.Settling.{kids_start, kids_wide}
 use Rattle.st_ubtree.proofs.Spanning.{pages-append, spans_cut, spans_join}
 use Rattle.st_ubtree.proofs.Splitting.{wide_page, page, rises_wide}
+
+-- a list of a worn node, as the code counts it
+pub held_worn : {X Z : Type 0} (v : Vec X Z) (width : ℕ) → width ≡ length v.items → 15 ≤ width → width ≤ 32 → (15 ≤ vec_len v) × (vec_len v ≤ 32)
+held_worn v width is least most = (omega (arith, v.ok.0, is, least), omega (arith, v.ok.0, is, most))
+
+pub held_both : {X Z : Type 0} (v w : Vec X Z) (one two : ℕ) → one ≡ length v.items → two ≡ length w.items → one + two ≤ 47 → vec_len v + vec_len w ≤ 47
+held_both v w one two is other both = omega (arith, v.ok.0, w.ok.0, is, other, both)
 
 module _ {A : Type 0} where
   pub reshapes_same : (old new : List (PageValue A)) → new ≡ old → Reshapes old new

@@ -23,6 +23,9 @@ insert_after xs v ys s j e = ap (λ n. insert (xs ++ v ∷ ys) n s) e ∙ at xs
     at [] = refl
     at (z ∷ zs) = ap (λ t. z ∷ t) (at zs)
 
+pub set_read : {X : Type 0} (xs : List X) (i : ℕ) (old new : X) → i < length xs → old ≡ get_or xs i old → new ≡ old → set xs i new ≡ xs
+set_read xs i old new l read same = ap (set xs i) same ∙ set_split xs i old l ∙ sym (split_read xs i old l read)
+
 module _ {A : Type 0} where
   pub kid_stays : (key : ℕ) (row : Row A) (below : ℕ) (kid v : NodeValue A) → IsKid below kid → Grows key row kid v None → IsKid below v
   kid_stays key row below kid v k g = record {

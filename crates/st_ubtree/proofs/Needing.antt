@@ -1,5 +1,5 @@
 -- Which nodes a new row splits, seen from a page and from a node over it.
-use Rattle.std.proofs.Common.{◌≡◌, ℕ, ◌+◌, ◌-◌, ◌<◌, ◌≤◌, max, List, [], ◌∷◌, ◌++◌, length, get_or, map, take, drop, append_assoc, refl, sym, ap, subst, ◌∙◌, suc, zero, arith, true, false, Bool, not, ltb, eqb, ◌||◌, if◌then◌else◌}
+use Rattle.std.proofs.Common.{◌≡◌, ℕ, ◌+◌, ◌-◌, ◌<◌, ◌≤◌, max, List, [], ◌∷◌, ◌++◌, length, get_or, map, take, drop, append_assoc, refl, sym, ap, subst, ◌∙◌, suc, zero, arith, true, false, Bool, not, ltb, eqb, ◌||◌, if◌then◌else◌, Vec, vec_len}
 use Rattle.std.proofs.lemmas.Bool.{true≢false, eq-eqb, ne_eqb, le-ltb, lt-ltb, or_from, or_left, or_right}
 use Rattle.std.proofs.lemmas.List.Elements.{All-append, All-cons, All-head, All-tail}
 use Rattle.std.proofs.lemmas.List.{length-map}
@@ -42,6 +42,14 @@ module _ {A : Type 0} where
   pub page_full : (key : ℕ) (es : List (EntryValue A)) → 32 ≤ length es → All (λ (e : EntryValue A). e.at ≡ key → ⊥) es → splits_page es 1 key ≡ 1
   unfolding splits_page
   page_full key es l h = ap (λ b. if b then 0 else 1) (or_from (ltb (length es) 32) (has_key key es) (le-ltb (length es) 32 l) (has_none key es h))
+
+  -- a page of 32 keys that takes a new one
+
+  pub page_overfull : {Z : Type 0} (key : ℕ) (old new : Vec (EntryValue A) Z) → length old.items ≤ 32 → vec_len new ≤ vec_len old + 1 → 32 < vec_len new → (vec_len old < vec_len new → All (λ (e : EntryValue A). e.at ≡ key → ⊥) old.items) → splits_page old.items 1 key ≡ 1
+  page_overfull key old new fits most more none = page_full key old.items (omega (arith, old.ok.0, most, more)) (none (omega (arith, old.ok.0, fits, more)))
+
+  pub page_filled : {Z : Type 0} (key : ℕ) (old new : Vec (EntryValue A) Z) → length old.items ≤ 32 → vec_len new ≤ vec_len old + 1 → 32 < vec_len new → (vec_len old < vec_len new → All (λ (e : EntryValue A). e.at ≡ key → ⊥) old.items) → 1 ≤ splits_page old.items 1 key
+  page_filled key old new fits most more none = let one = page_overfull key old new fits most more none in omega (arith, one)
 
   pub page_short : (key : ℕ) (es : List (EntryValue A)) → length es < 32 → splits_page es 1 key ≡ 0
   unfolding splits_page
@@ -197,3 +205,30 @@ made_less height split inners h = by (eqb split (height + 1)) h
     by : (b : Bool) → (if b then split else split - 1) ≤ inners → split ≤ inners + 1
     by true l = omega (arith, l)
     by false l = omega (arith, l)
+
+-- the same as numbers: s nodes are split up to a child of height k, and all up to its parent, of height top
+
+pub fewer_split : (s more all n : ℕ) → s ≤ more → all ≡ more → all ≤ n → s ≤ n
+fewer_split s more all n less is most = omega (arith, less, is, most)
+
+pub some_split : (s more all : ℕ) → s ≤ more → all ≡ more → 1 ≤ s → 1 ≤ all
+some_split s more all less is some = omega (arith, less, is, some)
+
+pub one_left : (was now all s k : ℕ) → was ≤ now + k → all ≤ was + 1 → all ≡ s + 1 → s ≡ k + 1 → 0 < now
+one_left was now all s k left enough is split = omega (arith, left, enough, is, split)
+
+module _ (k below h top : ℕ) (low : k ≡ below) (higher : h ≡ below + 1) (tall : top ≡ h) where
+  pub lower_kid : k < top
+  lower_kid = omega (arith, low, higher, tall)
+
+  pub whole_split : (all s : ℕ) → all ≡ s + 1 → s ≡ k + 1 → all ≡ top + 1
+  whole_split all s is split = omega (arith, low, higher, tall, is, split)
+
+  pub left_below : (was now : ℕ) → was ≤ now + k → was ≤ now + top
+  left_below was now left = omega (arith, low, higher, tall, left)
+
+  pub left_over : (was mid now : ℕ) → was ≤ mid + k → mid ≤ now + 1 → was ≤ now + top
+  left_over was mid now left more = omega (arith, low, higher, tall, left, more)
+
+pub held_made : {X Z : Type 0} (v : Vec X Z) (made : ℕ) → length v.items ≡ made → made ≤ vec_len v
+held_made v made is = omega (arith, v.ok.0, is)

@@ -1,5 +1,5 @@
 -- Children cut in two.
-use Rattle.std.proofs.Common.{◌≡◌, ℕ, ◌<◌, ◌≤◌, List, [], ◌∷◌, ◌++◌, length, get_or, map, drop, length-append, refl, sym, ap, subst, arith, drop-cons, Vec, vec_capacity}
+use Rattle.std.proofs.Common.{◌≡◌, ℕ, ◌+◌, ◌<◌, ◌≤◌, List, [], ◌∷◌, ◌++◌, length, get_or, map, drop, length-append, refl, sym, ap, subst, arith, drop-cons, Vec, vec_capacity, vec_len}
 use Rattle.std.proofs.lemmas.List.{length-map}
 use Rattle.std.proofs.lemmas.List.Elements.{All-append, All-cons, All-head, All-tail}
 use Rattle.std.specs.List.{All}
@@ -12,6 +12,17 @@ pub blank_last : {A B : Type 0} → (vs : List (Vec B A)) (v : Vec B A) → AreB
 blank_last {A} {B} vs v h =
     let P : Vec B A → Type 0 = λ w. (w.items ≡ []) × (33 ≤ vec_capacity w) in
     (all_left P vs (v ∷ []) h, All-head P v [] (all_right P vs (v ∷ []) h))
+
+pub blank_more : {A B : Type 0} (vs new : List (Vec B A)) (v : Vec B A) → AreBlank vs → v.items ≡ [] → 33 ≤ vec_capacity v → new ≡ vs ++ v ∷ [] → AreBlank new
+blank_more {A} {B} vs new v h empty room is =
+    let P : Vec B A → Type 0 = λ w. (w.items ≡ []) × (33 ≤ vec_capacity w) in
+    subst (All P) (sym is) (All-append P vs (v ∷ []) h (All-cons P v [] (empty, room) (λ k d l. absurd (omega (arith, l)))))
+
+pub length_more : {X : Type 0} (xs new : List X) (x : X) (n : ℕ) → length xs ≡ n → new ≡ xs ++ x ∷ [] → length new ≡ n + 1
+length_more xs new x n len is = let a = ap length is in let b = length-append xs (x ∷ []) in omega (arith, a, b, len)
+
+pub held_at : {A B : Type 0} (v : Vec B A) (i : ℕ) → i < length v.items → i < vec_len v
+held_at v i l = subst (λ n. i < n) (sym v.ok.0) l
 
 module _ {A : Type 0} where
   pub head_there : (kids : List (NodeValue A)) (i : ℕ) (kid : NodeValue A) → i < length kids → kid ≡ get_or kids i kid → HeadAt kid.first (drop i kids)
@@ -50,3 +61,6 @@ module _ {A : Type 0} where
 
   pub kids_wide : (below : ℕ) (kids : List (NodeValue A)) → All (IsKid below) kids → AreWide (pages_of kids) (widths_of kids)
   kids_wide below kids each = record { keys = pages_filled below kids each; nodes = nodes_wide below kids each }
+
+  pub last_kid : (below : ℕ) (kids front : List (NodeValue A)) (v : NodeValue A) → All (IsKid below) kids → kids ≡ front ++ v ∷ [] → IsKid below v
+  last_kid below kids front v each is = All-head (IsKid below) v [] (all_right (IsKid below) front (v ∷ []) (subst (All (IsKid below)) is each))

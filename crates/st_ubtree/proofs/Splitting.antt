@@ -1,6 +1,6 @@
 -- A page that takes a row, and a page that is cut in two.
-use Rattle.std.proofs.Common.{◌≡◌, ℕ, ◌+◌, ◌<◌, ◌≤◌, List, [], ◌∷◌, ◌++◌, length, get_or, take, drop, refl, sym, ap, subst, ◌∙◌, suc, arith, drop-cons, take-append-drop, length-take-le, Option, Some, None}
-use Rattle.std.proofs.lemmas.List.{append-nil}
+use Rattle.std.proofs.Common.{◌≡◌, ℕ, ◌+◌, ◌<◌, ◌≤◌, List, [], ◌∷◌, ◌++◌, length, get_or, take, drop, refl, sym, ap, subst, ◌∙◌, suc, arith, drop-cons, take-append-drop, length-take-le, Option, Some, None, Vec, vec_len}
+use Rattle.std.proofs.lemmas.List.{append-nil, length-drop}
 use Rattle.std.proofs.lemmas.List.Elements.{All-head, All-cons}
 use Rattle.st_index.specs.Rows.{name_of, EntryValue, Rises, place_of, rows_of}
 use Rattle.st_index.specs.Index.{Adds, IsAbsent}
@@ -11,6 +11,10 @@ use Rattle.st_ubtree.specs.Growing.{PageGrows, Grows}
 use Rattle.st_ubtree.specs.Nodes.{page_node}
 use Rattle.st_key.specs.declared.period.Period.{Period}
 use Rattle.st_index.specs.declared.row.Row.{Row}
+
+-- a page that takes one more than 32 holds 33
+pub held_full : {X Z : Type 0} (old new : Vec X Z) → length old.items ≤ 32 → vec_len new ≤ vec_len old + 1 → 32 < vec_len new → length new.items ≡ 33
+held_full old new fits most more = omega (arith, old.ok.0, new.ok.0, fits, most, more)
 
 module _ {A : Type 0} where
   abbrev pub page : ℕ → List (EntryValue A) → PageValue A
@@ -74,3 +78,14 @@ module _ {A : Type 0} where
     widths = (record { same_height = refl; not_less = let a = h.0 in omega (arith, a); not_more = let a = h.0 in omega (arith, a); starts = (refl, refl); filled = let a = h.0 in wide_page first new (omega (arith, a)) (omega (arith, a)) }, subst (λ n. IsKid n s) (sym z) h.2);
     by = h.3 first;
   }
+
+  module _ (key : ℕ) (row : Row A) (old new : List (EntryValue A)) (added : Adds row (rows_of old) (rows_of new)) (rising : (period : Period) (lo hi : ℕ) → key ≡ place_of period row → Rises period lo hi old → lo ≤ key → key < hi → IsAbsent period key (name_of row) (rows_of old) → Rises period lo hi new) where
+    pub page_cut : (e : EntryValue A) → length new ≡ 33 → e ≡ get_or new 16 e → PageGrows key row old (take 16 new) (Some (page_node e.at 0 (drop 16 new)))
+    page_cut e all read =
+        let low : length (take 16 new) ≡ 16 = length-take-le 16 new (omega (arith, all)) in
+        let high : length (drop 16 new) ≡ 17 = let d = length-drop 16 new in omega (arith, all, d) in (
+          low,
+          high,
+          record { same_height = refl; not_less = omega (arith, high); not_more = omega (arith, high); starts = (refl, refl); filled = wide_page e.at (drop 16 new) (omega (arith, high)) (omega (arith, high)) },
+          λ first. page_splits key row old new added rising first 16 e (omega arith) (omega (arith, all)) read,
+        )

@@ -1,6 +1,7 @@
 -- What putting in a row does to a node, and what finding a page says.
-use Rattle.std.specs.Prelude.{◌≡◌, ℕ, ◌+◌, ◌<◌, ◌≤◌, List, [], ◌∷◌, ◌++◌, length, take, drop, vec_capacity, Vec, Option, Some, None}
+use Rattle.std.specs.Prelude.{◌≡◌, ℕ, ◌+◌, ◌<◌, ◌≤◌, max, List, [], ◌∷◌, ◌++◌, length, take, drop, vec_capacity, Vec, Option, Some, None, not, ltb, true, false}
 use Rattle.std.specs.List.{All}
+use Rattle.std.specs.List.Sorted.{IsPartitionedBy, IsPartitionPoint}
 use Rattle.st_key.specs.declared.period.Period.{Period}
 use Rattle.st_index.specs.declared.row.Row.{Row}
 use Rattle.st_index.specs.Rows.{EntryValue, Rises}
@@ -48,6 +49,13 @@ pub record Grows {A : Type 0} (key : ℕ) (row : Row A) (old new : NodeValue A) 
   pub starts : Starts old.first old.pages old.chains → Starts new.first new.pages new.chains
   pub widths : WidthsAfter old new split
   pub by : GrowsBy key row old.pages (pages_with new split)
+
+-- where the children stand by their first keys, it is the last that begins at or before the key, or else the first
+pub record IsChosen {A : Type 0} (key : ℕ) (kids : List (NodeValue A)) (at : ℕ) : Type 0 where
+  pub upto : ℕ
+  pub found : IsPartitionedBy (λ (v : NodeValue A). not (ltb key v.first)) kids → IsPartitionPoint (λ (v : NodeValue A). not (ltb key v.first) ≡ true) (λ (v : NodeValue A). not (ltb key v.first) ≡ false) kids upto
+  pub is : at + 1 ≡ max upto 1
+  pub within : at < length kids
 
 -- among these pages it is the one of the key, where they end with this last key
 pub record IsLeafIn {A : Type 0} (key : ℕ) (pages : List (PageValue A)) (end first last : ℕ) (entries : List (EntryValue A)) : Type 0 where

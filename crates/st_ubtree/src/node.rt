@@ -7,7 +7,7 @@ ghost use Rattle.st_index.specs.Rows.{EntryValue, name_of};
 ghost use Rattle.st_ubtree.specs.Pages.{GrowsBy, IsKid, IsWide, NodeValue, entries_in};
 ghost use Rattle.st_ubtree.specs.Trading.{AreFilled, Keeps, TradesIn};
 ghost use Rattle.st_ubtree.specs.Shrinking.{AreWorn, HasNone, IsWorn, Joins, KidsJoin, Mends, PagesJoin, Shrinks};
-ghost use Rattle.st_ubtree.specs.Growing.{AreAround, AreBlank, AreKids, DoRise, Grows, IsBlankPage, IsLeafIn, IsRoomFor, PageGrows, Settles};
+ghost use Rattle.st_ubtree.specs.Growing.{AreAround, AreBlank, AreKids, DoRise, Grows, IsBlankPage, IsChosen, IsLeafIn, IsRoomFor, PageGrows, Settles};
 ghost use Rattle.st_ubtree.specs.Nodes.{page_node};
 ghost use Rattle.st_ubtree.specs.Splits.{made_nodes, split_nodes, splits, splits_page, splits_with};
 
@@ -66,6 +66,14 @@ fn count_up_to<A: Allocator + Copy>(kids: &[Node<A>], key: Key) -> usize
             ensures { result ≡ not (ltb (rank key) kid.now.first) }
         { !order::is_before(key, kid.first) },
     )
+}
+
+/// The child that a search for the key goes on in: the last that begins at or before it, or else the first.
+fn child_for<A: Allocator + Copy>(kids: &[Node<A>], key: Key) -> usize
+    requires { 1 ≤ length kids.now }
+    ensures { IsChosen (rank key) kids.now result }
+{
+    count_up_to(kids, key).max(1) - 1
 }
 
 /// What a new row of a key takes: how many rows the key has, and, where its page is to be split, how many
@@ -298,7 +306,7 @@ impl<A: Allocator + Copy> Node<A> {
         match &self.kids {
             Kids::Page(entries) => page_needs(entries, key),
             Kids::Inner(kids) => {
-                let at = count_up_to(kids, key).max(1) - 1;
+                let at = child_for(kids, key);
                 let kid = &kids[at];
                 let needs = kid.needs(key);
                 Needs {
@@ -333,7 +341,7 @@ impl<A: Allocator + Copy> Node<A> {
                 return put_in_page(entries, key, row, rows, page);
             }
             Kids::Inner(kids) => {
-                let at = count_up_to(kids, key).max(1) - 1;
+                let at = child_for(kids, key);
                 let kid = &mut kids[at];
                 let right = kid.insert(key, row, rows, page, inners)?;
                 let Ok(()) = kids.insert(at + 1, right) else {
@@ -380,7 +388,7 @@ impl<A: Allocator + Copy> Node<A> {
         match &mut self.kids {
             Kids::Page(entries) => entries::take(entries, key, id, label),
             Kids::Inner(kids) => {
-                let at = count_up_to(kids, key).max(1) - 1;
+                let at = child_for(kids, key);
                 let kid = &mut kids[at];
                 let row = kid.remove(key, id, label)?;
                 mend(kids, at);
@@ -399,7 +407,7 @@ impl<A: Allocator + Copy> Node<A> {
         match &mut self.kids {
             Kids::Page(entries) => entries::swap(entries, key, row),
             Kids::Inner(kids) => {
-                let at = count_up_to(kids, key).max(1) - 1;
+                let at = child_for(kids, key);
                 let kid = &mut kids[at];
                 kid.replace(key, row)
             }

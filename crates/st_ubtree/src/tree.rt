@@ -134,7 +134,7 @@ impl<A: Allocator + Copy> UbTree<A> {
     pub fn len(&self) -> u64
         ensures { result ≡ length (rows_in self.now.root.pages) }
     {
-        self.len
+        self.len // counted as rows come and go
     }
 }
 

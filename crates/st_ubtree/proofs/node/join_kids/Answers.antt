@@ -1,16 +1,16 @@
-use Rattle.std.proofs.Common.{◌≡◌, ◌≤◌, length, subst, sym, ap, refl, arith, rules}
+use Rattle.std.proofs.Common.{◌≡◌, ◌≤◌, length, subst, sym, ap, refl, arith}
 use Rattle.std.specs.List.{All}
 use Rattle.st_key.specs.Key.{rank}
 use Rattle.st_index.proofs.Climbing.{all_right}
 use Rattle.st_ubtree.specs.Pages.{NodeValue, HeadAt, IsKid}
-use Rattle.st_ubtree.proofs.Settling.{head_there, kids_start, kids_wide}
+use Rattle.st_ubtree.proofs.Settling.{head_there, held_at, kids_start, kids_wide}
 use Rattle.st_ubtree.proofs.node.join_kids.Goals as goal
 
 pub invariant_of-result : goal.invariant_of-result
 invariant_of-result g c =
     let left = c.share.new.left.items in
     let rest = c.share.new.right.items in
-    let wide : (16 ≤ length rest) × (length rest ≤ 32) = search rules in
+    let wide : (16 ≤ length rest) × (length rest ≤ 32) = c.share.ensures.some c.if-not-share.false in
     let each : All (IsKid c.requires.kids.below) rest = all_right (IsKid c.requires.kids.below) left rest (subst (All (IsKid c.requires.kids.below)) (sym c.share.ensures.kept) c.requires.kids.each) in
     let least : HeadAt c.index-least.result.now.first rest = head_there rest 0 c.index-least.result.now (let a = wide.0 in omega (arith, a)) c.index-least.ensures in
     let first : c.index-least.result.now.first ≡ rank c.least.inside.first = ap (λ (v : NodeValue g.row.A.Denot). v.first) (sym c.least.view_is) in
@@ -29,7 +29,7 @@ returns-clause-joins g c =
     let left = c.share.new.left.items in
     let rest = c.share.new.right.items in
     let i = invariant_of-result g c in
-    let wide : (16 ≤ length rest) × (length rest ≤ 32) = search rules in
+    let wide : (16 ≤ length rest) × (length rest ≤ 32) = c.share.ensures.some c.if-not-share.false in
     record {
       rest = rest;
       kept = c.share.ensures.kept;
@@ -37,3 +37,15 @@ returns-clause-joins g c =
       not_more = c.share.ensures.left.1;
       beside = (record { same_height = refl; not_less = wide.0; not_more = wide.1; starts = kids_start i.below (rank c.least.inside.first) rest i.each i.head; filled = kids_wide i.below rest i.each }, refl);
     }
+
+pub index-least-requires : goal.index-least-requires
+index-least-requires g c = let wide = (c.share.ensures.some c.if-not-share.false).0 in held_at c.share.new.right 0 (omega (arith, wide))
+
+pub returns-then-not-share-clause-joins : goal.returns-then-not-share-clause-joins
+returns-then-not-share-clause-joins g c = record {
+  rest = c.share.new.right.items;
+  kept = c.share.ensures.kept;
+  not_less = c.share.ensures.left.0;
+  not_more = c.share.ensures.left.1;
+  beside = c.share.ensures.none c.if-not-share.true;
+}

@@ -3,6 +3,7 @@ use Rattle.st_key.specs.Key.{rank}
 use Rattle.st_index.specs.Rows.{EntryValue}
 use Rattle.st_index.proofs.Putting.{split_read}
 use Rattle.st_ubtree.specs.Pages.{NodeValue, IsKid}
+use Rattle.st_ubtree.proofs.Settling.{held_at}
 use Rattle.st_ubtree.proofs.Splitting.{page, wide_page}
 use Rattle.st_ubtree.proofs.node.join_pages.Goals as goal
 
@@ -30,3 +31,21 @@ returns-clause-joins g c =
       not_more = c.share.ensures.left.1;
       beside = (kid, (e, drop 1 rest, some, pages));
     }
+
+pub page-requires-clause-not_more : goal.page-requires-clause-not_more
+page-requires-clause-not_more g c = (c.share.ensures.some c.if-not-share.false).1
+
+pub page-requires-clause-room : goal.page-requires-clause-room
+page-requires-clause-room g c = c.share.ensures.right_room
+
+pub index-least-requires : goal.index-least-requires
+index-least-requires g c = let wide = (c.share.ensures.some c.if-not-share.false).0 in held_at c.share.new.right 0 (omega (arith, wide))
+
+pub returns-then-not-share-clause-joins : goal.returns-then-not-share-clause-joins
+returns-then-not-share-clause-joins g c = record {
+  rest = c.share.new.right.items;
+  kept = c.share.ensures.kept;
+  not_less = c.share.ensures.left.0;
+  not_more = c.share.ensures.left.1;
+  beside = c.share.ensures.none c.if-not-share.true;
+}

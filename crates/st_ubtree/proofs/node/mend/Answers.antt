@@ -1,13 +1,13 @@
-use Rattle.std.proofs.Common.{◌≡◌, ◌-◌, ◌<◌, min, length, sym, ap, ◌∙◌, arith, rules, vec_len}
-use Rattle.st_ubtree.proofs.Mending.{mends_alone, mends_both, paired}
+use Rattle.std.proofs.Common.{◌≡◌, ◌-◌, ◌<◌, min, length, ap, ◌∙◌, arith}
+use Rattle.st_ubtree.specs.Pages.{NodeValue}
+use Rattle.st_ubtree.proofs.Mending.{joins_worn, mends_alone, mends_both, mends_none, paired, worn_is}
 use Rattle.st_ubtree.proofs.node.mend.Goals as goal
 
 pub returns-in_default-clause-mends : goal.returns-in_default-clause-mends
 returns-in_default-clause-mends g c = λ below w.
     let kids = c.args.kids.now.items in
-    let len : length kids ≡ vec_len c.args.kids.now = search rules in
     let left = c.min-left.result in
-    let m : left ≡ min c.args.at (length kids - 2) = c.min-left.ensures ∙ ap (λ n. min c.args.at (n - 2)) (c.len.ensures ∙ sym len) in
+    let m : left ≡ min c.args.at (length kids - 2) = c.min-left.ensures ∙ ap (λ n. min c.args.at (n - 2)) (c.len.ensures ∙ c.args.kids.now.ok.0) in
     let low : c.index-kid.result.now.width < 16 = let a = c.if-width-ge16.false in omega (arith, a, c.width.ensures) in
     let rest = c.remove-right.new.self.items in
     let q = paired below c.args.at left kids rest w c.index-kid.result.now c.index_mut-kid.result.now c.remove-right.result c.index-kid.ensures low c.requires.two m c.remove-right.ensures.items c.remove-right.ensures.value c.index_mut-kid.ensures.value in
@@ -16,10 +16,52 @@ returns-in_default-clause-mends g c = λ below w.
 pub returns-clause-mends : goal.returns-clause-mends
 returns-clause-mends g c = λ below w.
     let kids = c.args.kids.now.items in
-    let len : length kids ≡ vec_len c.args.kids.now = search rules in
     let left = c.min-left.result in
-    let m : left ≡ min c.args.at (length kids - 2) = c.min-left.ensures ∙ ap (λ n. min c.args.at (n - 2)) (c.len.ensures ∙ sym len) in
+    let m : left ≡ min c.args.at (length kids - 2) = c.min-left.ensures ∙ ap (λ n. min c.args.at (n - 2)) (c.len.ensures ∙ c.args.kids.now.ok.0) in
     let low : c.index-kid.result.now.width < 16 = let a = c.if-width-ge16.false in omega (arith, a, c.width.ensures) in
     let rest = c.remove-right.new.self.items in
     let q = paired below c.args.at left kids rest w c.index-kid.result.now c.index_mut-kid.result.now c.remove-right.result c.index-kid.ensures low c.requires.two m c.remove-right.ensures.items c.remove-right.ensures.value c.index_mut-kid.ensures.value in
     rw c.in-Ok.ensures.items (mends_both below left kids rest c.index_mut-kid.result.now c.remove-right.result c.join.new.self c.in-Some.right q c.in-Some.ensures.joins)
+
+pub join-requires-clause-worn : goal.join-requires-clause-worn
+join-requires-clause-worn g c =
+    let below = c.requires.worn.0 in
+    let w = c.requires.worn.1 in
+    let kids = c.args.kids.now.items in
+    let left = c.min-left.result in
+    let m : left ≡ min c.args.at (length kids - 2) = c.min-left.ensures ∙ ap (λ n. min c.args.at (n - 2)) (c.len.ensures ∙ c.args.kids.now.ok.0) in
+    let low : c.index-kid.result.now.width < 16 = let a = c.if-width-ge16.false in omega (arith, a, c.width.ensures) in
+    let rest = c.remove-right.new.self.items in
+    let q = paired below c.args.at left kids rest w c.index-kid.result.now c.index_mut-kid.result.now c.remove-right.result c.index-kid.ensures low c.requires.two m c.remove-right.ensures.items c.remove-right.ensures.value c.index_mut-kid.ensures.value in
+    (joins_worn below left kids rest c.index_mut-kid.result.now c.remove-right.result q).0
+
+pub join-requires-clause-right : goal.join-requires-clause-right
+join-requires-clause-right g c =
+    let below = c.requires.worn.0 in
+    let w = c.requires.worn.1 in
+    let kids = c.args.kids.now.items in
+    let left = c.min-left.result in
+    let m : left ≡ min c.args.at (length kids - 2) = c.min-left.ensures ∙ ap (λ n. min c.args.at (n - 2)) (c.len.ensures ∙ c.args.kids.now.ok.0) in
+    let low : c.index-kid.result.now.width < 16 = let a = c.if-width-ge16.false in omega (arith, a, c.width.ensures) in
+    let rest = c.remove-right.new.self.items in
+    let q = paired below c.args.at left kids rest w c.index-kid.result.now c.index_mut-kid.result.now c.remove-right.result c.index-kid.ensures low c.requires.two m c.remove-right.ensures.items c.remove-right.ensures.value c.index_mut-kid.ensures.value in
+    (joins_worn below left kids rest c.index_mut-kid.result.now c.remove-right.result q).1
+
+pub join-requires-clause-both : goal.join-requires-clause-both
+join-requires-clause-both g c =
+    let below = c.requires.worn.0 in
+    let w = c.requires.worn.1 in
+    let kids = c.args.kids.now.items in
+    let left = c.min-left.result in
+    let m : left ≡ min c.args.at (length kids - 2) = c.min-left.ensures ∙ ap (λ n. min c.args.at (n - 2)) (c.len.ensures ∙ c.args.kids.now.ok.0) in
+    let low : c.index-kid.result.now.width < 16 = let a = c.if-width-ge16.false in omega (arith, a, c.width.ensures) in
+    let rest = c.remove-right.new.self.items in
+    let q = paired below c.args.at left kids rest w c.index-kid.result.now c.index_mut-kid.result.now c.remove-right.result c.index-kid.ensures low c.requires.two m c.remove-right.ensures.items c.remove-right.ensures.value c.index_mut-kid.ensures.value in
+    (joins_worn below left kids rest c.index_mut-kid.result.now c.remove-right.result q).2
+
+pub returns-then-width-ge16-clause-mends : goal.returns-then-width-ge16-clause-mends
+returns-then-width-ge16-clause-mends g c = λ below w.
+    let kids = c.args.kids.now.items in
+    let same = ap (λ (v : NodeValue g.row.A.Denot). v.width) (worn_is below c.args.at kids w c.index-kid.result.now c.index-kid.ensures) in
+    let wide = c.if-width-ge16.true in
+    mends_none below c.args.at kids w (omega (arith, same, wide, c.width.ensures))

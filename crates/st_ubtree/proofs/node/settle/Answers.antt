@@ -1,4 +1,4 @@
-use Rattle.std.proofs.Common.{◌≡◌, length, drop, refl, subst, sym, ap, ◌∙◌, vec_len, arith, rules}
+use Rattle.std.proofs.Common.{◌≡◌, length, drop, refl, subst, sym, ap, ◌∙◌, arith}
 use Rattle.std.proofs.lemmas.List.{length-take-le, length-drop}
 use Rattle.std.proofs.lemmas.List.Elements.{All-drop}
 use Rattle.st_key.specs.Key.{rank}
@@ -11,7 +11,7 @@ use Rattle.st_ubtree.proofs.node.settle.Goals as goal
 pub invariant_of-result : goal.invariant_of-result
 invariant_of-result g c =
     let kids = c.args.kids.now.items in
-    let len : length kids ≡ vec_len c.args.kids.now = search rules in
+    let len = c.args.kids.now.ok.0 in
     let all : length kids ≡ 33 = let a = c.if-len-le32.false in let b = c.requires.not_more in omega (arith, len, a, b, c.len.ensures) in
     let moved : length (drop 16 kids) ≡ 17 = let d = length-drop 16 kids in omega (arith, all, d) in
     let least : HeadAt c.index-least.result.now.first (drop 16 kids) = head_there kids 16 c.index-least.result.now (omega (arith, all)) c.index-least.ensures in
@@ -31,7 +31,7 @@ invariant_of-result g c =
 pub returns-clause-settles : goal.returns-clause-settles
 returns-clause-settles g c =
     let kids = c.args.kids.now.items in
-    let len : length kids ≡ vec_len c.args.kids.now = search rules in
+    let len = c.args.kids.now.ok.0 in
     let all : length kids ≡ 33 = let a = c.if-len-le32.false in let b = c.requires.not_more in omega (arith, len, a, b, c.len.ensures) in
     let moved : length (drop 16 kids) ≡ 17 = let d = length-drop 16 kids in omega (arith, all, d) in
     let least : HeadAt c.index-least.result.now.first (drop 16 kids) = head_there kids 16 c.index-least.result.now (omega (arith, all)) c.index-least.ensures in
@@ -49,3 +49,12 @@ returns-clause-settles g c =
 
 pub returns-clause-blank : goal.returns-clause-blank
 returns-clause-blank g c = (blank_last c.pop.new.self.items c.in-Some.blank (subst AreBlank c.in-Some.ensures.items c.requires.blank)).0
+
+pub split_at-upper-requires-clause-empty : goal.split_at-upper-requires-clause-empty
+split_at-upper-requires-clause-empty g c = (blank_last c.pop.new.self.items c.in-Some.blank (subst AreBlank c.in-Some.ensures.items c.requires.blank)).1.0
+
+pub split_at-upper-requires-clause-room : goal.split_at-upper-requires-clause-room
+split_at-upper-requires-clause-room g c =
+    let room = (blank_last c.pop.new.self.items c.in-Some.blank (subst AreBlank c.in-Some.ensures.items c.requires.blank)).1.1 in
+    let fits = c.requires.not_more in
+    omega (arith, c.args.kids.now.ok.0, fits, room)

@@ -3,6 +3,7 @@ use Rattle.st_key.specs.declared.period.Period.{Period}
 use Rattle.st_key.specs.Key.{rank}
 use Rattle.st_ubtree.specs.Pages.{NodeValue, pages_of}
 use Rattle.st_ubtree.specs.Nodes.{IsNode, IsInner, pages_under}
+use Rattle.st_ubtree.proofs.Settling.{held_at}
 use Rattle.st_ubtree.proofs.Spanning.{Found}
 use Rattle.st_ubtree.proofs.Leaves.{leaf_page, leaf_kid, ends_next, ends_last}
 use Rattle.st_ubtree.proofs.node.Node.+leaf_at.Goals as goal
@@ -38,3 +39,14 @@ returns-after-after-len g t c =
     ] in
     rw pages (leaf_kid (rank c.args.key) good.below (rank c.args.last) kids i n c.index-kid.result.now good.each found is l c.index-kid.ensures
     (rank c.if-after-len.kid_last) (rank c.leaf_at.result.first) (rank c.leaf_at.result.last) c.leaf_at.result.entries.now within c.leaf_at.ensures)
+
+pub index-kid-requires : goal.index-kid-requires
+index-kid-requires g t c =
+    let kids = c.in-Inner.kids.items in
+    let good : IsInner (rank c.self.inside.first) c.self.inside.height kids (vec_capacity c.in-Inner.kids) = subst (IsNode (rank c.self.inside.first) c.self.inside.height) c.in-Inner.is c.self.invariant in
+    let n = c.count_up_to.result in
+    let i = c.max-after.result - 1 in
+    let m : c.max-after.result ≡ max n 1 = c.max-after.ensures in
+    let bound = rw c.deref.ensures.value at c.count_up_to.ensures.bound in
+    let l : i < length kids = let some = good.not_less in omega (arith, m, bound, some) in
+    held_at c.in-Inner.kids i l

@@ -1,36 +1,33 @@
-use Rattle.std.proofs.Common.{[], ◌≡◌, ◌+◌, ◌-◌, ◌<◌, max, length, subst, sym, ap, ◌∙◌, arith, rules, vec_len, vec_capacity}
+use Rattle.std.proofs.Common.{[], ◌∷◌, ◌≡◌, ◌-◌, ◌≤◌, length, subst, sym, ap, ◌∙◌, arith, rules, vec_len, vec_capacity}
 use Rattle.std.proofs.lemmas.List.Elements.{All-append, All-nil}
 use Rattle.st_key.specs.Key.{rank}
 use Rattle.st_index.specs.Rows.{EntryValue}
 use Rattle.st_index.proofs.Climbing.{all_left}
-use Rattle.st_ubtree.specs.Growing.{AreAround}
+use Rattle.st_ubtree.specs.Growing.{AreAround, DoRise, IsChosen}
 use Rattle.st_ubtree.specs.Nodes.{IsNode, IsInner, node_value, pages_under}
 use Rattle.st_ubtree.specs.Pages.{NodeValue, pages_of}
 use Rattle.st_ubtree.specs.Splits.{chains_of, split_nodes, splits, splits_in, splits_page, splits_with}
 use Rattle.st_ubtree.proofs.Lifting.{that_kid}
-use Rattle.st_ubtree.proofs.Needing.{kid_around, kid_none, kid_rows, kid_splits_by, splits_alone}
+use Rattle.st_ubtree.proofs.Needing.{kid_around, kid_none, kid_rows, kid_splits_by, lower_kid, page_around, splits_alone}
+use Rattle.st_ubtree.proofs.Settling.{held_at}
+use Rattle.st_ubtree.proofs.Splitting.{page}
 use Rattle.st_ubtree.proofs.node.Node.+needs.Goals as goal
 
 pub needs-needs-requires : goal.needs-needs-requires
 needs-needs-requires g t c κs within =
     let kids = c.in-Inner.kids.items in
     let good : IsInner (rank c.self.inside.first) c.self.inside.height kids (vec_capacity c.in-Inner.kids) = subst (IsNode (rank c.self.inside.first) c.self.inside.height) c.in-Inner.is c.self.invariant in
-    let i = c.max-at.result - 1 in
-    let n = c.count_up_to.result in
-    let m : c.max-at.result ≡ max n 1 = c.max-at.ensures in
-    let is : i + 1 ≡ max n 1 = omega (arith, m) in
-    let found = rw c.deref-in-Inner.ensures.value at c.count_up_to.ensures.place in
-    let bound = rw c.deref-in-Inner.ensures.value at c.count_up_to.ensures.bound in
-    let l : i < length kids = let two = good.not_less in omega (arith, is, bound, two) in
+    let i = c.child_for-at.result in
+    let chosen : IsChosen (rank c.args.key) kids i = rw c.deref-in-Inner.ensures.value at c.child_for-at.ensures in
+    let l = chosen.within in
     let kid = c.index-kid.result.now in
     let read = c.index-kid.ensures in
     let pages : c.args.self.now.pages ≡ pages_of kids = ap (λ (v : NodeValue g.row.A.Denot). v.pages) (sym c.self.view_is) ∙ ap (pages_under (rank c.self.inside.first)) c.in-Inner.is in
     let tall : c.args.self.now.height ≡ c.self.inside.height = ap (λ (v : NodeValue g.row.A.Denot). v.height) (sym c.self.view_is) in
     let low : kid.height ≡ good.below = (that_kid good.below kids i kid l read good.each).same_height in
-    let higher = good.higher in
     let o = subst (AreAround (rank c.args.key)) pages c.requires in
-    let lower : kid.height < c.args.self.now.height = omega (arith, low, tall, higher) in
-    (search (rules, lower), (search (rules, within), kid_around (rank c.args.key) good.below kids i n kid good.each found is l read o))
+    let lower = lower_kid kid.height good.below c.self.inside.height c.args.self.now.height low good.higher tall in
+    (search (rules, lower), (search (rules, within), kid_around (rank c.args.key) good.below kids i chosen.upto kid good.each chosen.found chosen.is l read o))
 
 pub count_node-requires : goal.count_node-requires
 count_node-requires g t c =
@@ -53,51 +50,39 @@ pub returns-in-Inner-clause-rows : goal.returns-in-Inner-clause-rows
 returns-in-Inner-clause-rows g t c =
     let kids = c.in-Inner.kids.items in
     let good : IsInner (rank c.self.inside.first) c.self.inside.height kids (vec_capacity c.in-Inner.kids) = subst (IsNode (rank c.self.inside.first) c.self.inside.height) c.in-Inner.is c.self.invariant in
-    let i = c.max-at.result - 1 in
-    let n = c.count_up_to.result in
-    let m : c.max-at.result ≡ max n 1 = c.max-at.ensures in
-    let is : i + 1 ≡ max n 1 = omega (arith, m) in
-    let found = rw c.deref-in-Inner.ensures.value at c.count_up_to.ensures.place in
-    let bound = rw c.deref-in-Inner.ensures.value at c.count_up_to.ensures.bound in
-    let l : i < length kids = let two = good.not_less in omega (arith, is, bound, two) in
+    let i = c.child_for-at.result in
+    let chosen : IsChosen (rank c.args.key) kids i = rw c.deref-in-Inner.ensures.value at c.child_for-at.ensures in
+    let l = chosen.within in
     let kid = c.index-kid.result.now in
     let pages : c.args.self.now.pages ≡ pages_of kids = ap (λ (v : NodeValue g.row.A.Denot). v.pages) (sym c.self.view_is) ∙ ap (pages_under (rank c.self.inside.first)) c.in-Inner.is in
     let o = subst (AreAround (rank c.args.key)) pages c.requires in
-    rw pages (kid_rows (rank c.args.key) good.below kids i n kid good.each found is l c.index-kid.ensures o c.needs-needs.result.rows c.needs-needs.ensures.rows)
+    rw pages (kid_rows (rank c.args.key) good.below kids i chosen.upto kid good.each chosen.found chosen.is l c.index-kid.ensures o c.needs-needs.result.rows c.needs-needs.ensures.rows)
 
 pub returns-in-Inner-clause-no_rows : goal.returns-in-Inner-clause-no_rows
 returns-in-Inner-clause-no_rows g t c = λ none.
     let kids = c.in-Inner.kids.items in
     let good : IsInner (rank c.self.inside.first) c.self.inside.height kids (vec_capacity c.in-Inner.kids) = subst (IsNode (rank c.self.inside.first) c.self.inside.height) c.in-Inner.is c.self.invariant in
-    let i = c.max-at.result - 1 in
-    let n = c.count_up_to.result in
-    let m : c.max-at.result ≡ max n 1 = c.max-at.ensures in
-    let is : i + 1 ≡ max n 1 = omega (arith, m) in
-    let found = rw c.deref-in-Inner.ensures.value at c.count_up_to.ensures.place in
-    let bound = rw c.deref-in-Inner.ensures.value at c.count_up_to.ensures.bound in
-    let l : i < length kids = let two = good.not_less in omega (arith, is, bound, two) in
+    let i = c.child_for-at.result in
+    let chosen : IsChosen (rank c.args.key) kids i = rw c.deref-in-Inner.ensures.value at c.child_for-at.ensures in
+    let l = chosen.within in
     let kid = c.index-kid.result.now in
     let pages : c.args.self.now.pages ≡ pages_of kids = ap (λ (v : NodeValue g.row.A.Denot). v.pages) (sym c.self.view_is) ∙ ap (pages_under (rank c.self.inside.first)) c.in-Inner.is in
     let o = subst (AreAround (rank c.args.key)) pages c.requires in
-    c.needs-needs.ensures.no_rows (kid_none (rank c.args.key) good.below kids i n kid good.each found is l c.index-kid.ensures o (rw pages at none))
+    c.needs-needs.ensures.no_rows (kid_none (rank c.args.key) good.below kids i chosen.upto kid good.each chosen.found chosen.is l c.index-kid.ensures o (rw pages at none))
 
 pub returns-in-Inner-clause-splits : goal.returns-in-Inner-clause-splits
 returns-in-Inner-clause-splits g t c =
     let kids = c.in-Inner.kids.items in
     let good : IsInner (rank c.self.inside.first) c.self.inside.height kids (vec_capacity c.in-Inner.kids) = subst (IsNode (rank c.self.inside.first) c.self.inside.height) c.in-Inner.is c.self.invariant in
-    let i = c.max-at.result - 1 in
-    let n = c.count_up_to.result in
-    let m : c.max-at.result ≡ max n 1 = c.max-at.ensures in
-    let is : i + 1 ≡ max n 1 = omega (arith, m) in
-    let found = rw c.deref-in-Inner.ensures.value at c.count_up_to.ensures.place in
-    let bound = rw c.deref-in-Inner.ensures.value at c.count_up_to.ensures.bound in
-    let l : i < length kids = let two = good.not_less in omega (arith, is, bound, two) in
+    let i = c.child_for-at.result in
+    let chosen : IsChosen (rank c.args.key) kids i = rw c.deref-in-Inner.ensures.value at c.child_for-at.ensures in
+    let l = chosen.within in
     let kid = c.index-kid.result.now in
     let pages : c.args.self.now.pages ≡ pages_of kids = ap (λ (v : NodeValue g.row.A.Denot). v.pages) (sym c.self.view_is) ∙ ap (pages_under (rank c.self.inside.first)) c.in-Inner.is in
     let o = subst (AreAround (rank c.args.key)) pages c.requires in
     let same : splits c.args.self.now (rank c.args.key) ≡ splits_in (pages_of kids) (chains_of kids) (rank c.args.key) = ap (λ (v : NodeValue g.row.A.Denot). splits v (rank c.args.key)) (sym c.self.view_is) ∙ ap (λ k. splits (node_value (rank c.self.inside.first) c.self.inside.height k) (rank c.args.key)) c.in-Inner.is in
-    let some = kid_splits_by (rank c.args.key) good.below kids i n kid good.each found is l c.index-kid.ensures o in
-    let len : length kids ≡ vec_len c.in-Inner.kids = search rules in
+    let some = kid_splits_by (rank c.args.key) good.below kids i chosen.upto kid good.each chosen.found chosen.is l c.index-kid.ensures o in
+    let len : length kids ≡ vec_len c.in-Inner.kids = sym c.in-Inner.kids.ok.0 in
     let inner = split_nodes c.needs-needs.result.inners in
     let low = (that_kid good.below kids i kid l c.index-kid.ensures good.each).same_height in
     let higher = good.higher in
@@ -110,3 +95,22 @@ returns-in-Page-clause-rows g t c =
     let P : EntryValue g.row.A.Denot → Type 0 = λ e. e.at ≡ rank c.args.key → length e.rows ≡ c.page_needs.result.rows in
     let pages = ap (λ (v : NodeValue g.row.A.Denot). v.pages) (sym c.self.view_is) ∙ ap (pages_under (rank c.self.inside.first)) c.in-Page.is in
     rw pages (All-append P c.in-Page.entries.items [] (rw c.deref.ensures.value at c.page_needs.ensures.rows) (All-nil P))
+
+pub child_for-at-requires : goal.child_for-at-requires
+child_for-at-requires g t c =
+    let kids = c.in-Inner.kids.items in
+    let good : IsInner (rank c.self.inside.first) c.self.inside.height kids (vec_capacity c.in-Inner.kids) = subst (IsNode (rank c.self.inside.first) c.self.inside.height) c.in-Inner.is c.self.invariant in
+    subst (λ ks. 1 ≤ length ks) (sym c.deref-in-Inner.ensures.value) good.not_less
+
+pub index-kid-requires : goal.index-kid-requires
+index-kid-requires g t c =
+    let kids = c.in-Inner.kids.items in
+    let i = c.child_for-at.result in
+    let chosen : IsChosen (rank c.args.key) kids i = rw c.deref-in-Inner.ensures.value at c.child_for-at.ensures in
+    held_at c.in-Inner.kids i chosen.within
+
+pub page_needs-requires : goal.page_needs-requires
+page_needs-requires g t c =
+    let pages : c.args.self.now.pages ≡ page (rank c.self.inside.first) c.in-Page.entries.items ∷ [] = ap (λ (v : NodeValue g.row.A.Denot). v.pages) (sym c.self.view_is) ∙ ap (pages_under (rank c.self.inside.first)) c.in-Page.is in
+    let around = subst (AreAround (rank c.args.key)) pages c.requires in
+    subst (λ es. DoRise es) (sym c.deref.ensures.value) (page_around (rank c.args.key) (rank c.self.inside.first) c.in-Page.entries.items around)

@@ -1,8 +1,12 @@
-use Rattle.std.proofs.Common.{◌≡◌, ◌+◌, ◌-◌, ◌<◌, ◌≤◌, max, ◌∷◌, [], length, subst, sym, ap, ◌∙◌, arith, rules, vec_len, vec_capacity}
+use Rattle.std.proofs.Common.{◌≡◌, ◌+◌, ◌-◌, ◌≤◌, ◌∷◌, [], length, subst, sym, ap, ◌∙◌, arith, rules, length-set, vec_capacity}
 use Rattle.st_key.specs.Key.{rank}
+use Rattle.st_ubtree.specs.Growing.{IsChosen}
 use Rattle.st_ubtree.specs.Pages.{NodeValue, pages_of}
 use Rattle.st_ubtree.specs.Nodes.{IsNode, IsInner, IsPage, inner_node, node_value, page_node, width_of, pages_under}
+use Rattle.st_ubtree.proofs.Lifting.{set_read, that_kid}
+use Rattle.st_ubtree.proofs.Needing.{lower_kid}
 use Rattle.st_ubtree.proofs.Shrinking.{are_worn, none_in_kids, page_kept, page_named, page_taken, page_without, shrinks_inner, shrunk_inner}
+use Rattle.st_ubtree.proofs.Settling.{held_at}
 use Rattle.st_ubtree.proofs.Splitting.{page}
 use Rattle.st_ubtree.proofs.node.Node.+remove.Goals as goal
 use Rattle.st_ubtree.proofs.node.Node.+remove.Goals.{in-Page, in-Inner+in_ok-row-in-Inner}
@@ -11,29 +15,21 @@ pub returns-in_err-row-in-Inner-clause-absent : goal.returns-in_err-row-in-Inner
 returns-in_err-row-in-Inner-clause-absent g t c =
     let kids = c.in-Inner.kids.items in
     let good : IsInner (rank c.self.inside.first) c.self.inside.height kids (vec_capacity c.in-Inner.kids) = subst (IsNode (rank c.self.inside.first) c.self.inside.height) c.in-Inner.is c.self.invariant in
-    let i = c.max-at.result - 1 in
-    let n = c.count_up_to.result in
-    let m : c.max-at.result ≡ max n 1 = c.max-at.ensures in
-    let is : i + 1 ≡ max n 1 = omega (arith, m) in
-    let found = rw c.deref.ensures.value at c.count_up_to.ensures.place in
-    let bound = rw c.deref.ensures.value at c.count_up_to.ensures.bound in
-    let l : i < length kids = let two = good.not_less in omega (arith, is, bound, two) in
+    let i = c.child_for-at.result in
+    let chosen : IsChosen (rank c.args.key) kids i = rw c.deref.ensures.value at c.child_for-at.ensures in
+    let l = chosen.within in
     let kid = c.index_mut-kid.result.now in
     let read = c.index_mut-kid.ensures.value in
     let pages : c.args.self.now.pages ≡ pages_of kids = ap (λ (v : NodeValue g.row.A.Denot). v.pages) (sym c.self.view_is) ∙ ap (pages_under (rank c.self.inside.first)) c.in-Inner.is in
-    rw (c.from_residual.ensures, pages) (none_in_kids (rank c.args.key) good.below kids i kid l read good.each n (record { id = c.args.id.now; label = c.args.label.now }) found is c.in_err-row-in-Inner.ensures.absent)
+    rw (c.from_residual.ensures, pages) (none_in_kids (rank c.args.key) good.below kids i kid l read good.each chosen.upto (record { id = c.args.id.now; label = c.args.label.now }) chosen.found chosen.is c.in_err-row-in-Inner.ensures.absent)
 
 pub mend-requires-clause-worn : goal.mend-requires-clause-worn
 mend-requires-clause-worn g t c =
     let kids = c.in-Inner.kids.items in
     let good : IsInner (rank c.self.inside.first) c.self.inside.height kids (vec_capacity c.in-Inner.kids) = subst (IsNode (rank c.self.inside.first) c.self.inside.height) c.in-Inner.is c.self.invariant in
-    let i = c.max-at.result - 1 in
-    let n = c.count_up_to.result in
-    let m : c.max-at.result ≡ max n 1 = c.max-at.ensures in
-    let is : i + 1 ≡ max n 1 = omega (arith, m) in
-    let found = rw c.deref.ensures.value at c.count_up_to.ensures.place in
-    let bound = rw c.deref.ensures.value at c.count_up_to.ensures.bound in
-    let l : i < length kids = let two = good.not_less in omega (arith, is, bound, two) in
+    let i = c.child_for-at.result in
+    let chosen : IsChosen (rank c.args.key) kids i = rw c.deref.ensures.value at c.child_for-at.ensures in
+    let l = chosen.within in
     let kid = c.index_mut-kid.result.now in
     let read = c.index_mut-kid.ensures.value in
     let fell = c.in_ok-row-in-Inner.ensures.some in
@@ -45,8 +41,8 @@ invariant_of-self-2 g t c =
     elim c.match-self.branch [
       | in-Page w ↦
           let good : IsPage c.self.inside.height (length w.in-Page.entries.items) (vec_capacity w.in-Page.entries) = subst (IsNode (rank c.self.inside.first) c.self.inside.height) w.in-Page.is c.self.invariant in
-          let was : length w.in-Page.entries.items ≡ vec_len w.in-Page.entries = search rules in
-          let now : length w.take.new.entries.items ≡ vec_len w.take.new.entries = search rules in
+          let was = w.in-Page.entries.ok.0 in
+          let now = w.take.new.entries.ok.0 in
           let shorter = w.take.ensures.shorter in
           let fits = good.not_more in
           let room = good.room in
@@ -54,13 +50,9 @@ invariant_of-self-2 g t c =
       | in-Inner+in_ok-row-in-Inner w ↦
           let kids = w.in-Inner.kids.items in
           let good : IsInner (rank c.self.inside.first) c.self.inside.height kids (vec_capacity w.in-Inner.kids) = subst (IsNode (rank c.self.inside.first) c.self.inside.height) w.in-Inner.is c.self.invariant in
-          let i = w.max-at.result - 1 in
-          let n = w.count_up_to.result in
-          let m : w.max-at.result ≡ max n 1 = w.max-at.ensures in
-          let is : i + 1 ≡ max n 1 = omega (arith, m) in
-          let found = rw w.deref.ensures.value at w.count_up_to.ensures.place in
-          let bound = rw w.deref.ensures.value at w.count_up_to.ensures.bound in
-          let l : i < length kids = let two = good.not_less in omega (arith, is, bound, two) in
+          let i = w.child_for-at.result in
+          let chosen : IsChosen (rank c.args.key) kids i = rw w.deref.ensures.value at w.child_for-at.ensures in
+          let l = chosen.within in
           let kid = w.index_mut-kid.result.now in
           let read = w.index_mut-kid.ensures.value in
           let tall : c.args.self.now.height ≡ c.self.inside.height = ap (λ (v : NodeValue g.row.A.Denot). v.height) (sym c.self.view_is) in
@@ -79,8 +71,8 @@ returns-clause-some g t c =
       | in-Page w ↦
           let good : IsPage c.self.inside.height (length w.in-Page.entries.items) (vec_capacity w.in-Page.entries) = subst (IsNode (rank c.self.inside.first) c.self.inside.height) w.in-Page.is c.self.invariant in
           let es = w.in-Page.entries.items in
-          let was : length es ≡ vec_len w.in-Page.entries = search rules in
-          let now : length w.take.new.entries.items ≡ vec_len w.take.new.entries = search rules in
+          let was = w.in-Page.entries.ok.0 in
+          let now = w.take.new.entries.ok.0 in
           let shorter = w.take.ensures.shorter in
           let most = w.take.ensures.at_most_one in
           let old : page_node (rank c.self.inside.first) c.self.inside.height es ≡ c.args.self.now =
@@ -89,13 +81,9 @@ returns-clause-some g t c =
       | in-Inner+in_ok-row-in-Inner w ↦
           let kids = w.in-Inner.kids.items in
           let good : IsInner (rank c.self.inside.first) c.self.inside.height kids (vec_capacity w.in-Inner.kids) = subst (IsNode (rank c.self.inside.first) c.self.inside.height) w.in-Inner.is c.self.invariant in
-          let i = w.max-at.result - 1 in
-          let n = w.count_up_to.result in
-          let m : w.max-at.result ≡ max n 1 = w.max-at.ensures in
-          let is : i + 1 ≡ max n 1 = omega (arith, m) in
-          let found = rw w.deref.ensures.value at w.count_up_to.ensures.place in
-          let bound = rw w.deref.ensures.value at w.count_up_to.ensures.bound in
-          let l : i < length kids = let two = good.not_less in omega (arith, is, bound, two) in
+          let i = w.child_for-at.result in
+          let chosen : IsChosen (rank c.args.key) kids i = rw w.deref.ensures.value at w.child_for-at.ensures in
+          let l = chosen.within in
           let kid = w.index_mut-kid.result.now in
           let read = w.index_mut-kid.ensures.value in
           let old : inner_node (rank c.self.inside.first) c.self.inside.height kids ≡ c.args.self.now =
@@ -132,3 +120,83 @@ returns-clause-none g t c =
           rw (← old, w.self-inside-is, w.result-is) (page_kept (rank c.self.inside.first) c.self.inside.height es w.take.new.entries.items w.take.result w.take.ensures.none)
       | in-Inner+in_ok-row-in-Inner w ↦ rw w.result-is tt
     ]
+
+pub child_for-at-requires : goal.child_for-at-requires
+child_for-at-requires g t c =
+    let kids = c.in-Inner.kids.items in
+    let good : IsInner (rank c.self.inside.first) c.self.inside.height kids (vec_capacity c.in-Inner.kids) = subst (IsNode (rank c.self.inside.first) c.self.inside.height) c.in-Inner.is c.self.invariant in
+    subst (λ ks. 1 ≤ length ks) (sym c.deref.ensures.value) good.not_less
+
+pub index_mut-kid-requires : goal.index_mut-kid-requires
+index_mut-kid-requires g t c =
+    let kids = c.in-Inner.kids.items in
+    let i = c.child_for-at.result in
+    let chosen : IsChosen (rank c.args.key) kids i = rw c.deref.ensures.value at c.child_for-at.ensures in
+    held_at c.in-Inner.kids i chosen.within
+
+pub remove-requires : goal.remove-requires
+remove-requires g t c κs within =
+    let kids = c.in-Inner.kids.items in
+    let good : IsInner (rank c.self.inside.first) c.self.inside.height kids (vec_capacity c.in-Inner.kids) = subst (IsNode (rank c.self.inside.first) c.self.inside.height) c.in-Inner.is c.self.invariant in
+    let i = c.child_for-at.result in
+    let chosen : IsChosen (rank c.args.key) kids i = rw c.deref.ensures.value at c.child_for-at.ensures in
+    let l = chosen.within in
+    let kid = c.index_mut-kid.result.now in
+    let read = c.index_mut-kid.ensures.value in
+    let is = that_kid good.below kids i kid l read good.each in
+    let tall : c.args.self.now.height ≡ c.self.inside.height = ap (λ (v : NodeValue g.row.A.Denot). v.height) (sym c.self.view_is) in
+    let lower = lower_kid kid.height good.below c.self.inside.height c.args.self.now.height is.same_height good.higher tall in
+    (search (rules, lower), (search (rules, within), λ tall. let wide = is.not_less in omega (arith, wide)))
+
+pub returns-in_err-row-in-Inner-clause-none : goal.returns-in_err-row-in-Inner-clause-none
+returns-in_err-row-in-Inner-clause-none g t c =
+    let kids = c.in-Inner.kids.items in
+    let i = c.child_for-at.result in
+    let chosen : IsChosen (rank c.args.key) kids i = rw c.deref.ensures.value at c.child_for-at.ensures in
+    let l = chosen.within in
+    let kid = c.index_mut-kid.result.now in
+    let read = c.index_mut-kid.ensures.value in
+    let old : inner_node (rank c.self.inside.first) c.self.inside.height kids ≡ c.args.self.now =
+    ap (node_value (rank c.self.inside.first) c.self.inside.height) (sym c.in-Inner.is) ∙ c.self.view_is in
+    rw (c.from_residual.ensures, ← old) (ap (inner_node (rank c.self.inside.first) c.self.inside.height) (set_read kids i kid c.remove.new.self l read c.in_err-row-in-Inner.ensures.none))
+
+pub returns-in_err-row-in-Inner-clause-some : goal.returns-in_err-row-in-Inner-clause-some
+returns-in_err-row-in-Inner-clause-some g t c = rw c.from_residual.ensures tt
+
+pub returns-in_err-row-in-Inner-clause-named : goal.returns-in_err-row-in-Inner-clause-named
+returns-in_err-row-in-Inner-clause-named g t c = rw c.from_residual.ensures tt
+
+pub invariant_of-self : goal.invariant_of-self
+invariant_of-self g t c =
+    let kids = c.in-Inner.kids.items in
+    let good : IsInner (rank c.self.inside.first) c.self.inside.height kids (vec_capacity c.in-Inner.kids) = subst (IsNode (rank c.self.inside.first) c.self.inside.height) c.in-Inner.is c.self.invariant in
+    let i = c.child_for-at.result in
+    let chosen : IsChosen (rank c.args.key) kids i = rw c.deref.ensures.value at c.child_for-at.ensures in
+    let l = chosen.within in
+    let kid = c.index_mut-kid.result.now in
+    let read = c.index_mut-kid.ensures.value in
+    subst (λ ks. IsInner (rank c.self.inside.first) c.self.inside.height ks (vec_capacity c.in-Inner.kids)) (sym (set_read kids i kid c.remove.new.self l read c.in_err-row-in-Inner.ensures.none)) good
+
+pub mend-requires-clause-two : goal.mend-requires-clause-two
+mend-requires-clause-two g t c =
+    let kids = c.in-Inner.kids.items in
+    let good : IsInner (rank c.self.inside.first) c.self.inside.height kids (vec_capacity c.in-Inner.kids) = subst (IsNode (rank c.self.inside.first) c.self.inside.height) c.in-Inner.is c.self.invariant in
+    let tall : c.args.self.now.height ≡ c.self.inside.height = ap (λ (v : NodeValue g.row.A.Denot). v.height) (sym c.self.view_is) in
+    let broad : c.args.self.now.width ≡ length kids = ap (λ (v : NodeValue g.row.A.Denot). v.width) (sym c.self.view_is) ∙ ap width_of c.in-Inner.is in
+    let higher = good.higher in
+    let given : 1 ≤ c.args.self.now.height → 2 ≤ c.args.self.now.width = search (rules, c.requires) in
+    let two = given (omega (arith, tall, higher)) in
+    omega (arith, two, broad, length-set kids c.child_for-at.result c.remove.new.self)
+
+pub mend-requires-clause-not_more : goal.mend-requires-clause-not_more
+mend-requires-clause-not_more g t c =
+    let kids = c.in-Inner.kids.items in
+    let good : IsInner (rank c.self.inside.first) c.self.inside.height kids (vec_capacity c.in-Inner.kids) = subst (IsNode (rank c.self.inside.first) c.self.inside.height) c.in-Inner.is c.self.invariant in
+    let fits = good.not_more in
+    omega (arith, fits, length-set kids c.child_for-at.result c.remove.new.self)
+
+pub mend-requires-clause-room : goal.mend-requires-clause-room
+mend-requires-clause-room g t c =
+    let kids = c.in-Inner.kids.items in
+    let good : IsInner (rank c.self.inside.first) c.self.inside.height kids (vec_capacity c.in-Inner.kids) = subst (IsNode (rank c.self.inside.first) c.self.inside.height) c.in-Inner.is c.self.invariant in
+    good.room

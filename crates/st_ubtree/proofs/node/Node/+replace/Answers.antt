@@ -1,8 +1,10 @@
-use Rattle.std.proofs.Common.{◌≡◌, ◌+◌, ◌-◌, ◌<◌, max, ◌∷◌, [], length, subst, sym, ap, ◌∙◌, arith, rules, vec_len, vec_capacity}
+use Rattle.std.proofs.Common.{◌≡◌, ◌-◌, ◌≤◌, ◌∷◌, [], length, subst, sym, ap, ◌∙◌, arith, vec_capacity}
 use Rattle.st_key.specs.Key.{rank}
 use Rattle.st_index.specs.Rows.{name_of, rows_of}
+use Rattle.st_ubtree.specs.Growing.{IsChosen}
 use Rattle.st_ubtree.specs.Pages.{NodeValue, pages_of}
 use Rattle.st_ubtree.specs.Nodes.{IsNode, IsInner, IsPage, inner_node, node_value, page_node, pages_under}
+use Rattle.st_ubtree.proofs.Settling.{held_at}
 use Rattle.st_ubtree.proofs.Splitting.{page}
 use Rattle.st_ubtree.proofs.Trading.{kept_inner, kid_trades, kids_keep, kids_lack, page_keeps, page_lacks, page_named, page_trades}
 use Rattle.st_ubtree.proofs.node.Node.+replace.Goals as goal
@@ -14,8 +16,8 @@ invariant_of-self g t c =
       | in-Page w ↦
           let good : IsPage c.self.inside.height (length w.in-Page.entries.items) (vec_capacity w.in-Page.entries) = subst (IsNode (rank c.self.inside.first) c.self.inside.height) w.in-Page.is c.self.invariant in
           let es = w.in-Page.entries.items in
-          let was : length es ≡ vec_len w.in-Page.entries = search rules in
-          let now : length w.swap.new.entries.items ≡ vec_len w.swap.new.entries = search rules in
+          let was = w.in-Page.entries.ok.0 in
+          let now = w.swap.new.entries.ok.0 in
           let same : length w.swap.new.entries.items ≡ length es = omega (arith, was, now, w.swap.ensures.len) in
           let fits = good.not_more in
           let room = good.room in
@@ -23,13 +25,9 @@ invariant_of-self g t c =
       | in-Inner w ↦
           let kids = w.in-Inner.kids.items in
           let good : IsInner (rank c.self.inside.first) c.self.inside.height kids (vec_capacity w.in-Inner.kids) = subst (IsNode (rank c.self.inside.first) c.self.inside.height) w.in-Inner.is c.self.invariant in
-          let i = w.max-at.result - 1 in
-          let n = w.count_up_to.result in
-          let m : w.max-at.result ≡ max n 1 = w.max-at.ensures in
-          let is : i + 1 ≡ max n 1 = omega (arith, m) in
-          let found = rw w.deref.ensures.value at w.count_up_to.ensures.place in
-          let bound = rw w.deref.ensures.value at w.count_up_to.ensures.bound in
-          let l : i < length kids = let two = good.not_less in omega (arith, is, bound, two) in
+          let i = w.child_for-at.result in
+          let chosen : IsChosen (rank c.args.key) kids i = rw w.deref.ensures.value at w.child_for-at.ensures in
+          let l = chosen.within in
           let kid = w.index_mut-kid.result.now in
           let read = w.index_mut-kid.ensures.value in
           rw w.self-inside-is (kept_inner (rank c.args.key) good.below kids i kid w.replace.new.self l read good.each (rank c.self.inside.first) c.self.inside.height _ good.higher good.head good.not_less good.not_more good.room w.replace.ensures.keeps)
@@ -45,13 +43,9 @@ returns-clause-ok g t c =
       | in-Inner w ↦
           let kids = w.in-Inner.kids.items in
           let good : IsInner (rank c.self.inside.first) c.self.inside.height kids (vec_capacity w.in-Inner.kids) = subst (IsNode (rank c.self.inside.first) c.self.inside.height) w.in-Inner.is c.self.invariant in
-          let i = w.max-at.result - 1 in
-          let n = w.count_up_to.result in
-          let m : w.max-at.result ≡ max n 1 = w.max-at.ensures in
-          let is : i + 1 ≡ max n 1 = omega (arith, m) in
-          let found = rw w.deref.ensures.value at w.count_up_to.ensures.place in
-          let bound = rw w.deref.ensures.value at w.count_up_to.ensures.bound in
-          let l : i < length kids = let two = good.not_less in omega (arith, is, bound, two) in
+          let i = w.child_for-at.result in
+          let chosen : IsChosen (rank c.args.key) kids i = rw w.deref.ensures.value at w.child_for-at.ensures in
+          let l = chosen.within in
           let kid = w.index_mut-kid.result.now in
           let read = w.index_mut-kid.ensures.value in
           let pages : c.args.self.now.pages ≡ pages_of kids = ap (λ (v : NodeValue g.row.A.Denot). v.pages) (sym c.self.view_is) ∙ ap (pages_under (rank c.self.inside.first)) w.in-Inner.is in
@@ -70,8 +64,8 @@ returns-clause-keeps g t c =
     elim c.match-self.branch [
       | in-Page w ↦
           let es = w.in-Page.entries.items in
-          let was : length es ≡ vec_len w.in-Page.entries = search rules in
-          let now : length w.swap.new.entries.items ≡ vec_len w.swap.new.entries = search rules in
+          let was = w.in-Page.entries.ok.0 in
+          let now = w.swap.new.entries.ok.0 in
           let same : length w.swap.new.entries.items ≡ length es = omega (arith, was, now, w.swap.ensures.len) in
           let old : page_node (rank c.self.inside.first) c.self.inside.height es ≡ c.args.self.now =
           ap (node_value (rank c.self.inside.first) c.self.inside.height) (sym w.in-Page.is) ∙ c.self.view_is in
@@ -79,13 +73,9 @@ returns-clause-keeps g t c =
       | in-Inner w ↦
           let kids = w.in-Inner.kids.items in
           let good : IsInner (rank c.self.inside.first) c.self.inside.height kids (vec_capacity w.in-Inner.kids) = subst (IsNode (rank c.self.inside.first) c.self.inside.height) w.in-Inner.is c.self.invariant in
-          let i = w.max-at.result - 1 in
-          let n = w.count_up_to.result in
-          let m : w.max-at.result ≡ max n 1 = w.max-at.ensures in
-          let is : i + 1 ≡ max n 1 = omega (arith, m) in
-          let found = rw w.deref.ensures.value at w.count_up_to.ensures.place in
-          let bound = rw w.deref.ensures.value at w.count_up_to.ensures.bound in
-          let l : i < length kids = let two = good.not_less in omega (arith, is, bound, two) in
+          let i = w.child_for-at.result in
+          let chosen : IsChosen (rank c.args.key) kids i = rw w.deref.ensures.value at w.child_for-at.ensures in
+          let l = chosen.within in
           let kid = w.index_mut-kid.result.now in
           let read = w.index_mut-kid.ensures.value in
           let old : inner_node (rank c.self.inside.first) c.self.inside.height kids ≡ c.args.self.now =
@@ -103,15 +93,24 @@ returns-clause-absent g t c =
       | in-Inner w ↦
           let kids = w.in-Inner.kids.items in
           let good : IsInner (rank c.self.inside.first) c.self.inside.height kids (vec_capacity w.in-Inner.kids) = subst (IsNode (rank c.self.inside.first) c.self.inside.height) w.in-Inner.is c.self.invariant in
-          let i = w.max-at.result - 1 in
-          let n = w.count_up_to.result in
-          let m : w.max-at.result ≡ max n 1 = w.max-at.ensures in
-          let is : i + 1 ≡ max n 1 = omega (arith, m) in
-          let found = rw w.deref.ensures.value at w.count_up_to.ensures.place in
-          let bound = rw w.deref.ensures.value at w.count_up_to.ensures.bound in
-          let l : i < length kids = let two = good.not_less in omega (arith, is, bound, two) in
+          let i = w.child_for-at.result in
+          let chosen : IsChosen (rank c.args.key) kids i = rw w.deref.ensures.value at w.child_for-at.ensures in
+          let l = chosen.within in
           let kid = w.index_mut-kid.result.now in
           let read = w.index_mut-kid.ensures.value in
           let pages : c.args.self.now.pages ≡ pages_of kids = ap (λ (v : NodeValue g.row.A.Denot). v.pages) (sym c.self.view_is) ∙ ap (pages_under (rank c.self.inside.first)) w.in-Inner.is in
-          rw (pages, w.result-is) (kids_lack (rank c.args.key) good.below kids i kid w.replace.new.self l read good.each n (name_of c.args.row) w.replace.result found is w.replace.ensures.absent)
+          rw (pages, w.result-is) (kids_lack (rank c.args.key) good.below kids i kid w.replace.new.self l read good.each chosen.upto (name_of c.args.row) w.replace.result chosen.found chosen.is w.replace.ensures.absent)
     ]
+
+pub child_for-at-requires : goal.child_for-at-requires
+child_for-at-requires g t c =
+    let kids = c.in-Inner.kids.items in
+    let good : IsInner (rank c.self.inside.first) c.self.inside.height kids (vec_capacity c.in-Inner.kids) = subst (IsNode (rank c.self.inside.first) c.self.inside.height) c.in-Inner.is c.self.invariant in
+    subst (λ ks. 1 ≤ length ks) (sym c.deref.ensures.value) good.not_less
+
+pub index_mut-kid-requires : goal.index_mut-kid-requires
+index_mut-kid-requires g t c =
+    let kids = c.in-Inner.kids.items in
+    let i = c.child_for-at.result in
+    let chosen : IsChosen (rank c.args.key) kids i = rw c.deref.ensures.value at c.child_for-at.ensures in
+    held_at c.in-Inner.kids i chosen.within

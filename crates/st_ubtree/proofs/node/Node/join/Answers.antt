@@ -1,9 +1,9 @@
 use Rattle.std.proofs.Common.{◌≡◌, ◌∷◌, [], length, subst, sym, ap, ◌∙◌, arith, vec_capacity}
 use Rattle.st_key.specs.Key.{rank}
 use Rattle.st_ubtree.specs.Pages.{NodeValue, pages_of}
-use Rattle.st_ubtree.specs.Nodes.{IsNode, IsInner, IsPage, inner_node, node_value, page_node, pages_under}
+use Rattle.st_ubtree.specs.Nodes.{IsNode, IsInner, IsPage, inner_node, node_value, page_node, pages_under, width_of}
 use Rattle.st_ubtree.specs.Shrinking.{KidsJoin}
-use Rattle.st_ubtree.proofs.Joining.{both_kids, join_of_kids, join_of_pages, joined_each, joined_head}
+use Rattle.st_ubtree.proofs.Joining.{both_kids, join_of_kids, join_of_pages, joined_each, joined_head, held_both, held_worn}
 use Rattle.st_ubtree.proofs.Splitting.{page}
 use Rattle.st_ubtree.proofs.node.Node.join.Goals as goal
 use Rattle.st_ubtree.proofs.node.Node.join.Goals.{in-Page-Page, in-Inner-Inner}
@@ -69,3 +69,55 @@ returns g c =
             rw (← made, w.self-inside-is, w.result-is) (join_of_kids (rank c.self.inside.first) c.self.inside.height good.below old right w.join_kids.new.left.items w.join_kids.result c.args.right pages all good.head j)
       ];
     }
+
+pub join_pages-requires-clause-left : goal.join_pages-requires-clause-left
+join_pages-requires-clause-left g c =
+    let left : c.args.self.now.width ≡ length c.in-Page-Page.left.items = ap (λ (v : NodeValue g.row.A.Denot). v.width) (sym c.self.view_is) ∙ ap width_of c.in-Page-Page.is-0 in
+    held_worn c.in-Page-Page.left _ left c.requires.worn.not_less c.requires.worn.not_more
+
+pub join_pages-requires-clause-right : goal.join_pages-requires-clause-right
+join_pages-requires-clause-right g c =
+    let right : c.args.right.width ≡ length c.in-Page-Page.right.items = ap (λ (v : NodeValue g.row.A.Denot). v.width) (sym c.right.view_is) ∙ ap width_of c.in-Page-Page.is-1 in
+    held_worn c.in-Page-Page.right _ right c.requires.right.not_less c.requires.right.not_more
+
+pub join_pages-requires-clause-both : goal.join_pages-requires-clause-both
+join_pages-requires-clause-both g c =
+    let left : c.args.self.now.width ≡ length c.in-Page-Page.left.items = ap (λ (v : NodeValue g.row.A.Denot). v.width) (sym c.self.view_is) ∙ ap width_of c.in-Page-Page.is-0 in
+    let right : c.args.right.width ≡ length c.in-Page-Page.right.items = ap (λ (v : NodeValue g.row.A.Denot). v.width) (sym c.right.view_is) ∙ ap width_of c.in-Page-Page.is-1 in
+    held_both c.in-Page-Page.left c.in-Page-Page.right _ _ left right c.requires.both
+
+pub join_pages-requires-clause-left_room : goal.join_pages-requires-clause-left_room
+join_pages-requires-clause-left_room g c =
+    let good : IsPage c.self.inside.height (length c.in-Page-Page.left.items) (vec_capacity c.in-Page-Page.left) = subst (IsNode (rank c.self.inside.first) c.self.inside.height) c.in-Page-Page.is-0 c.self.invariant in
+    good.room
+
+pub join_pages-requires-clause-right_room : goal.join_pages-requires-clause-right_room
+join_pages-requires-clause-right_room g c =
+    let good : IsPage c.right.inside.height (length c.in-Page-Page.right.items) (vec_capacity c.in-Page-Page.right) = subst (IsNode (rank c.right.inside.first) c.right.inside.height) c.in-Page-Page.is-1 c.right.invariant in
+    good.room
+
+pub join_kids-requires-clause-left : goal.join_kids-requires-clause-left
+join_kids-requires-clause-left g c =
+    let left : c.args.self.now.width ≡ length c.in-Inner-Inner.left.items = ap (λ (v : NodeValue g.row.A.Denot). v.width) (sym c.self.view_is) ∙ ap width_of c.in-Inner-Inner.is-0 in
+    held_worn c.in-Inner-Inner.left _ left c.requires.worn.not_less c.requires.worn.not_more
+
+pub join_kids-requires-clause-right : goal.join_kids-requires-clause-right
+join_kids-requires-clause-right g c =
+    let right : c.args.right.width ≡ length c.in-Inner-Inner.right.items = ap (λ (v : NodeValue g.row.A.Denot). v.width) (sym c.right.view_is) ∙ ap width_of c.in-Inner-Inner.is-1 in
+    held_worn c.in-Inner-Inner.right _ right c.requires.right.not_less c.requires.right.not_more
+
+pub join_kids-requires-clause-both : goal.join_kids-requires-clause-both
+join_kids-requires-clause-both g c =
+    let left : c.args.self.now.width ≡ length c.in-Inner-Inner.left.items = ap (λ (v : NodeValue g.row.A.Denot). v.width) (sym c.self.view_is) ∙ ap width_of c.in-Inner-Inner.is-0 in
+    let right : c.args.right.width ≡ length c.in-Inner-Inner.right.items = ap (λ (v : NodeValue g.row.A.Denot). v.width) (sym c.right.view_is) ∙ ap width_of c.in-Inner-Inner.is-1 in
+    held_both c.in-Inner-Inner.left c.in-Inner-Inner.right _ _ left right c.requires.both
+
+pub join_kids-requires-clause-left_room : goal.join_kids-requires-clause-left_room
+join_kids-requires-clause-left_room g c =
+    let good : IsInner (rank c.self.inside.first) c.self.inside.height c.in-Inner-Inner.left.items (vec_capacity c.in-Inner-Inner.left) = subst (IsNode (rank c.self.inside.first) c.self.inside.height) c.in-Inner-Inner.is-0 c.self.invariant in
+    good.room
+
+pub join_kids-requires-clause-right_room : goal.join_kids-requires-clause-right_room
+join_kids-requires-clause-right_room g c =
+    let good : IsInner (rank c.right.inside.first) c.right.inside.height c.in-Inner-Inner.right.items (vec_capacity c.in-Inner-Inner.right) = subst (IsNode (rank c.right.inside.first) c.right.inside.height) c.in-Inner-Inner.is-1 c.right.invariant in
+    good.room

@@ -1,4 +1,4 @@
-use Rattle.std.proofs.Common.{◌≡◌, ◌+◌, ◌∷◌, ◌++◌, [], length, subst, sym, ap, ◌∙◌, arith}
+use Rattle.std.proofs.Common.{◌≡◌, ◌≤◌, vec_len, vec_capacity, ◌+◌, ◌∷◌, ◌++◌, [], length, subst, sym, ap, ◌∙◌, arith}
 use Rattle.std.specs.List.{All}
 use Rattle.st_key.specs.Key.{rank}
 use Rattle.st_ubtree.specs.Pages.{NodeValue, HeadAt, IsKid}
@@ -29,3 +29,36 @@ invariant_of-self g c =
       not_more = omega (arith, wide);
       room = omega (arith, a, b, room);
     }
+
+pub returns-clause-first : goal.returns-clause-first
+returns-clause-first g c = ap (λ (v : NodeValue g.row.A.Denot). v.first) c.self.view_is
+
+pub returns-clause-height : goal.returns-clause-height
+returns-clause-height g c = ap (λ (v : NodeValue g.row.A.Denot). v.height + 1) c.self.view_is
+
+pub returns-clause-width : goal.returns-clause-width
+returns-clause-width g c =
+    let left : NodeValue g.row.A.Denot = node_value (rank c.self.inside.first) c.self.inside.height c.replace-kids.result in
+    ap length (c.in-Ok-push.ensures.items ∙ ap (λ t. t ++ c.args.right ∷ []) (c.in-Ok.ensures.items ∙ ap (λ t. t ++ left ∷ []) c.requires.empty))
+
+pub overflow_add-self : goal.overflow_add-self
+overflow_add-self g c =
+    let tall = ap (λ (v : NodeValue g.row.A.Denot). v.height) c.self.view_is in
+    let fits = c.requires.height in
+    omega (arith, tall, fits)
+
+pub unreachable-requires : goal.unreachable-requires
+unreachable-requires g c =
+    let full : vec_capacity c.args.blank ≤ vec_len c.args.blank = c.in_default.ensures.full in
+    let none = ap length c.requires.empty in
+    let room = c.requires.room in
+    omega (arith, c.args.blank.ok.0, full, none, room)
+
+pub unreachable-requires-in_default-push : goal.unreachable-requires-in_default-push
+unreachable-requires-in_default-push g c =
+    let full : vec_capacity c.push.new.self ≤ vec_len c.push.new.self = c.in_default-push.ensures.full in
+    let one = c.in-Ok.ensures.len in
+    let none = ap length c.requires.empty in
+    let more = c.in-Ok.ensures.capacity in
+    let room = c.requires.room in
+    omega (arith, c.args.blank.ok.0, full, one, none, more, room)

@@ -3,6 +3,7 @@ use Rattle.std.proofs.lemmas.Bool.{cases_lt}
 use Rattle.st_key.specs.Key.{rank}
 use Rattle.st_index.specs.Rows.{key_end}
 use Rattle.st_index.specs.Index.{IsAbsent}
+use Rattle.st_index.proofs.Listing.{adds_length}
 use Rattle.st_ubtree.specs.Pages.{rows_in}
 use Rattle.st_ubtree.specs.Shrinking.{DropsFrom}
 use Rattle.st_ubtree.proofs.Lawful.{absent_past, lawful_tree, tree_shrinks}
@@ -32,3 +33,9 @@ pub invariant_of-self-2 : goal.invariant_of-self-2
 invariant_of-self-2 g c =
     let drops = subst (DropsFrom (rank c.args.key) c.in_ok-row.row c.self.inside.root.pages) (sym c.lower.ensures.pages) c.in_ok-row.ensures.some.by in
     tree_shrinks c.self.inside.period (rank c.args.key) c.in_ok-row.row c.self.inside.root c.lower.new.self c.self.inside.len c.self.invariant c.lower.ensures.wide c.count_keys.ensures.keys drops
+
+pub overflow_sub-self : goal.overflow_sub-self
+overflow_sub-self g c =
+    let more = adds_length c.in_ok-row.row (rows_in c.remove.new.self.pages) (rows_in c.self.inside.root.pages) c.in_ok-row.ensures.some.by.adds in
+    let held = c.self.invariant.counted in
+    omega (arith, held, more)

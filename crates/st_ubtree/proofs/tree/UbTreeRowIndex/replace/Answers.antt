@@ -21,3 +21,11 @@ returns-clause-lawful g c =
     let broad = keeps.width in
     let wide = c.self.invariant.wide in
     lawful_tree c.self.inside.period c.replace.new.self c.self.inside.len (tree_trades c.self.inside.period (rank c.key-key.result) c.args.row c.self.inside.root c.replace.new.self c.self.inside.len c.self.invariant (λ tall. let two = wide (omega (arith, same, tall)) in omega (arith, broad, two)) c.count_keys.ensures.keys c.in-Ok.out c.in-Ok.ensures.ok c.key-key.ensures.value)
+
+pub invariant_of-self : goal.invariant_of-self
+invariant_of-self g c =
+    let keeps = c.in-Ok.ensures.keeps in
+    let same = keeps.height in
+    let broad = keeps.width in
+    let wide = c.self.invariant.wide in
+    tree_trades c.self.inside.period (rank c.key-key.result) c.args.row c.self.inside.root c.replace.new.self c.self.inside.len c.self.invariant (λ tall. let two = wide (omega (arith, same, tall)) in omega (arith, broad, two)) c.count_keys.ensures.keys c.in-Ok.out c.in-Ok.ensures.ok c.key-key.ensures.value
