@@ -36,7 +36,6 @@ pub(crate) fn done(outcome: Result<(), DirectoryFault>) -> Result<(), AllocError
     }
 }
 
-#[tactic(auto, using(crate::proofs::Allowed::allowed_table, crate::proofs::Allowed::allowed_user, crate::proofs::Allowed::allowed_new_table, crate::proofs::Allowed::allowed_new_user))]
 // Makes the change that a request makes to the directory, or leaves it as it was where there is no
 // memory for it.
 pub(crate) fn change_directory<A: Allocator + Copy>(
