@@ -15,3 +15,7 @@ denied_at rule next NoMemory h = tt
 
 pub denied_then : {B R : Type 0} (rule : Rule B) (next : B → Rule R) (r : Result R DecodeFault) (x e : DecodeFault) → Tells {B = B} rule (Err e) → r ≡ Err x → x ≡ e → Tells (Needs rule next) r
 denied_then rule next r x e h is same = rw (is, same) (denied_at rule next e h)
+
+-- where memory is wanting, each rule is kept
+pub no_memory : {R : Type 0} (rule : Rule R) (r : Result R DecodeFault) (x : DecodeFault) → r ≡ Err x → x ≡ NoMemory → Tells rule r
+no_memory rule r x is wanting = rw (is, wanting) tt

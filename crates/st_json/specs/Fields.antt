@@ -29,6 +29,16 @@ abbrev pub texts_of : Items → Option (List Text)
 texts_of no_items = Some []
 texts_of (item d ds) = option_and_then (λ s. option_map (λ more. s ∷ more) (texts_of ds)) (as_str d)
 
+-- the texts, with this one before them, if it is there
+abbrev pub with_text : Option Text → List Text → List Text
+with_text None more = more
+with_text (Some s) more = s ∷ more
+
+-- the texts among the items
+abbrev pub texts_among : Items → List Text
+texts_among no_items = []
+texts_among (item d ds) = with_text (as_str d) (texts_among ds)
+
 -- the numbers, where each item is one
 abbrev pub numbers_of : Items → Option (List ℕ)
 numbers_of no_items = Some []

@@ -1,14 +1,15 @@
 //! The fields of a body: each reader gives the field's value, or the refusal of a body in which it is missing, of another type or
 //! out of range.
-ghost use Rattle.std.specs.Prelude.{◌≡◌, IfOk, map, find, option_map, option_and_then, None};
+ghost use Rattle.std.specs.Prelude.{◌≡◌, ◌≤◌, IfOk, IfSome, length, find, option_map, option_and_then, None};
 ghost use Rattle.std.specs.Result.{result_ok};
 ghost use Rattle.hex.specs.Hex.{decode_sized};
 ghost use Rattle.serde_json.specs.Find.{as_str};
-ghost use Rattle.serde_json.specs.View.{view};
+ghost use Rattle.serde_json.specs.View.{view, items_view};
 ghost use Rattle.st_text.specs.Texts.{same};
+ghost use Rattle.st_index.specs.Texts.{IsId, IsNote};
 ghost use Rattle.st_dir.specs.Permissions.{name_of, table_permissions, system_permissions};
 ghost use Rattle.st_policy.specs.declared.refusal.Refusal.TheVariants.{Field as OfField};
-ghost use Rattle.st_json.specs.Fields.{id_in, note_in, digest_in, on_in, permission_in, period_of, period_in, new_period_in};
+ghost use Rattle.st_json.specs.Fields.{sized, id_in, note_in, digest_in, on_in, permission_in, period_of, period_in, new_period_in, texts_among};
 ghost use Rattle.st_json.specs.Needs.{Has, Tells, shown};
 ghost use Rattle.st_json.specs.Rules.{TextField, IdField, NoteField, PointField, BoxField, AuthsField, DigestField, OnField, TablePermissionField, SystemPermissionField, PeriodField, NewPeriodField};
 
@@ -17,11 +18,10 @@ use crate::value::{self, Bounds};
 use hex::FromHex;
 use serde_json::Value;
 use st_dir::Permission;
-use st_index::{Id, Note};
+use st_index::{MAX_ID, MAX_NOTE};
 use st_key::{Period, Point};
 use st_policy::FieldName;
 use st_policy::Refusal::Field;
-use std::alloc::{AllocError, Allocator};
 
 // The permissions on a table, in listing order.
 const TABLE_PERMISSIONS: [Permission; 5] = [
@@ -64,36 +64,56 @@ pub fn text<'a>(object: &'a Value, name: FieldName) -> Result<&'a str, DecodeFau
     }
 }
 
-fn found_id<A: Allocator + Copy>(alloc: A, object: &Value) -> Result<Option<Id<A>>, AllocError>
-    ensures { IfOk result (λ id. id ≡ id_in (view object.now)) }
+// The text, where its bytes are that many.
+fn sized(text: &str, least: usize, most: usize) -> Option<&str>
+    ensures value { option_map (λ s. s.now) result ≡ sized least most text.now }
+    ensures fits { IfSome result (λ s. (least ≤ length s.now) × (length s.now ≤ most)) }
 {
-    match value::text(object, "id") {
-        Some(id) => Id::new(alloc, id),
-        None => Ok(None),
+    if least <= text.len() && text.len() <= most {
+        Some(text)
+    } else {
+        None
     }
+}
+
+fn id_in(object: &Value) -> Option<&str>
+    ensures value { option_map (λ s. s.now) result ≡ id_in (view object.now) }
+    ensures fits { IfSome result (λ s. IsId s.now) }
+{
+    sized(value::text(object, "id")?, 1, MAX_ID)
 }
 
 /// 1 to 64 bytes.
-pub fn id<A: Allocator + Copy>(alloc: A, object: &Value) -> Result<Id<A>, DecodeFault>
-    ensures { Tells (IdField (view object.now)) result }
+pub fn id(object: &Value) -> Result<&str, DecodeFault>
+    ensures value { Tells (IdField (view object.now)) (shown (λ s. s.now) result) }
+    ensures fits { IfOk result (λ s. IsId s.now) }
 {
-    required(FieldName::Id, found_id(alloc, object)?)
-}
-
-fn found_note<A: Allocator + Copy>(alloc: A, object: &Value) -> Result<Option<Note<A>>, AllocError>
-    ensures { IfOk result (λ note. note ≡ note_in (view object.now)) }
-{
-    match value::text(object, "note") {
-        Some(note) => Note::new(alloc, note),
-        None => Ok(None),
+    match id_in(object) {
+        Some(id) => Ok(id),
+        None => Err(Refused(Field {
+            name: FieldName::Id,
+        })),
     }
 }
 
-/// At most 4,096 bytes.
-pub fn note<A: Allocator + Copy>(alloc: A, object: &Value) -> Result<Note<A>, DecodeFault>
-    ensures { Tells (NoteField (view object.now)) result }
+fn note_in(object: &Value) -> Option<&str>
+    ensures value { option_map (λ s. s.now) result ≡ note_in (view object.now) }
+    ensures fits { IfSome result (λ s. IsNote s.now) }
 {
-    required(FieldName::Note, found_note(alloc, object)?)
+    sized(value::text(object, "note")?, 0, MAX_NOTE)
+}
+
+/// At most 4,096 bytes.
+pub fn note(object: &Value) -> Result<&str, DecodeFault>
+    ensures value { Tells (NoteField (view object.now)) (shown (λ s. s.now) result) }
+    ensures fits { IfOk result (λ s. IsNote s.now) }
+{
+    match note_in(object) {
+        Some(note) => Ok(note),
+        None => Err(Refused(Field {
+            name: FieldName::Note,
+        })),
+    }
 }
 
 /// Six numbers.
@@ -121,14 +141,11 @@ pub fn point(object: &Value) -> Result<Point, DecodeFault>
 }
 
 /// A list of texts.
-pub fn auths<'a, A: Allocator + Copy>(
-    alloc: A,
-    object: &'a Value,
-) -> Result<Vec<&'a str, A>, DecodeFault>
-    ensures { Tells (AuthsField (view object.now)) (shown (λ v. map (λ s. s.now) v.items) result) }
+pub fn auths(object: &Value) -> Result<&[Value], DecodeFault>
+    ensures { Tells (AuthsField (view object.now)) (shown (λ v. texts_among (items_view v.now)) result) }
 {
-    match value::texts(alloc, object, "auths")? {
-        Some(texts) => Ok(texts),
+    match value::texts(object, "auths") {
+        Some(items) => Ok(items),
         None => Err(Refused(Field {
             name: FieldName::Auths,
         })),

@@ -18,7 +18,7 @@ pub fn grid<A: Allocator + Copy>(
     ensures { Tells (Made lines.Grid name.now (view object.now)) result }
 {
     let bounds = field::bounds(object)?;
-    let texts = field::auths(alloc, object)?;
+    let texts = field::auths(object)?;
     let columns = sizes::side(object, FieldName::Nx)?;
     let lines = sizes::side(object, FieldName::Ny)?;
     let query = rule::query(bounds)?;

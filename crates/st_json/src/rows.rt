@@ -1,5 +1,7 @@
 //! The lines about labels and rows.
+ghost use Rattle.std.specs.Prelude.{◌≡◌, IfOk};
 ghost use Rattle.serde_json.specs.View.{view};
+ghost use Rattle.st_index.specs.Texts.{IsId, IsNote};
 ghost use Rattle.st_http.specs.declared.routes.Line.TheVariants as lines;
 ghost use Rattle.st_json.specs.Needs.{Tells};
 ghost use Rattle.st_json.specs.Bodies.{Made};
@@ -7,9 +9,55 @@ ghost use Rattle.st_json.specs.Bodies.{Made};
 use crate::fault::DecodeFault;
 use crate::{field, rule};
 use serde_json::Value;
-use st_index::Row;
+use st_index::{Id, Note, Row};
+use st_key::Point;
+use st_label::Label;
 use st_policy::{FieldName, Request};
-use std::alloc::Allocator;
+use std::alloc::{AllocError, Allocator};
+
+// The id of a text of 1 to 64 bytes.
+fn owned_id<A: Allocator + Copy>(alloc: A, text: &str) -> Result<Id<A>, AllocError>
+    requires { IsId text.now }
+    ensures { IfOk result (λ id. id ≡ text.now) }
+{
+    let Some(id) = Id::new(alloc, text)? else {
+        unreachable!()
+    };
+    Ok(id)
+}
+
+// The note of a text of at most 4,096 bytes.
+fn owned_note<A: Allocator + Copy>(alloc: A, text: &str) -> Result<Note<A>, AllocError>
+    requires { IsNote text.now }
+    ensures { IfOk result (λ note. note ≡ text.now) }
+{
+    let Some(note) = Note::new(alloc, text)? else {
+        unreachable!()
+    };
+    Ok(note)
+}
+
+// The row of these parts, whose texts are an id's and a note's.
+fn row_of<A: Allocator + Copy>(
+    alloc: A,
+    id: &str,
+    point: Point,
+    label: Label<A>,
+    note: &str,
+) -> Result<Row<A>, AllocError>
+    requires id { IsId id.now }
+    requires note { IsNote note.now }
+    ensures { IfOk result (λ row. row ≡ record { id = id.now; point = point; label = label; note = note.now }) }
+{
+    let id = owned_id(alloc, id)?;
+    let note = owned_note(alloc, note)?;
+    Ok(Row {
+        id,
+        point,
+        label,
+        note,
+    })
+}
 
 pub fn label<A: Allocator + Copy>(
     alloc: A,
@@ -30,11 +78,16 @@ pub fn get<A: Allocator + Copy>(
 ) -> Result<Request<A>, DecodeFault>
     ensures { Tells (Made lines.Get name.now (view object.now)) result }
 {
-    let id = field::id(alloc, object)?;
-    let texts = field::auths(alloc, object)?;
+    let id = field::id(object)?;
+    let texts = field::auths(object)?;
     let table = rule::table(name)?;
     let auths = rule::auths(alloc, texts)?;
-    Ok(Request::Get { table, id, auths })
+    let owned = owned_id(alloc, id)?;
+    Ok(Request::Get {
+        table,
+        id: owned,
+        auths,
+    })
 }
 
 pub fn count<A: Allocator + Copy>(
@@ -45,7 +98,7 @@ pub fn count<A: Allocator + Copy>(
     ensures { Tells (Made lines.Count name.now (view object.now)) result }
 {
     let bounds = field::bounds(object)?;
-    let texts = field::auths(alloc, object)?;
+    let texts = field::auths(object)?;
     let query = rule::query(bounds)?;
     let table = rule::table(name)?;
     let auths = rule::auths(alloc, texts)?;
@@ -63,21 +116,14 @@ pub fn put<A: Allocator + Copy>(
 ) -> Result<Request<A>, DecodeFault>
     ensures { Tells (Made lines.Put name.now (view object.now)) result }
 {
-    let id = field::id(alloc, object)?;
+    let id = field::id(object)?;
     let point = field::point(object)?;
     let text = field::text(object, FieldName::Label)?;
-    let note = field::note(alloc, object)?;
+    let note = field::note(object)?;
     let label = rule::label(alloc, text)?;
     let table = rule::table(name)?;
-    Ok(Request::Put {
-        table,
-        row: Row {
-            id,
-            point,
-            label,
-            note,
-        },
-    })
+    let row = row_of(alloc, id, point, label, note)?;
+    Ok(Request::Put { table, row })
 }
 
 pub fn delete<A: Allocator + Copy>(
@@ -87,9 +133,14 @@ pub fn delete<A: Allocator + Copy>(
 ) -> Result<Request<A>, DecodeFault>
     ensures { Tells (Made lines.Delete name.now (view object.now)) result }
 {
-    let id = field::id(alloc, object)?;
+    let id = field::id(object)?;
     let text = field::text(object, FieldName::Label)?;
     let label = rule::label(alloc, text)?;
     let table = rule::table(name)?;
-    Ok(Request::Delete { table, id, label })
+    let owned = owned_id(alloc, id)?;
+    Ok(Request::Delete {
+        table,
+        id: owned,
+        label,
+    })
 }

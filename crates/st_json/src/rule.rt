@@ -1,11 +1,12 @@
 //! What a body, its numbers, its texts and the name in the path make. Each function gives it, or the refusal where there is none.
-ghost use Rattle.std.specs.Prelude.{◌≡◌, map};
-ghost use Rattle.serde_json.specs.View.{view};
+ghost use Rattle.std.specs.Prelude.{◌≡◌};
+ghost use Rattle.serde_json.specs.View.{view, items_view};
+ghost use Rattle.st_json.specs.Fields.{texts_among};
 ghost use Rattle.st_json.specs.Needs.{Tells, Picks, shown};
 ghost use Rattle.st_json.specs.Rules.{ObjectOf, QueryOf, LabelOf, TableOf, UserOf, NamespaceOf, AuthsOf, IsQuery, IsTable, IsOwnName, AreAuths};
 
 use crate::fault::DecodeFault::{self, NoMemory, Refused};
-use crate::value::Bounds;
+use crate::value::{self, Bounds};
 use serde_json::Value;
 use st_auth::{Auths, AuthsFault};
 use st_box::Query;
@@ -110,10 +111,11 @@ pub fn namespace(text: &str) -> Result<Name, DecodeFault>
     }
 }
 
-/// The authorizations of these names.
-pub fn auths<A: Allocator + Copy>(alloc: A, names: Vec<&str, A>) -> Result<Auths<A>, DecodeFault>
-    ensures { Tells (AuthsOf (map (λ s. s.now) names.entry.items)) result }
+/// The authorizations that the texts among the items are.
+pub fn auths<A: Allocator + Copy>(alloc: A, items: &[Value]) -> Result<Auths<A>, DecodeFault>
+    ensures { Tells (AuthsOf (texts_among (items_view items.now))) result }
 {
+    let names = value::texts_among(alloc, items)?;
     match Auths::from_list(alloc, &names) {
         Ok(auths) => Ok(auths),
         Err(AuthsFault::BadName { .. }) => Err(Refused(BadName {

@@ -18,7 +18,7 @@ pub fn scan<A: Allocator + Copy>(
     ensures { Tells (Made lines.Scan name.now (view object.now)) result }
 {
     let bounds = field::bounds(object)?;
-    let texts = field::auths(alloc, object)?;
+    let texts = field::auths(object)?;
     let limit = sizes::limit(object)?;
     let after = place::after(alloc, object)?;
     let query = rule::query(bounds)?;

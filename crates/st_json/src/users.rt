@@ -26,7 +26,7 @@ pub fn create_user<A: Allocator + Copy>(
 {
     let text = field::text(object, FieldName::User)?;
     let digest = field::digest(object)?;
-    let texts = field::auths(alloc, object)?;
+    let texts = field::auths(object)?;
     let user = rule::user(text)?;
     let auths = rule::auths(alloc, texts)?;
     Ok(Request::CreateUser {
@@ -58,7 +58,7 @@ pub fn auths<A: Allocator + Copy>(
 ) -> Result<Request<A>, DecodeFault>
     ensures { Tells (Made lines.Auths name.now (view object.now)) result }
 {
-    let texts = field::auths(alloc, object)?;
+    let texts = field::auths(object)?;
     let user = rule::user(name)?;
     let auths = rule::auths(alloc, texts)?;
     Ok(Request::Auths { user, auths })

@@ -1,9 +1,10 @@
 //! Values of a body's fields.
-ghost use Rattle.std.specs.Prelude.{◌≡◌, ◌∷◌, [], option_map, option_and_then, map, Some, IfOk, IfSome, IfNone};
-ghost use Rattle.serde_json.specs.Find.{get};
+ghost use Rattle.std.specs.Prelude.{◌≡◌, ◌∷◌, [], is_some, option_map, option_and_then, map, Some, IfOk, IfSome, IfNone};
+ghost use Rattle.std.specs.List.{list_all};
+ghost use Rattle.serde_json.specs.Find.{get, as_str};
 ghost use Rattle.serde_json.specs.View.{view, items_view};
 ghost use Rattle.st_key.specs.declared.point.Point.{Point};
-ghost use Rattle.st_json.specs.Fields.{text_in, number_of, list_in, texts_of, texts_in, numbers_of, numbers, HasBox, HasPoint};
+ghost use Rattle.st_json.specs.Fields.{text_in, number_of, list_in, texts_among, texts_in, numbers_of, numbers, HasBox, HasPoint};
 ghost use Rattle.st_json.specs.Needs.{Picks};
 ghost use Rattle.st_json.specs.declared.value.Bounds.{Bounds};
 
@@ -40,34 +41,36 @@ fn list<'a>(object: &'a Value, name: &str) -> Option<&'a Vec<Value>>
     object.get(name).and_then(Value::as_array)
 }
 
-// The texts of a list of texts.
-fn texts_of<'a, A: Allocator + Copy>(
+fn are_texts(items: &[Value]) -> bool
+    ensures { result ≡ list_all (λ v. is_some (as_str (view v))) items.now }
+{
+    items.iter().all(|item| item.is_string())
+}
+
+/// The items of a list of texts.
+pub fn texts<'a>(object: &'a Value, name: &str) -> Option<&'a [Value]>
+    ensures { option_map (λ v. texts_among (items_view v.now)) result ≡ texts_in name.now (view object.now) }
+{
+    let items = list(object, name)?.as_slice();
+    let all = are_texts(items);
+    if all { Some(items) } else { None }
+}
+
+/// The texts among the items.
+pub fn texts_among<'a, A: Allocator + Copy>(
     alloc: A,
     items: &'a [Value],
-) -> Result<Option<Vec<&'a str, A>>, AllocError>
-    ensures { IfOk result (λ o. option_map (λ v. map (λ s. s.now) v.items) o ≡ texts_of (items_view items.now)) }
+) -> Result<Vec<&'a str, A>, AllocError>
+    ensures { IfOk result (λ v. map (λ s. s.now) v.items ≡ texts_among (items_view items.now)) }
 {
     let mut texts = Vec::new(alloc);
     for item in items {
         let Some(text) = item.as_str() else {
-            return Ok(None);
+            continue;
         };
         texts.push(text)?;
     }
-    Ok(Some(texts))
-}
-
-pub fn texts<'a, A: Allocator + Copy>(
-    alloc: A,
-    object: &'a Value,
-    name: &str,
-) -> Result<Option<Vec<&'a str, A>>, AllocError>
-    ensures { IfOk result (λ o. option_map (λ v. map (λ s. s.now) v.items) o ≡ texts_in name.now (view object.now)) }
-{
-    match list(object, name) {
-        Some(items) => texts_of(alloc, items),
-        None => Ok(None),
-    }
+    Ok(texts)
 }
 
 // The numbers of a list of six.

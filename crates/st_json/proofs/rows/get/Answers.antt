@@ -1,28 +1,37 @@
-use Rattle.std.proofs.Common.{refl, map}
+use Rattle.std.proofs.Common.{refl}
 use Rattle.std.proofs.lemmas.Result.{err_from_is_err_and}
+use Rattle.serde_json.specs.View.{view, items_view}
+use Rattle.st_json.specs.Fields.{texts_among}
+use Rattle.st_http.specs.declared.routes.Line.TheVariants as lines
 use Rattle.st_json.specs.Needs.{given}
-use Rattle.st_json.proofs.Chosen.{given_then, denied_then}
+use Rattle.st_json.specs.Bodies.{Made}
+use Rattle.st_json.proofs.Chosen.{given_then, denied_then, no_memory}
 use Rattle.st_json.proofs.rows.get.Goals as goal
 
 pub returns-in_err-id : goal.returns-in_err-id
 returns-in_err-id g c =
     let p = err_from_is_err_and c.from_residual.result c.from_residual.ensures.1 in
-    denied_then _ _ _ _ _ c.in_err-id.ensures p.1 p.2
+    denied_then _ _ _ _ _ c.in_err-id.ensures.value p.1 p.2
 
 pub returns-in_err-texts : goal.returns-in_err-texts
 returns-in_err-texts g c =
     let p = err_from_is_err_and c.from_residual-in_err-texts.result c.from_residual-in_err-texts.ensures.1 in
-    given_then _ _ c.in_ok-id.id _ c.in_ok-id.ensures (denied_then _ _ _ _ _ c.in_err-texts.ensures p.1 p.2)
+    given_then _ _ c.in_ok-id.id.now _ c.in_ok-id.ensures.value (denied_then _ _ _ _ _ c.in_err-texts.ensures p.1 p.2)
 
 pub returns-in_err-table : goal.returns-in_err-table
 returns-in_err-table g c =
     let p = err_from_is_err_and c.from_residual-in_err-table.result c.from_residual-in_err-table.ensures.1 in
-    given_then _ _ c.in_ok-id.id _ c.in_ok-id.ensures (given_then _ _ (map (λ s. s.now) c.in_ok-texts.texts.items) _ c.in_ok-texts.ensures (denied_then _ _ _ _ _ c.in_err-table.ensures p.1 p.2))
+    given_then _ _ c.in_ok-id.id.now _ c.in_ok-id.ensures.value (given_then _ _ (texts_among (items_view c.in_ok-texts.texts.now)) _ c.in_ok-texts.ensures (denied_then _ _ _ _ _ c.in_err-table.ensures p.1 p.2))
 
 pub returns-in_err-auths : goal.returns-in_err-auths
 returns-in_err-auths g c =
     let p = err_from_is_err_and c.from_residual-in_err-auths.result c.from_residual-in_err-auths.ensures.1 in
-    given_then _ _ c.in_ok-id.id _ c.in_ok-id.ensures (given_then _ _ (map (λ s. s.now) c.in_ok-texts.texts.items) _ c.in_ok-texts.ensures (given_then _ _ c.in_ok-table.table _ c.in_ok-table.ensures (denied_then _ _ _ _ _ c.in_err-auths.ensures p.1 p.2)))
+    given_then _ _ c.in_ok-id.id.now _ c.in_ok-id.ensures.value (given_then _ _ (texts_among (items_view c.in_ok-texts.texts.now)) _ c.in_ok-texts.ensures (given_then _ _ c.in_ok-table.table _ c.in_ok-table.ensures (denied_then _ _ _ _ _ c.in_err-auths.ensures p.1 p.2)))
 
 pub returns : goal.returns
-returns g c = given c.in_ok-id.id _ c.in_ok-id.ensures (given (map (λ s. s.now) c.in_ok-texts.texts.items) _ c.in_ok-texts.ensures (given c.in_ok-table.table _ c.in_ok-table.ensures (given c.in_ok-auths.auths _ c.in_ok-auths.ensures refl)))
+returns g c = given c.in_ok-id.id.now _ c.in_ok-id.ensures.value (given (texts_among (items_view c.in_ok-texts.texts.now)) _ c.in_ok-texts.ensures (given c.in_ok-table.table _ c.in_ok-table.ensures (given c.in_ok-auths.auths _ c.in_ok-auths.ensures (rw c.in_ok-owned.ensures refl))))
+
+pub returns-in_err-owned : goal.returns-in_err-owned
+returns-in_err-owned g c =
+    let p = err_from_is_err_and c.from_residual-in_err-owned.result c.from_residual-in_err-owned.ensures.1 in
+    no_memory (Made lines.Get c.args.name.now (view c.args.object.now)) _ _ p.1 p.2

@@ -1,5 +1,0 @@
-use Rattle.std.proofs.Common.{rules}
-use Rattle.st_json.proofs.field.note.Goals as goal
-
-pub returns : goal.returns
-returns g c = search rules
