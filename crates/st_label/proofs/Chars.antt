@@ -7,7 +7,7 @@ use Rattle.std.proofs.lemmas.Bool.Decides.{nat_tests}
 use Rattle.std.proofs.lemmas.Str.{encode_ascii, length-encode, len_utf8_bounds}
 use Rattle.std.proofs.lemmas.List.{append-nil}
 use Rattle.st_label.specs.Tree.{Tree}
-use Rattle.st_label.specs.Grammar.{is_plain, between, Reads}
+use Rattle.st_label.specs.Grammar.{is_plain, between}
 use Rattle.st_label.specs.Refusals.{max_depth, Begins, Viable, EndsAt}
 use Rattle.st_label.specs.Reading.{reading, IsLabel}
 use Rattle.st_label.specs.Machine.{Other, class_of, Frame, Mode, Start, Word, Quoted, Escape, Done, State, state, init, step_mode, step, run, tree_of}

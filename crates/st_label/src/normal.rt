@@ -40,8 +40,7 @@ impl<A: Allocator + Copy> Gathered<A> {
             mut texts,
             mut trees,
         } = self;
-        let mut text = String::new(alloc);
-        push_operand(&mut text, &tree)?;
+        let text = operand(alloc, &tree)?;
         match place_of(&texts, text.as_str()) {
             None => {
                 texts.push(text)?;
@@ -115,6 +114,15 @@ impl<A: Allocator + Copy> Gathered<A> {
             Operator::Any => Tree::Or(trees),
         }
     }
+}
+
+// The printed form of an operand.
+fn operand<A: Allocator + Copy>(alloc: A, tree: &Tree<A>) -> Result<String<A>, AllocError>
+    ensures { IfOk result (λ text. string_bytes text ≡ operand_text (tree_view tree.now)) }
+{
+    let mut text = String::new(alloc);
+    push_operand(&mut text, tree)?;
+    Ok(text)
 }
 
 // The place of the first text that is not less.

@@ -7,13 +7,13 @@ use Rattle.st_label.proofs.normal.Gathered.with.Goals as goal
 
 pub returns-in_ok-push-in-None-2 : goal.returns-in_ok-push-in-None-2
 returns-in_ok-push-in-None-2 g c =
-    let text : string_bytes c.push_operand.new.out ≡ operand_text (tree_view c.args.tree) = c.in_ok-push_operand.ensures ∙ rw c.new-text.ensures.bytes refl in
+    let text : string_bytes c.in_ok-text.text ≡ operand_text (tree_view c.args.tree) = c.in_ok-text.ensures in
     let place : PlaceOf c.args.self.texts.items (operand_text (tree_view c.args.tree)) None = place_is c.args.self.texts.items _ _ _ _ c.in-None.is c.place_of.ensures (c.as_str.ensures.value ∙ text) in
     ap (map tree_view) c.in_ok-push-in-None-2.ensures.items ∙ more_at_end c.args.self.texts.items c.args.self.trees.items c.args.tree c.args.self.printed place
 
 pub returns-then-eq : goal.returns-then-eq
 returns-then-eq g c =
-    let text : string_bytes c.push_operand.new.out ≡ operand_text (tree_view c.args.tree) = c.in_ok-push_operand.ensures ∙ rw c.new-text.ensures.bytes refl in
+    let text : string_bytes c.in_ok-text.text ≡ operand_text (tree_view c.args.tree) = c.in_ok-text.ensures in
     let place : PlaceOf c.args.self.texts.items (operand_text (tree_view c.args.tree)) (Some c.in-Some.place) = place_is c.args.self.texts.items _ _ _ _ c.in-Some.is c.place_of.ensures (c.as_str.ensures.value ∙ text) in
     let same : string_bytes (get_or c.args.self.texts.items c.in-Some.place c.index.result.now) ≡ operand_text (tree_view c.args.tree) =
     ap string_bytes (sym c.index.ensures) ∙ sym c.as_str-in-Some.ensures.value ∙ (bytes_eq-Decides c.as_str-in-Some.result.now c.as_str-in-Some-2.result.now).0 (sym c.eq.ensures ∙ c.if-eq.true) ∙ c.as_str-in-Some-2.ensures.value ∙ text in
@@ -26,14 +26,14 @@ insert-requires-in-Some g c =
 
 pub invariant_of-result-in-Some : goal.invariant_of-result-in-Some
 invariant_of-result-in-Some g c =
-    let text : string_bytes c.push_operand.new.out ≡ operand_text (tree_view c.args.tree) = c.in_ok-push_operand.ensures ∙ rw c.new-text.ensures.bytes refl in
+    let text : string_bytes c.in_ok-text.text ≡ operand_text (tree_view c.args.tree) = c.in_ok-text.ensures in
     record {
-      printed = rw (c.in_ok-insert-in-Some.ensures.items, c.in_ok-insert-in-Some-2.ensures.items) (printed_place c.args.self.texts.items c.args.self.trees.items c.push_operand.new.out c.args.tree c.in-Some.place c.args.self.printed text);
+      printed = rw (c.in_ok-insert-in-Some.ensures.items, c.in_ok-insert-in-Some-2.ensures.items) (printed_place c.args.self.texts.items c.args.self.trees.items c.in_ok-text.text c.args.tree c.in-Some.place c.args.self.printed text);
     }
 
 pub returns-in_ok-insert-in-Some-2 : goal.returns-in_ok-insert-in-Some-2
 returns-in_ok-insert-in-Some-2 g c =
-    let text : string_bytes c.push_operand.new.out ≡ operand_text (tree_view c.args.tree) = c.in_ok-push_operand.ensures ∙ rw c.new-text.ensures.bytes refl in
+    let text : string_bytes c.in_ok-text.text ≡ operand_text (tree_view c.args.tree) = c.in_ok-text.ensures in
     let place : PlaceOf c.args.self.texts.items (operand_text (tree_view c.args.tree)) (Some c.in-Some.place) = place_is c.args.self.texts.items _ _ _ _ c.in-Some.is c.place_of.ensures (c.as_str.ensures.value ∙ text) in
     let other : string_bytes (get_or c.args.self.texts.items c.in-Some.place c.index.result.now) ≢ operand_text (tree_view c.args.tree) =
     (λ e.
