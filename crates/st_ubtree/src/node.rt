@@ -68,7 +68,7 @@ fn count_up_to<A: Allocator + Copy>(kids: &[Node<A>], key: Key) -> usize
     )
 }
 
-/// The child that a search for the key goes on in: the last that begins at or before it, or else the first.
+/// Where the child stands that a search for the key goes on in: the last that begins at or before it, or else the first.
 fn child_for<A: Allocator + Copy>(kids: &[Node<A>], key: Key) -> usize
     requires { 1 ≤ length kids.now }
     ensures { IsChosen (rank key) kids.now result }

@@ -1,4 +1,4 @@
-use Rattle.std.proofs.Common.{rules, ◌≡◌, ◌+◌, ◌≤◌, [], length, vec_len, vec_capacity, ◌∷◌, ◌-◌, ◌++◌}
+use Rattle.std.proofs.Common.{rules, ◌≡◌, ◌+◌, ◌≤◌, [], length, vec_len, vec_capacity, ◌∷◌, ◌++◌}
 use Rattle.std.specs.List.{All}
 use Rattle.st_key.specs.Key.{rank}
 use Rattle.st_ubtree.specs.Pages.{NodeValue, HeadAt, IsKid, entries_in, pages_of}

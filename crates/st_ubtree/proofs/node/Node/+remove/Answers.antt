@@ -1,4 +1,4 @@
-use Rattle.std.proofs.Common.{◌≡◌, ◌+◌, ◌-◌, ◌≤◌, ◌∷◌, [], length, subst, sym, ap, ◌∙◌, arith, rules, length-set, vec_capacity}
+use Rattle.std.proofs.Common.{◌≡◌, ◌≤◌, ◌∷◌, [], length, subst, sym, ap, ◌∙◌, arith, rules, length-set, vec_capacity}
 use Rattle.st_key.specs.Key.{rank}
 use Rattle.st_ubtree.specs.Growing.{IsChosen}
 use Rattle.st_ubtree.specs.Pages.{NodeValue, pages_of}
