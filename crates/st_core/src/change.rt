@@ -118,7 +118,6 @@ impl<A: Allocator + Copy> Store<A> {
         }
     }
 
-    #[tactic(auto, using(crate::proofs::Allowed::asker_known))]
     /// Makes a change where it is allowed, and gives the reply. Whether it is made or refused, it is
     /// listed in the audit listing where its token holds. On a want of memory nothing is changed.
     pub fn change(&mut self, asked: &Asked<A>) -> Result<Reply<A>, AllocError>

@@ -62,7 +62,6 @@ fn changed<A: Allocator + Copy>(
 }
 
 impl<A: Allocator + Copy> Decision<A> {
-    #[tactic(auto, using(crate::proofs::Allowed::asker_known))]
     /// Decides a change by a directory: what each state with this directory replies, and the directory
     /// that it leaves. Changes of rows and refused changes take no memory.
     pub fn of(directory: &Directory<A>, asked: &Asked<A>) -> Result<Decision<A>, AllocError>

@@ -1,5 +1,6 @@
 use Rattle.std.proofs.Common.{rules, ◌≡◌, Some, sym}
 use Rattle.st_core.specs.Step.{asker_of}
+use Rattle.st_core.proofs.Allowed.{asker_known}
 use Rattle.st_core.proofs.Decisions.{refused_by, allowed_by}
 use Rattle.st_core.proofs.Steps.{is_allowed}
 use Rattle.st_core.proofs.decision.Decision.of.Goals as goal
@@ -30,3 +31,8 @@ returns-clause-directory g c s same =
 
 pub changed-requires-clause-allowed : goal.changed-requires-clause-allowed
 changed-requires-clause-allowed g c = is_allowed _ (search rules)
+
+pub changed-requires-clause-known : goal.changed-requires-clause-known
+changed-requires-clause-known g c =
+    let heard : asker_of c.args.directory.now c.args.asked.now.token ≡ Some c.in-Some.asker.now = search rules in
+    asker_known c.args.directory.now c.args.asked.now.token c.in-Some.asker.now heard
