@@ -34,11 +34,8 @@ impl WriteJson for Range {
 fn write_bins<A: Allocator>(out: &mut Writer<A>, first: u32, last: u32) -> Result<(), AllocError>
     ensures { OnOk result (Adds out.old out.new (token.key (codes "bins") ∷ tokens_of (list (nat first ∷ nat last ∷ [])))) }
 {
-    out.key("bins")?;
-    out.begin_array()?;
-    out.u64(u64::from(first))?;
-    out.u64(u64::from(last))?;
-    out.end_array()
+    let numbers = [u64::from(first), u64::from(last)];
+    write_list(out, "bins", &numbers)
 }
 
 impl<B: Allocator> WriteJson for PartPlan<B> {

@@ -15,12 +15,8 @@ use std::alloc::{AllocError, Allocator};
 fn write_point<A: Allocator>(out: &mut Writer<A>, point: &Point) -> Result<(), AllocError>
     ensures { OnOk result (Adds out.old out.new (token.key (codes "point") ∷ tokens_of (point_data point.now))) }
 {
-    out.key("point")?;
-    out.begin_array()?;
-    out.u64(u64::from(point.x()))?;
-    out.u64(u64::from(point.y()))?;
-    out.u64(point.t())?;
-    out.end_array()
+    let numbers = [u64::from(point.x()), u64::from(point.y()), point.t()];
+    write_list(out, "point", &numbers)
 }
 
 impl<B: Allocator> WriteJson for Row<B> {
