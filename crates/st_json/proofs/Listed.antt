@@ -93,7 +93,3 @@ all_texts (v ∷ vs) all = some_first (as_str (view v)) _ _ (list_all (λ w. is_
 pub not_texts : (vs : List Value) → list_all (λ v. is_some (as_str (view v))) vs ≡ false → texts_of (items_view vs) ≡ None
 not_texts [] all = cc
 not_texts (v ∷ vs) all = none_first (as_str (view v)) _ (list_all (λ w. is_some (as_str (view w))) vs) all (not_texts vs)
-
--- the texts from an item on
-pub among_at : (vs : List Value) (v : Value) (i : ℕ) → i < length vs → v ≡ get_or vs i v → texts_among (items_view (drop i vs)) ≡ with_text (as_str (view v)) (texts_among (items_view (drop (suc i) vs)))
-among_at vs v i inside is = ap (λ ws. texts_among (items_view ws)) (drop-cons vs i v inside ∙ ap (λ w. w ∷ drop (suc i) vs) (sym is))
