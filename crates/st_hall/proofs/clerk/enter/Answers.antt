@@ -1,4 +1,4 @@
-use Rattle.std.proofs.Common.{◌≡◌, ◌++◌, drop, ap, ◌∙◌}
+use Rattle.std.proofs.Common.{◌≡◌, ◌++◌, drop, ap, ◌∙◌, rules}
 use Rattle.st_hall.specs.Trails.{Trail}
 use Rattle.st_hall.specs.Editions.{Added, waiting_list}
 use Rattle.st_hall.proofs.Following.{enters}
@@ -17,3 +17,6 @@ returns-clause-follows g c xs follows =
     (c.of.ensures ∙ (ap (λ (t : Trail). t.list) c.again.ensures ∙ (shown ∙ c.in_ok-post.ensures.list)))
     follows
     )
+
+pub returns-clause-list : goal.returns-clause-list
+returns-clause-list g c = search rules
