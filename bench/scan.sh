@@ -1,6 +1,7 @@
 #!/usr/bin/env bash
 # What a count costs in a table, against a sorted array in plain Rust over the same rows (of three runs each, the quickest
-# counts), and what a page, a put and a row cost. First build it: (cd crates/bench_scan && rt run > /dev/null).
+# counts), and what a page, a put and a row cost: once as memory comes, and once with huge pages for both, as the unit under
+# deploy/ asks for. First build it: (cd crates/bench_scan && rt run > /dev/null).
 set -eu
 cd "$(dirname "$0")/.."
 program=crates/bench_scan/out/bench_scan
@@ -11,14 +12,19 @@ python3 bench/scan_data.py "$count" > "$folder/points"
 python3 bench/scan_data.py --boxes > "$folder/boxes"
 rustc -O -C target-cpu=native -o "$folder/baseline" bench/scan_baseline.rs
 for run in 1 2 3; do
-    "$folder/baseline" "$folder/points" "$folder/boxes" > "$folder/plain.$run"
-    "$program" "$folder/points" "$folder/boxes" > "$folder/shown.$run" 2> "$folder/proved.$run"
+    for pages in small huge; do
+        [ $pages = huge ] && export GLIBC_TUNABLES=glibc.malloc.hugetlb=1 || unset GLIBC_TUNABLES
+        "$folder/baseline" "$folder/points" "$folder/boxes" > "$folder/$pages.plain.$run"
+        "$program" "$folder/points" "$folder/boxes" > "$folder/$pages.shown.$run" 2> "$folder/$pages.proved.$run"
+    done
 done
-python3 - "$folder" <<'END'
+for pages in small huge; do
+    echo "$pages pages of memory"
+    python3 - "$folder/$pages" <<'END'
 import sys
 
 def runs(kind):
-    return [[line.split() for line in open(f"{sys.argv[1]}/{kind}.{run}")] for run in (1, 2, 3)]
+    return [[line.split() for line in open(f"{sys.argv[1]}.{kind}.{run}")] for run in (1, 2, 3)]
 
 def quickest(kind, at):
     return [min(lines, key=lambda words: int(words[at])) for lines in zip(*runs(kind))]
@@ -29,4 +35,5 @@ for plain, shown in zip(quickest("plain", 8), runs("shown")[0]):
     print(f"box of {plain[0][:-1]} of a side, {int(plain[4]) // int(plain[1])} rows: "
           f"{times[plain[0]]:,} ns, sorted array {int(plain[8]):,} ns, {times[plain[0]] / int(plain[8]):.1f} times")
 END
-grep -h -e put: -e page: "$folder"/proved.*
+    grep -h -e put: -e page: "$folder/$pages".proved.*
+done
