@@ -1,5 +1,6 @@
-use Rattle.std.proofs.Common.{◌≡◌, ◌<◌, length, ap, ◌∙◌, arith}
-use Rattle.st_index.specs.Rows.{rows_of}
+use Rattle.std.proofs.Common.{◌≡◌, ◌+◌, ◌<◌, length, sym, ap, subst, ◌∙◌, arith}
+use Rattle.std.proofs.lemmas.List.{at_drop_all}
+use Rattle.st_index.specs.Rows.{IsEntry, rows_of}
 use Rattle.st_scan.specs.Seen.{seen}
 use Rattle.st_scan.proofs.Counts.{entry_seen, seen_le}
 use Rattle.st_scan.proofs.tally.count_entries.Goals as goal
@@ -29,3 +30,11 @@ loop-entry-preserved g c =
       count = omega (arith, here, split, c.loop-entry.invariant.count);
       set = c.count_entry-count.ensures.set ∙ c.loop-entry.invariant.set;
     }
+
+pub count_entry-count-requires : goal.count_entry-count-requires
+count_entry-count-requires g c = record { keyed = subst (IsEntry c.args.test.now.period) (sym c.entry-item.is) (c.requires.keyed c.loop-entry.entry-index c.entry-item.result c.loop-entry-test.true) }
+
+pub returns-clause-count : goal.returns-clause-count
+returns-clause-count g c =
+    let rest = at_drop_all (λ es. length (seen c.args.test.now.query c.args.verdicts.now (rows_of es))) c.args.entries.now c.loop-entry.entry-index c.loop-entry-test.false in
+    omega (arith, rest, c.loop-entry.invariant.count)

@@ -1,4 +1,5 @@
-use Rattle.std.proofs.Common.{◌≡◌, ◌<◌, length, sym, ap, ◌∙◌, arith}
+use Rattle.std.proofs.Common.{◌≡◌, ◌<◌, length, filter, sym, ap, ◌∙◌, arith}
+use Rattle.std.proofs.lemmas.List.{at_drop_all}
 use Rattle.st_label.specs.Reading.{is_true}
 use Rattle.st_text.specs.Texts.{is_among}
 use Rattle.st_scan.specs.Seen.{is_visible}
@@ -34,3 +35,8 @@ loop-row-preserved g c =
           let more = no_more rows i c.row-item.result below c.row-item.is visible (told ∙ w.if-ask.false) in
           record { count = omega (arith, more, w.count-is, c.loop-row.invariant.count); set = set }
     ]
+
+pub returns-clause-count : goal.returns-clause-count
+returns-clause-count g c =
+    let rest = at_drop_all (λ rows. length (filter (is_visible c.args.verdicts.now) rows)) c.args.rows.now c.loop-row.row-index c.loop-row-test.false in
+    omega (arith, rest, c.loop-row.invariant.count)
