@@ -1,6 +1,7 @@
-use Rattle.std.proofs.Common.{◌≡◌, subst, sym, ap, ◌∙◌}
+use Rattle.std.proofs.Common.{◌≡◌, set, subst, sym, ap, ◌∙◌}
+use Rattle.std.proofs.lemmas.List.{set-get_or}
 use Rattle.st_key.specs.Key.{rank}
-use Rattle.st_index.specs.Rows.{name_of, EntryValue, rows_of}
+use Rattle.st_index.specs.Rows.{name_of, EntryValue, Rises, rows_of}
 use Rattle.st_index.specs.Index.{IsAbsent}
 use Rattle.st_index.proofs.Names.{nat_equal}
 use Rattle.st_index.proofs.Taking.{missing_absent, absent_around, swapped_inside, swapped_placed, swapped_entry, changed_rising, around}
@@ -43,3 +44,13 @@ returns-in-Err-swap-clause-absent g c = λ period lo hi h.
 pub returns-in-Err-clause-absent : goal.returns-in-Err-clause-absent
 returns-in-Err-clause-absent g c = λ period lo hi h.
     missing_absent period _ _ c.args.entries.now.items c.in-Err.field-0 lo hi h (rw c.deref.ensures.value at c.in-Err.ensures.place)
+
+pub returns-in-Err-swap-clause-rising : goal.returns-in-Err-swap-clause-rising
+returns-in-Err-swap-clause-rising g c = λ period lo hi key h.
+    let es = c.args.entries.now.items in
+    let same : set es c.in-Ok.i c.swap.new.self ≡ es =
+    ap (λ e. set es c.in-Ok.i e) (c.in-Err-swap.ensures.err ∙ c.index_mut-entry.ensures.value) ∙ set-get_or es c.in-Ok.i c.index_mut-entry.result.now in
+    subst (λ es. Rises period lo hi es) (sym same) h
+
+pub returns-in-Err-clause-rising : goal.returns-in-Err-clause-rising
+returns-in-Err-clause-rising g c = λ period lo hi key h. h

@@ -41,3 +41,9 @@ insert-requires-clause-index g c =
 
 pub insert-requires-clause-room : goal.insert-requires-clause-room
 insert-requires-clause-room g c = rw (← c.self.view_is) at c.requires.room
+
+pub returns-clause-at : goal.returns-clause-at
+returns-clause-at g c = ap (λ (e : EntryValue g.row.A.Denot). e.at) c.self.view_is
+
+pub insert-requires-clause-empty : goal.insert-requires-clause-empty
+insert-requires-clause-empty g c = c.requires.empty

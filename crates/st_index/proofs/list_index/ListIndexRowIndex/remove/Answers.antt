@@ -29,3 +29,8 @@ invariant_of-self-2 g c =
 pub returns-in_err-row-clause-absent : goal.returns-in_err-row-clause-absent
 returns-in_err-row-clause-absent g c =
     rw (c.from_residual.ensures, ← c.self.view_is) (c.in_err-row.ensures.absent c.self.inside.period 0 (key_end c.self.inside.period) c.self.invariant.0)
+
+pub overflow_sub-self : goal.overflow_sub-self
+overflow_sub-self g c =
+    let shorter = adds_length c.in_ok-row.row _ _ c.in_ok-row.ensures.some.0 in
+    omega (arith, c.self.invariant.1, shorter)
