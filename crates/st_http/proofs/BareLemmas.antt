@@ -1,5 +1,5 @@
 -- Whether an item is that of a HEAD request does not change with what follows.
-use Rattle.std.proofs.Common.{◌≡◌, ◌∙◌, ℕ, ◌≤◌, inl, inr, Bool, true, false, lit<, List, [], ◌∷◌, ◌++◌, length, refl, sym, ap, subst, arith, append_assoc, length-append}
+use Rattle.std.proofs.Common.{◌≡◌, ◌∙◌, ℕ, ◌≤◌, inl, inr, Bool, true, false, lit<, List, [], ◌∷◌, ◌++◌, length, get_or, refl, sym, ap, subst, arith, append_assoc, length-append}
 use Rattle.std.specs.Prelude.{codes}
 use Rattle.std.proofs.lemmas.List.Elements.{All-cons, All-nil}
 use Rattle.httparse.specs.Grammar.{IsToken, is_token_byte, is_uri_byte, LineEnd, crlf, lf, print_end, print_blank, print_version, print_section, RequestHead, ReadsRequest, HasNoRequest, MayBecomeRequest}
@@ -16,8 +16,8 @@ head_is_token =
     (lit< tt, All-cons P 72 (69 ∷ 65 ∷ 68 ∷ []) refl (All-cons P 69 (65 ∷ 68 ∷ []) refl (All-cons P 65 (68 ∷ []) refl (All-cons P 68 [] refl (All-nil P)))))
 
 head_starts : StartsInLine (codes "HEAD ")
-head_starts crlf rest e = cc
-head_starts lf rest e = cc
+head_starts crlf rest e = omega (arith, ap (λ t. get_or t 0 0) e)
+head_starts lf rest e = omega (arith, ap (λ t. get_or t 0 0) e)
 
 -- a text that ends where a HEAD request's target begins has no head
 no_head_yet : (text : List ℕ) (blank : List LineEnd) → text ≡ print_blank blank ++ codes "HEAD " → HasNoRequest text

@@ -41,22 +41,22 @@ unfolding user_or
 named_secret text user secret (Ok bytes) is e = let same : text ≡ user = ap user_or e in subst (λ (t : List ℕ). is_name t ≡ true) same is
 named_secret text user secret (Err e) is none = absurd (cc)
 
-named_in : (value user secret : List ℕ) → credentials_in value ≡ Some (user, secret) → is_name user ≡ true
-unfolding credentials_in
-named_in value user secret e = go (is_bearer value) e
+named_text : (text user secret : List ℕ) → credentials_of text ≡ Some (user, secret) → is_name user ≡ true
+named_text text user secret e = inside (is_name (before_first is_dot text)) refl e
   where
-    text : List ℕ
-    text = skip_spaces (drop 6 value)
-
     inside : (t : Bool) → is_name (before_first is_dot text) ≡ t
         → cond t (with_secret (before_first is_dot text) (decode_sized (after_first is_dot text) 32)) None ≡ Some (user, secret)
         → is_name user ≡ true
     inside true is f = named_secret (before_first is_dot text) user secret (decode_sized (after_first is_dot text) 32) is f
     inside false is f = absurd (cc)
 
-    go : (t : Bool) → cond t (credentials_of text) None ≡ Some (user, secret) → is_name user ≡ true
-    go true f = inside (is_name (before_first is_dot text)) refl f
-    go false f = absurd (cc)
+named_if : (t : Bool) (text user secret : List ℕ) → cond t (credentials_of text) None ≡ Some (user, secret) → is_name user ≡ true
+named_if true text user secret e = named_text text user secret e
+named_if false text user secret e = absurd (cc)
+
+named_in : (value user secret : List ℕ) → credentials_in value ≡ Some (user, secret) → is_name user ≡ true
+unfolding credentials_in
+named_in value user secret e = named_if (is_bearer value) (skip_spaces (drop 6 value)) user secret e
 
 pub user_named : (fields : Fields) (user secret : List ℕ) → token_of fields ≡ Some (user, secret) → is_name user ≡ true
 unfolding token_of
