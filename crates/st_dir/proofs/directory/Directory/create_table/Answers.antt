@@ -11,3 +11,6 @@ add-requires g c =
 
 pub returns-in-Err-clause-err : goal.returns-in-Err-clause-err
 returns-in-Err-clause-err g c = search rules
+
+pub returns-in-Ok-add_all-clause-ok : goal.returns-in-Ok-add_all-clause-ok
+returns-in-Ok-add_all-clause-ok g c = search rules
