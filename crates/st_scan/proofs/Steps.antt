@@ -61,13 +61,13 @@ module _ {A : Type 0} (period : Period) (q : Query) where
 
     none_skipped : filter (has_row_from period q start) (rows_of o.skipped) ≡ []
     none_skipped =
-        let low = rows_all period (λ n. n < start) o.skipped (all_left (IsEntry period) o.skipped entries keyed_all) o.before in
-        filter_none (has_row_from period q start) (rows_of o.skipped) (λ k d l. from_low start _ (low k d l))
+        let low = rows_all period (λ n. n < rank o.key) o.skipped (all_left (IsEntry period) o.skipped entries keyed_all) o.before in
+        filter_none (has_row_from period q start) (rows_of o.skipped) (λ k d l h. let a = at_start _ h in let b = low k d l in absurd (omega (arith, a, b)))
 
     here_same : filter (has_row_from period q start) (rows_of entries) ≡ filter (has_row q) (rows_of entries)
     here_same =
-        let high = rows_all period (λ n. start ≤ n) entries (all_right (IsEntry period) o.skipped entries keyed_all) o.after in
-        filter_same (has_row_from period q start) (has_row q) (rows_of entries) (λ k d l. from_high start _ (high k d l))
+        let high = rows_all period (λ n. rank o.key ≤ n) entries (all_right (IsEntry period) o.skipped entries keyed_all) o.after in
+        filter_same (has_row_from period q start) (has_row q) (rows_of entries) (λ k d l. from_high start _ (let b = high k d l in omega (arith, b, o.from_start)))
 
     after_same : filter (has_row_from period q start) o.leaf.after ≡ filter (has_row_from period q next) o.leaf.after
     after_same = filter_same (has_row_from period q start) (has_row_from period q next) o.leaf.after

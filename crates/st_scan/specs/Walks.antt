@@ -94,7 +94,7 @@ pub record Steps {A : Type 0} (period : Period) (q : Query) (content : List (Row
   pub left : left_of period q content new ≡ left_of period q content old
   pub on : place_at period old.next < place_at period new.next
 
--- the first region from a place on that meets the query, its entries from there on, and the place after it
+-- the first region from a place on that meets the query, its entries from the query's first key there on, and the place after it
 pub record Opens {A : Type 0} (period : Period) (q : Query) (content : List (Row A)) (regions : List Region) (start : ℕ) (entries : List (EntryValue A)) (next : ℕ) : Type 0 where
   pub region : Region
   pub one : IsIn region regions
@@ -104,8 +104,8 @@ pub record Opens {A : Type 0} (period : Period) (q : Query) (content : List (Row
   pub first : (k : Key) → HasKey q period k → start ≤ rank k → rank key ≤ rank k
   pub skipped : List (EntryValue A)
   pub leaf : IsLeafAt period (rank key) content region (skipped ++ entries)
-  pub before : All (λ e. e.at < start) skipped
-  pub after : All (λ e. start ≤ e.at) entries
+  pub before : All (λ e. e.at < rank key) skipped
+  pub after : All (λ e. rank key ≤ e.at) entries
   pub next_is : next ≡ region.last + 1
 
 -- the first entry that is inside the query: its rows, and the entries after it

@@ -110,7 +110,7 @@ fn open_next<'a, I: RowIndex>(
         return None;
     };
     let leaf = index.leaf_at(key);
-    let entries = entries_from(leaf.entries, leaf.first, from);
+    let entries = entries_from(leaf.entries, leaf.first, key);
     Some((entries, leaf.last.after(period)))
 }
 
