@@ -8,7 +8,8 @@ usage: attack.py [COUNT [ROUNDS [KIND]]]
 Each kind is asked COUNT times (100) in each of ROUNDS rounds (5); with KIND only those whose name has that word. Processor time
 is that of Linux's scheduler (/proc/PID/schedstat), so that a busy machine does not spoil it; but a host that lends its processors
 to others makes single askings slow, so a request is judged by its median. Kinds that show or count rows, or sort them anew, say
-so: their time is in proportion. Build the server first: (cd crates/st_run && rt run < stdin > /dev/null).
+so: their time is in proportion. Build the server first: (cd crates/st_run && rt run < stdin > /dev/null). Begun with
+GLIBC_TUNABLES=glibc.malloc.hugetlb=1, the server has huge pages, as the unit under deploy/ asks for.
 """
 import fcntl
 import os
