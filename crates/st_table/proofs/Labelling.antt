@@ -1,5 +1,5 @@
 -- The labels of an id among names in order.
-use Rattle.std.proofs.Common.{◌≡◌, length, List, [], ◌∷◌, ◌++◌, filter, Bool, true, false, not, ◌&&◌, cond, nat_eq, nat_le, Option, Some, None, refl, sym, ap, ◌∙◌, subst}
+use Rattle.std.proofs.Common.{◌≡◌, length, List, [], ◌∷◌, ◌++◌, filter, Bool, true, false, ◌&&◌, cond, nat_eq, nat_le, Option, Some, None, refl, sym, ap, ◌∙◌, subst}
 use Rattle.std.specs.Prelude.{if◌then◌else◌}
 use Rattle.std.proofs.lemmas.Bool.{eqb-true, eq-eqb}
 use Rattle.std.proofs.lemmas.List.{append_assoc}
