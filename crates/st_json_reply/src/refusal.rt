@@ -48,38 +48,35 @@ fn write_error<A: Allocator>(out: &mut Writer<A>, error: &str) -> Result<(), All
     out.end_object()
 }
 
-// An object of two texts, each under its key.
+// An object of two texts.
 fn write_two<A: Allocator>(
     out: &mut Writer<A>,
-    key: &str,
-    text: &str,
-    next_key: &str,
-    next: &str,
+    first: (&str, &str),
+    second: (&str, &str),
 ) -> Result<(), AllocError>
-    ensures { OnOk result (Adds out.old out.new (tokens_of (of ((key.now, string text.now) ∷ (next_key.now, string next.now) ∷ [])))) }
+    ensures { OnOk result (Adds out.old out.new (tokens_of (of ((first.entry.0.now, string first.entry.1.now) ∷ (second.entry.0.now, string second.entry.1.now) ∷ [])))) }
 {
     out.begin_object()?;
-    write_text(out, key, text)?;
-    write_text(out, next_key, next)?;
+    write_text(out, first.0, first.1)?;
+    write_text(out, second.0, second.1)?;
     out.end_object()
 }
 
-// An object of three texts, the first of which is the error's.
-fn write_error_of<A: Allocator>(
+// An object of three texts.
+fn write_three<A: Allocator>(
     out: &mut Writer<A>,
-    error: &str,
-    key: &str,
-    text: &str,
-    next_key: &str,
-    next: &str,
+    first: (&str, &str),
+    second: (&str, &str),
+    third: (&str, &str),
 ) -> Result<(), AllocError>
     ensures { OnOk result (Adds out.old out.new
-        (tokens_of (of ((codes "error", string error.now) ∷ (key.now, string text.now) ∷ (next_key.now, string next.now) ∷ [])))) }
+        (tokens_of (of ((first.entry.0.now, string first.entry.1.now) ∷ (second.entry.0.now, string second.entry.1.now)
+        ∷ (third.entry.0.now, string third.entry.1.now) ∷ [])))) }
 {
     out.begin_object()?;
-    write_text(out, "error", error)?;
-    write_text(out, key, text)?;
-    write_text(out, next_key, next)?;
+    write_text(out, first.0, first.1)?;
+    write_text(out, second.0, second.1)?;
+    write_text(out, third.0, third.1)?;
     out.end_object()
 }
 
@@ -100,39 +97,31 @@ fn write_denial<A: Allocator>(out: &mut Writer<A>, denial: &Denial) -> Result<()
         Denial::Token => write_error(out, "token"),
         Denial::Permission { name, table: None } => write_two(
             out,
-            "error",
-            "permission",
-            "permission",
-            name.name(),
+            ("error", "permission"),
+            ("permission", name.name()),
         ),
         Denial::Permission {
             name,
             table: Some(table),
-        } => write_error_of(
+        } => write_three(
             out,
-            "permission",
-            "permission",
-            name.name(),
-            "table",
-            table.as_str(),
+            ("error", "permission"),
+            ("permission", name.name()),
+            ("table", table.as_str()),
         ),
-        Denial::NamespacePermission { name, namespace } => write_error_of(
+        Denial::NamespacePermission { name, namespace } => write_three(
             out,
-            "permission",
-            "namespace",
-            namespace.as_str(),
-            "permission",
-            name.name(),
+            ("error", "permission"),
+            ("namespace", namespace.as_str()),
+            ("permission", name.name()),
         ),
         Denial::Authorization { name } => write_two(
             out,
-            "authorization",
-            name.as_str(),
-            "error",
-            "authorization",
+            ("authorization", name.as_str()),
+            ("error", "authorization"),
         ),
         Denial::Constraint { label } => {
-            write_two(out, "error", "constraint", "label", label.as_str())
+            write_two(out, ("error", "constraint"), ("label", label.as_str()))
         }
         Denial::OwnSelf => write_error(out, "self"),
     }
@@ -147,18 +136,20 @@ pub(crate) fn write_refusal<A: Allocator>(
 {
     match refusal {
         Refusal::Json => write_error(out, "json"),
-        Refusal::Field { name } => write_two(out, "error", "field", "field", name.name()),
+        Refusal::Field { name } => write_two(out, ("error", "field"), ("field", name.name())),
         Refusal::BadBox => write_error(out, "box"),
         Refusal::BadLabel { at } => write_bad_label(out, *at),
-        Refusal::BadName { field } => write_two(out, "error", "name", "field", field.name()),
+        Refusal::BadName { field } => write_two(out, ("error", "name"), ("field", field.name())),
         Refusal::Denied(denial) => write_denial(out, denial),
-        Refusal::NoTable { table } => { write_two(out, "error", "table", "table", table.as_str()) }
-        Refusal::NoUser { user } => write_two(out, "error", "user", "user", user.as_str()),
+        Refusal::NoTable { table } => {
+            write_two(out, ("error", "table"), ("table", table.as_str()))
+        }
+        Refusal::NoUser { user } => write_two(out, ("error", "user"), ("user", user.as_str())),
         Refusal::TableExists { table } => {
-            write_two(out, "error", "table-exists", "table", table.as_str())
+            write_two(out, ("error", "table-exists"), ("table", table.as_str()))
         }
         Refusal::UserExists { user } => {
-            write_two(out, "error", "user-exists", "user", user.as_str())
+            write_two(out, ("error", "user-exists"), ("user", user.as_str()))
         }
     }
 }
