@@ -1,17 +1,24 @@
 //! Pages, and the nodes over them.
-ghost use Rattle.std.specs.Prelude.{◌≡◌, ◌+◌, ◌-◌, ◌<◌, ◌≤◌, ◌++◌, ℕ, [], IfSome, IfNone, IfOk, OnErr, ◌^◌, length, vec_len, vec_capacity, ltb, not, ◌∷◌, true, false};
+ghost use Rattle.std.specs.Prelude.{◌≡◌, ◌+◌, ◌<◌, ◌≤◌, ◌++◌, [], IfSome, IfNone, IfOk, OnErr, ◌^◌, length, vec_len, vec_capacity};
 ghost use Rattle.std.specs.List.{All};
-ghost use Rattle.std.specs.List.Sorted.{IsNonDecreasingBy, IsPartitionPoint, IsPartitionedBy};
 ghost use Rattle.st_key.specs.Key.{rank};
 ghost use Rattle.st_index.specs.Rows.{EntryValue, name_of};
 ghost use Rattle.st_ubtree.specs.Pages.{GrowsBy, IsKid, IsWide, NodeValue, entries_in};
 ghost use Rattle.st_ubtree.specs.Trading.{AreFilled, Keeps, TradesIn};
-ghost use Rattle.st_ubtree.specs.Shrinking.{AreWorn, HasNone, IsWorn, Joins, KidsJoin, Mends, PagesJoin, Shrinks};
-ghost use Rattle.st_ubtree.specs.Growing.{AreAround, AreBlank, AreKids, DoRise, Grows, IsBlankPage, IsChosen, IsLeafIn, IsRoomFor, PageGrows, Settles};
+ghost use Rattle.st_ubtree.specs.Shrinking.{HasNone, IsWorn, Joins, Shrinks};
+ghost use Rattle.st_ubtree.specs.Growing.{AreAround, AreBlank, Grows, IsBlankPage, IsLeafIn, IsRoomFor};
 ghost use Rattle.st_ubtree.specs.Nodes.{page_node};
-ghost use Rattle.st_ubtree.specs.Splits.{made_nodes, split_nodes, splits, splits_page, splits_with};
+ghost use Rattle.st_ubtree.specs.Splits.{made_nodes, split_nodes, splits};
 
-use crate::split::{share, split_at};
+mod child;
+mod grow;
+mod join;
+mod needs;
+
+use child::{child_for, count_up_to};
+use grow::{put_in_page, settle};
+use join::{join_kids, join_pages, mend};
+use needs::{Needs, count_node, page_needs};
 use st_index::{Entry, Leaf, Row, entries, order};
 use st_key::Key;
 use std::alloc::{Allocator, Global};
@@ -52,202 +59,6 @@ impl<A: Allocator> Model for Node<A> {
     ghost use Rattle.st_ubtree.specs.Falls.{node-falls};
 
     ghost size_decreases = { λ a h. node-falls A.Allocator (rank a.first) a.height a.kids h };
-}
-
-/// How many children begin at or before the key.
-fn count_up_to<A: Allocator + Copy>(kids: &[Node<A>], key: Key) -> usize
-    ensures bound { result ≤ length kids.now }
-    ensures place { IsPartitionedBy (λ (v : NodeValue A). not (ltb (rank key) v.first)) kids.now
-        → IsPartitionPoint (λ (v : NodeValue A). not (ltb (rank key) v.first) ≡ true)
-        (λ (v : NodeValue A). not (ltb (rank key) v.first) ≡ false) kids.now result }
-{
-    kids.partition_point(
-        |kid: &Node<A>| -> bool
-            ensures { result ≡ not (ltb (rank key) kid.now.first) }
-        { !order::is_before(key, kid.first) },
-    )
-}
-
-/// Where the child stands that a search for the key goes on in: the last that begins at or before it, or else the first.
-fn child_for<A: Allocator + Copy>(kids: &[Node<A>], key: Key) -> usize
-    requires { 1 ≤ length kids.now }
-    ensures { IsChosen (rank key) kids.now result }
-{
-    count_up_to(kids, key).max(1) - 1
-}
-
-/// What a new row of a key takes: how many rows the key has, and, where its page is to be split, how many
-/// nodes above the page are.
-#[derive(Clone, Copy)]
-pub struct Needs {
-    pub rows: usize,
-    pub inners: Option<u64>,
-}
-
-/// What a new row of the key takes in a page.
-fn page_needs<A: Allocator + Copy>(entries: &[Entry<A>], key: Key) -> Needs
-    requires { DoRise entries.now }
-    ensures rows { All (λ (e : EntryValue A). e.at ≡ rank key → length e.rows ≡ result.rows) entries.now }
-    ensures no_rows { All (λ (e : EntryValue A). e.at ≡ rank key → ⊥) entries.now → result.rows ≡ 0 }
-    ensures in_range { result.rows + 1 < 2 ^ 64 }
-    ensures splits { splits_page entries.now 1 (rank key) ≡ split_nodes result.inners }
-{
-    match entries::find(entries, key) {
-        Ok(i) => {
-            let entry = &entries[i];
-            Needs {
-                rows: entry.len(),
-                inners: None,
-            }
-        }
-        Err(_) => Needs {
-            rows: 0,
-            inners: if entries.len() < 32 { None } else { Some(0) },
-        },
-    }
-}
-
-/// How many nodes above a page are split, up to a node of this height over so many children, from how many
-/// are up to the child.
-fn count_node(inners: Option<u64>, height: u64, width: usize) -> Option<u64>
-    requires { 1 ≤ height }
-    ensures { split_nodes result ≡ splits_with width (height - 1) (split_nodes inners) }
-{
-    match inners {
-        Some(inners) if inners == height - 1 && width >= 32 => Some(height),
-        inners => inners,
-    }
-}
-
-/// Puts a row into a page's entries. Of 33 entries the upper 17 are handed back as a page of their own.
-fn put_in_page<A: Allocator + Copy>(
-    entries: &mut Vec<Entry<A>, A>,
-    key: Key,
-    row: Row<A>,
-    rows: Vec<Row<A>, A>,
-    page: Option<Vec<Entry<A>, A>>,
-) -> Option<Node<A>>
-    requires rows { IsRoomFor (rank key) rows.items (vec_capacity rows) entries.old.items }
-    requires rising { DoRise entries.old.items }
-    requires not_more { length entries.old.items ≤ 32 }
-    requires room { 33 ≤ vec_capacity entries.old }
-    requires page { 1 ≤ splits_page entries.old.items 1 (rank key) → IsBlankPage page }
-    ensures grows { PageGrows (rank key) row entries.old.items entries.new.items result }
-    ensures split { IfSome result (λ _. splits_page entries.old.items 1 (rank key) ≡ 1) }
-    ensures room { 33 ≤ vec_capacity entries.new }
-{
-    entries::put(entries, key, row, rows);
-    if entries.len() <= 32 {
-        return None;
-    }
-    let Some(page) = page else { unreachable!() };
-    let least = &entries[16];
-    let first = least.key;
-    let upper = split_at(entries, 16, page);
-    Some(Node::page(first, upper))
-}
-
-/// Of 33 children the upper 17 are handed back under a node of their own.
-fn settle<A: Allocator + Copy>(
-    kids: &mut Vec<Node<A>, A>,
-    height: u64,
-    inners: &mut Vec<Vec<Node<A>, A>, A>,
-) -> Option<Node<A>>
-    requires kids { AreKids height kids.old.items }
-    requires not_more { length kids.old.items ≤ 33 }
-    requires blank { AreBlank inners.old.items }
-    requires enough { 32 < length kids.old.items → 0 < vec_len inners.old }
-    ensures settles { Settles height kids.old.items kids.new.items result }
-    ensures capacity { vec_capacity kids.new ≡ vec_capacity kids.old }
-    ensures blank { AreBlank inners.new.items }
-    ensures left { vec_len inners.old ≤ vec_len inners.new + 1 }
-{
-    if kids.len() <= 32 {
-        return None;
-    }
-    let Some(blank) = inners.pop() else {
-        unreachable!()
-    };
-    let least = &kids[16];
-    let first = least.first;
-    let upper = split_at(kids, 16, blank);
-    Some(Node {
-        first,
-        height,
-        kids: Kids::Inner(upper),
-    })
-}
-
-/// Evens the entries of two pages. What does not go into the first one is handed back as a page.
-fn join_pages<A: Allocator + Copy>(
-    left: &mut Vec<Entry<A>, A>,
-    mut right: Vec<Entry<A>, A>,
-) -> Option<Node<A>>
-    requires left { (15 ≤ vec_len left.old) × (vec_len left.old ≤ 32) }
-    requires right { (15 ≤ vec_len right) × (vec_len right ≤ 32) }
-    requires both { vec_len left.old + vec_len right ≤ 47 }
-    requires left_room { 33 ≤ vec_capacity left.old }
-    requires right_room { 33 ≤ vec_capacity right }
-    ensures joins { PagesJoin left.old.items right.items left.new.items result }
-    ensures room { 33 ≤ vec_capacity left.new }
-{
-    if !share(left, &mut right) {
-        return None;
-    }
-    let least = &right[0];
-    let first = least.key;
-    Some(Node::page(first, right))
-}
-
-/// Evens the children of two nodes. Those that do not go into the first one are handed back under a node.
-fn join_kids<A: Allocator + Copy>(
-    left: &mut Vec<Node<A>, A>,
-    mut right: Vec<Node<A>, A>,
-    height: u64,
-) -> Option<Node<A>>
-    requires kids { AreKids height (left.old.items ++ right.items) }
-    requires left { (15 ≤ vec_len left.old) × (vec_len left.old ≤ 32) }
-    requires right { (15 ≤ vec_len right) × (vec_len right ≤ 32) }
-    requires both { vec_len left.old + vec_len right ≤ 47 }
-    requires left_room { 33 ≤ vec_capacity left.old }
-    requires right_room { 33 ≤ vec_capacity right }
-    ensures joins { KidsJoin height left.old.items right.items left.new.items result }
-    ensures room { 33 ≤ vec_capacity left.new }
-{
-    if !share(left, &mut right) {
-        return None;
-    }
-    let least = &right[0];
-    let first = least.first;
-    Some(Node {
-        first,
-        height,
-        kids: Kids::Inner(right),
-    })
-}
-
-/// Evens a child that may have 15 entries or children with the one beside it.
-fn mend<A: Allocator + Copy>(kids: &mut Vec<Node<A>, A>, at: usize)
-    requires worn { (below : ℕ) × AreWorn below at kids.old.items }
-    requires two { 2 ≤ length kids.old.items }
-    requires room { 33 ≤ vec_capacity kids.old }
-    requires not_more { length kids.old.items ≤ 32 }
-    ensures mends { (below : ℕ) → AreWorn below at kids.old.items → Mends below kids.old.items kids.new.items }
-    ensures room { 33 ≤ vec_capacity kids.new }
-{
-    let kid = &kids[at];
-    if kid.width() >= 16 {
-        return;
-    }
-    let left = at.min(kids.len() - 2);
-    let right = kids.remove(left + 1);
-    let kid = &mut kids[left];
-    let Some(right) = kid.join(right) else {
-        return;
-    };
-    let Ok(()) = kids.insert(left + 1, right) else {
-        unreachable!()
-    };
 }
 
 impl<A: Allocator + Copy> Node<A> {

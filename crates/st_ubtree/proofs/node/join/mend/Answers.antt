@@ -1,7 +1,7 @@
 use Rattle.std.proofs.Common.{◌≡◌, ◌-◌, ◌<◌, min, length, ap, ◌∙◌, arith}
 use Rattle.st_ubtree.specs.Pages.{NodeValue}
 use Rattle.st_ubtree.proofs.Mending.{joins_worn, mends_alone, mends_both, mends_none, paired, worn_is}
-use Rattle.st_ubtree.proofs.node.mend.Goals as goal
+use Rattle.st_ubtree.proofs.node.join.mend.Goals as goal
 
 pub returns-in_default-clause-mends : goal.returns-in_default-clause-mends
 returns-in_default-clause-mends g c = λ below w.

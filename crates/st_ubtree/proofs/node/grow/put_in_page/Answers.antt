@@ -6,7 +6,7 @@ use Rattle.st_ubtree.specs.Nodes.{page_node}
 use Rattle.st_ubtree.specs.Growing.{IsBlankPage, PageGrows}
 use Rattle.st_ubtree.proofs.Splitting.{held_full, page_cut, page_grows}
 use Rattle.st_ubtree.proofs.Needing.{page_filled, page_overfull}
-use Rattle.st_ubtree.proofs.node.put_in_page.Goals as goal
+use Rattle.st_ubtree.proofs.node.grow.put_in_page.Goals as goal
 
 pub returns-then-len-le32-clause-grows : goal.returns-then-len-le32-clause-grows
 returns-then-len-le32-clause-grows g c =

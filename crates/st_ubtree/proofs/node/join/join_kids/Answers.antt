@@ -4,7 +4,7 @@ use Rattle.st_key.specs.Key.{rank}
 use Rattle.st_index.proofs.Climbing.{all_right}
 use Rattle.st_ubtree.specs.Pages.{NodeValue, HeadAt, IsKid}
 use Rattle.st_ubtree.proofs.Settling.{head_there, held_at, kids_start, kids_wide}
-use Rattle.st_ubtree.proofs.node.join_kids.Goals as goal
+use Rattle.st_ubtree.proofs.node.join.join_kids.Goals as goal
 
 pub invariant_of-result : goal.invariant_of-result
 invariant_of-result g c =

@@ -6,7 +6,7 @@ use Rattle.st_ubtree.specs.Pages.{NodeValue, AreWide, IsKid, HeadAt, Starts, pag
 use Rattle.st_ubtree.specs.Splits.{chains_of}
 use Rattle.st_ubtree.specs.Growing.{AreBlank}
 use Rattle.st_ubtree.proofs.Settling.{blank_last, head_there, kids_start, kids_wide}
-use Rattle.st_ubtree.proofs.node.settle.Goals as goal
+use Rattle.st_ubtree.proofs.node.grow.settle.Goals as goal
 
 pub invariant_of-result : goal.invariant_of-result
 invariant_of-result g c =

@@ -5,7 +5,7 @@ use Rattle.st_index.proofs.Putting.{split_read}
 use Rattle.st_ubtree.specs.Pages.{NodeValue, IsKid}
 use Rattle.st_ubtree.proofs.Settling.{held_at}
 use Rattle.st_ubtree.proofs.Splitting.{page, wide_page}
-use Rattle.st_ubtree.proofs.node.join_pages.Goals as goal
+use Rattle.st_ubtree.proofs.node.join.join_pages.Goals as goal
 
 pub returns-clause-joins : goal.returns-clause-joins
 returns-clause-joins g c =

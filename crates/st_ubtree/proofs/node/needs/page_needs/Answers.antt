@@ -4,7 +4,7 @@ use Rattle.st_index.specs.Rows.{EntryValue}
 use Rattle.st_index.proofs.Names.{nat_equal}
 use Rattle.st_index.proofs.Taking.{missing_key, none_at, only_at}
 use Rattle.st_ubtree.proofs.Needing.{page_full, page_held, page_short}
-use Rattle.st_ubtree.proofs.node.page_needs.Goals as goal
+use Rattle.st_ubtree.proofs.node.needs.page_needs.Goals as goal
 
 pub returns-in-Ok-clause-rows : goal.returns-in-Ok-clause-rows
 returns-in-Ok-clause-rows g c =

@@ -1,5 +1,5 @@
 use Rattle.std.proofs.Common.{arith}
-use Rattle.st_ubtree.proofs.node.child_for.Goals as goal
+use Rattle.st_ubtree.proofs.node.child.child_for.Goals as goal
 
 pub returns : goal.returns
 returns g c = record {

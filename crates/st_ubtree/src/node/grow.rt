@@ -1,0 +1,70 @@
+//! Pages and nodes that a new row makes too full.
+ghost use Rattle.std.specs.Prelude.{◌≡◌, ◌+◌, ◌<◌, ◌≤◌, IfSome, length, vec_len, vec_capacity};
+ghost use Rattle.st_key.specs.Key.{rank};
+ghost use Rattle.st_ubtree.specs.Growing.{AreBlank, AreKids, DoRise, IsBlankPage, IsRoomFor, PageGrows, Settles};
+ghost use Rattle.st_ubtree.specs.Splits.{splits_page};
+
+use super::{Kids, Node};
+use crate::split::split_at;
+use st_index::{Entry, Row, entries};
+use st_key::Key;
+use std::alloc::Allocator;
+
+/// Puts a row into a page's entries. Of 33 entries the upper 17 are handed back as a page of their own.
+pub(super) fn put_in_page<A: Allocator + Copy>(
+    entries: &mut Vec<Entry<A>, A>,
+    key: Key,
+    row: Row<A>,
+    rows: Vec<Row<A>, A>,
+    page: Option<Vec<Entry<A>, A>>,
+) -> Option<Node<A>>
+    requires rows { IsRoomFor (rank key) rows.items (vec_capacity rows) entries.old.items }
+    requires rising { DoRise entries.old.items }
+    requires not_more { length entries.old.items ≤ 32 }
+    requires room { 33 ≤ vec_capacity entries.old }
+    requires page { 1 ≤ splits_page entries.old.items 1 (rank key) → IsBlankPage page }
+    ensures grows { PageGrows (rank key) row entries.old.items entries.new.items result }
+    ensures split { IfSome result (λ _. splits_page entries.old.items 1 (rank key) ≡ 1) }
+    ensures room { 33 ≤ vec_capacity entries.new }
+{
+    entries::put(entries, key, row, rows);
+    if entries.len() <= 32 {
+        return None;
+    }
+    let Some(page) = page else { unreachable!() };
+    let least = &entries[16];
+    let first = least.key;
+    let upper = split_at(entries, 16, page);
+    Some(Node::page(first, upper))
+}
+
+/// Of 33 children the upper 17 are handed back under a node of their own.
+pub(super) fn settle<A: Allocator + Copy>(
+    kids: &mut Vec<Node<A>, A>,
+    height: u64,
+    inners: &mut Vec<Vec<Node<A>, A>, A>,
+) -> Option<Node<A>>
+    requires kids { AreKids height kids.old.items }
+    requires not_more { length kids.old.items ≤ 33 }
+    requires blank { AreBlank inners.old.items }
+    requires enough { 32 < length kids.old.items → 0 < vec_len inners.old }
+    ensures settles { Settles height kids.old.items kids.new.items result }
+    ensures capacity { vec_capacity kids.new ≡ vec_capacity kids.old }
+    ensures blank { AreBlank inners.new.items }
+    ensures left { vec_len inners.old ≤ vec_len inners.new + 1 }
+{
+    if kids.len() <= 32 {
+        return None;
+    }
+    let Some(blank) = inners.pop() else {
+        unreachable!()
+    };
+    let least = &kids[16];
+    let first = least.first;
+    let upper = split_at(kids, 16, blank);
+    Some(Node {
+        first,
+        height,
+        kids: Kids::Inner(upper),
+    })
+}

@@ -1,0 +1,54 @@
+//! What a new row takes.
+ghost use Rattle.std.specs.Prelude.{◌≡◌, ◌+◌, ◌-◌, ◌<◌, ◌≤◌, ◌^◌, length};
+ghost use Rattle.std.specs.List.{All};
+ghost use Rattle.st_key.specs.Key.{rank};
+ghost use Rattle.st_index.specs.Rows.{EntryValue};
+ghost use Rattle.st_ubtree.specs.Growing.{DoRise};
+ghost use Rattle.st_ubtree.specs.Splits.{split_nodes, splits_page, splits_with};
+
+use st_index::{Entry, entries};
+use st_key::Key;
+use std::alloc::Allocator;
+
+/// What a new row of a key takes: how many rows the key has, and, where its page is to be split, how many
+/// nodes above the page are.
+#[derive(Clone, Copy)]
+pub struct Needs {
+    pub rows: usize,
+    pub inners: Option<u64>,
+}
+
+/// What a new row of the key takes in a page.
+pub(super) fn page_needs<A: Allocator + Copy>(entries: &[Entry<A>], key: Key) -> Needs
+    requires { DoRise entries.now }
+    ensures rows { All (λ (e : EntryValue A). e.at ≡ rank key → length e.rows ≡ result.rows) entries.now }
+    ensures no_rows { All (λ (e : EntryValue A). e.at ≡ rank key → ⊥) entries.now → result.rows ≡ 0 }
+    ensures in_range { result.rows + 1 < 2 ^ 64 }
+    ensures splits { splits_page entries.now 1 (rank key) ≡ split_nodes result.inners }
+{
+    match entries::find(entries, key) {
+        Ok(i) => {
+            let entry = &entries[i];
+            Needs {
+                rows: entry.len(),
+                inners: None,
+            }
+        }
+        Err(_) => Needs {
+            rows: 0,
+            inners: if entries.len() < 32 { None } else { Some(0) },
+        },
+    }
+}
+
+/// How many nodes above a page are split, up to a node of this height over so many children, from how many
+/// are up to the child.
+pub(super) fn count_node(inners: Option<u64>, height: u64, width: usize) -> Option<u64>
+    requires { 1 ≤ height }
+    ensures { split_nodes result ≡ splits_with width (height - 1) (split_nodes inners) }
+{
+    match inners {
+        Some(inners) if inners == height - 1 && width >= 32 => Some(height),
+        inners => inners,
+    }
+}
