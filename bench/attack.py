@@ -5,7 +5,7 @@ of each kind, by the median of its askings.
 
 usage: attack.py [COUNT [ROUNDS [KIND]]]
 
-A connection is ended after a million reads, which 5,000 askings of each kind nearly take: more are further runs.
+A connection is ended after a million reads. 4,000 askings of each kind take fewer, 4,600 took more: more are further runs.
 Each kind is asked COUNT times (100) in each of ROUNDS rounds (5); with KIND only those whose name has that word. Processor time
 is that of Linux's scheduler (/proc/PID/schedstat), so that a busy machine does not spoil it; but a host that lends its processors
 to others makes single askings slow, so a request is judged by its median. Kinds that show or count rows, or sort them anew, say
