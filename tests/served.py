@@ -1,0 +1,43 @@
+"""A server of its own for a test: the built `st_served` at a free port of the loopback interface."""
+import hashlib
+import os
+import pathlib
+import socket
+import subprocess
+from collections.abc import Iterator
+from contextlib import contextmanager
+
+TOP = pathlib.Path(__file__).resolve().parent.parent
+PROGRAM = pathlib.Path(os.environ.get("ST_SERVED", TOP / "crates/st_served/out/st_served"))
+
+
+def token(user: str) -> str:
+    """The token of a user whose secret is the SHA-256 of its name, as in docs/API.md."""
+    return f"{user}.{hashlib.sha256(user.encode()).hexdigest()}"
+
+
+def digest(user: str) -> str:
+    """The digest of the same user."""
+    return hashlib.sha256(hashlib.sha256(user.encode()).digest()).hexdigest()
+
+
+def free_port() -> int:
+    """A port that nobody listens at."""
+    with socket.socket() as probe:
+        probe.bind(("127.0.0.1", 0))
+        port: int = probe.getsockname()[1]
+        return port
+
+
+@contextmanager
+def served(*auths: str) -> Iterator[int]:
+    """The port of a server whose root holds the authorizations; it ends with the context."""
+    port = free_port()
+    words = [str(PROGRAM), "--root", digest("root"), "--port", str(port), *auths]
+    with subprocess.Popen(words, stdout=subprocess.PIPE) as server:
+        assert server.stdout is not None
+        try:
+            assert server.stdout.readline() == b"listening %d\n" % port
+            yield port
+        finally:
+            server.terminate()
