@@ -1,0 +1,5 @@
+"""`python3 -m fashkiin`."""
+
+from fashkiin.cli import main
+
+main()

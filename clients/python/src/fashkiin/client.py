@@ -1,0 +1,251 @@
+"""The client: requests over kept connections, and pipelines of puts."""
+
+from __future__ import annotations
+
+import ssl
+import threading
+import time
+from collections import deque
+from collections.abc import Iterable, Iterator, Mapping
+from dataclasses import dataclass
+from types import TracebackType
+from typing import Any
+from urllib.parse import quote
+
+from fashkiin.accounts import Account, Change, Grants, Tables, Users, read_account, read_change
+from fashkiin.errors import ConnectError, CutOffError, EdgeError, RefusalError, RowError
+from fashkiin.rows import Row, to_json
+from fashkiin.table import Table
+from fashkiin.tokens import Token
+from fashkiin.wire import Address, Connection, Reply
+
+TRIES = 6
+LARGEST_WINDOW = 256
+
+
+@dataclass(frozen=True, slots=True)
+class Put:
+    """What became of one row of `put_many`: `error` is None where it is stored."""
+
+    row: Row
+    error: RefusalError | RowError | None
+
+
+@dataclass(slots=True)
+class _Waiting:
+    """A row on its way: its request, or the error by which it has none."""
+
+    row: Row
+    request: bytes
+    error: RowError | None
+
+
+def path(*segments: str) -> str:
+    """A path of the API, its segments escaped."""
+    return "".join("/" + quote(segment, safe="") for segment in segments)
+
+
+class Client:
+    """A server as one user sees it.
+
+    `url` is `http://HOST:PORT` or `https://HOST:PORT`, with a prefix of the path if need be; `token` is a `Token` or its text.
+    `timeout` is in seconds, for a connection and for each wait for a reply. `cafile` names the certificates that are trusted in
+    place of the system's.
+
+    Connections are kept: close the client, or use it as a context manager. Every method raises `ConnectError` where the server is
+    not there, `CutOffError` where the connection ended before the reply, `ReplyError` where the reply is none of this server's, and
+    the class of `RefusalError` that belongs to a refusal. A client may be shared by threads.
+    """
+
+    def __init__(self, url: str, token: Token | str, *, timeout: float = 30.0, cafile: str | None = None) -> None:
+        self.address = Address.parse(url)
+        self.token = Token.parse(token) if isinstance(token, str) else token
+        self.timeout = timeout
+        self._context = ssl.create_default_context(cafile=cafile) if self.address.secure else None
+        self._kept: list[Connection] = []
+        self._lock = threading.Lock()
+
+    def __enter__(self) -> Client:
+        return self
+
+    def __exit__(self, kind: type[BaseException] | None, error: BaseException | None, trace: TracebackType | None) -> None:
+        self.close()
+
+    def close(self) -> None:
+        """Closes the kept connections; the client may be used again."""
+        with self._lock:
+            kept, self._kept = self._kept, []
+        for connection in kept:
+            connection.close()
+
+    def table(self, name: str) -> Table:
+        """The table of a name, which may be of a namespace: `geo.trips`. Nothing is asked of the server yet."""
+        return Table(self, name)
+
+    @property
+    def users(self) -> Users:
+        """The users."""
+        return Users(self)
+
+    @property
+    def tables(self) -> Tables:
+        """The tables."""
+        return Tables(self)
+
+    @property
+    def grants(self) -> Grants:
+        """Who has been granted which permission."""
+        return Grants(self)
+
+    def whoami(self) -> Account:
+        """One's own account."""
+        return read_account(self.ask("GET", "/whoami"))
+
+    def label(self, text: str) -> str:
+        """The normal form of a label; `LabelError` where the text is none."""
+        return str(self.ask("POST", "/label", {"label": text}, again=True)["normal"])
+
+    def audit(self) -> list[Change]:
+        """The last 1,024 changes that were asked for, oldest first."""
+        return [read_change(entry) for entry in self.ask("GET", "/audit")["entries"]]
+
+    def ask(self, method: str, target: str, body: Mapping[str, Any] | None = None, *, again: bool = False) -> dict[str, Any]:
+        """The JSON object that a request is answered by.
+
+        A request that was cut off is sent again, once, where it is a GET or `again` says that a repeat does no harm.
+        """
+        data = b"" if body is None else to_json(body).encode()
+        request = self.request(method, target, data)
+        try:
+            return self._exchange(request).value()
+        except CutOffError:
+            if not again and method != "GET":
+                raise
+            return self._exchange(request).value()
+
+    def request(self, method: str, target: str, body: bytes) -> bytes:
+        """The bytes of a request."""
+        return (
+            f"{method} {self.address.prefix}{target} HTTP/1.1\r\nHost: {self.address.authority}\r\n"
+            f"Authorization: Bearer {self.token.text}\r\nContent-Length: {len(body)}\r\n\r\n"
+        ).encode() + body
+
+    def _exchange(self, request: bytes) -> Reply:
+        connection = self._take()
+        try:
+            connection.send(request)
+            reply = connection.receive()
+        except BaseException:
+            connection.close()
+            raise
+        self._give(connection, reply.keeps)
+        return reply
+
+    def _take(self) -> Connection:
+        """A kept connection that still stands, or a new one."""
+        while True:
+            with self._lock:
+                connection = self._kept.pop() if self._kept else None
+            if connection is None:
+                return Connection(self.address, self.timeout, self._context)
+            if not connection.stale():
+                return connection
+            connection.close()
+
+    def _give(self, connection: Connection, keeps: bool) -> None:
+        if keeps:
+            with self._lock:
+                self._kept.append(connection)
+        else:
+            connection.close()
+
+    def put_many(self, table: str, rows: Iterable[Row], window: int = 64) -> Iterator[Put]:
+        """Puts rows over one connection, up to `window` of them on their way at a time (1 to 256), and tells in their order what
+        became of each.
+
+        Where the connection ends, the rows without an answer are sent again on a new one: a put is of the row's id and label, so a
+        repeat changes nothing. After six tries without an answer the error is raised. A row that is on its way when the
+        iterator is closed may be stored or not.
+        """
+        if not 1 <= window <= LARGEST_WINDOW:
+            raise ValueError(f"a window of {window}, wanted 1 to {LARGEST_WINDOW}")
+        target = path("tables", table, "put")
+        pipeline = _Pipeline(self, target, iter(rows), window)
+        tries = 0
+        while pipeline.unfinished():
+            try:
+                for put in pipeline.run():
+                    tries = 0
+                    yield put
+            except (ConnectError, CutOffError, EdgeError):
+                tries += 1
+                if tries == TRIES:
+                    raise
+                time.sleep(0.05 * 2**tries)
+
+
+class _Pipeline:
+    """The rows of a `put_many` that wait for their answers."""
+
+    def __init__(self, client: Client, target: str, rows: Iterator[Row], window: int) -> None:
+        self._client = client
+        self._target = target
+        self._rows = rows
+        self._window = window
+        self._waiting: deque[_Waiting] = deque()
+        self._more = True
+
+    def unfinished(self) -> bool:
+        """Whether a row is still to be told."""
+        return self._more or bool(self._waiting)
+
+    def run(self) -> Iterator[Put]:
+        """Tells what becomes of the rows, over one connection, until it ends or no row is left."""
+        connection = self._client._take()
+        keeps = False
+        try:
+            connection.send(b"".join(entry.request for entry in self._waiting))
+            while self.unfinished():
+                if self._more and len(self._waiting) <= self._window // 2:
+                    connection.send(self._fill())
+                if not self._waiting:
+                    continue
+                if (refused := self._waiting[0].error) is not None:
+                    yield Put(self._waiting.popleft().row, refused)
+                    continue
+                reply = connection.receive()
+                error = _error(reply)
+                yield Put(self._waiting.popleft().row, error)
+                if not reply.keeps:
+                    return
+            keeps = True
+        finally:
+            self._client._give(connection, keeps)
+
+    def _fill(self) -> bytes:
+        """Takes rows until the window is full, and returns their requests."""
+        requests = []
+        while len(self._waiting) < self._window:
+            row = next(self._rows, None)
+            if row is None:
+                self._more = False
+                break
+            entry = self._entry(row)
+            self._waiting.append(entry)
+            requests.append(entry.request)
+        return b"".join(requests)
+
+    def _entry(self, row: Row) -> _Waiting:
+        try:
+            return _Waiting(row, self._client.request("POST", self._target, row.body()), None)
+        except RowError as error:
+            return _Waiting(row, b"", error)
+
+
+def _error(reply: Reply) -> RefusalError | None:
+    """The refusal that a reply is, if it is one."""
+    try:
+        reply.value()
+    except RefusalError as error:
+        return error
+    return None

@@ -1,0 +1,55 @@
+"""The subcommands of `fashkiin`: each is a `Command` that its module makes and `fashkiin.cli.COMMANDS` lists."""
+
+from __future__ import annotations
+
+import argparse
+import sys
+from collections.abc import Callable
+from dataclasses import dataclass
+from typing import Any
+
+from fashkiin.client import Client
+from fashkiin.rows import to_json
+from fashkiin.settings import Settings
+
+DONE = 0
+REJECTED = 1
+USAGE = 2
+BAD_INPUT = 3
+REFUSED = 4
+NO_SERVER = 5
+OUTPUT_CLOSED = 141
+INTERRUPTED = 130
+
+
+@dataclass(frozen=True, slots=True)
+class Session:
+    """What a subcommand works with: the settings, and whether scripts read its output."""
+
+    settings: Settings
+    json: bool
+
+    def client(self) -> Client:
+        """A client by the settings, to be closed."""
+        return self.settings.client()
+
+    def show(self, value: Any, text: str) -> None:
+        """Writes data on standard output: a line of JSON for scripts, a text otherwise."""
+        print(to_json(value) if self.json else text)
+
+    def say(self, text: str) -> None:
+        """Talks, on standard error."""
+        print(text, file=sys.stderr, flush=True)
+
+
+@dataclass(frozen=True, slots=True)
+class Command:
+    """A subcommand: `arguments` adds its arguments to a parser, `run` returns the exit status.
+
+    `run` raises `fashkiin.errors.FashkiinError` where it fails: `fashkiin.cli.main` tells it in a line and ends with its status.
+    """
+
+    name: str
+    summary: str
+    arguments: Callable[[argparse.ArgumentParser], None]
+    run: Callable[[Session, argparse.Namespace], int]

@@ -1,0 +1,164 @@
+"""One HTTP/1.1 connection, with replies read strictly: what is cut off is never taken for a reply."""
+
+from __future__ import annotations
+
+import json
+import re
+import select
+import socket
+import ssl
+from dataclasses import dataclass
+from typing import Any, BinaryIO
+from urllib.parse import urlsplit
+
+from fashkiin.errors import ConnectError, CutOffError, EdgeError, ReplyError, SettingsError, refusal
+
+HEAD_BYTES = 65_536
+BODY_BYTES = 1 << 28
+_STATUS = re.compile(rb"HTTP/1\.[01] ([2-5][0-9]{2})(?: [^\r\n]*)?\r\n\Z")
+_FIELD = re.compile(rb"([!#$%&'*+.^_`|~0-9A-Za-z-]+):[ \t]*([^\r\n]*?)[ \t]*\r\n\Z")
+
+
+@dataclass(frozen=True, slots=True)
+class Address:
+    """Where a server is, by its URL: `http://HOST:PORT/PREFIX` or `https://..`."""
+
+    host: str
+    port: int
+    secure: bool
+    prefix: str
+
+    @classmethod
+    def parse(cls, url: str) -> Address:
+        """The address of a URL; `SettingsError` for another text."""
+        try:
+            parts = urlsplit(url)
+            port = parts.port
+        except ValueError:
+            raise SettingsError(f"{url}: no URL, wanted http://HOST:PORT") from None
+        if parts.scheme not in ("http", "https") or not parts.hostname or parts.query or parts.fragment:
+            raise SettingsError(f"{url}: no URL of a server, wanted http://HOST:PORT or https://HOST:PORT")
+        if parts.username is not None or parts.password is not None:
+            raise SettingsError("a URL with a password in it, wanted a token file in its place")
+        secure = parts.scheme == "https"
+        prefix = parts.path.rstrip("/")
+        if not re.fullmatch(r"[!-~]*", parts.hostname + prefix):
+            raise SettingsError(f"{url}: no URL of a server, wanted ASCII without blanks")
+        return cls(parts.hostname, port or (443 if secure else 80), secure, prefix)
+
+    @property
+    def authority(self) -> str:
+        """Host and port, as they go into the Host field."""
+        return f"[{self.host}]:{self.port}" if ":" in self.host else f"{self.host}:{self.port}"
+
+
+@dataclass(frozen=True, slots=True)
+class Reply:
+    """A whole reply: its status, its body, and whether the connection stays."""
+
+    status: int
+    body: bytes
+    keeps: bool
+
+    def value(self) -> dict[str, Any]:
+        """The JSON object of a 200; `RefusalError` for a refusal, `EdgeError` for an answer of a proxy's own, `ReplyError` for
+        anything else."""
+        try:
+            told = json.loads(self.body)
+        except (ValueError, RecursionError):
+            told = None
+        if self.status == 200 and isinstance(told, dict):
+            return told
+        if self.status >= 400:
+            if isinstance(told, dict) and isinstance(told.get("error"), str):
+                raise refusal(self.status, told)
+            raise EdgeError(self.status)
+        raise ReplyError(f"status {self.status} without a JSON object: this is not the server's reply")
+
+
+class Connection:
+    """A connection to a server. After any error but a refusal it is of no use but to be closed."""
+
+    def __init__(self, address: Address, timeout: float, context: ssl.SSLContext | None) -> None:
+        self.address = address
+        self._timeout = timeout
+        try:
+            plain = socket.create_connection((address.host, address.port), timeout)
+            plain.setsockopt(socket.IPPROTO_TCP, socket.TCP_NODELAY, 1)
+            self._socket = context.wrap_socket(plain, server_hostname=address.host) if context else plain
+        except OSError as error:
+            raise ConnectError(f"no connection to {address.authority}: {_reason(error)}") from None
+        self._file: BinaryIO = self._socket.makefile("rb", 1 << 16)
+
+    def close(self) -> None:
+        """Closes the connection."""
+        self._file.close()
+        self._socket.close()
+
+    def stale(self) -> bool:
+        """Whether the server has ended the connection meanwhile, or said what nobody asked for."""
+        readable, _, _ = select.select([self._socket], [], [], 0)
+        return bool(readable)
+
+    def send(self, data: bytes) -> None:
+        """Sends bytes; `CutOffError` where the connection has ended."""
+        try:
+            self._socket.sendall(data)
+        except OSError as error:
+            raise CutOffError(f"the connection ended while a request was sent: {_reason(error)}") from None
+
+    def receive(self) -> Reply:
+        """The next reply, whole; `CutOffError` where it is cut off or late, `ReplyError` where it is no reply."""
+        try:
+            return self._receive()
+        except TimeoutError:
+            raise CutOffError(f"no whole reply within {self._timeout:g} seconds") from None
+        except OSError as error:
+            raise CutOffError(f"the reply was cut off: {_reason(error)}") from None
+
+    def _receive(self) -> Reply:
+        room = HEAD_BYTES
+        match = _STATUS.match(self._line(room))
+        if match is None:
+            raise ReplyError("this is not HTTP/1.1: no status line")
+        length: int | None = None
+        keeps = True
+        while (line := self._line(room)) != b"\r\n":
+            room -= len(line)
+            found = _FIELD.match(line)
+            if found is None:
+                raise ReplyError("this is not HTTP/1.1: no header field")
+            name, value = found[1].lower(), found[2]
+            if name == b"content-length":
+                length = _length(value, length)
+            elif name == b"transfer-encoding":
+                raise ReplyError("a reply with a Transfer-Encoding, which this server never sends")
+            elif name == b"connection" and value.lower() == b"close":
+                keeps = False
+        return Reply(int(match[1]), self._body(length), keeps)
+
+    def _line(self, room: int) -> bytes:
+        line = self._file.readline(max(room, 1))
+        if line.endswith(b"\n"):
+            return line
+        if len(line) < room:
+            raise CutOffError("the connection ended before the reply" if not line else "the reply was cut off in its head")
+        raise ReplyError(f"a reply's head of over {HEAD_BYTES:,} bytes")
+
+    def _body(self, length: int | None) -> bytes:
+        if length is None:
+            raise ReplyError("a reply without a Content-Length")
+        body = self._file.read(length)
+        if len(body) < length:
+            raise CutOffError(f"the reply was cut off after {len(body):,} of {length:,} bytes")
+        return body
+
+
+def _length(value: bytes, before: int | None) -> int:
+    if before is not None or not re.fullmatch(rb"[0-9]{1,9}", value) or int(value) > BODY_BYTES:
+        raise ReplyError("a reply with a bad Content-Length")
+    return int(value)
+
+
+def _reason(error: OSError) -> str:
+    return error.strerror or str(error) or type(error).__name__
