@@ -1,10 +1,10 @@
 -- One item, answered.
 use Rattle.std.proofs.Common.{◌≡◌, ℕ, ◌^◌, ◌<◌, ◌≤◌, ◌⊎◌, Bool, true, false, Option, Ok, Err, List, [], ◌++◌, length, drop, refl, sym, ap, ◌∙◌, subst, arith}
 use Rattle.httparse.specs.Grammar.{RequestHead}
-use Rattle.st_http.specs.declared.take.Take.TheVariants as takes
-use Rattle.st_http.specs.declared.take.Message.{Message}
-use Rattle.st_http.specs.declared.take.Fault.{Fault}
-use Rattle.st_http.specs.Take.{Takes, ShowsMessage}
+use Rattle.st_http.specs.declared.message.Take.TheVariants as takes
+use Rattle.st_http.specs.declared.message.Message.{Message}
+use Rattle.st_http.specs.declared.message.Fault.{Fault}
+use Rattle.st_http.specs.Message.{Takes, ShowsMessage}
 use Rattle.st_http.specs.First.{First, message, fault, more, IsFirst, size_of}
 use Rattle.st_http.specs.Items.{after_message}
 use Rattle.st_http.proofs.ItemLemmas.{message_size}

@@ -7,7 +7,7 @@ use crate::constant::fault_text;
 use crate::replies::Replies;
 use crate::streams::{Failed, Sink, Source};
 use st_http::routes::Routes;
-use st_http::take::Take;
+use st_http::message::Take;
 use std::convert::AsSlice;
 
 /// How a connection ended.

@@ -2,12 +2,12 @@
 ghost use Rattle.std.specs.Prelude.{◌≡◌, ◌⊎◌, ℕ, List, Bool, true, false, OnOk, OnErr};
 ghost use Rattle.httparse.specs.Grammar.{RequestHead};
 ghost use Rattle.st_http.specs.First.{First, message as of_message, fault as of_fault};
-ghost use Rattle.st_http.specs.Take.{ShowsMessage};
+ghost use Rattle.st_http.specs.Message.{ShowsMessage};
 ghost use Rattle.st_http.specs.declared.fields.Reason.{Reason as Why};
 ghost use Rattle.st_connection.specs.Render.{fault_text};
 
 use crate::streams::Failed;
-use st_http::take::Message;
+use st_http::message::Message;
 use std::convert::AsSlice;
 
 /// What answers the messages of a connection, one after another.

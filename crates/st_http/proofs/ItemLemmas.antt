@@ -14,9 +14,9 @@ use Rattle.st_http.specs.Items.{IsMessage, after_message, Items, none, faulty, l
 use Rattle.st_http.proofs.WindowLemmas.{window_short}
 use Rattle.st_http.proofs.FirstLemmas.{first_unique, first_kept}
 use Rattle.st_http.proofs.LengthLemmas.{head_length}
-use Rattle.st_http.specs.declared.take.Take.{Take}
-use Rattle.st_http.specs.declared.take.Take.TheVariants as takes
-use Rattle.st_http.specs.Take.{Takes, IsWithin}
+use Rattle.st_http.specs.declared.message.Take.{Take}
+use Rattle.st_http.specs.declared.message.Take.TheVariants as takes
+use Rattle.st_http.specs.Message.{Takes, IsWithin}
 use Rattle.std.proofs.lemmas.List.{drop-append-le}
 
 -- the whole text begins with the window's head

@@ -6,7 +6,7 @@ pub mod WindowLemmas
 pub mod BareLemmas
 pub mod FirstLemmas
 pub mod ItemLemmas
-pub mod TakeLemmas
+pub mod MessageLemmas
 pub mod RouteLemmas
 pub mod LineLemmas
 pub mod TokenLemmas

@@ -13,7 +13,7 @@ use st_connection::Failed;
 use st_connection::replies::Replies;
 use st_core::{Asked, Reply, Store};
 use st_http::routes::Route;
-use st_http::take::Message;
+use st_http::message::Message;
 use st_json_reply::{encode, status};
 use std::alloc::{AllocError, Allocator, Global};
 use std::marker::Model;

@@ -12,7 +12,7 @@ use st_connection::replies::Replies;
 use st_connection::streams::{Sink, Source};
 use st_core::Store;
 use st_http::routes::Routes;
-use st_http::take::Message;
+use st_http::message::Message;
 use std::alloc::{AllocError, Allocator, Global};
 use std::marker::Model;
 

@@ -6,10 +6,10 @@ use Rattle.httparse.specs.Grammar.{RequestHead}
 use Rattle.st_http.specs.declared.routes.Line.{Line}
 use Rattle.st_http.specs.declared.routes.Route.{Route}
 use Rattle.st_http.specs.declared.routes.Route.TheVariants as routes
-use Rattle.st_http.specs.declared.take.Message.{Message}
+use Rattle.st_http.specs.declared.message.Message.{Message}
 use Rattle.st_http.specs.First.{message, fields_of}
 use Rattle.st_http.specs.Routes.{Routed, found, no_route, bad_method, Tells, routed}
-use Rattle.st_http.specs.Take.{ShowsMessage}
+use Rattle.st_http.specs.Message.{ShowsMessage}
 use Rattle.st_http.specs.Token.{UserAndSecret, token_of}
 use Rattle.st_text.specs.Texts.{Text}
 use Rattle.st_policy.specs.declared.refusal.Refusal.{Refusal}

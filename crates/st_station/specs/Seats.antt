@@ -4,10 +4,10 @@ use mathlib.Core.List.{IsPrefix}
 use Rattle.httparse.specs.Grammar.{RequestHead}
 use Rattle.st_http.specs.declared.fields.Reason.{Reason}
 use Rattle.st_http.specs.declared.routes.Line.{Line}
-use Rattle.st_http.specs.declared.take.Message.{Message}
+use Rattle.st_http.specs.declared.message.Message.{Message}
 use Rattle.st_http.specs.First.{First, message, fault, fields_of}
 use Rattle.st_http.specs.Routes.{found, routed}
-use Rattle.st_http.specs.Take.{ShowsMessage}
+use Rattle.st_http.specs.Message.{ShowsMessage}
 use Rattle.st_http.specs.Token.{token_of}
 use Rattle.st_policy.specs.declared.refusal.Refusal.{Refusal}
 use Rattle.st_policy.specs.declared.reply.Reply.{Reply}

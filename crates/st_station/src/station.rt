@@ -12,7 +12,7 @@ use st_connection::replies::Replies;
 use st_connection::streams::{Sink, Source};
 use st_hall::{Clerk, Desk, Gate, HallName, Worker};
 use st_http::routes::{Route, Routes};
-use st_http::take::Message;
+use st_http::message::Message;
 use st_service::{Answer, asked_of, refuse, tell};
 use std::alloc::{AllocError, Global};
 use std::marker::Model;

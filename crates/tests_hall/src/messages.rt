@@ -5,7 +5,7 @@ use crate::halls::{AUDIT, Always, INPUT, ONE_ENTRY, OUTPUT, stores};
 use st_core::Store;
 use st_hall::{Clerk, Desk, Hall, HallName, Unnamed};
 use st_http::routes::Routes;
-use st_http::take::{Message, Take};
+use st_http::message::{Message, Take};
 use st_station::Station;
 use std::alloc::Global;
 use std::marker::Brand;

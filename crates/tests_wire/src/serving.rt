@@ -2,7 +2,7 @@
 
 use st_core::Store;
 use st_http::routes::Routes;
-use st_http::take::{Message, Take};
+use st_http::message::{Message, Take};
 use st_service::{Ended, FromRead, FromWrite, IoFault, Service};
 use std::alloc::{Allocator, Global};
 

@@ -1,7 +1,7 @@
 use Rattle.std.proofs.Common.{List, [], take, ℕ, Bool, false, true, refl, inl, sym, subst, arith}
 use Rattle.std.proofs.KnownBytes.{Appends-nil}
 use Rattle.httparse.specs.Grammar.{RequestHead}
-use Rattle.st_http.specs.Take.{ShowsMessage}
+use Rattle.st_http.specs.Message.{ShowsMessage}
 use Rattle.st_http.specs.First.{message, fault}
 use Rattle.st_connection.specs.Connection.{One}
 use Rattle.st_connection.proofs.Steps.{finds_more, fault_one, message_one, message_stays, next_stops, next_closed, next_open}

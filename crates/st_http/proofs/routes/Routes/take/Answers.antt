@@ -1,6 +1,6 @@
 use Rattle.std.proofs.Common.{arith}
 use Rattle.st_http.proofs.ItemLemmas.{takes_within}
-use Rattle.st_http.proofs.TakeLemmas.{takes_whole, takes_begun, faults_begun, faults_crowded, faults_hopeless}
+use Rattle.st_http.proofs.MessageLemmas.{takes_whole, takes_begun, faults_begun, faults_crowded, faults_hopeless}
 use Rattle.st_http.proofs.routes.Routes.take.Goals as goal
 use Rattle.st_http.proofs.routes.Routes.take.Goals.{in-Begun-2, in-Crowded, in-Hopeless}
 

@@ -1,9 +1,9 @@
 -- How the answer of `take` shows the first item of a text.
 use Rattle.std.specs.Prelude.{◌≡◌, ℕ, ◌<◌, ◌≤◌, Bool, List, option_map, ⊤}
 use Rattle.httparse.specs.Grammar.{RequestHead}
-use Rattle.st_http.specs.declared.take.Take.{Take}
-use Rattle.st_http.specs.declared.take.Take.TheVariants as takes
-use Rattle.st_http.specs.declared.take.Message.{Message}
+use Rattle.st_http.specs.declared.message.Take.{Take}
+use Rattle.st_http.specs.declared.message.Take.TheVariants as takes
+use Rattle.st_http.specs.declared.message.Message.{Message}
 use Rattle.st_http.specs.Routes.{Tells, routed}
 use Rattle.st_http.specs.Token.{token_of}
 use Rattle.st_http.specs.Fields.{closes_after}

@@ -5,7 +5,7 @@ ghost use Rattle.httparse.specs.Spans.{IsRequestWithin, IsRequestOf, IsRequestAt
 ghost use Rattle.st_http.specs.Head.{window as window_of};
 ghost use Rattle.st_http.specs.Fields.{body_length_of};
 ghost use Rattle.st_http.specs.First.{with_body, fields_of};
-ghost use Rattle.st_http.specs.Take.{Shows, Takes, IsWithin};
+ghost use Rattle.st_http.specs.Message.{Shows, Takes, IsWithin};
 
 use crate::close::closes;
 use crate::fields::{Reason, body_length};

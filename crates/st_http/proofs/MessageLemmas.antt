@@ -4,12 +4,12 @@ use Rattle.std.proofs.lemmas.Bool.{lt-ltb, le-ltb}
 use Rattle.std.specs.Prelude.{nat_lt, ◌↔◌, IsTrue}
 use Rattle.httparse.specs.Grammar.{RequestHead, print_request, ReadsRequest}
 use Rattle.st_http.specs.declared.fields.Reason.TheVariants as reasons
-use Rattle.st_http.specs.declared.take.Take.{Take}
-use Rattle.st_http.specs.declared.take.Take.TheVariants as takes
+use Rattle.st_http.specs.declared.message.Take.{Take}
+use Rattle.st_http.specs.declared.message.Take.TheVariants as takes
 use Rattle.st_http.specs.Head.{window, IsBare, TellsBare, whole, begun, hopeless, Reads}
 use Rattle.st_http.specs.Fields.{body_length_of}
 use Rattle.st_http.specs.First.{fault, more, with_body, fields_of}
-use Rattle.st_http.specs.Take.{Shows, Takes}
+use Rattle.st_http.specs.Message.{Shows, Takes}
 
 -- the window's flag is the text's
 tells_text : (text p : List ℕ) (bare : Bool) → p ≡ window text → IsTrue bare ↔ IsBare p → TellsBare text bare
