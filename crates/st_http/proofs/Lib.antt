@@ -8,6 +8,6 @@ pub mod FirstLemmas
 pub mod ItemLemmas
 pub mod MessageLemmas
 pub mod RouteLemmas
-pub mod LineLemmas
+pub mod EndpointLemmas
 pub mod TokenLemmas
 pub mod ReplyLemmas

@@ -1,10 +1,10 @@
--- The paths and the lines of the table of requests.
+-- The paths and the endpoints of the table of requests.
 use Rattle.std.specs.Prelude.{ℕ, List, [], ◌∷◌, ◌++◌, find, codes, option_map, Option}
 use Rattle.std.specs.Str.{bytes_eq}
 use Rattle.st_http.specs.declared.path.Path.{Path}
 use Rattle.st_http.specs.declared.path.Path.TheVariants as paths
-use Rattle.st_http.specs.declared.routes.Line.{Line}
-use Rattle.st_http.specs.declared.routes.Line.TheVariants as lines
+use Rattle.st_http.specs.declared.routes.Endpoint.{Endpoint}
+use Rattle.st_http.specs.declared.routes.Endpoint.TheVariants as endpoints
 
 -- how a path of the table is written
 abbrev pub pattern_of : Path → List ℕ
@@ -52,41 +52,41 @@ get = codes "GET"
 abbrev pub post : List ℕ
 post = codes "POST"
 
--- the lines of a path, each with its method, in the order DELETE, GET, POST
-abbrev pub lines_of : Path → List (List ℕ × Line)
-lines_of paths.Whoami = (get, lines.Whoami) ∷ []
-lines_of paths.Tables = (get, lines.Tables) ∷ (post, lines.CreateTable) ∷ []
-lines_of paths.Users = (get, lines.Users) ∷ (post, lines.CreateUser) ∷ []
-lines_of paths.User = (delete, lines.DropUser) ∷ (get, lines.User) ∷ []
-lines_of paths.Grants = (get, lines.Grants) ∷ []
-lines_of paths.NamespaceGrants = (get, lines.NamespaceGrants) ∷ []
-lines_of paths.Label = (post, lines.Label) ∷ []
-lines_of paths.Audit = (get, lines.Audit) ∷ []
-lines_of paths.Get = (post, lines.Get) ∷ []
-lines_of paths.Scan = (post, lines.Scan) ∷ []
-lines_of paths.Count = (post, lines.Count) ∷ []
-lines_of paths.Grid = (post, lines.Grid) ∷ []
-lines_of paths.Plan = (post, lines.Plan) ∷ []
-lines_of paths.Put = (post, lines.Put) ∷ []
-lines_of paths.Delete = (post, lines.Delete) ∷ []
-lines_of paths.Table = (delete, lines.DropTable) ∷ []
-lines_of paths.Constraint = (post, lines.Constraint) ∷ []
-lines_of paths.Period = (post, lines.Period) ∷ []
-lines_of paths.Token = (post, lines.Token) ∷ []
-lines_of paths.Auths = (post, lines.Auths) ∷ []
-lines_of paths.GrantSystem = (post, lines.GrantSystem) ∷ []
-lines_of paths.RevokeSystem = (post, lines.RevokeSystem) ∷ []
-lines_of paths.GrantTable = (post, lines.GrantTable) ∷ []
-lines_of paths.RevokeTable = (post, lines.RevokeTable) ∷ []
-lines_of paths.GrantNamespace = (post, lines.GrantNamespace) ∷ []
-lines_of paths.RevokeNamespace = (post, lines.RevokeNamespace) ∷ []
+-- the endpoints of a path, each with its method, in the order DELETE, GET, POST
+abbrev pub endpoints_of : Path → List (List ℕ × Endpoint)
+endpoints_of paths.Whoami = (get, endpoints.Whoami) ∷ []
+endpoints_of paths.Tables = (get, endpoints.Tables) ∷ (post, endpoints.CreateTable) ∷ []
+endpoints_of paths.Users = (get, endpoints.Users) ∷ (post, endpoints.CreateUser) ∷ []
+endpoints_of paths.User = (delete, endpoints.DropUser) ∷ (get, endpoints.User) ∷ []
+endpoints_of paths.Grants = (get, endpoints.Grants) ∷ []
+endpoints_of paths.NamespaceGrants = (get, endpoints.NamespaceGrants) ∷ []
+endpoints_of paths.Label = (post, endpoints.Label) ∷ []
+endpoints_of paths.Audit = (get, endpoints.Audit) ∷ []
+endpoints_of paths.Get = (post, endpoints.Get) ∷ []
+endpoints_of paths.Scan = (post, endpoints.Scan) ∷ []
+endpoints_of paths.Count = (post, endpoints.Count) ∷ []
+endpoints_of paths.Grid = (post, endpoints.Grid) ∷ []
+endpoints_of paths.Plan = (post, endpoints.Plan) ∷ []
+endpoints_of paths.Put = (post, endpoints.Put) ∷ []
+endpoints_of paths.Delete = (post, endpoints.Delete) ∷ []
+endpoints_of paths.Table = (delete, endpoints.DropTable) ∷ []
+endpoints_of paths.Constraint = (post, endpoints.Constraint) ∷ []
+endpoints_of paths.Period = (post, endpoints.Period) ∷ []
+endpoints_of paths.Token = (post, endpoints.Token) ∷ []
+endpoints_of paths.Auths = (post, endpoints.Auths) ∷ []
+endpoints_of paths.GrantSystem = (post, endpoints.GrantSystem) ∷ []
+endpoints_of paths.RevokeSystem = (post, endpoints.RevokeSystem) ∷ []
+endpoints_of paths.GrantTable = (post, endpoints.GrantTable) ∷ []
+endpoints_of paths.RevokeTable = (post, endpoints.RevokeTable) ∷ []
+endpoints_of paths.GrantNamespace = (post, endpoints.GrantNamespace) ∷ []
+endpoints_of paths.RevokeNamespace = (post, endpoints.RevokeNamespace) ∷ []
 
--- the methods of these lines, joined by a comma and a space (RFC 9110, "Allow")
-abbrev pub allow_of : List (List ℕ × Line) → List ℕ
+-- the methods of these endpoints, joined by a comma and a space (RFC 9110, "Allow")
+abbrev pub allow_of : List (List ℕ × Endpoint) → List ℕ
 allow_of [] = []
-allow_of (line ∷ []) = line.0
-allow_of (line ∷ other ∷ rest) = line.0 ++ (codes ", " ++ allow_of (other ∷ rest))
+allow_of (endpoint ∷ []) = endpoint.0
+allow_of (endpoint ∷ other ∷ rest) = endpoint.0 ++ (codes ", " ++ allow_of (other ∷ rest))
 
--- which of the lines has this method
-abbrev pub line_of : List ℕ → List (List ℕ × Line) → Option Line
-line_of method rows = option_map (λ line. line.1) (find (λ line. bytes_eq line.0 method) rows)
+-- which of the endpoints has this method
+abbrev pub endpoint_of : List ℕ → List (List ℕ × Endpoint) → Option Endpoint
+endpoint_of method rows = option_map (λ endpoint. endpoint.1) (find (λ endpoint. bytes_eq endpoint.0 method) rows)

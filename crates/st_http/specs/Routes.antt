@@ -1,4 +1,4 @@
--- The line of the table of requests that a method and a target name.
+-- The endpoint of the table of requests that a method and a target name.
 use Rattle.std.specs.Prelude.{◌≡◌, ℕ, Bool, ◌==◌, if◌then◌else◌, List, [], length, take, drop, fold, codes, nat_lt, option_map, Option, Some, None, Result, Ok, Err}
 use Rattle.std.specs.List.{before_first, after_first, position_or_len}
 use Rattle.std.specs.Str.{str_eq_ignore_ascii_case}
@@ -9,10 +9,10 @@ use Rattle.matchit.specs.Router.{RouteOf, route_from}
 use Rattle.matchit.specs.Order.{placed}
 use Rattle.matchit.specs.declared.error.InsertError.{InsertError}
 use Rattle.st_http.specs.declared.path.Path.{Path}
-use Rattle.st_http.specs.declared.routes.Line.{Line}
+use Rattle.st_http.specs.declared.routes.Endpoint.{Endpoint}
 use Rattle.st_http.specs.declared.routes.Route.{Route}
 use Rattle.st_http.specs.declared.routes.Route.TheVariants as answers
-use Rattle.st_http.specs.Paths.{pattern_of, all_paths, lines_of, allow_of, line_of}
+use Rattle.st_http.specs.Paths.{pattern_of, all_paths, endpoints_of, allow_of, endpoint_of}
 
 -- `/`
 abbrev pub slash : ℕ
@@ -68,25 +68,25 @@ path_at path = option_map (λ route. route.value) (first routes path)
 
 -- what a method and a target name
 pub data Routed : Type 0 where
-  -- a line of the table, and the name in the path
-  found : Line → List ℕ → Routed
+  -- an endpoint of the table, and the name in the path
+  found : Endpoint → List ℕ → Routed
   no_route : Routed
   -- the path has other methods, those of this text
   bad_method : List ℕ → Routed
 
-abbrev pub with_line : Path → List ℕ → Option Line → Routed
-with_line path name (Some line) = found line name
-with_line path name None = bad_method (allow_of (lines_of path))
+abbrev pub with_endpoint : Path → List ℕ → Option Endpoint → Routed
+with_endpoint path name (Some endpoint) = found endpoint name
+with_endpoint path name None = bad_method (allow_of (endpoints_of path))
 
 abbrev pub at_path : Option Path → List ℕ → List ℕ → Routed
 at_path None method name = no_route
-at_path (Some path) method name = with_line path name (line_of method (lines_of path))
+at_path (Some path) method name = with_endpoint path name (endpoint_of method (endpoints_of path))
 
 unfoldable pub routed : List ℕ → List ℕ → Routed
 routed method target = at_path (path_at (path_of target)) method (name_in (path_of target))
 
 -- how a `Route` tells it
 abbrev pub Tells : Route → Routed → Type 0
-Tells (answers.Found line name) r = r ≡ found line name.now
+Tells (answers.Found endpoint name) r = r ≡ found endpoint name.now
 Tells answers.NoRoute r = r ≡ no_route
 Tells (answers.BadMethod allow) r = r ≡ bad_method allow.now

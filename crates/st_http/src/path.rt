@@ -1,9 +1,9 @@
 //! The paths of the table of requests.
 ghost use Rattle.std.specs.Prelude.{◌≡◌, map, find, option_map};
 ghost use Rattle.std.specs.Str.{bytes_eq};
-ghost use Rattle.st_http.specs.Paths.{pattern_of, lines_of, line_of, allow_of};
+ghost use Rattle.st_http.specs.Paths.{pattern_of, endpoints_of, endpoint_of, allow_of};
 
-use crate::routes::Line;
+use crate::routes::Endpoint;
 
 /// A path of the table of requests.
 #[derive(Clone, Copy)]
@@ -67,60 +67,60 @@ pub(crate) const ALL: [Path; 26] = [
 ];
 
 // The first of the rows that has this method.
-fn row_of<'a>(rows: &'a [(&'static str, Line)], method: &[u8]) -> Option<&'a (&'static str, Line)>
+fn row_of<'a>(rows: &'a [(&'static str, Endpoint)], method: &[u8]) -> Option<&'a (&'static str, Endpoint)>
     ensures { option_map (λ row. row.now) result ≡ find (λ row. bytes_eq row.0.now method.now) rows.now }
 {
     rows.iter().find(|row| row.0.as_bytes() == method)
 }
 
 impl Path {
-    // Its lines, each with its method, in the order DELETE, GET, POST.
-    fn lines(self) -> &'static [(&'static str, Line)]
-        ensures { map (λ row. (row.0.now, row.1)) result.now ≡ lines_of self }
+    // Its endpoints, each with its method, in the order DELETE, GET, POST.
+    fn endpoints(self) -> &'static [(&'static str, Endpoint)]
+        ensures { map (λ row. (row.0.now, row.1)) result.now ≡ endpoints_of self }
     {
         match self {
-            Path::Whoami => &[("GET", Line::Whoami)],
-            Path::Tables => &[("GET", Line::Tables), ("POST", Line::CreateTable)],
-            Path::Users => &[("GET", Line::Users), ("POST", Line::CreateUser)],
-            Path::User => &[("DELETE", Line::DropUser), ("GET", Line::User)],
-            Path::Grants => &[("GET", Line::Grants)],
-            Path::NamespaceGrants => &[("GET", Line::NamespaceGrants)],
-            Path::Label => &[("POST", Line::Label)],
-            Path::Audit => &[("GET", Line::Audit)],
-            Path::Get => &[("POST", Line::Get)],
-            Path::Scan => &[("POST", Line::Scan)],
-            Path::Count => &[("POST", Line::Count)],
-            Path::Grid => &[("POST", Line::Grid)],
-            Path::Plan => &[("POST", Line::Plan)],
-            Path::Put => &[("POST", Line::Put)],
-            Path::Delete => &[("POST", Line::Delete)],
-            Path::Table => &[("DELETE", Line::DropTable)],
-            Path::Constraint => &[("POST", Line::Constraint)],
-            Path::Period => &[("POST", Line::Period)],
-            Path::Token => &[("POST", Line::Token)],
-            Path::Auths => &[("POST", Line::Auths)],
-            Path::GrantSystem => &[("POST", Line::GrantSystem)],
-            Path::RevokeSystem => &[("POST", Line::RevokeSystem)],
-            Path::GrantTable => &[("POST", Line::GrantTable)],
-            Path::RevokeTable => &[("POST", Line::RevokeTable)],
-            Path::GrantNamespace => &[("POST", Line::GrantNamespace)],
-            Path::RevokeNamespace => &[("POST", Line::RevokeNamespace)],
+            Path::Whoami => &[("GET", Endpoint::Whoami)],
+            Path::Tables => &[("GET", Endpoint::Tables), ("POST", Endpoint::CreateTable)],
+            Path::Users => &[("GET", Endpoint::Users), ("POST", Endpoint::CreateUser)],
+            Path::User => &[("DELETE", Endpoint::DropUser), ("GET", Endpoint::User)],
+            Path::Grants => &[("GET", Endpoint::Grants)],
+            Path::NamespaceGrants => &[("GET", Endpoint::NamespaceGrants)],
+            Path::Label => &[("POST", Endpoint::Label)],
+            Path::Audit => &[("GET", Endpoint::Audit)],
+            Path::Get => &[("POST", Endpoint::Get)],
+            Path::Scan => &[("POST", Endpoint::Scan)],
+            Path::Count => &[("POST", Endpoint::Count)],
+            Path::Grid => &[("POST", Endpoint::Grid)],
+            Path::Plan => &[("POST", Endpoint::Plan)],
+            Path::Put => &[("POST", Endpoint::Put)],
+            Path::Delete => &[("POST", Endpoint::Delete)],
+            Path::Table => &[("DELETE", Endpoint::DropTable)],
+            Path::Constraint => &[("POST", Endpoint::Constraint)],
+            Path::Period => &[("POST", Endpoint::Period)],
+            Path::Token => &[("POST", Endpoint::Token)],
+            Path::Auths => &[("POST", Endpoint::Auths)],
+            Path::GrantSystem => &[("POST", Endpoint::GrantSystem)],
+            Path::RevokeSystem => &[("POST", Endpoint::RevokeSystem)],
+            Path::GrantTable => &[("POST", Endpoint::GrantTable)],
+            Path::RevokeTable => &[("POST", Endpoint::RevokeTable)],
+            Path::GrantNamespace => &[("POST", Endpoint::GrantNamespace)],
+            Path::RevokeNamespace => &[("POST", Endpoint::RevokeNamespace)],
         }
     }
 
-    /// The line of the path that has this method.
-    pub(crate) fn line(self, method: &[u8]) -> Option<Line>
-        ensures { result ≡ line_of method.now (lines_of self) }
+    /// The endpoint of the path that has this method.
+    pub(crate) fn endpoint(self, method: &[u8]) -> Option<Endpoint>
+        ensures { result ≡ endpoint_of method.now (endpoints_of self) }
     {
-        match row_of(self.lines(), method) {
+        match row_of(self.endpoints(), method) {
             Some(row) => Some(row.1),
             None => None,
         }
     }
 
-    /// The methods of its lines.
+    /// The methods of its endpoints.
     pub(crate) fn allow(self) -> &'static str
-        ensures { result.now ≡ allow_of (lines_of self) }
+        ensures { result.now ≡ allow_of (endpoints_of self) }
     {
         match self {
             Path::Tables | Path::Users => "GET, POST",

@@ -1,4 +1,4 @@
-//! The line of the table of requests that a method and a target name.
+//! The endpoint of the table of requests that a method and a target name.
 ghost use Rattle.std.specs.Prelude.{◌≡◌, ◌==◌, ◌<◌, codes, take, drop, IfOk, OnOk};
 ghost use Rattle.std.specs.List.{before_first, after_first, position_or_len};
 ghost use Rattle.st_http.specs.Routes.{slash, from_slash, path_of, is_absolute, name_in, routes, path_at, with_path, routed, Tells};
@@ -7,9 +7,9 @@ use crate::path::{ALL, Path};
 use matchit::Router;
 use std::alloc::{AllocError, Global};
 
-/// A line of the table of requests.
+/// An endpoint of the table of requests.
 #[derive(Clone, Copy, Debug, PartialEq, Eq)]
-pub enum Line {
+pub enum Endpoint {
     /// `GET /whoami`
     Whoami,
     /// `GET /tables`
@@ -73,11 +73,11 @@ pub enum Line {
 /// What a method and a target name.
 #[derive(Clone, Copy)]
 pub enum Route<'a> {
-    /// A line, and the name in the path, of any form; the empty text where the path has none.
-    Found(Line, &'a str),
-    /// No line has the path: the reply's status is 404.
+    /// An endpoint, and the name in the path, of any form; the empty text where the path has none.
+    Found(Endpoint, &'a str),
+    /// No endpoint has the path: the reply's status is 404.
     NoRoute,
-    /// The path's lines have other methods, those that `allow` lists: the reply's status is 405.
+    /// The path's endpoints have other methods, those that `allow` lists: the reply's status is 405.
     BadMethod { allow: &'static str },
 }
 
@@ -129,8 +129,8 @@ impl Routes {
         let Some(found) = self.at(path) else {
             return Route::NoRoute;
         };
-        match found.line(method) {
-            Some(line) => Route::Found(line, name(path)),
+        match found.endpoint(method) {
+            Some(endpoint) => Route::Found(endpoint, name(path)),
             None => Route::BadMethod {
                 allow: found.allow(),
             },

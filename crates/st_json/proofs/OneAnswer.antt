@@ -9,8 +9,8 @@ use Rattle.st_label.specs.Faults.{Refuses}
 use Rattle.st_label.specs.declared.label.LabelFault.{LabelFault}
 use Rattle.st_label.specs.declared.label.LabelFault.TheVariants as fault
 use Rattle.st_label.proofs.Refused.{not_both, one_fault}
-use Rattle.st_http.specs.declared.routes.Line.{Line}
-use Rattle.st_http.specs.declared.routes.Line.TheVariants as lines
+use Rattle.st_http.specs.declared.routes.Endpoint.{Endpoint}
+use Rattle.st_http.specs.declared.routes.Endpoint.TheVariants as endpoints
 use Rattle.st_policy.specs.declared.refusal.Refusal.{Refusal}
 use Rattle.st_policy.specs.declared.refusal.Refusal.TheVariants.{BadLabel}
 use Rattle.st_json.specs.declared.value.Bounds.{Bounds}
@@ -142,38 +142,38 @@ one_body : (is_read : Bool) (body : List ℕ) → OnlyOne (ReadBody is_read body
 one_body true body = one_has _ _ (one_object body)
 one_body false body = one_equal _
 
--- ---- the lines
+-- ---- the endpoints
 
-one_made : (A : Type 0) (l : Line) (name : List ℕ) (d : Data) → OnlyOne (Made {A = A} l name d)
-one_made A lines.Whoami name d = one_equal _
-one_made A lines.Tables name d = one_equal _
-one_made A lines.Users name d = one_equal _
-one_made A lines.User name d = one_needs _ _ (one_has _ _ (one_name name)) (λ user. one_equal _)
-one_made A lines.Grants name d = one_needs _ _ (one_has _ _ (one_table name)) (λ table. one_equal _)
-one_made A lines.NamespaceGrants name d = one_needs _ _ (one_has _ _ (one_name name)) (λ namespace. one_equal _)
-one_made A lines.Label name d = one_needs _ _ (one_field _ _) (λ text. one_needs _ _ (one_label text) (λ label. one_equal _))
-one_made A lines.Audit name d = one_equal _
-one_made A lines.Get name d = one_needs _ _ (one_field _ _) (λ id. one_needs _ _ (one_field _ _) (λ texts. one_needs _ _ (one_has _ _ (one_table name)) (λ table. one_needs _ _ (one_has _ _ (one_set texts)) (λ auths. one_equal _))))
-one_made A lines.Scan name d = one_needs _ _ (one_has _ _ (one_box d)) (λ bounds. one_needs _ _ (one_field _ _) (λ texts. one_needs _ _ (one_field _ _) (λ limit. one_needs _ _ (one_has _ _ (one_after d)) (λ after. one_needs _ _ (one_has _ _ (one_query bounds)) (λ query. one_needs _ _ (one_has _ _ (one_table name)) (λ table. one_needs _ _ (one_has _ _ (one_set texts)) (λ auths. one_equal _)))))))
-one_made A lines.Count name d = one_needs _ _ (one_has _ _ (one_box d)) (λ bounds. one_needs _ _ (one_field _ _) (λ texts. one_needs _ _ (one_has _ _ (one_query bounds)) (λ query. one_needs _ _ (one_has _ _ (one_table name)) (λ table. one_needs _ _ (one_has _ _ (one_set texts)) (λ auths. one_equal _)))))
-one_made A lines.Grid name d = one_needs _ _ (one_has _ _ (one_box d)) (λ bounds. one_needs _ _ (one_field _ _) (λ texts. one_needs _ _ (one_field _ _) (λ columns. one_needs _ _ (one_field _ _) (λ rows. one_needs _ _ (one_has _ _ (one_query bounds)) (λ query. one_needs _ _ (one_has _ _ (one_table name)) (λ table. one_needs _ _ (one_has _ _ (one_set texts)) (λ auths. one_equal _)))))))
-one_made A lines.Plan name d = one_needs _ _ (one_has _ _ (one_box d)) (λ bounds. one_needs _ _ (one_field _ _) (λ budget. one_needs _ _ (one_has _ _ (one_query bounds)) (λ query. one_needs _ _ (one_has _ _ (one_table name)) (λ table. one_equal _))))
-one_made A lines.Put name d = one_needs _ _ (one_field _ _) (λ id. one_needs _ _ (one_has _ _ (one_point d)) (λ point. one_needs _ _ (one_field _ _) (λ text. one_needs _ _ (one_field _ _) (λ note. one_needs _ _ (one_label text) (λ label. one_needs _ _ (one_has _ _ (one_table name)) (λ table. one_equal _))))))
-one_made A lines.Delete name d = one_needs _ _ (one_field _ _) (λ id. one_needs _ _ (one_field _ _) (λ text. one_needs _ _ (one_label text) (λ label. one_needs _ _ (one_has _ _ (one_table name)) (λ table. one_equal _))))
-one_made A lines.CreateTable name d = one_needs _ _ (one_field _ _) (λ text. one_needs _ _ (one_field _ _) (λ period. one_needs _ _ (one_has _ _ (one_table text)) (λ table. one_equal _)))
-one_made A lines.DropTable name d = one_needs _ _ (one_has _ _ (one_table name)) (λ table. one_equal _)
-one_made A lines.Constraint name d = one_needs _ _ (one_field _ _) (λ on. one_needs _ _ (one_has _ _ (one_table name)) (λ table. one_equal _))
-one_made A lines.Period name d = one_needs _ _ (one_field _ _) (λ period. one_needs _ _ (one_has _ _ (one_table name)) (λ table. one_equal _))
-one_made A lines.CreateUser name d = one_needs _ _ (one_field _ _) (λ text. one_needs _ _ (one_field _ _) (λ digest. one_needs _ _ (one_field _ _) (λ texts. one_needs _ _ (one_has _ _ (one_name text)) (λ user. one_needs _ _ (one_has _ _ (one_set texts)) (λ auths. one_equal _)))))
-one_made A lines.DropUser name d = one_needs _ _ (one_has _ _ (one_name name)) (λ user. one_equal _)
-one_made A lines.Token name d = one_needs _ _ (one_field _ _) (λ digest. one_needs _ _ (one_has _ _ (one_name name)) (λ user. one_equal _))
-one_made A lines.Auths name d = one_needs _ _ (one_field _ _) (λ texts. one_needs _ _ (one_has _ _ (one_name name)) (λ user. one_needs _ _ (one_has _ _ (one_set texts)) (λ auths. one_equal _)))
-one_made A lines.GrantSystem name d = one_needs _ _ (one_field _ _) (λ p. one_needs _ _ (one_has _ _ (one_name name)) (λ user. one_equal _))
-one_made A lines.RevokeSystem name d = one_needs _ _ (one_field _ _) (λ p. one_needs _ _ (one_has _ _ (one_name name)) (λ user. one_equal _))
-one_made A lines.GrantTable name d = one_needs _ _ (one_field _ _) (λ text. one_needs _ _ (one_field _ _) (λ p. one_needs _ _ (one_has _ _ (one_table name)) (λ table. one_needs _ _ (one_has _ _ (one_name text)) (λ user. one_equal _))))
-one_made A lines.RevokeTable name d = one_needs _ _ (one_field _ _) (λ text. one_needs _ _ (one_field _ _) (λ p. one_needs _ _ (one_has _ _ (one_table name)) (λ table. one_needs _ _ (one_has _ _ (one_name text)) (λ user. one_equal _))))
-one_made A lines.GrantNamespace name d = one_needs _ _ (one_field _ _) (λ text. one_needs _ _ (one_field _ _) (λ p. one_needs _ _ (one_has _ _ (one_name name)) (λ namespace. one_needs _ _ (one_has _ _ (one_name text)) (λ user. one_equal _))))
-one_made A lines.RevokeNamespace name d = one_needs _ _ (one_field _ _) (λ text. one_needs _ _ (one_field _ _) (λ p. one_needs _ _ (one_has _ _ (one_name name)) (λ namespace. one_needs _ _ (one_has _ _ (one_name text)) (λ user. one_equal _))))
+one_made : (A : Type 0) (l : Endpoint) (name : List ℕ) (d : Data) → OnlyOne (Made {A = A} l name d)
+one_made A endpoints.Whoami name d = one_equal _
+one_made A endpoints.Tables name d = one_equal _
+one_made A endpoints.Users name d = one_equal _
+one_made A endpoints.User name d = one_needs _ _ (one_has _ _ (one_name name)) (λ user. one_equal _)
+one_made A endpoints.Grants name d = one_needs _ _ (one_has _ _ (one_table name)) (λ table. one_equal _)
+one_made A endpoints.NamespaceGrants name d = one_needs _ _ (one_has _ _ (one_name name)) (λ namespace. one_equal _)
+one_made A endpoints.Label name d = one_needs _ _ (one_field _ _) (λ text. one_needs _ _ (one_label text) (λ label. one_equal _))
+one_made A endpoints.Audit name d = one_equal _
+one_made A endpoints.Get name d = one_needs _ _ (one_field _ _) (λ id. one_needs _ _ (one_field _ _) (λ texts. one_needs _ _ (one_has _ _ (one_table name)) (λ table. one_needs _ _ (one_has _ _ (one_set texts)) (λ auths. one_equal _))))
+one_made A endpoints.Scan name d = one_needs _ _ (one_has _ _ (one_box d)) (λ bounds. one_needs _ _ (one_field _ _) (λ texts. one_needs _ _ (one_field _ _) (λ limit. one_needs _ _ (one_has _ _ (one_after d)) (λ after. one_needs _ _ (one_has _ _ (one_query bounds)) (λ query. one_needs _ _ (one_has _ _ (one_table name)) (λ table. one_needs _ _ (one_has _ _ (one_set texts)) (λ auths. one_equal _)))))))
+one_made A endpoints.Count name d = one_needs _ _ (one_has _ _ (one_box d)) (λ bounds. one_needs _ _ (one_field _ _) (λ texts. one_needs _ _ (one_has _ _ (one_query bounds)) (λ query. one_needs _ _ (one_has _ _ (one_table name)) (λ table. one_needs _ _ (one_has _ _ (one_set texts)) (λ auths. one_equal _)))))
+one_made A endpoints.Grid name d = one_needs _ _ (one_has _ _ (one_box d)) (λ bounds. one_needs _ _ (one_field _ _) (λ texts. one_needs _ _ (one_field _ _) (λ columns. one_needs _ _ (one_field _ _) (λ rows. one_needs _ _ (one_has _ _ (one_query bounds)) (λ query. one_needs _ _ (one_has _ _ (one_table name)) (λ table. one_needs _ _ (one_has _ _ (one_set texts)) (λ auths. one_equal _)))))))
+one_made A endpoints.Plan name d = one_needs _ _ (one_has _ _ (one_box d)) (λ bounds. one_needs _ _ (one_field _ _) (λ budget. one_needs _ _ (one_has _ _ (one_query bounds)) (λ query. one_needs _ _ (one_has _ _ (one_table name)) (λ table. one_equal _))))
+one_made A endpoints.Put name d = one_needs _ _ (one_field _ _) (λ id. one_needs _ _ (one_has _ _ (one_point d)) (λ point. one_needs _ _ (one_field _ _) (λ text. one_needs _ _ (one_field _ _) (λ note. one_needs _ _ (one_label text) (λ label. one_needs _ _ (one_has _ _ (one_table name)) (λ table. one_equal _))))))
+one_made A endpoints.Delete name d = one_needs _ _ (one_field _ _) (λ id. one_needs _ _ (one_field _ _) (λ text. one_needs _ _ (one_label text) (λ label. one_needs _ _ (one_has _ _ (one_table name)) (λ table. one_equal _))))
+one_made A endpoints.CreateTable name d = one_needs _ _ (one_field _ _) (λ text. one_needs _ _ (one_field _ _) (λ period. one_needs _ _ (one_has _ _ (one_table text)) (λ table. one_equal _)))
+one_made A endpoints.DropTable name d = one_needs _ _ (one_has _ _ (one_table name)) (λ table. one_equal _)
+one_made A endpoints.Constraint name d = one_needs _ _ (one_field _ _) (λ on. one_needs _ _ (one_has _ _ (one_table name)) (λ table. one_equal _))
+one_made A endpoints.Period name d = one_needs _ _ (one_field _ _) (λ period. one_needs _ _ (one_has _ _ (one_table name)) (λ table. one_equal _))
+one_made A endpoints.CreateUser name d = one_needs _ _ (one_field _ _) (λ text. one_needs _ _ (one_field _ _) (λ digest. one_needs _ _ (one_field _ _) (λ texts. one_needs _ _ (one_has _ _ (one_name text)) (λ user. one_needs _ _ (one_has _ _ (one_set texts)) (λ auths. one_equal _)))))
+one_made A endpoints.DropUser name d = one_needs _ _ (one_has _ _ (one_name name)) (λ user. one_equal _)
+one_made A endpoints.Token name d = one_needs _ _ (one_field _ _) (λ digest. one_needs _ _ (one_has _ _ (one_name name)) (λ user. one_equal _))
+one_made A endpoints.Auths name d = one_needs _ _ (one_field _ _) (λ texts. one_needs _ _ (one_has _ _ (one_name name)) (λ user. one_needs _ _ (one_has _ _ (one_set texts)) (λ auths. one_equal _)))
+one_made A endpoints.GrantSystem name d = one_needs _ _ (one_field _ _) (λ p. one_needs _ _ (one_has _ _ (one_name name)) (λ user. one_equal _))
+one_made A endpoints.RevokeSystem name d = one_needs _ _ (one_field _ _) (λ p. one_needs _ _ (one_has _ _ (one_name name)) (λ user. one_equal _))
+one_made A endpoints.GrantTable name d = one_needs _ _ (one_field _ _) (λ text. one_needs _ _ (one_field _ _) (λ p. one_needs _ _ (one_has _ _ (one_table name)) (λ table. one_needs _ _ (one_has _ _ (one_name text)) (λ user. one_equal _))))
+one_made A endpoints.RevokeTable name d = one_needs _ _ (one_field _ _) (λ text. one_needs _ _ (one_field _ _) (λ p. one_needs _ _ (one_has _ _ (one_table name)) (λ table. one_needs _ _ (one_has _ _ (one_name text)) (λ user. one_equal _))))
+one_made A endpoints.GrantNamespace name d = one_needs _ _ (one_field _ _) (λ text. one_needs _ _ (one_field _ _) (λ p. one_needs _ _ (one_has _ _ (one_name name)) (λ namespace. one_needs _ _ (one_has _ _ (one_name text)) (λ user. one_equal _))))
+one_made A endpoints.RevokeNamespace name d = one_needs _ _ (one_field _ _) (λ text. one_needs _ _ (one_field _ _) (λ p. one_needs _ _ (one_has _ _ (one_name name)) (λ namespace. one_needs _ _ (one_has _ _ (one_name text)) (λ user. one_equal _))))
 
-pub one_answer : (A : Type 0) (l : Line) (name body : List ℕ) → OnlyOne (Decoded {A = A} l name body)
+pub one_answer : (A : Type 0) (l : Endpoint) (name body : List ℕ) → OnlyOne (Decoded {A = A} l name body)
 one_answer A l name body = one_needs _ _ (one_body (has_body l) body) (λ d. one_made A l name d)

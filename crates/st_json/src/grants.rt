@@ -1,6 +1,6 @@
-//! The lines about what is granted.
+//! The endpoints about what is granted.
 ghost use Rattle.serde_json.specs.View.{view};
-ghost use Rattle.st_http.specs.declared.routes.Line.TheVariants as lines;
+ghost use Rattle.st_http.specs.declared.routes.Endpoint.TheVariants as endpoints;
 ghost use Rattle.st_json.specs.Needs.{Tells};
 ghost use Rattle.st_json.specs.Bodies.{Made};
 
@@ -11,21 +11,21 @@ use st_policy::{FieldName, Request};
 use std::alloc::Allocator;
 
 pub fn grants<A: Allocator>(name: &str, object: &Value) -> Result<Request<A>, DecodeFault>
-    ensures { Tells (Made lines.Grants name.now (view object.now)) result }
+    ensures { Tells (Made endpoints.Grants name.now (view object.now)) result }
 {
     let table = rule::table(name)?;
     Ok(Request::Grants { table })
 }
 
 pub fn namespace_grants<A: Allocator>(name: &str, object: &Value) -> Result<Request<A>, DecodeFault>
-    ensures { Tells (Made lines.NamespaceGrants name.now (view object.now)) result }
+    ensures { Tells (Made endpoints.NamespaceGrants name.now (view object.now)) result }
 {
     let namespace = rule::namespace(name)?;
     Ok(Request::NamespaceGrants { namespace })
 }
 
 pub fn grant_system<A: Allocator>(name: &str, object: &Value) -> Result<Request<A>, DecodeFault>
-    ensures { Tells (Made lines.GrantSystem name.now (view object.now)) result }
+    ensures { Tells (Made endpoints.GrantSystem name.now (view object.now)) result }
 {
     let permission = field::system_permission(object)?;
     let user = rule::user(name)?;
@@ -33,7 +33,7 @@ pub fn grant_system<A: Allocator>(name: &str, object: &Value) -> Result<Request<
 }
 
 pub fn revoke_system<A: Allocator>(name: &str, object: &Value) -> Result<Request<A>, DecodeFault>
-    ensures { Tells (Made lines.RevokeSystem name.now (view object.now)) result }
+    ensures { Tells (Made endpoints.RevokeSystem name.now (view object.now)) result }
 {
     let permission = field::system_permission(object)?;
     let user = rule::user(name)?;
@@ -41,7 +41,7 @@ pub fn revoke_system<A: Allocator>(name: &str, object: &Value) -> Result<Request
 }
 
 pub fn grant_table<A: Allocator>(name: &str, object: &Value) -> Result<Request<A>, DecodeFault>
-    ensures { Tells (Made lines.GrantTable name.now (view object.now)) result }
+    ensures { Tells (Made endpoints.GrantTable name.now (view object.now)) result }
 {
     let text = field::text(object, FieldName::User)?;
     let permission = field::table_permission(object)?;
@@ -55,7 +55,7 @@ pub fn grant_table<A: Allocator>(name: &str, object: &Value) -> Result<Request<A
 }
 
 pub fn revoke_table<A: Allocator>(name: &str, object: &Value) -> Result<Request<A>, DecodeFault>
-    ensures { Tells (Made lines.RevokeTable name.now (view object.now)) result }
+    ensures { Tells (Made endpoints.RevokeTable name.now (view object.now)) result }
 {
     let text = field::text(object, FieldName::User)?;
     let permission = field::table_permission(object)?;
@@ -69,7 +69,7 @@ pub fn revoke_table<A: Allocator>(name: &str, object: &Value) -> Result<Request<
 }
 
 pub fn grant_namespace<A: Allocator>(name: &str, object: &Value) -> Result<Request<A>, DecodeFault>
-    ensures { Tells (Made lines.GrantNamespace name.now (view object.now)) result }
+    ensures { Tells (Made endpoints.GrantNamespace name.now (view object.now)) result }
 {
     let text = field::text(object, FieldName::User)?;
     let permission = field::table_permission(object)?;
@@ -83,7 +83,7 @@ pub fn grant_namespace<A: Allocator>(name: &str, object: &Value) -> Result<Reque
 }
 
 pub fn revoke_namespace<A: Allocator>(name: &str, object: &Value) -> Result<Request<A>, DecodeFault>
-    ensures { Tells (Made lines.RevokeNamespace name.now (view object.now)) result }
+    ensures { Tells (Made endpoints.RevokeNamespace name.now (view object.now)) result }
 {
     let text = field::text(object, FieldName::User)?;
     let permission = field::table_permission(object)?;

@@ -1,6 +1,6 @@
-//! The line that counts rows by the fields of a grid.
+//! The endpoint that counts rows by the fields of a grid.
 ghost use Rattle.serde_json.specs.View.{view};
-ghost use Rattle.st_http.specs.declared.routes.Line.TheVariants as lines;
+ghost use Rattle.st_http.specs.declared.routes.Endpoint.TheVariants as endpoints;
 ghost use Rattle.st_json.specs.Needs.{Tells};
 ghost use Rattle.st_json.specs.Bodies.{Made};
 
@@ -15,7 +15,7 @@ pub fn grid<A: Allocator + Copy>(
     name: &str,
     object: &Value,
 ) -> Result<Request<A>, DecodeFault>
-    ensures { Tells (Made lines.Grid name.now (view object.now)) result }
+    ensures { Tells (Made endpoints.Grid name.now (view object.now)) result }
 {
     let bounds = field::bounds(object)?;
     let texts = field::auths(object)?;

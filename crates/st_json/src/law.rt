@@ -1,6 +1,6 @@
 //! What the definitions say of each body, whatever the program does.
 ghost use Rattle.std.specs.Prelude.{◌≡◌, ℕ, List, Result};
-ghost use Rattle.st_http.specs.declared.routes.Line.{Line};
+ghost use Rattle.st_http.specs.declared.routes.Endpoint.{Endpoint};
 ghost use Rattle.st_policy.specs.declared.request.Request.{Request};
 ghost use Rattle.st_policy.specs.declared.refusal.Refusal.{Refusal};
 ghost use Rattle.st_json.specs.Bodies.{Decoded};
@@ -9,6 +9,6 @@ use std::alloc::Allocator;
 
 /// A body has one answer at most.
 pub fn one_answer<A: Allocator>()
-    ensures { (l : Line) (name body : List ℕ) (a b : Result (Request A) Refusal) → Decoded l name body a
+    ensures { (l : Endpoint) (name body : List ℕ) (a b : Result (Request A) Refusal) → Decoded l name body a
         → Decoded l name body b → a ≡ b }
 {}

@@ -1,6 +1,6 @@
-//! The line that shows the plan of a query.
+//! The endpoint that shows the plan of a query.
 ghost use Rattle.serde_json.specs.View.{view};
-ghost use Rattle.st_http.specs.declared.routes.Line.TheVariants as lines;
+ghost use Rattle.st_http.specs.declared.routes.Endpoint.TheVariants as endpoints;
 ghost use Rattle.st_json.specs.Needs.{Tells};
 ghost use Rattle.st_json.specs.Bodies.{Made};
 
@@ -11,7 +11,7 @@ use st_policy::Request;
 use std::alloc::Allocator;
 
 pub fn plan<A: Allocator>(name: &str, object: &Value) -> Result<Request<A>, DecodeFault>
-    ensures { Tells (Made lines.Plan name.now (view object.now)) result }
+    ensures { Tells (Made endpoints.Plan name.now (view object.now)) result }
 {
     let bounds = field::bounds(object)?;
     let budget = sizes::budget(object)?;

@@ -1,8 +1,8 @@
-//! The lines about labels and rows.
+//! The endpoints about labels and rows.
 ghost use Rattle.std.specs.Prelude.{◌≡◌, IfOk};
 ghost use Rattle.serde_json.specs.View.{view};
 ghost use Rattle.st_index.specs.Texts.{IsId, IsNote};
-ghost use Rattle.st_http.specs.declared.routes.Line.TheVariants as lines;
+ghost use Rattle.st_http.specs.declared.routes.Endpoint.TheVariants as endpoints;
 ghost use Rattle.st_json.specs.Needs.{Tells};
 ghost use Rattle.st_json.specs.Bodies.{Made};
 
@@ -64,7 +64,7 @@ pub fn label<A: Allocator + Copy>(
     name: &str,
     object: &Value,
 ) -> Result<Request<A>, DecodeFault>
-    ensures { Tells (Made lines.Label name.now (view object.now)) result }
+    ensures { Tells (Made endpoints.Label name.now (view object.now)) result }
 {
     let text = field::text(object, FieldName::Label)?;
     let label = rule::label(alloc, text)?;
@@ -76,7 +76,7 @@ pub fn get<A: Allocator + Copy>(
     name: &str,
     object: &Value,
 ) -> Result<Request<A>, DecodeFault>
-    ensures { Tells (Made lines.Get name.now (view object.now)) result }
+    ensures { Tells (Made endpoints.Get name.now (view object.now)) result }
 {
     let id = field::id(object)?;
     let texts = field::auths(object)?;
@@ -95,7 +95,7 @@ pub fn count<A: Allocator + Copy>(
     name: &str,
     object: &Value,
 ) -> Result<Request<A>, DecodeFault>
-    ensures { Tells (Made lines.Count name.now (view object.now)) result }
+    ensures { Tells (Made endpoints.Count name.now (view object.now)) result }
 {
     let bounds = field::bounds(object)?;
     let texts = field::auths(object)?;
@@ -114,7 +114,7 @@ pub fn put<A: Allocator + Copy>(
     name: &str,
     object: &Value,
 ) -> Result<Request<A>, DecodeFault>
-    ensures { Tells (Made lines.Put name.now (view object.now)) result }
+    ensures { Tells (Made endpoints.Put name.now (view object.now)) result }
 {
     let id = field::id(object)?;
     let point = field::point(object)?;
@@ -131,7 +131,7 @@ pub fn delete<A: Allocator + Copy>(
     name: &str,
     object: &Value,
 ) -> Result<Request<A>, DecodeFault>
-    ensures { Tells (Made lines.Delete name.now (view object.now)) result }
+    ensures { Tells (Made endpoints.Delete name.now (view object.now)) result }
 {
     let id = field::id(object)?;
     let text = field::text(object, FieldName::Label)?;

@@ -1,6 +1,6 @@
-//! The lines about tables.
+//! The endpoints about tables.
 ghost use Rattle.serde_json.specs.View.{view};
-ghost use Rattle.st_http.specs.declared.routes.Line.TheVariants as lines;
+ghost use Rattle.st_http.specs.declared.routes.Endpoint.TheVariants as endpoints;
 ghost use Rattle.st_json.specs.Needs.{Tells};
 ghost use Rattle.st_json.specs.Bodies.{Made};
 
@@ -11,7 +11,7 @@ use st_policy::{FieldName, Request};
 use std::alloc::Allocator;
 
 pub fn create_table<A: Allocator>(name: &str, object: &Value) -> Result<Request<A>, DecodeFault>
-    ensures { Tells (Made lines.CreateTable name.now (view object.now)) result }
+    ensures { Tells (Made endpoints.CreateTable name.now (view object.now)) result }
 {
     let text = field::text(object, FieldName::Table)?;
     let period = field::new_period(object)?;
@@ -20,14 +20,14 @@ pub fn create_table<A: Allocator>(name: &str, object: &Value) -> Result<Request<
 }
 
 pub fn drop_table<A: Allocator>(name: &str, object: &Value) -> Result<Request<A>, DecodeFault>
-    ensures { Tells (Made lines.DropTable name.now (view object.now)) result }
+    ensures { Tells (Made endpoints.DropTable name.now (view object.now)) result }
 {
     let table = rule::table(name)?;
     Ok(Request::DropTable { table })
 }
 
 pub fn constraint<A: Allocator>(name: &str, object: &Value) -> Result<Request<A>, DecodeFault>
-    ensures { Tells (Made lines.Constraint name.now (view object.now)) result }
+    ensures { Tells (Made endpoints.Constraint name.now (view object.now)) result }
 {
     let on = field::on(object)?;
     let table = rule::table(name)?;
@@ -35,7 +35,7 @@ pub fn constraint<A: Allocator>(name: &str, object: &Value) -> Result<Request<A>
 }
 
 pub fn period<A: Allocator>(name: &str, object: &Value) -> Result<Request<A>, DecodeFault>
-    ensures { Tells (Made lines.Period name.now (view object.now)) result }
+    ensures { Tells (Made endpoints.Period name.now (view object.now)) result }
 {
     let period = field::period(object)?;
     let table = rule::table(name)?;

@@ -1,6 +1,6 @@
-//! The lines about users.
+//! The endpoints about users.
 ghost use Rattle.serde_json.specs.View.{view};
-ghost use Rattle.st_http.specs.declared.routes.Line.TheVariants as lines;
+ghost use Rattle.st_http.specs.declared.routes.Endpoint.TheVariants as endpoints;
 ghost use Rattle.st_json.specs.Needs.{Tells};
 ghost use Rattle.st_json.specs.Bodies.{Made};
 
@@ -11,7 +11,7 @@ use st_policy::{FieldName, Request};
 use std::alloc::Allocator;
 
 pub fn user<A: Allocator>(name: &str, object: &Value) -> Result<Request<A>, DecodeFault>
-    ensures { Tells (Made lines.User name.now (view object.now)) result }
+    ensures { Tells (Made endpoints.User name.now (view object.now)) result }
 {
     let user = rule::user(name)?;
     Ok(Request::User { user })
@@ -22,7 +22,7 @@ pub fn create_user<A: Allocator + Copy>(
     name: &str,
     object: &Value,
 ) -> Result<Request<A>, DecodeFault>
-    ensures { Tells (Made lines.CreateUser name.now (view object.now)) result }
+    ensures { Tells (Made endpoints.CreateUser name.now (view object.now)) result }
 {
     let text = field::text(object, FieldName::User)?;
     let digest = field::digest(object)?;
@@ -37,14 +37,14 @@ pub fn create_user<A: Allocator + Copy>(
 }
 
 pub fn drop_user<A: Allocator>(name: &str, object: &Value) -> Result<Request<A>, DecodeFault>
-    ensures { Tells (Made lines.DropUser name.now (view object.now)) result }
+    ensures { Tells (Made endpoints.DropUser name.now (view object.now)) result }
 {
     let user = rule::user(name)?;
     Ok(Request::DropUser { user })
 }
 
 pub fn token<A: Allocator>(name: &str, object: &Value) -> Result<Request<A>, DecodeFault>
-    ensures { Tells (Made lines.Token name.now (view object.now)) result }
+    ensures { Tells (Made endpoints.Token name.now (view object.now)) result }
 {
     let digest = field::digest(object)?;
     let user = rule::user(name)?;
@@ -56,7 +56,7 @@ pub fn auths<A: Allocator + Copy>(
     name: &str,
     object: &Value,
 ) -> Result<Request<A>, DecodeFault>
-    ensures { Tells (Made lines.Auths name.now (view object.now)) result }
+    ensures { Tells (Made endpoints.Auths name.now (view object.now)) result }
 {
     let texts = field::auths(object)?;
     let user = rule::user(name)?;

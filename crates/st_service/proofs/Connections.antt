@@ -28,9 +28,9 @@ module _ {A : Type 0} where
     pub answered : Answered s mid item answer asked
 
   answered_so : {s mid : State A} {item : First} {answer : List ℕ} → Answers s item answer mid → (IsBusy answer → ⊥) → AnsweredSo s mid item answer
-  answered_so (told {line = line} {name = name} {asked = asked} at asks) some = record {
+  answered_so (told {endpoint = endpoint} {name = name} {asked = asked} at asks) some = record {
     asked = Some asked;
-    answered = record { asks = (line, name, at, asks); text = refl; state = refl };
+    answered = record { asks = (endpoint, name, at, asks); text = refl; state = refl };
   }
   answered_so (busy {h = h} {bare = bare}) some = absurd (some (close_of h, bare, refl))
   answered_so (untold {h = h} {bare = bare} at asks refused) some = absurd (some (close_of h, bare, refl))

@@ -2,7 +2,7 @@
 use Rattle.std.proofs.Common.{◌≡◌, ℕ, List, [], ◌∷◌, map, filter, Bool, true, false, Option, Some, None, refl, sym, ◌∙◌, ap, subst}
 use Rattle.std.specs.Bool.{⊤}
 use Rattle.st_text.specs.Texts.{Text}
-use Rattle.st_http.specs.declared.routes.Line.{Line}
+use Rattle.st_http.specs.declared.routes.Endpoint.{Endpoint}
 use Rattle.st_http.specs.First.{First, message, fault, more, fields_of}
 use Rattle.st_http.specs.Routes.{Routed, found, no_route, bad_method, routed}
 use Rattle.st_http.specs.Token.{UserAndSecret, token_of}
@@ -16,18 +16,18 @@ use Rattle.st_service.specs.Worlds.{Event, IsUnrouted, ItemAsks, IsHistory, requ
 
 -- ---- an item asks one thing
 
-abbrev line_or : Line → Routed → Line
-line_or line (found l n) = l
-line_or line no_route = line
-line_or line (bad_method allow) = line
+abbrev endpoint_or : Endpoint → Routed → Endpoint
+endpoint_or endpoint (found l n) = l
+endpoint_or endpoint no_route = endpoint
+endpoint_or endpoint (bad_method allow) = endpoint
 
 abbrev name_or : List ℕ → Routed → List ℕ
 name_or name (found l n) = n
 name_or name no_route = name
 name_or name (bad_method allow) = name
 
-not_unrouted : (r : Routed) (line : Line) (name : List ℕ) → r ≡ found line name → IsUnrouted r → ⊥
-not_unrouted r line name e is = subst IsUnrouted e is
+not_unrouted : (r : Routed) (endpoint : Endpoint) (name : List ℕ) → r ≡ found endpoint name → IsUnrouted r → ⊥
+not_unrouted r endpoint name e is = subst IsUnrouted e is
 
 abbrev first_or : First → List First → First
 first_or x [] = x
@@ -38,24 +38,24 @@ later [] = []
 later (x ∷ xs) = xs
 
 module _ {A : Type 0} where
-  one_asks : (line : Line) (name body : List ℕ) (token : Option UserAndSecret) (a b : Asked A) → Asks line name token body a → Asks line name token body b → a ≡ b
-  one_asks line name body token a b of_a of_b =
+  one_asks : (endpoint : Endpoint) (name body : List ℕ) (token : Option UserAndSecret) (a b : Asked A) → Asks endpoint name token body a → Asks endpoint name token body b → a ≡ b
+  one_asks endpoint name body token a b of_a of_b =
       let (d, made, call) = of_a.calls in
       let (e, also, other) = of_b.calls in
-      let same = one_answer A line name body d e made also in
+      let same = one_answer A endpoint name body d e made also in
       let calls = call ∙ ap call_from same ∙ sym other in
       let tokens = of_a.token_is ∙ sym of_b.token_is in
       λ i. record { token = tokens i; call = calls i }
 
   pub asks_one : (item : First) (a b : Option (Asked A)) → ItemAsks item a → ItemAsks item b → a ≡ b
-  asks_one (message h body bare) (Some a) (Some b) (line, name, at, asks) (own, called, there, also) =
-      let route : found line name ≡ found own called = sym at ∙ there in
-      let of_line : line ≡ own = ap (line_or line) route in
+  asks_one (message h body bare) (Some a) (Some b) (endpoint, name, at, asks) (own, called, there, also) =
+      let route : found endpoint name ≡ found own called = sym at ∙ there in
+      let of_endpoint : endpoint ≡ own = ap (endpoint_or endpoint) route in
       let of_name : name ≡ called = ap (name_or name) route in
-      let moved = subst (λ l. Asks l called (token_of (fields_of h)) body a) of_line (subst (λ n. Asks line n (token_of (fields_of h)) body a) of_name asks) in
+      let moved = subst (λ l. Asks l called (token_of (fields_of h)) body a) of_endpoint (subst (λ n. Asks endpoint n (token_of (fields_of h)) body a) of_name asks) in
       ap Some (one_asks own called body (token_of (fields_of h)) a b moved also)
-  asks_one (message h body bare) (Some a) None (line, name, at, asks) q = absurd (not_unrouted (routed h.method h.target) line name at q)
-  asks_one (message h body bare) None (Some b) p (line, name, at, asks) = absurd (not_unrouted (routed h.method h.target) line name at p)
+  asks_one (message h body bare) (Some a) None (endpoint, name, at, asks) q = absurd (not_unrouted (routed h.method h.target) endpoint name at q)
+  asks_one (message h body bare) None (Some b) p (endpoint, name, at, asks) = absurd (not_unrouted (routed h.method h.target) endpoint name at p)
   asks_one (message h body bare) None None p q = refl
   asks_one (fault reason bare) (Some a) b p q = absurd p
   asks_one (fault reason bare) None (Some b) p q = absurd q
@@ -105,7 +105,7 @@ module _ {A : Type 0} where
   -- ---- the requests that are kept are those of the items that are kept
 
   pub whose : (user : Text) (item : First) (asked : Asked A) → ItemAsks item (Some asked) → is_of user item ≡ names asked.token user
-  whose user (message h body bare) asked (line, name, at, asks) = ap (λ token. names token user) (sym asks.token_is)
+  whose user (message h body bare) asked (endpoint, name, at, asks) = ap (λ token. names token user) (sym asks.token_is)
   whose user (fault reason bare) asked p = absurd p
   whose user more asked p = absurd p
 

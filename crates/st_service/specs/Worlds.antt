@@ -3,7 +3,7 @@
 use Rattle.std.specs.Prelude.{◌≡◌, ℕ, Bool, false, ◌||◌, List, [], ◌∷◌, map, filter_map, if◌then◌else◌, Option, Some, None, option_map, ⊤}
 use Rattle.st_text.specs.Texts.{Text}
 use Rattle.st_dir.specs.Directory.{Directory}
-use Rattle.st_http.specs.declared.routes.Line.{Line}
+use Rattle.st_http.specs.declared.routes.Endpoint.{Endpoint}
 use Rattle.st_http.specs.First.{First, message, fault, more, fields_of}
 use Rattle.st_http.specs.Routes.{Routed, found, no_route, bad_method, routed}
 use Rattle.st_http.specs.Token.{token_of}
@@ -17,21 +17,21 @@ use Rattle.st_service.specs.Answers.{Asks, token_from, close_of, reply_text, no_
 
 -- ---- what the items ask
 
--- an item, and what it asks: nothing where no line has its path and its method, or where it is a fault
+-- an item, and what it asks: nothing where no endpoint has its path and its method, or where it is a fault
 pub record Event (A : Type 0) : Type 0 where
   pub item : First
   pub asked : Option (Asked A)
 
--- no line has the path and the method
+-- no endpoint has the path and the method
 abbrev pub IsUnrouted : Routed → Type 0
-IsUnrouted (found line name) = ⊥
+IsUnrouted (found endpoint name) = ⊥
 IsUnrouted no_route = ⊤
 IsUnrouted (bad_method allow) = ⊤
 
--- The item asks what its line, the name in its path, its token and its body make. No item asks two things.
+-- The item asks what its endpoint, the name in its path, its token and its body make. No item asks two things.
 abbrev pub ItemAsks : {A : Type 0} → First → Option (Asked A) → Type 0
 ItemAsks (message h body bare) (Some asked) =
-    (line : Line) × (name : List ℕ) × (routed h.method h.target ≡ found line name) × Asks line name (token_of (fields_of h)) body asked
+    (endpoint : Endpoint) × (name : List ℕ) × (routed h.method h.target ≡ found endpoint name) × Asks endpoint name (token_of (fields_of h)) body asked
 ItemAsks (message h body bare) None = IsUnrouted (routed h.method h.target)
 ItemAsks (fault reason bare) (Some asked) = ⊥
 ItemAsks (fault reason bare) None = ⊤
@@ -50,14 +50,14 @@ requests history = filter_map (λ event. event.asked) history
 
 -- ---- the items that a user's answers may rest on
 
--- An item is the user's where its token names the user, whether or not the secret is right, and whether or not it has a line. A fault
+-- An item is the user's where its token names the user, whether or not the secret is right, and whether or not it has an endpoint. A fault
 -- has no token, and is nobody's.
 abbrev pub is_of : Text → First → Bool
 is_of user (message h body bare) = names (option_map token_from (token_of (fields_of h))) user
 is_of user (fault reason bare) = false
 is_of user more = false
 
--- what has no line counts as refused, as a fault does
+-- what has no endpoint counts as refused, as a fault does
 abbrev pub asks_what_matters : {A : Type 0} → Sight → Directory A → Option (Asked A) → Bool
 asks_what_matters sight d None = false
 asks_what_matters sight d (Some asked) = matters sight (judge d asked)
@@ -97,9 +97,9 @@ keep_items user s history = map (λ event. event.item) (kept_events user (ever u
 
 -- ---- the answers
 
--- the answer where no line has the path and the method
+-- the answer where no endpoint has the path and the method
 abbrev pub unrouted_text : Routed → Bool → Bool → List ℕ
-unrouted_text (found line name) close bare = []
+unrouted_text (found endpoint name) close bare = []
 unrouted_text no_route close bare = no_route_text close bare
 unrouted_text (bad_method allow) close bare = bad_method_text allow close bare
 

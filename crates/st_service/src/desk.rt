@@ -99,7 +99,7 @@ impl<A: Allocator + Copy> Desk<A> {
         answer
     }
 
-    // Answers a message whose route is a line.
+    // Answers a message whose route is an endpoint.
     fn answer(&mut self, message: &Message<'_>) -> Answer<A>
         requires { IsFound message.now }
         ensures { Replied self.old message.now (bytes_of result) self.new }
@@ -116,7 +116,7 @@ impl<A: Allocator + Copy> Desk<A> {
     }
 }
 
-/// The answer to a message whose route is no line of the table of requests.
+/// The answer to a message whose route is no endpoint of the table of requests.
 pub fn refuse<A: Allocator + Copy>(alloc: A, message: &Message<'_>) -> Answer<A>
     requires { IsFound message.now → ⊥ }
     ensures { (s : State A) → Replied s message.now (bytes_of result) s }

@@ -3,7 +3,7 @@ use Rattle.std.proofs.Common.{rules, ◌≡◌, ◌≢◌, ◌⊎◌, inl, inr, 
 use Rattle.std.proofs.lemmas.List.{append-nil}
 use mathlib.Core.List.{IsPrefix}
 use Rattle.httparse.specs.Grammar.{RequestHead}
-use Rattle.st_http.specs.declared.routes.Line.{Line}
+use Rattle.st_http.specs.declared.routes.Endpoint.{Endpoint}
 use Rattle.st_http.specs.declared.routes.Route.{Route}
 use Rattle.st_http.specs.declared.routes.Route.TheVariants as routes
 use Rattle.st_http.specs.declared.message.Message.{Message}
@@ -46,11 +46,11 @@ change_told : (s : State) (asked : Ask) → asks_for_change asked ≡ true → (
 unfolding reply_of
 change_told s asked e = judged_change s (asker_of s.directory asked.token) asked.call e
 
--- a route tells one thing, where it tells a line
-one_told : (route : Route) (line : Line) (name : List ℕ) (r : Routed) → Tells route (found line name) → Tells route r → r ≡ found line name
-one_told (routes.Found l n) line name r a b = b ∙ sym a
-one_told routes.NoRoute line name r a b = absurd (let e : found line name ≡ no_route = a in cc)
-one_told (routes.BadMethod allow) line name r a b = absurd (let e : found line name ≡ bad_method allow.now = a in cc)
+-- a route tells one thing, where it tells an endpoint
+one_told : (route : Route) (endpoint : Endpoint) (name : List ℕ) (r : Routed) → Tells route (found endpoint name) → Tells route r → r ≡ found endpoint name
+one_told (routes.Found l n) endpoint name r a b = b ∙ sym a
+one_told routes.NoRoute endpoint name r a b = absurd (let e : found endpoint name ≡ no_route = a in cc)
+one_told (routes.BadMethod allow) endpoint name r a b = absurd (let e : found endpoint name ≡ bad_method allow.now = a in cc)
 
 module _ (start : State) (s t : Seat) (m : Message) (bytes : List ℕ) where
   pub seated_busy : bytes ≡ busy_text m.close m.bare → Moves 0 s t → Replied start s m bytes t
@@ -70,7 +70,7 @@ module _ (start : State) (s t : Seat) (m : Message) (bytes : List ℕ) where
   module _ (asked : Ask) (is_found : IsFound m) (asks : AsksBy m asked) where
     asks_in : (h : RequestHead) (body : List ℕ) (bare : Bool) → ShowsMessage h body bare m → AsksIn h body asked
     asks_in h body bare shows = record {
-      line = is_found.0;
+      endpoint = is_found.0;
       name = is_found.1;
       route = one_told m.route is_found.0 is_found.1 (routed h.method h.target) is_found.2 shows.route;
       asks = subst (λ (b : List ℕ). Asks is_found.0 is_found.1 (token_of (fields_of h)) b asked) shows.body_is
@@ -114,12 +114,12 @@ module _ (start : State) (s t : Seat) (m : Message) (bytes : List ℕ) where
 pub seated_unasked : (start : State) (s : Seat) (m : Message) (bytes : List ℕ) → bytes ≡ busy_text m.close m.bare → Replied start s m bytes s
 seated_unasked start s m bytes is = seated_busy start s s m bytes is (record { seen = ([], append-nil s.seen); made = omega arith })
 
--- a message without a line
+-- a message without an endpoint
 pub seated_unrouted : (start : State) (s : Seat) (m : Message) (bytes : List ℕ) → (IsFound m → ⊥) → ((state : State) → ServiceReplied state m bytes state) → Replied start s m bytes s
 seated_unrouted start s m bytes none told h body bare shows =
-    unrouted (λ line name is. none (line, name, subst (Tells m.route) is shows.route)) (λ state. told state h body bare shows)
+    unrouted (λ endpoint name is. none (endpoint, name, subst (Tells m.route) is shows.route)) (λ state. told state h body bare shows)
 
--- a route that is none, or another method's, is no line
+-- a route that is none, or another method's, is no endpoint
 pub not_found : (m : Message) → (m.route ≡ routes.NoRoute) ⊎ ((allow : _) × (m.route ≡ routes.BadMethod allow)) → IsFound m → ⊥
-not_found m (inl is) (line, name, told) = let e : found line name ≡ no_route = rw is at told in cc
-not_found m (inr (allow, is)) (line, name, told) = let e : found line name ≡ bad_method allow.now = rw is at told in cc
+not_found m (inl is) (endpoint, name, told) = let e : found endpoint name ≡ no_route = rw is at told in cc
+not_found m (inr (allow, is)) (endpoint, name, told) = let e : found endpoint name ≡ bad_method allow.now = rw is at told in cc

@@ -3,7 +3,7 @@ use Rattle.std.specs.Prelude.{◌≡◌, ℕ, ◌+◌, Bool, true, false, List}
 use mathlib.Core.List.{IsPrefix}
 use Rattle.httparse.specs.Grammar.{RequestHead}
 use Rattle.st_http.specs.declared.fields.Reason.{Reason}
-use Rattle.st_http.specs.declared.routes.Line.{Line}
+use Rattle.st_http.specs.declared.routes.Endpoint.{Endpoint}
 use Rattle.st_http.specs.declared.message.Message.{Message}
 use Rattle.st_http.specs.First.{First, message, fault, fields_of}
 use Rattle.st_http.specs.Routes.{found, routed}
@@ -22,12 +22,12 @@ pub record Moves (more : ℕ) (s t : Seat) : Type 0 where
   pub seen : IsPrefix s.seen t.seen
   pub made : t.made ≡ s.made + more
 
--- the item is a message whose route is a line, which asks this
+-- the item is a message whose route is an endpoint, which asks this
 pub record AsksIn (h : RequestHead) (body : List ℕ) (asked : Ask) : Type 0 where
-  pub line : Line
+  pub endpoint : Endpoint
   pub name : List ℕ
-  pub route : routed h.method h.target ≡ found line name
-  pub asks : Asks line name (token_of (fields_of h)) body asked
+  pub route : routed h.method h.target ≡ found endpoint name
+  pub asks : Asks endpoint name (token_of (fields_of h)) body asked
 
 -- At a seat an item may get this answer, and leave this seat.
 pub data Answers (start : State) : Seat → First → List ℕ → Seat → Type 0 where
@@ -45,9 +45,9 @@ pub data Answers (start : State) : Seat → First → List ℕ → Seat → Type
       → Answers start s (message h body bare) (busy_text (close_of h) bare) t
   -- memory was wanting, and no change is made
   busy : {s t : Seat} {h : RequestHead} {body : List ℕ} {bare : Bool} → Moves 0 s t → Answers start s (message h body bare) (busy_text (close_of h) bare) t
-  -- a message without a line asks nothing, and is answered as by a service in any state
+  -- a message without an endpoint asks nothing, and is answered as by a service in any state
   unrouted : {s : Seat} {h : RequestHead} {body : List ℕ} {bare : Bool} {text : List ℕ}
-      → ((line : Line) (name : List ℕ) → routed h.method h.target ≡ found line name → ⊥)
+      → ((endpoint : Endpoint) (name : List ℕ) → routed h.method h.target ≡ found endpoint name → ⊥)
       → ((state : State) → ServiceAnswers state (message h body bare) text state)
       → Answers start s (message h body bare) text s
   -- nor does a fault

@@ -35,7 +35,7 @@ impl<'a, H: HallName, R: Wait + Drop, G: Gate, W: Wait> Model for Answering<'a, 
 }
 
 impl<'a, H: HallName, R: Wait + Drop, G: Gate, W: Wait> Answering<'a, H, R, G, W> {
-    // Answers a message whose route is a line.
+    // Answers a message whose route is an endpoint.
     fn answer(&mut self, message: &Message<'_>) -> Answer
         requires { IsFound message.now }
         ensures { Replied H.start self.old message.now (bytes_of result) self.new }

@@ -2,7 +2,7 @@ use Rattle.std.proofs.Common.{refl}
 use Rattle.std.proofs.lemmas.Result.{err_from_is_err_and}
 use Rattle.serde_json.specs.View.{view, items_view}
 use Rattle.st_json.specs.Fields.{texts_among}
-use Rattle.st_http.specs.declared.routes.Line.TheVariants as lines
+use Rattle.st_http.specs.declared.routes.Endpoint.TheVariants as endpoints
 use Rattle.st_json.specs.Needs.{given}
 use Rattle.st_json.specs.Bodies.{Made}
 use Rattle.st_json.proofs.Chosen.{given_then, denied_then, no_memory}
@@ -34,4 +34,4 @@ returns g c = given c.in_ok-id.id.now _ c.in_ok-id.ensures.value (given (texts_a
 pub returns-in_err-owned : goal.returns-in_err-owned
 returns-in_err-owned g c =
     let p = err_from_is_err_and c.from_residual-in_err-owned.result c.from_residual-in_err-owned.ensures.1 in
-    no_memory (Made lines.Get c.args.name.now (view c.args.object.now)) _ _ p.1 p.2
+    no_memory (Made endpoints.Get c.args.name.now (view c.args.object.now)) _ _ p.1 p.2

@@ -1,5 +1,5 @@
 use Rattle.std.proofs.Common.{rules}
-use Rattle.st_http.proofs.path.Path.lines.Goals as goal
+use Rattle.st_http.proofs.path.Path.endpoints.Goals as goal
 
 pub returns-in-User : goal.returns-in-User
 returns-in-User c = search rules
