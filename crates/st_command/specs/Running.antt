@@ -9,10 +9,10 @@ use Rattle.st_connection.specs.declared.connection.Ended.{Ended}
 use Rattle.st_connection.specs.declared.connection.Ended.TheVariants.{Clean, Closed, Cut, TurnsSpent, Lost}
 use Rattle.st_connection.specs.declared.connection.IoFault.{IoFault}
 use Rattle.st_command_line.specs.declared.fault.Fault.{Fault}
-use Rattle.st_command_line.specs.Line.{SaysRoot, Refuses}
+use Rattle.st_command_line.specs.Common.{SaysRoot, RefusesWords}
 use Rattle.st_command.specs.Opening.{Opens}
-use Rattle.st_command_line.specs.RunLine.{run_line}
-use Rattle.st_command_line.specs.Status.{status_of}
+use Rattle.st_command_line.specs.RunArguments.{run_command}
+use Rattle.st_command_line.specs.Status.{exit_status_of}
 
 -- the status after a connection ended so
 abbrev pub status_after : Result Ended IoFault → ℕ
@@ -33,7 +33,7 @@ pub record Serves (before after : State Global) (left_old left_new held_old held
 pub record IsServed (words : List Text) (left_old left_new held_old held_new : Option (List ℕ)) (read_failed : Bool) (status : ℕ) : Type 0 where
   pub digits : Text
   pub names : List Text
-  pub says : SaysRoot run_line words digits names
+  pub says : SaysRoot run_command words digits names
   pub before : State Global
   pub opens : Opens digits names before
   pub after : State Global
@@ -42,8 +42,8 @@ pub record IsServed (words : List Text) (left_old left_new held_old held_new : O
 -- the words are refused, and nothing was read or written
 pub record IsRefused (words : List Text) (left_old left_new held_old held_new : Option (List ℕ)) (read_failed : Bool) (status : ℕ) : Type 0 where
   pub fault : Fault
-  pub why : Refuses run_line words fault
-  pub status_is : status ≡ status_of fault
+  pub why : RefusesWords run_command words fault
+  pub status_is : status ≡ exit_status_of fault
   pub unread : left_new ≡ left_old
   pub sound : read_failed ≡ false
   pub unwritten : held_new ≡ held_old

@@ -5,7 +5,7 @@ ghost use Rattle.hex.specs.Hex.{decode_sized};
 ghost use Rattle.st_text.specs.Texts.{Text};
 ghost use Rattle.st_auth.specs.Names.{first_bad};
 ghost use Rattle.st_core.specs.State.{first_state};
-ghost use Rattle.st_command_line.specs.Line.{SaysRoot, Refuses};
+ghost use Rattle.st_command_line.specs.Common.{SaysRoot, RefusesWords};
 ghost use Rattle.st_command.specs.Opening.{Opens};
 ghost use Rattle.st_command_line.specs.declared.fault.Fault.TheVariants.{BadDigest, BadName, NoMemory};
 
@@ -44,8 +44,8 @@ fn store_for(alloc: Global, digest: [u8; 32], names: &[&str]) -> Result<Store, F
 /// judged first.
 pub fn service_for(alloc: Global, digits: &str, names: &[&str]) -> Result<Service, Fault>
     ensures ok { IfOk result (Opens digits.now (map (λ name. name.now) names.now)) }
-    ensures err { IfErr result (λ fault. (line : App) (words : List Text)
-        → SaysRoot line words digits.now (map (λ name. name.now) names.now) → Refuses line words fault) }
+    ensures err { IfErr result (λ fault. (app : App) (words : List Text)
+        → SaysRoot app words digits.now (map (λ name. name.now) names.now) → RefusesWords app words fault) }
 {
     let digest = digest_of(digits)?;
     let store = store_for(alloc, digest, names)?;
@@ -56,8 +56,8 @@ pub fn service_for(alloc: Global, digits: &str, names: &[&str]) -> Result<Servic
 pub fn stores_for(alloc: Global, digits: &str, names: &[&str]) -> Result<(Store, Store), Fault>
     ensures alike { IfOk result (λ both. both.1 ≡ both.0) }
     ensures ok { IfOk result (λ both. Opens digits.now (map (λ name. name.now) names.now) both.0) }
-    ensures err { IfErr result (λ fault. (line : App) (words : List Text)
-        → SaysRoot line words digits.now (map (λ name. name.now) names.now) → Refuses line words fault) }
+    ensures err { IfErr result (λ fault. (app : App) (words : List Text)
+        → SaysRoot app words digits.now (map (λ name. name.now) names.now) → RefusesWords app words fault) }
 {
     let digest = digest_of(digits)?;
     let first = store_for(alloc, digest, names)?;

@@ -1,10 +1,10 @@
 //! One connection from a reader to a writer, by the words of a command line.
 ghost use Rattle.std.specs.Prelude.{◌≡◌, false, map, string_bytes};
 ghost use Rattle.st_command.specs.Running.{Serves, Ran};
-ghost use Rattle.st_command_line.specs.Status.{status_given};
+ghost use Rattle.st_command_line.specs.Status.{exit_status_after};
 
 use crate::opening::service_for;
-use st_command_line::{Fault, RunLine, give_up};
+use st_command_line::{Fault, RunArguments, give_up};
 use st_service::{Ended, IoFault, Service, Sink, Source};
 use std::alloc::Global;
 use std::io::Write;
@@ -17,7 +17,7 @@ fn converse<R: Source, W: Sink>(
 ) -> Result<(), Fault>
     requires reader_sound { R.has_failed reader.old ≡ false }
     requires writer_sound { W.has_failed writer.old ≡ false }
-    ensures { Serves service.old service.new (R.left reader.old) (R.left reader.new) (W.held writer.old) (W.held writer.new) (R.has_failed reader.new) (status_given result) }
+    ensures { Serves service.old service.new (R.left reader.old) (R.left reader.new) (W.held writer.old) (W.held writer.new) (R.has_failed reader.new) (exit_status_after result) }
 {
     match service.serve(reader, writer) {
         Ok(Ended::Clean | Ended::Closed) => Ok(()),
@@ -36,9 +36,9 @@ fn run<R: Source, W: Sink>(
 ) -> Result<(), Fault>
     requires reader_sound { R.has_failed reader.old ≡ false }
     requires writer_sound { W.has_failed writer.old ≡ false }
-    ensures { Ran (map string_bytes words.now) (R.left reader.old) (R.left reader.new) (W.held writer.old) (W.held writer.new) (R.has_failed reader.new) (status_given result) }
+    ensures { Ran (map string_bytes words.now) (R.left reader.old) (R.left reader.new) (W.held writer.old) (W.held writer.new) (R.has_failed reader.new) (exit_status_after result) }
 {
-    let said = RunLine::read(alloc, words)?;
+    let said = RunArguments::read(alloc, words)?;
     let mut service = service_for(alloc, said.digest, &said.names)?;
     converse(&mut service, reader, writer)
 }

@@ -13,9 +13,9 @@ use Rattle.clap.specs.declared.error.Error.{Error}
 use Rattle.clap.specs.declared.error.kind.ErrorKind.{ErrorKind}
 use Rattle.clap.specs.declared.error.kind.ErrorKind.TheVariants.{OutOfMemory}
 use Rattle.st_text.specs.Texts.{Text}
-use Rattle.st_command_line.specs.Line.{Refuses, name_operand, root_option}
-use Rattle.st_command_line.specs.RunLine.{run_line}
-use Rattle.st_command_line.specs.ServedLine.{connections_option, port_option, served_line, timeout_option}
+use Rattle.st_command_line.specs.Common.{RefusesWords, name_operand, root_option}
+use Rattle.st_command_line.specs.RunArguments.{run_command}
+use Rattle.st_command_line.specs.ServedArguments.{connections_option, port_option, served_command, timeout_option}
 use Rattle.st_command_line.specs.Status.{as_fault}
 
 -- an argument of this rule, added
@@ -23,27 +23,27 @@ step : (old new : Command) (a : Arg) (app : _) (rule : _) → app_of old ≡ app
 step old new a app rule is_app is_rule local adds = adds.shape local ∙ ap₂ with_rule is_app is_rule
 
 -- the commands that the code builds are those of the definitions
-pub is_run_line : (start with_root command : Command) (root names : Arg) → app_of start ≡ new_app (codes "st_run")
+pub is_run_command : (start with_root command : Command) (root names : Arg) → app_of start ≡ new_app (codes "st_run")
     → rule_of root ≡ root_option → rule_of names ≡ name_operand → root.global ≡ false → names.global ≡ false
-    → AddsArg start root with_root → AddsArg with_root names command → app_of command ≡ run_line
-is_run_line start with_root command root names is r n lr ln a b =
+    → AddsArg start root with_root → AddsArg with_root names command → app_of command ≡ run_command
+is_run_command start with_root command root names is r n lr ln a b =
     step with_root command names _ _ (step start with_root root _ _ is r lr a) n ln b
 
-pub is_served_line : (start one two three four command : Command) (root port connections timeout names : Arg) → app_of start ≡ new_app (codes "st_served")
+pub is_served_command : (start one two three four command : Command) (root port connections timeout names : Arg) → app_of start ≡ new_app (codes "st_served")
     → rule_of root ≡ root_option → rule_of port ≡ port_option → rule_of connections ≡ connections_option → rule_of timeout ≡ timeout_option → rule_of names ≡ name_operand
     → root.global ≡ false → port.global ≡ false → connections.global ≡ false → timeout.global ≡ false → names.global ≡ false
     → AddsArg start root one → AddsArg one port two → AddsArg two connections three → AddsArg three timeout four → AddsArg four names command
-    → app_of command ≡ served_line
-is_served_line start one two three four command root port connections timeout names is r p c t n lr lp lc lt ln a b d e f =
+    → app_of command ≡ served_command
+is_served_command start one two three four command root port connections timeout names is r p c t n lr lp lc lt ln a b d e f =
     step four command names _ _ (step three four timeout _ _ (step two three connections _ _ (step one two port _ _ (step start one root _ _ is r lr a) p lp b) c lc d) t lt e) n ln f
 
-named : (line : App) (words : List Text) (kind : ErrorKind) (error : Error) → IsAmong (kind_of error) (fault_of line words) → Refuses line words (as_fault kind error)
-named line words OutOfMemory error h = tt
-named line words _ error h = h
+named : (app : App) (words : List Text) (kind : ErrorKind) (error : Error) → IsAmong (kind_of error) (fault_of app words) → RefusesWords app words (as_fault kind error)
+named app words OutOfMemory error h = tt
+named app words _ error h = h
 
-pub refused : (line : App) (words : List Text) (error : Error) → HasKind (fault_of line words) error → Refuses line words (as_fault (kind_of error) error)
-refused line words error (inl wanting) = subst (λ kind. Refuses line words (as_fault kind error)) (sym wanting) tt
-refused line words error (inr h) = named line words (kind_of error) error h
+pub refused : (app : App) (words : List Text) (error : Error) → HasKind (fault_of app words) error → RefusesWords app words (as_fault (kind_of error) error)
+refused app words error (inl wanting) = subst (λ kind. RefusesWords app words (as_fault kind error)) (sym wanting) tt
+refused app words error (inr h) = named app words (kind_of error) error h
 
 -- whether a text is none of these
 abbrev is_apart : Text → List Text → Bool

@@ -3,37 +3,37 @@ use Rattle.std.proofs.Common.{[], ◌∷◌, codes, ◌≡◌, refl}
 use Rattle.clap.specs.Words.{fault_of}
 use Rattle.clap.specs.declared.error.kind.ErrorKind.TheVariants.{ArgumentConflict, DisplayHelp, InvalidValue, MissingRequiredArgument, UnknownArgument}
 use Rattle.clap.proofs.OnLiterals.{clap_on_literals}
-use Rattle.st_command_line.specs.Line.{SaysRoot}
-use Rattle.st_command_line.specs.RunLine.{run_line}
+use Rattle.st_command_line.specs.Common.{SaysRoot}
+use Rattle.st_command_line.specs.RunArguments.{run_command}
 
-two_names : SaysRoot run_line (codes "st_run" ∷ codes "--root" ∷ codes "66" ∷ codes "A" ∷ codes "B" ∷ []) (codes "66") (codes "A" ∷ codes "B" ∷ [])
+two_names : SaysRoot run_command (codes "st_run" ∷ codes "--root" ∷ codes "66" ∷ codes "A" ∷ codes "B" ∷ []) (codes "66") (codes "A" ∷ codes "B" ∷ [])
 unfolding clap_on_literals
 two_names = record { whole = refl; digits_are = refl; names_are = refl }
 
-names_first : SaysRoot run_line (codes "st_run" ∷ codes "A" ∷ codes "--root=66" ∷ []) (codes "66") (codes "A" ∷ [])
+names_first : SaysRoot run_command (codes "st_run" ∷ codes "A" ∷ codes "--root=66" ∷ []) (codes "66") (codes "A" ∷ [])
 unfolding clap_on_literals
 names_first = record { whole = refl; digits_are = refl; names_are = refl }
 
-no_names : SaysRoot run_line (codes "st_run" ∷ codes "--root" ∷ codes "66" ∷ []) (codes "66") []
+no_names : SaysRoot run_command (codes "st_run" ∷ codes "--root" ∷ codes "66" ∷ []) (codes "66") []
 unfolding clap_on_literals
 no_names = record { whole = refl; digits_are = refl; names_are = refl }
 
-no_digest : fault_of run_line (codes "st_run" ∷ codes "A" ∷ []) ≡ MissingRequiredArgument ∷ []
+no_digest : fault_of run_command (codes "st_run" ∷ codes "A" ∷ []) ≡ MissingRequiredArgument ∷ []
 unfolding clap_on_literals
 no_digest = refl
 
-two_digests : fault_of run_line (codes "st_run" ∷ codes "--root" ∷ codes "66" ∷ codes "--root" ∷ codes "66" ∷ []) ≡ ArgumentConflict ∷ []
+two_digests : fault_of run_command (codes "st_run" ∷ codes "--root" ∷ codes "66" ∷ codes "--root" ∷ codes "66" ∷ []) ≡ ArgumentConflict ∷ []
 unfolding clap_on_literals
 two_digests = refl
 
-unknown_option : fault_of run_line (codes "st_run" ∷ codes "--root" ∷ codes "66" ∷ codes "--user" ∷ codes "A" ∷ []) ≡ UnknownArgument ∷ []
+unknown_option : fault_of run_command (codes "st_run" ∷ codes "--root" ∷ codes "66" ∷ codes "--user" ∷ codes "A" ∷ []) ≡ UnknownArgument ∷ []
 unfolding clap_on_literals
 unknown_option = refl
 
-help : fault_of run_line (codes "st_run" ∷ codes "--help" ∷ []) ≡ DisplayHelp ∷ []
+help : fault_of run_command (codes "st_run" ∷ codes "--help" ∷ []) ≡ DisplayHelp ∷ []
 unfolding clap_on_literals
 help = refl
 
-no_value : fault_of run_line (codes "st_run" ∷ codes "--root" ∷ []) ≡ InvalidValue ∷ []
+no_value : fault_of run_command (codes "st_run" ∷ codes "--root" ∷ []) ≡ InvalidValue ∷ []
 unfolding clap_on_literals
 no_value = refl

@@ -3,28 +3,28 @@ use Rattle.std.proofs.Common.{[], ◌∷◌, codes, ◌≡◌, refl}
 use Rattle.clap.specs.Words.{fault_of}
 use Rattle.clap.specs.declared.error.kind.ErrorKind.TheVariants.{MissingRequiredArgument, ValueValidation}
 use Rattle.clap.proofs.OnLiterals.{clap_on_literals}
-use Rattle.st_command_line.specs.ServedLine.{served_line}
+use Rattle.st_command_line.specs.ServedArguments.{served_command}
 
-whole : fault_of served_line (codes "st_served" ∷ codes "--root" ∷ codes "66" ∷ codes "--port" ∷ codes "47001" ∷ codes "--connections" ∷ codes "0" ∷ codes "A" ∷ []) ≡ []
+whole : fault_of served_command (codes "st_served" ∷ codes "--root" ∷ codes "66" ∷ codes "--port" ∷ codes "47001" ∷ codes "--connections" ∷ codes "0" ∷ codes "A" ∷ []) ≡ []
 unfolding clap_on_literals
 whole = refl
 
-unlimited : fault_of served_line (codes "st_served" ∷ codes "--port=47001" ∷ codes "--root=66" ∷ codes "--timeout=3600" ∷ []) ≡ []
+unlimited : fault_of served_command (codes "st_served" ∷ codes "--port=47001" ∷ codes "--root=66" ∷ codes "--timeout=3600" ∷ []) ≡ []
 unfolding clap_on_literals
 unlimited = refl
 
-no_port : fault_of served_line (codes "st_served" ∷ codes "--root" ∷ codes "66" ∷ []) ≡ MissingRequiredArgument ∷ []
+no_port : fault_of served_command (codes "st_served" ∷ codes "--root" ∷ codes "66" ∷ []) ≡ MissingRequiredArgument ∷ []
 unfolding clap_on_literals
 no_port = refl
 
-port_zero : fault_of served_line (codes "st_served" ∷ codes "--root" ∷ codes "66" ∷ codes "--port" ∷ codes "0" ∷ []) ≡ ValueValidation ∷ []
+port_zero : fault_of served_command (codes "st_served" ∷ codes "--root" ∷ codes "66" ∷ codes "--port" ∷ codes "0" ∷ []) ≡ ValueValidation ∷ []
 unfolding clap_on_literals
 port_zero = refl
 
-too_many_connections : fault_of served_line (codes "st_served" ∷ codes "--root" ∷ codes "66" ∷ codes "--port" ∷ codes "1" ∷ codes "--connections" ∷ codes "1001" ∷ []) ≡ ValueValidation ∷ []
+too_many_connections : fault_of served_command (codes "st_served" ∷ codes "--root" ∷ codes "66" ∷ codes "--port" ∷ codes "1" ∷ codes "--connections" ∷ codes "1001" ∷ []) ≡ ValueValidation ∷ []
 unfolding clap_on_literals
 too_many_connections = refl
 
-too_long : fault_of served_line (codes "st_served" ∷ codes "--root" ∷ codes "66" ∷ codes "--port" ∷ codes "1" ∷ codes "--timeout" ∷ codes "3601" ∷ []) ≡ ValueValidation ∷ []
+too_long : fault_of served_command (codes "st_served" ∷ codes "--root" ∷ codes "66" ∷ codes "--port" ∷ codes "1" ∷ codes "--timeout" ∷ codes "3601" ∷ []) ≡ ValueValidation ∷ []
 unfolding clap_on_literals
 too_long = refl

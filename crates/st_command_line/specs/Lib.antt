@@ -1,4 +1,4 @@
 pub mod Status
-pub mod Line
-pub mod RunLine
-pub mod ServedLine
+pub mod Common
+pub mod RunArguments
+pub mod ServedArguments

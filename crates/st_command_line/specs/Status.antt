@@ -6,26 +6,26 @@ use Rattle.clap.specs.declared.error.kind.ErrorKind.TheVariants.{OutOfMemory}
 use Rattle.st_command_line.specs.declared.fault.Fault.{Fault}
 use Rattle.st_command_line.specs.declared.fault.Fault.TheVariants.{Usage, NotText, BadNumber, BadDigest, BadName, Cut, TurnsSpent, Io, Bind, Accept, Write, NoMemory, NoPlace, NoThread}
 
-abbrev pub status_of : Fault → ℕ
-status_of (Usage error) = 2
-status_of NotText = 2
-status_of BadNumber = 2
-status_of BadDigest = 2
-status_of BadName = 2
-status_of Cut = 3
-status_of TurnsSpent = 4
-status_of Io = 5
-status_of Bind = 5
-status_of Accept = 5
-status_of Write = 5
-status_of NoMemory = 6
-status_of NoPlace = 6
-status_of NoThread = 6
+abbrev pub exit_status_of : Fault → ℕ
+exit_status_of (Usage error) = 2
+exit_status_of NotText = 2
+exit_status_of BadNumber = 2
+exit_status_of BadDigest = 2
+exit_status_of BadName = 2
+exit_status_of Cut = 3
+exit_status_of TurnsSpent = 4
+exit_status_of Io = 5
+exit_status_of Bind = 5
+exit_status_of Accept = 5
+exit_status_of Write = 5
+exit_status_of NoMemory = 6
+exit_status_of NoPlace = 6
+exit_status_of NoThread = 6
 
 -- the status after a run
-abbrev pub status_given : Result Unit Fault → ℕ
-status_given (Ok done) = 0
-status_given (Err fault) = status_of fault
+abbrev pub exit_status_after : Result Unit Fault → ℕ
+exit_status_after (Ok done) = 0
+exit_status_after (Err fault) = exit_status_of fault
 
 -- what an error of this kind comes to
 abbrev pub as_fault : ErrorKind → Error → Fault

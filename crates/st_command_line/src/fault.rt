@@ -1,6 +1,6 @@
 //! Why a program did not end well.
 ghost use Rattle.std.specs.Prelude.{◌≡◌};
-ghost use Rattle.st_command_line.specs.Status.{status_of};
+ghost use Rattle.st_command_line.specs.Status.{exit_status_of};
 
 use clap::error::ErrorKind;
 use std::alloc::AllocError;
@@ -57,7 +57,7 @@ pub enum Fault {
 impl Fault {
     /// The status that a program ends with.
     pub fn status(&self) -> u8
-        ensures { result ≡ status_of self.now }
+        ensures { result ≡ exit_status_of self.now }
     {
         match self {
             Fault::Usage(_)
@@ -102,7 +102,7 @@ impl From<clap::Error> for Fault {
 /// Tells of a fault by a program's name and its text, but of words that are no command line by that text
 /// alone, and gives the status that the program ends with. A text that is not taken is dropped.
 pub fn give_up<F: Write>(program: &str, fault: Fault, faults: &mut F) -> u8
-    ensures { result ≡ status_of fault }
+    ensures { result ≡ exit_status_of fault }
 {
     let _ = match &fault {
         Fault::Usage(error) => writeln!(faults, "{error}"),

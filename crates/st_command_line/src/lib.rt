@@ -2,11 +2,11 @@
 #![tactic(auto)]
 
 mod fault;
-mod line;
-mod run_line;
-mod served_line;
+mod common;
+mod run_arguments;
+mod served_arguments;
 
 pub use fault::{Fault, give_up};
-pub use line::words_of;
-pub use run_line::RunLine;
-pub use served_line::ServedLine;
+pub use common::words_of;
+pub use run_arguments::RunArguments;
+pub use served_arguments::ServedArguments;

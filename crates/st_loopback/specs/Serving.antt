@@ -7,8 +7,8 @@ use Rattle.st_core.specs.State.{State}
 use Rattle.st_command_line.specs.declared.fault.Fault.{Fault}
 use Rattle.st_command_line.specs.declared.fault.Fault.TheVariants.{Bind, Accept, Write, NoMemory, NoPlace, NoThread}
 use Rattle.st_command.specs.Opening.{Opens}
-use Rattle.st_command_line.specs.ServedLine.{Says, Refuses}
-use Rattle.st_command_line.specs.Status.{status_of, status_given}
+use Rattle.st_command_line.specs.ServedArguments.{SaysServed, RefusesServedWords}
+use Rattle.st_command_line.specs.Status.{exit_status_of, exit_status_after}
 
 -- a line of standard output
 abbrev pub line : List ℕ → ℕ → List ℕ
@@ -40,18 +40,18 @@ pub record IsServed (words : List Text) (old new : Option (List ℕ)) (status : 
   pub connections : Option ℕ
   pub timeout : Option ℕ
   pub names : List Text
-  pub says : Says words digits port connections timeout names
+  pub says : SaysServed words digits port connections timeout names
   pub state : State Global
   pub opens : Opens digits names state
   pub ended : Result Unit Fault
   pub tells : Tells port connections old new ended
-  pub status_is : status ≡ status_given ended
+  pub status_is : status ≡ exit_status_after ended
 
 -- the words are refused, and nothing was told
 pub record IsRefused (words : List Text) (old new : Option (List ℕ)) (status : ℕ) : Type 0 where
   pub fault : Fault
-  pub why : Refuses words fault
-  pub status_is : status ≡ status_of fault
+  pub why : RefusesServedWords words fault
+  pub status_is : status ≡ exit_status_of fault
   pub untold : new ≡ old
 
 abbrev pub Ran : List Text → Option (List ℕ) → Option (List ℕ) → ℕ → Type 0

@@ -3,13 +3,13 @@ ghost use Rattle.std.specs.Prelude.{◌≡◌, ◌⊎◌, Err, Some, IfOk, IfErr
 ghost use Rattle.std.specs.Io.KnownBytes.{Appends};
 ghost use Rattle.st_command.specs.Opening.{Opens};
 ghost use Rattle.st_loopback.specs.Serving.{Ran, Stops, Tells, line};
-ghost use Rattle.st_command_line.specs.Status.{status_given};
+ghost use Rattle.st_command_line.specs.Status.{exit_status_after};
 ghost use Rattle.st_command_line.specs.declared.fault.Fault.TheVariants.{Bind, Write as Unwritten, NoMemory};
 
 use crate::connection::Open;
 use crate::workers::{serve_on, serve_some};
 use st_command::stores_for;
-use st_command_line::{Fault, ServedLine, give_up};
+use st_command_line::{Fault, ServedArguments, give_up};
 use st_core::Store;
 use st_hall::{Clerk, Desk, Hall, HallFault, HallName, Unnamed};
 use st_station::Station;
@@ -49,7 +49,7 @@ fn tell<O: Write>(alloc: Global, output: &mut O, what: &str, number: u16) -> Res
 fn begin<R: Net<Listener = TcpListener, Stream = TcpStream>, O: Write>(
     rt: &R,
     alloc: Global,
-    said: &ServedLine<'_>,
+    said: &ServedArguments<'_>,
     output: &mut O,
 ) -> Result<TcpListener, Fault>
     ensures ok { OnOk result (Appends (O.contents output.old) (O.contents output.new) (line (codes "listening") said.now.port)) }
@@ -65,7 +65,7 @@ fn attend<'c, H: HallName + Send + Sync, R: Threads + Wait + Sync>(
     rt: &R,
     alloc: Global,
     listener: &TcpListener,
-    said: &ServedLine<'_>,
+    said: &ServedArguments<'_>,
     one: Station<'_, H, &'c R, Open, R>,
     two: Station<'_, H, &'c R, Open, R>,
 ) -> Result<u16, Fault>
@@ -89,7 +89,7 @@ fn serve_at<
 >(
     rt: &R,
     alloc: Global,
-    said: &ServedLine<'_>,
+    said: &ServedArguments<'_>,
     one: Station<'_, H, &'c R, Open, R>,
     two: Station<'_, H, &'c R, Open, R>,
     output: &mut O,
@@ -117,7 +117,7 @@ fn serve_between<
 >(
     rt: &'c R,
     alloc: Global,
-    said: &ServedLine<'_>,
+    said: &ServedArguments<'_>,
     clerk: &Mutex<Clerk<H, &'c R>>,
     one: Desk<H>,
     two: Desk<H>,
@@ -140,7 +140,7 @@ fn serve<
     alloc: Global,
     name: Unnamed,
     both: (Store, Store),
-    said: &ServedLine<'_>,
+    said: &ServedArguments<'_>,
     output: &mut O,
 ) -> Result<(), Fault>
     requires named { (name.seen.book ≡ H.book) × (name.blank.name ≡ H.name) × (H.parts ≡ 2) }
@@ -164,9 +164,9 @@ fn run<R: Net<Listener = TcpListener, Stream = TcpStream> + Threads + Wait + Syn
     words: &[String],
     output: &mut O,
 ) -> Result<(), Fault>
-    ensures { Ran (map string_bytes words.now) (O.contents output.old) (O.contents output.new) (status_given result) }
+    ensures { Ran (map string_bytes words.now) (O.contents output.old) (O.contents output.new) (exit_status_after result) }
 {
-    let said = ServedLine::read(alloc, words)?;
+    let said = ServedArguments::read(alloc, words)?;
     let both = stores_for(alloc, said.digest, &said.names)?;
     serve::<Brand, _, _>(rt, alloc, Unnamed::new(), both, &said, output)
 }

@@ -2,8 +2,8 @@ use Rattle.std.specs.Borrow.{Bor}
 use Rattle.std.proofs.Common.{List, inr, map, refl, string_bytes, subst, sym}
 use Rattle.std.proofs.lemmas.Result.{err_from_is_err_and}
 use Rattle.st_text.specs.Texts.{Text}
-use Rattle.st_command_line.specs.Line.{Refuses, SaysRoot}
-use Rattle.st_command_line.specs.RunLine.{run_line}
+use Rattle.st_command_line.specs.Common.{RefusesWords, SaysRoot}
+use Rattle.st_command_line.specs.RunArguments.{run_command}
 use Rattle.st_command.proofs.run.run.Goals as goal
 
 pub returns-in_err-service : goal.returns-in_err-service
@@ -11,11 +11,11 @@ returns-in_err-service g c =
     let words = map string_bytes c.args.words.now in
     let p = err_from_is_err_and c.from_residual-in_err-service.result c.from_residual-in_err-service.ensures.1 in
     let said = c.in_ok-said.said in
-    let says = subst (λ (names : List (Bor Text)). SaysRoot run_line words said.digest.now (map (λ name. name.now) names)) (sym c.deref.ensures.value) c.in_ok-said.ensures.ok in
-    let why = c.in_err-service.ensures.err run_line words says in
+    let says = subst (λ (names : List (Bor Text)). SaysRoot run_command words said.digest.now (map (λ name. name.now) names)) (sym c.deref.ensures.value) c.in_ok-said.ensures.ok in
+    let why = c.in_err-service.ensures.err run_command words says in
     rw p.1 (inr (record {
       fault = p.0;
-      why = subst (Refuses run_line words) (sym p.2) why;
+      why = subst (RefusesWords run_command words) (sym p.2) why;
       status_is = refl;
       unread = refl;
       sound = c.requires.reader_sound;

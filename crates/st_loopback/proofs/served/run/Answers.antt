@@ -2,9 +2,9 @@ use Rattle.std.specs.Borrow.{Bor}
 use Rattle.std.proofs.Common.{List, refl, inl, inr, map, string_bytes, subst, sym}
 use Rattle.std.proofs.lemmas.Result.{err_from_is_err_and}
 use Rattle.st_text.specs.Texts.{Text}
-use Rattle.st_command_line.specs.Line.{SaysRoot}
+use Rattle.st_command_line.specs.Common.{SaysRoot}
 use Rattle.st_command.specs.Opening.{Opens}
-use Rattle.st_command_line.specs.ServedLine.{Refuses, served_line}
+use Rattle.st_command_line.specs.ServedArguments.{RefusesServedWords, served_command}
 use Rattle.st_command_line.proofs.Numbers.{widens}
 use Rattle.st_loopback.proofs.served.run.Goals as goal
 
@@ -13,9 +13,9 @@ returns-in_err-both g c =
     let words = map string_bytes c.args.words.now in
     let p = err_from_is_err_and c.from_residual-in_err-both.result c.from_residual-in_err-both.ensures.1 in
     let said = c.in_ok-said.said in
-    let says = subst (λ (names : List (Bor Text)). SaysRoot served_line words said.digest.now (map (λ name. name.now) names)) (sym c.deref.ensures.value) c.in_ok-said.ensures.ok.root in
-    let why = widens words _ (c.in_err-both.ensures.err served_line words says) in
-    rw p.1 (inr (record { fault = p.0; why = subst (Refuses words) (sym p.2) why; status_is = refl; untold = refl }))
+    let says = subst (λ (names : List (Bor Text)). SaysRoot served_command words said.digest.now (map (λ name. name.now) names)) (sym c.deref.ensures.value) c.in_ok-said.ensures.ok.root in
+    let why = widens words _ (c.in_err-both.ensures.err served_command words says) in
+    rw p.1 (inr (record { fault = p.0; why = subst (RefusesServedWords words) (sym p.2) why; status_is = refl; untold = refl }))
 
 pub serve-requires-clause-named : goal.serve-requires-clause-named
 serve-requires-clause-named g c κs within = (refl, refl, refl)

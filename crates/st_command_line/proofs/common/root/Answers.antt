@@ -1,6 +1,6 @@
 use Rattle.std.proofs.Common.{rules, ap, refl, codes}
 use Rattle.st_command_line.proofs.Refusing.{fits}
-use Rattle.st_command_line.proofs.line.root.Goals as goal
+use Rattle.st_command_line.proofs.common.root.Goals as goal
 
 pub returns-clause-rule : goal.returns-clause-rule
 returns-clause-rule c = search rules

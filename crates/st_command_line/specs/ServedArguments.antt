@@ -8,8 +8,8 @@ use Rattle.clap.specs.declared.builder.value_parser.ValueParser.TheVariants.{Sig
 use Rattle.st_text.specs.Texts.{Text}
 use Rattle.st_command_line.specs.declared.fault.Fault.{Fault}
 use Rattle.st_command_line.specs.declared.fault.Fault.TheVariants.{BadNumber}
-use Rattle.st_command_line.specs.Line as line
-use Rattle.st_command_line.specs.Line.{SaysRoot, name_operand, root_option}
+use Rattle.st_command_line.specs.Common as common
+use Rattle.st_command_line.specs.Common.{SaysRoot, name_operand, root_option}
 
 -- the option `--port P`, 1 to 65,535, which must be there, once
 abbrev pub port_option : Rule
@@ -39,8 +39,8 @@ timeout_option = record (new_rule (codes "timeout")) {
   parser = Some (Signed (pos 1) (pos 3600));
 }
 
-abbrev pub served_line : App
-served_line = with_rule (with_rule (with_rule (with_rule (with_rule (new_app (codes "st_served")) root_option) port_option) connections_option) timeout_option) name_operand
+abbrev pub served_command : App
+served_command = with_rule (with_rule (with_rule (with_rule (with_rule (new_app (codes "st_served")) root_option) port_option) connections_option) timeout_option) name_operand
 
 -- the text writes a number below 2^16 in decimal digits
 pub record Writes (text : Text) (number : ℕ) : Type 0 where
@@ -56,15 +56,15 @@ Gives None (Some number) = ⊥
 Gives (Some text) None = ⊥
 
 -- the text of a number
-abbrev pub number_of : Text → List Text → Option Text
-number_of id words = one_of id (matches_of served_line words)
+abbrev pub number_text : Text → List Text → Option Text
+number_text id words = one_of id (matches_of served_command words)
 
 -- the words are such a command line, with this digest, these numbers and these names
-pub record Says (words : List Text) (digits : Text) (port : ℕ) (connections timeout : Option ℕ) (names : List Text) : Type 0 where
-  pub root : SaysRoot served_line words digits names
-  pub port_is : Gives (number_of (codes "port") words) (Some port)
-  pub connections_are : Gives (number_of (codes "connections") words) connections
-  pub timeout_is : Gives (number_of (codes "timeout") words) timeout
+pub record SaysServed (words : List Text) (digits : Text) (port : ℕ) (connections timeout : Option ℕ) (names : List Text) : Type 0 where
+  pub root : SaysRoot served_command words digits names
+  pub port_is : Gives (number_text (codes "port") words) (Some port)
+  pub connections_are : Gives (number_text (codes "connections") words) connections
+  pub timeout_is : Gives (number_text (codes "timeout") words) timeout
 
 -- the text is there, and writes no number below 2^16
 abbrev pub IsUnread : Option Text → Type 0
@@ -73,10 +73,10 @@ IsUnread (Some text) = IsNumeral 10 (without_leading_plus text) × (digits_value
 
 -- no port is there, or the text of a number writes none
 pub record HasBadNumber (words : List Text) : Type 0 where
-  pub whole : fault_of served_line words ≡ []
-  pub bad : (number_of (codes "port") words ≡ None) ⊎ ((id : Text) × IsUnread (number_of id words))
+  pub whole : fault_of served_command words ≡ []
+  pub bad : (number_text (codes "port") words ≡ None) ⊎ ((id : Text) × IsUnread (number_text id words))
 
 -- why the words are refused
-abbrev pub Refuses : List Text → Fault → Type 0
-Refuses words BadNumber = HasBadNumber words
-Refuses words fault = line.Refuses served_line words fault
+abbrev pub RefusesServedWords : List Text → Fault → Type 0
+RefusesServedWords words BadNumber = HasBadNumber words
+RefusesServedWords words fault = common.RefusesWords served_command words fault

@@ -5,14 +5,14 @@ use Rattle.std.proofs.lemmas.Result.{err_from_is_err_and}
 use Rattle.clap.specs.Built.{FitsChain}
 use Rattle.clap.specs.Words.{HasKind, fault_of, first_value, found_of, is_simple, is_simple_and_free, matches_of}
 use Rattle.clap.proofs.CallerLemmas.{required_in_chain}
-use Rattle.st_command_line.specs.ServedLine.{Refuses, served_line}
+use Rattle.st_command_line.specs.ServedArguments.{RefusesServedWords, served_command}
 use Rattle.st_command_line.proofs.Numbers.{widens}
-use Rattle.st_command_line.proofs.Refusing.{are_distinct, distinct, ids_of, is_served_line, refused}
-use Rattle.st_command_line.proofs.served_line.parse.Goals as goal
+use Rattle.st_command_line.proofs.Refusing.{are_distinct, distinct, ids_of, is_served_command, refused}
+use Rattle.st_command_line.proofs.served_arguments.parse.Goals as goal
 
 pub returns-clause-ok : goal.returns-clause-ok
 returns-clause-ok c =
-    let is = is_served_line c.new.result c.in_ok-arg.field-0 c.in_ok-arg-2.field-0 c.in_ok-arg-3.field-0 c.in_ok-arg-4.field-0 c.in_ok-command.command
+    let is = is_served_command c.new.result c.in_ok-arg.field-0 c.in_ok-arg-2.field-0 c.in_ok-arg-3.field-0 c.in_ok-arg-4.field-0 c.in_ok-command.command
     c.root.result c.port.result c.connections.result c.timeout.result c.names.result c.new.ensures.app
     c.root.ensures.rule c.port.ensures.rule c.connections.ensures.rule c.timeout.ensures.rule c.names.ensures.rule
     c.root.ensures.fits.1 c.port.ensures.fits.1 c.connections.ensures.fits.1 c.timeout.ensures.fits.1 c.names.ensures.fits.1
@@ -26,7 +26,7 @@ returns-clause-ok c =
 
 pub returns-in_err-try_get_matches_from-clause-err : goal.returns-in_err-try_get_matches_from-clause-err
 returns-in_err-try_get_matches_from-clause-err c =
-    let is = is_served_line c.new.result c.in_ok-arg.field-0 c.in_ok-arg-2.field-0 c.in_ok-arg-3.field-0 c.in_ok-arg-4.field-0 c.in_ok-command.command
+    let is = is_served_command c.new.result c.in_ok-arg.field-0 c.in_ok-arg-2.field-0 c.in_ok-arg-3.field-0 c.in_ok-arg-4.field-0 c.in_ok-command.command
     c.root.result c.port.result c.connections.result c.timeout.result c.names.result c.new.ensures.app
     c.root.ensures.rule c.port.ensures.rule c.connections.ensures.rule c.timeout.ensures.rule c.names.ensures.rule
     c.root.ensures.fits.1 c.port.ensures.fits.1 c.connections.ensures.fits.1 c.timeout.ensures.fits.1 c.names.ensures.fits.1
@@ -36,7 +36,7 @@ returns-in_err-try_get_matches_from-clause-err c =
     let p = err_from_is_err_and fault.result fault.ensures.1 in
     let told = c.in_err-try_get_matches_from.ensures.kinds (ap is_simple_and_free is) in
     let error = c.in_err-try_get_matches_from.field-0.0 in
-    rw p.1 (subst (Refuses words) (sym p.2) (widens words _ (refused served_line words error (subst (λ a. HasKind (fault_of a words) error) is told))))
+    rw p.1 (subst (RefusesServedWords words) (sym p.2) (widens words _ (refused served_command words error (subst (λ a. HasKind (fault_of a words) error) is told))))
 
 pub returns-clause-root : goal.returns-clause-root
 returns-clause-root c =

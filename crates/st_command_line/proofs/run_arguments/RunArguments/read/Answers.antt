@@ -3,7 +3,7 @@ use Rattle.std.specs.Prelude.{option_map, unwrap_or}
 use Rattle.clap.specs.Words.{all_of, first_of, found_of}
 use Rattle.clap.proofs.WalkLemmas.{first_value-rows, raw_values-rows}
 use Rattle.st_command_line.proofs.Refusing.{names_given}
-use Rattle.st_command_line.proofs.run_line.RunLine.read.Goals as goal
+use Rattle.st_command_line.proofs.run_arguments.RunArguments.read.Goals as goal
 
 pub returns-clause-ok : goal.returns-clause-ok
 returns-clause-ok c =

@@ -5,14 +5,14 @@ use Rattle.std.proofs.lemmas.Result.{err_from_is_err_and}
 use Rattle.clap.specs.Built.{FitsChain}
 use Rattle.clap.specs.Words.{HasKind, fault_of, first_value, found_of, is_simple, is_simple_and_free, matches_of}
 use Rattle.clap.proofs.CallerLemmas.{required_in_chain}
-use Rattle.st_command_line.specs.Line.{Refuses}
-use Rattle.st_command_line.specs.RunLine.{run_line}
-use Rattle.st_command_line.proofs.Refusing.{are_distinct, distinct, ids_of, is_run_line, refused}
-use Rattle.st_command_line.proofs.run_line.parse.Goals as goal
+use Rattle.st_command_line.specs.Common.{RefusesWords}
+use Rattle.st_command_line.specs.RunArguments.{run_command}
+use Rattle.st_command_line.proofs.Refusing.{are_distinct, distinct, ids_of, is_run_command, refused}
+use Rattle.st_command_line.proofs.run_arguments.parse.Goals as goal
 
 pub returns-clause-ok : goal.returns-clause-ok
 returns-clause-ok c =
-    let is = is_run_line c.new.result c.in_ok-arg.field-0 c.in_ok-command.command c.root.result c.names.result c.new.ensures.app
+    let is = is_run_command c.new.result c.in_ok-arg.field-0 c.in_ok-command.command c.root.result c.names.result c.new.ensures.app
     c.root.ensures.rule c.names.ensures.rule c.root.ensures.fits.1 c.names.ensures.fits.1 c.in_ok-arg.ensures c.in_ok-command.ensures in
     let words = map string_bytes c.args.words.now in
     let ensures = c.in_ok-try_get_matches_from.ensures in
@@ -23,14 +23,14 @@ returns-clause-ok c =
 
 pub returns-in_err-try_get_matches_from-clause-err : goal.returns-in_err-try_get_matches_from-clause-err
 returns-in_err-try_get_matches_from-clause-err c =
-    let is = is_run_line c.new.result c.in_ok-arg.field-0 c.in_ok-command.command c.root.result c.names.result c.new.ensures.app
+    let is = is_run_command c.new.result c.in_ok-arg.field-0 c.in_ok-command.command c.root.result c.names.result c.new.ensures.app
     c.root.ensures.rule c.names.ensures.rule c.root.ensures.fits.1 c.names.ensures.fits.1 c.in_ok-arg.ensures c.in_ok-command.ensures in
     let words = map string_bytes c.args.words.now in
     let fault = c.from_residual-in_err-try_get_matches_from in
     let p = err_from_is_err_and fault.result fault.ensures.1 in
     let told = c.in_err-try_get_matches_from.ensures.kinds (ap is_simple_and_free is) in
     let error = c.in_err-try_get_matches_from.field-0.0 in
-    rw p.1 (subst (Refuses run_line words) (sym p.2) (refused run_line words error (subst (λ a. HasKind (fault_of a words) error) is told)))
+    rw p.1 (subst (RefusesWords run_command words) (sym p.2) (refused run_command words error (subst (λ a. HasKind (fault_of a words) error) is told)))
 
 pub returns-clause-root : goal.returns-clause-root
 returns-clause-root c =

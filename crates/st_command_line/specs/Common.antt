@@ -23,37 +23,37 @@ abbrev pub name_operand : Rule
 name_operand = record (new_rule (codes "NAME")) { action = Some Append }
 
 -- the words are such a command line, and these are their matches
-pub record IsParsed (line : App) (words : List Text) (matches : ArgMatches) : Type 0 where
-  pub whole : fault_of line words ≡ []
-  pub rows_are : rows_of (found_of matches) ≡ matches_of line words
+pub record IsParsed (app : App) (words : List Text) (matches : ArgMatches) : Type 0 where
+  pub whole : fault_of app words ≡ []
+  pub rows_are : rows_of (found_of matches) ≡ matches_of app words
 
 -- the words are such a command line, with this digest and these names
-pub record SaysRoot (line : App) (words : List Text) (digits : Text) (names : List Text) : Type 0 where
-  pub whole : fault_of line words ≡ []
-  pub digits_are : first_of (codes "root") (matches_of line words) ≡ Some digits
-  pub names_are : unwrap_or (all_of (codes "NAME") (matches_of line words)) [] ≡ names
+pub record SaysRoot (app : App) (words : List Text) (digits : Text) (names : List Text) : Type 0 where
+  pub whole : fault_of app words ≡ []
+  pub digits_are : first_of (codes "root") (matches_of app words) ≡ Some digits
+  pub names_are : unwrap_or (all_of (codes "NAME") (matches_of app words)) [] ≡ names
 
 -- the digest is not 64 hexadecimal digits
-pub record HasBadDigest (line : App) (words : List Text) : Type 0 where
+pub record HasBadDigest (app : App) (words : List Text) : Type 0 where
   pub digits : Text
   pub names : List Text
-  pub says : SaysRoot line words digits names
+  pub says : SaysRoot app words digits names
   pub bad : IsErr (decode_sized digits 32)
 
 -- the digest is one, and a name is no authorization
-pub record HasBadName (line : App) (words : List Text) : Type 0 where
+pub record HasBadName (app : App) (words : List Text) : Type 0 where
   pub digits : Text
   pub names : List Text
-  pub says : SaysRoot line words digits names
+  pub says : SaysRoot app words digits names
   pub digest : List ℕ
   pub written : decode_sized digits 32 ≡ Ok digest
   pub place : ℕ
   pub bad : first_bad names ≡ Some place
 
 -- why the words are refused; where memory is wanting, nothing is said of them
-abbrev pub Refuses : App → List Text → Fault → Type 0
-Refuses line words (Usage error) = IsAmong (kind_of error) (fault_of line words)
-Refuses line words BadDigest = HasBadDigest line words
-Refuses line words BadName = HasBadName line words
-Refuses line words NoMemory = Unit {0}
-Refuses line words _ = ⊥
+abbrev pub RefusesWords : App → List Text → Fault → Type 0
+RefusesWords app words (Usage error) = IsAmong (kind_of error) (fault_of app words)
+RefusesWords app words BadDigest = HasBadDigest app words
+RefusesWords app words BadName = HasBadName app words
+RefusesWords app words NoMemory = Unit {0}
+RefusesWords app words _ = ⊥

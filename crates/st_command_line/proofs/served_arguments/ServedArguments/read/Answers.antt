@@ -3,17 +3,17 @@ use Rattle.std.specs.Prelude.{Some, option_map, unwrap_or}
 use Rattle.std.proofs.lemmas.Result.{err_from_is_err_and}
 use Rattle.clap.specs.Words.{all_of, first_of, found_of}
 use Rattle.clap.proofs.WalkLemmas.{first_value-rows, raw_values-rows}
-use Rattle.st_command_line.specs.ServedLine.{Gives, Refuses}
+use Rattle.st_command_line.specs.ServedArguments.{Gives, RefusesServedWords}
 use Rattle.st_command_line.proofs.Numbers.{bad_number, no_port, number_read}
 use Rattle.st_command_line.proofs.Refusing.{names_given}
-use Rattle.st_command_line.proofs.served_line.ServedLine.read.Goals as goal
+use Rattle.st_command_line.proofs.served_arguments.ServedArguments.read.Goals as goal
 
 pub returns-in_err-port-clause-err : goal.returns-in_err-port-clause-err
 returns-in_err-port-clause-err c =
     let words = map string_bytes c.args.words.now in
     let p = err_from_is_err_and c.from_residual-in_err-port.result c.from_residual-in_err-port.ensures.1 in
     let bad = c.in_err-port.ensures.err in
-    rw p.1 (subst (Refuses words) (sym p.2) (bad_number words (codes "port") c.in_ok-matches.matches c.in_ok-matches.ensures.ok _ bad.0 bad.1))
+    rw p.1 (subst (RefusesServedWords words) (sym p.2) (bad_number words (codes "port") c.in_ok-matches.matches c.in_ok-matches.ensures.ok _ bad.0 bad.1))
 
 pub returns-in_default-2-clause-err : goal.returns-in_default-2-clause-err
 returns-in_default-2-clause-err c =
@@ -24,14 +24,14 @@ returns-in_err-connections-clause-err c =
     let words = map string_bytes c.args.words.now in
     let p = err_from_is_err_and c.from_residual-in_err-connections.result c.from_residual-in_err-connections.ensures.1 in
     let bad = c.in_err-connections.ensures.err in
-    rw p.1 (subst (Refuses words) (sym p.2) (bad_number words (codes "connections") c.in_ok-matches.matches c.in_ok-matches.ensures.ok _ bad.0 bad.1))
+    rw p.1 (subst (RefusesServedWords words) (sym p.2) (bad_number words (codes "connections") c.in_ok-matches.matches c.in_ok-matches.ensures.ok _ bad.0 bad.1))
 
 pub returns-in_err-timeout-clause-err : goal.returns-in_err-timeout-clause-err
 returns-in_err-timeout-clause-err c =
     let words = map string_bytes c.args.words.now in
     let p = err_from_is_err_and c.from_residual-in_err-timeout.result c.from_residual-in_err-timeout.ensures.1 in
     let bad = c.in_err-timeout.ensures.err in
-    rw p.1 (subst (Refuses words) (sym p.2) (bad_number words (codes "timeout") c.in_ok-matches.matches c.in_ok-matches.ensures.ok _ bad.0 bad.1))
+    rw p.1 (subst (RefusesServedWords words) (sym p.2) (bad_number words (codes "timeout") c.in_ok-matches.matches c.in_ok-matches.ensures.ok _ bad.0 bad.1))
 
 pub returns-clause-ok : goal.returns-clause-ok
 returns-clause-ok c =

@@ -5,12 +5,12 @@ ghost use Rattle.std.specs.Net.Socket.{v4_ip, v4_port};
 ghost use Rattle.std.specs.Duration.{as_nanos};
 ghost use Rattle.clap.specs.Built.{FitsChain};
 ghost use Rattle.clap.specs.Words.{first_value, found_of, one_text, rule_of};
-ghost use Rattle.st_command_line.specs.Line.{IsParsed};
-ghost use Rattle.st_command_line.specs.ServedLine.{Gives, IsUnread, Says, Refuses, served_line, port_option, connections_option, timeout_option};
+ghost use Rattle.st_command_line.specs.Common.{IsParsed};
+ghost use Rattle.st_command_line.specs.ServedArguments.{Gives, IsUnread, SaysServed, RefusesServedWords, served_command, port_option, connections_option, timeout_option};
 ghost use Rattle.st_command_line.specs.declared.fault.Fault.TheVariants.{BadNumber};
 
 use crate::fault::Fault;
-use crate::line::{names, root};
+use crate::common::{names, root};
 use clap::{Arg, ArgAction, ArgMatches, Command};
 use std::alloc::Global;
 use std::net::{Ipv4Addr, SocketAddrV4};
@@ -21,7 +21,7 @@ const SECONDS: u16 = 30;
 
 /// What a command line says.
 #[derive(Drop)]
-pub struct ServedLine<'a> {
+pub struct ServedArguments<'a> {
     /// Meant to be the 64 hexadecimal digits of the hash of root's secret.
     pub digest: &'a str,
     /// The port of 127.0.0.1 that is listened at, 1 to 65535.
@@ -76,9 +76,9 @@ fn timeout<'a>(alloc: Global) -> Arg<'a>
 
 // Reads the words by what a command line may have.
 fn parse<'a>(alloc: Global, words: &'a [String]) -> Result<ArgMatches<'a>, Fault>
-    ensures ok { IfOk result (IsParsed served_line (map string_bytes words.now)) }
+    ensures ok { IfOk result (IsParsed served_command (map string_bytes words.now)) }
     ensures root { IfOk result (λ matches. IsSome (first_value (found_of matches) (codes "root"))) }
-    ensures err { IfErr result (λ fault. Refuses (map string_bytes words.now) fault) }
+    ensures err { IfErr result (λ fault. RefusesServedWords (map string_bytes words.now) fault) }
 {
     let command = Command::new(alloc, "st_served")
         .arg(root(alloc))?
@@ -100,11 +100,11 @@ fn number(matches: &ArgMatches<'_>, id: &str) -> Result<Option<u16>, Fault>
     }
 }
 
-impl<'a> ServedLine<'a> {
+impl<'a> ServedArguments<'a> {
     /// Reads a command line, the program's own name first among its words.
-    pub fn read(alloc: Global, words: &'a [String]) -> Result<ServedLine<'a>, Fault>
-        ensures ok { IfOk result (λ said. Says (map string_bytes words.now) said.digest.now said.port said.connections said.timeout (map (λ name. name.now) said.names.items)) }
-        ensures err { IfErr result (λ fault. Refuses (map string_bytes words.now) fault) }
+    pub fn read(alloc: Global, words: &'a [String]) -> Result<ServedArguments<'a>, Fault>
+        ensures ok { IfOk result (λ said. SaysServed (map string_bytes words.now) said.digest.now said.port said.connections said.timeout (map (λ name. name.now) said.names.items)) }
+        ensures err { IfErr result (λ fault. RefusesServedWords (map string_bytes words.now) fault) }
     {
         let matches = parse(alloc, words)?;
         let Some(digest) = matches.get_str("root") else {
@@ -116,7 +116,7 @@ impl<'a> ServedLine<'a> {
         let connections = number(&matches, "connections")?;
         let timeout = number(&matches, "timeout")?;
         let names = matches.get_strs("NAME").unwrap_or(&[]);
-        Ok(ServedLine {
+        Ok(ServedArguments {
             digest,
             port,
             connections,

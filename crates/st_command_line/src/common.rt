@@ -2,7 +2,7 @@
 ghost use Rattle.std.specs.Prelude.{◌≡◌, ◌⊎◌, IfErr, codes};
 ghost use Rattle.clap.specs.Built.{FitsChain, TakesValue};
 ghost use Rattle.clap.specs.Words.{rule_of};
-ghost use Rattle.st_command_line.specs.Line.{root_option, name_operand};
+ghost use Rattle.st_command_line.specs.Common.{root_option, name_operand};
 ghost use Rattle.st_command_line.specs.declared.fault.Fault.TheVariants.{NotText, NoMemory};
 
 use crate::fault::Fault;
