@@ -22,6 +22,7 @@ from fashkiin.commands import (
     USAGE,
     Command,
     Session,
+    features,
     whoami,
 )
 from fashkiin.errors import ConnectError, CutOffError, FashkiinError, RefusalError, ReplyError, RowError
@@ -29,6 +30,7 @@ from fashkiin.settings import read_settings
 
 COMMANDS: tuple[Command, ...] = (
     whoami.COMMAND,
+    features.COMMAND,
 )
 
 
