@@ -31,7 +31,7 @@ pub fn run<A: Allocator + Copy>(
 {
     let mut replies = Vec::with_capacity(store.allocator(), asked.len())?;
     for one in asked {
-        let reply = store.take(one)?;
+        let reply = store.step(one)?;
         put(&mut replies, reply);
     }
     Ok(replies)

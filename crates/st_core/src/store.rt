@@ -132,7 +132,7 @@ impl<A: Allocator + Copy> Store<A> {
     }
 
     /// The reply to what is asked, which may be a change.
-    pub fn take(&mut self, asked: &Asked<A>) -> Result<Reply<A>, AllocError>
+    pub fn step(&mut self, asked: &Asked<A>) -> Result<Reply<A>, AllocError>
         ensures reply { IfOk result (λ reply. reply ≡ (step self.old asked.now).reply) }
         ensures state { OnOk result (self.new ≡ (step self.old asked.now).state) }
         ensures unchanged { OnErr result (self.new ≡ self.old) }

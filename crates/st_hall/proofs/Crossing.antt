@@ -20,7 +20,7 @@ use Rattle.st_ubtree.specs.contracts.node.Node as Node
 use Rattle.st_ubtree.specs.contracts.node.Node.TheKnot as knot
 use Rattle.st_ubtree.specs.declared.node.Node.TheDeep.{the_members, member-Node}
 use Rattle.st_hall.specs.contracts.edition.Edition as Edition
-use Rattle.st_hall.specs.contracts.edition.Post as Post
+use Rattle.st_hall.specs.contracts.edition.Queued as Queued
 use Rattle.st_hall.specs.contracts.front.Front as Front
 use Rattle.st_hall.specs.contracts.desk.Desk as Desk
 use Rattle.st_hall.specs.contracts.clerk.Clerk as Clerk
@@ -29,7 +29,7 @@ use Rattle.st_hall.specs.declared.front.HallName as hall
 use Rattle.st_hall.proofs.front.Trace.TheSendSync as TraceCross
 use Rattle.st_hall.proofs.front.Front.TheSendSync as FrontCross
 use Rattle.st_hall.proofs.front.Head.TheSendSync as HeadCross
-use Rattle.st_hall.proofs.edition.Post.TheSendSync as PostCross
+use Rattle.st_hall.proofs.edition.Queued.TheSendSync as QueuedCross
 use Rattle.core.specs.declared.ledger.Ledger as ledger
 use Rattle.core.proofs.ledger.Book.TheSendSync as BookCross
 use Rattle.core.proofs.ledger.Share.TheSendSync as ShareCross
@@ -134,9 +134,9 @@ edition_sync = search (sendable, crosses, store_sync, TraceCross.the_sync) depth
 reader : (V P : RattleType) (p : protocol.Ghosts P.Denot (Edition.the_row).Denot V.Denot) → IsSend (Reader.the_field Edition.the_row V P Heap.the_row p ghosts).row
 reader V P p = ReaderCross.the_field_send Edition.the_row V P Heap.the_row p ghosts heap_send edition_sync heap_sync frees
 
-writer : (V P S : RattleType) (a : absorb.Ghosts (Edition.the_row).Denot (Post.the_row).Denot S.Denot) (p : protocol.Ghosts P.Denot (Edition.the_row).Denot V.Denot)
-    → IsSend (Writer.the_field Edition.the_row Post.the_row V P Heap.the_row S a p ghosts).row
-writer V P S a p = WriterCross.the_field_send Edition.the_row Post.the_row V P Heap.the_row S a p ghosts edition PostCross.the_send heap_send edition_sync heap_sync frees
+writer : (V P S : RattleType) (a : absorb.Ghosts (Edition.the_row).Denot (Queued.the_row).Denot S.Denot) (p : protocol.Ghosts P.Denot (Edition.the_row).Denot V.Denot)
+    → IsSend (Writer.the_field Edition.the_row Queued.the_row V P Heap.the_row S a p ghosts).row
+writer V P S a p = WriterCross.the_field_send Edition.the_row Queued.the_row V P Heap.the_row S a p ghosts edition QueuedCross.the_send heap_send edition_sync heap_sync frees
 
 pub front : (H : RattleType) (h : hall.Ghosts H.Denot) (l : ledger.Ghosts H.Denot) → IsSend (Front.the_row H h l)
 front H h l = FrontCross.the_send H h l
@@ -152,7 +152,7 @@ held_desk : (H : RattleType) (h : hall.Ghosts H.Denot) (l : ledger.Ghosts H.Deno
 held_desk H h l = desk H h l
 
 pub clerk : (H R : RattleType) (h : hall.Ghosts H.Denot) (l : ledger.Ghosts H.Denot) → IsSend R → IsSend (Clerk.the_row H R h l)
-clerk H R h l s = let d = directory in search (sendable, crosses, writer, held_front, HeadCross.the_field_send, PostCross.the_send, BookCross.the_send) depth 60 fits 100000
+clerk H R h l s = let d = directory in search (sendable, crosses, writer, held_front, HeadCross.the_field_send, QueuedCross.the_send, BookCross.the_send) depth 60 fits 100000
 
 pub worker : (a : NamedLft) (H R G : RattleType) (h : hall.Ghosts H.Denot) (l : ledger.Ghosts H.Denot) → IsSend R → IsSync G → IsSend (Worker.the_row a H R G h l)
 worker a H R G h l s y = search (sendable, crosses, held_desk, clerk) depth 60 fits 100000

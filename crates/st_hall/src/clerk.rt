@@ -7,7 +7,7 @@ ghost use Rattle.st_hall.specs.Editions.{Agrees, Follows, taken, waiting_list};
 ghost use Rattle.st_hall.specs.Rules.{Beside};
 
 use crate::desk::Desk;
-use crate::edition::{Agreeing, Consistent, Edition, Post};
+use crate::edition::{Agreeing, Consistent, Edition, Queued};
 use crate::front::{Front, HallName, Head};
 use crate::steps::{decide, replace};
 use core::mem::replace_with;
@@ -22,7 +22,7 @@ use std::sync::ledger::Book;
 // The history takes no more changes than this.
 const MOST: u64 = 1 << 61;
 
-pub(crate) type EditionWriter<H> = Writer<Edition, Post, (), Consistent<H>>;
+pub(crate) type EditionWriter<H> = Writer<Edition, Queued, (), Consistent<H>>;
 
 /// What a change is answered: the change itself, its reply, and the list that ends with it, where it was published at once.
 #[derive(Drop)]
@@ -36,7 +36,7 @@ pub struct Receipt<H: HallName> {
 pub struct Clerk<H: HallName, R: Wait + Drop> {
     pub(crate) writer: EditionWriter<H>,
     // The last change, where there was no memory to queue it.
-    pub(crate) waiting: Option<Post>,
+    pub(crate) waiting: Option<Queued>,
     pub(crate) head: Head<H>,
     pub(crate) front: Front<H>,
     pub(crate) directory: Directory,
@@ -62,7 +62,7 @@ impl<H: HallName, R: Wait + Drop> Model for Clerk<H, R> {
 }
 
 // Lets a change wait.
-fn hold(waiting: &mut Option<Post>, post: Post)
+fn hold(waiting: &mut Option<Queued>, post: Queued)
     ensures { waiting.new ≡ Some post }
 {
     drop(waiting.replace(post));
@@ -71,7 +71,7 @@ fn hold(waiting: &mut Option<Post>, post: Post)
 // Queues what waits.
 fn queue<H: HallName>(
     writer: &mut EditionWriter<H>,
-    waiting: &mut Option<Post>,
+    waiting: &mut Option<Queued>,
 ) -> Result<(), AllocError>
     ensures desk { writer.new.desk ≡ writer.old.desk }
     ensures queued { MatchResult result
@@ -92,7 +92,7 @@ fn queue<H: HallName>(
 }
 
 // A change for the queue, added to the history after all that a front has seen. An error where the history is longer.
-fn post_of<H: HallName>(head: &Head<H>, front: &Front<H>, asked: &Asked) -> Result<Post, AllocError>
+fn post_of<H: HallName>(head: &Head<H>, front: &Front<H>, asked: &Asked) -> Result<Queued, AllocError>
     ensures room { OnOk result (length front.now < 2 ^ 61) }
     ensures ask { IfOk result (λ post. post.ask ≡ asked.now) }
     ensures book { IfOk result (λ post. post.trail.book ≡ H.book) }
@@ -104,7 +104,7 @@ fn post_of<H: HallName>(head: &Head<H>, front: &Front<H>, asked: &Asked) -> Resu
     let copy = asked.copy()?;
     let mut trace = front.trace().again();
     if trace.add(head, asked) {
-        Ok(Post { asked: copy, trace })
+        Ok(Queued { asked: copy, trace })
     } else {
         drop(copy);
         Err(AllocError)
@@ -114,7 +114,7 @@ fn post_of<H: HallName>(head: &Head<H>, front: &Front<H>, asked: &Asked) -> Resu
 // Adds a change to the list, after all that is queued or waits. It waits then.
 fn enter<H: HallName>(
     writer: &mut EditionWriter<H>,
-    waiting: &mut Option<Post>,
+    waiting: &mut Option<Queued>,
     head: &Head<H>,
     front: &mut Front<H>,
     asked: &Asked,

@@ -11,12 +11,12 @@ use std::marker::{Model, PhantomData};
 
 /// A change, with the list that ends with it.
 #[derive(Drop)]
-pub struct Post {
+pub struct Queued {
     pub(crate) asked: Asked,
     pub(crate) trace: Trace,
 }
 
-impl Model for Post {
+impl Model for Queued {
     ghost use Rattle.st_hall.specs.Editions.{Added};
 
     ghost Value = { Added };
@@ -39,7 +39,7 @@ impl Model for Edition {
     ghost view = { λ e. record { state = e.store; trail = e.trace } };
 }
 
-impl Absorb<Post> for Edition {
+impl Absorb<Queued> for Edition {
     ghost use Rattle.st_hall.specs.Editions.{taken};
 
     type State = Edition;
@@ -48,7 +48,7 @@ impl Absorb<Post> for Edition {
 
     ghost applied = { taken };
 
-    fn absorb_first(&mut self, post: &Post, _other: &Edition) -> Result<(), AllocError> {
+    fn absorb_first(&mut self, post: &Queued, _other: &Edition) -> Result<(), AllocError> {
         make(&mut self.store, &post.asked)?;
         self.trace = post.trace.again();
         Ok(())

@@ -12,7 +12,7 @@ mod worker;
 
 pub use clerk::{Clerk, Receipt};
 pub use desk::Desk;
-pub use edition::{Agreeing, Consistent, Edition, Post};
+pub use edition::{Agreeing, Consistent, Edition, Queued};
 pub use front::{Front, HallName, Unnamed};
 pub use hall::{Hall, HallFault};
 pub use worker::{Gate, Worker};

@@ -13,7 +13,7 @@ pub(crate) fn make(store: &mut Store, asked: &Asked) -> Result<(), AllocError>
     ensures ok { OnOk result (store.new ≡ next store.old asked.now) }
     ensures err { OnErr result (store.new ≡ store.old) }
 {
-    drop(store.take(asked)?);
+    drop(store.step(asked)?);
     Ok(())
 }
 

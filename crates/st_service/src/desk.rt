@@ -91,7 +91,7 @@ impl<A: Allocator + Copy> Desk<A> {
     {
         let close = message.close;
         let bare = message.bare;
-        let Ok(reply) = self.store.take(asked) else {
+        let Ok(reply) = self.store.step(asked) else {
             return Answer::Busy { close, bare };
         };
         let answer = tell(self.alloc, &reply, close, bare);

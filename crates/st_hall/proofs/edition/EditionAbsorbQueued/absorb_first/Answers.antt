@@ -1,5 +1,5 @@
 use Rattle.std.proofs.Common.{rules}
-use Rattle.st_hall.proofs.edition.EditionAbsorbPost.absorb_first.Goals as goal
+use Rattle.st_hall.proofs.edition.EditionAbsorbQueued.absorb_first.Goals as goal
 
 pub returns-clause-absorbed : goal.returns-clause-absorbed
 returns-clause-absorbed c = search rules
