@@ -22,14 +22,28 @@ from fashkiin.commands import (
     USAGE,
     Command,
     Session,
+    admin,
     features,
+    labels,
+    load,
+    read,
+    tokens,
     whoami,
+    write,
 )
 from fashkiin.errors import ConnectError, CutOffError, FashkiinError, RefusalError, ReplyError, RowError
+from fashkiin.formats import InputError
+from fashkiin.loading import StoppedError
 from fashkiin.settings import read_settings
 
 COMMANDS: tuple[Command, ...] = (
+    load.COMMAND,
+    *read.COMMANDS,
+    *write.COMMANDS,
+    *admin.COMMANDS,
+    labels.COMMAND,
     whoami.COMMAND,
+    tokens.COMMAND,
     features.COMMAND,
 )
 
@@ -70,7 +84,7 @@ def run(words: Sequence[str] | None = None) -> int:
 
 def status(error: FashkiinError) -> int:
     """The exit status of an error."""
-    if isinstance(error, RowError):
+    if isinstance(error, RowError | InputError | StoppedError):
         return BAD_INPUT
     if isinstance(error, RefusalError):
         return REFUSED

@@ -6,10 +6,11 @@ import ssl
 import threading
 import time
 from collections import deque
-from collections.abc import Iterable, Iterator, Mapping
+from collections.abc import Callable, Iterable, Iterator, Mapping
 from dataclasses import dataclass
+from itertools import islice
 from types import TracebackType
-from typing import Any
+from typing import Any, Generic, TypeVar
 from urllib.parse import quote
 
 from fashkiin.accounts import Account, Change, Grants, Tables, Users, read_account, read_change
@@ -21,6 +22,7 @@ from fashkiin.wire import Address, Connection, Reply
 
 TRIES = 6
 LARGEST_WINDOW = 256
+Item = TypeVar("Item")
 
 
 @dataclass(frozen=True, slots=True)
@@ -29,15 +31,6 @@ class Put:
 
     row: Row
     error: RefusalError | RowError | None
-
-
-@dataclass(slots=True)
-class _Waiting:
-    """A row on its way: its request, or the error by which it has none."""
-
-    row: Row
-    request: bytes
-    error: RowError | None
 
 
 def path(*segments: str) -> str:
@@ -68,7 +61,7 @@ class Client:
     def __enter__(self) -> Client:
         return self
 
-    def __exit__(self, kind: type[BaseException] | None, error: BaseException | None, trace: TracebackType | None) -> None:
+    def __exit__(self, kind: type[BaseException] | None, error: BaseException | None, _: TracebackType | None) -> None:
         self.close()
 
     def close(self) -> None:
@@ -167,16 +160,23 @@ class Client:
         repeat changes nothing. After six tries without an answer the error is raised. A row that is on its way when the
         iterator is closed may be stored or not.
         """
+        for row, error in self.put_items(table, rows, Row.body, window):
+            yield Put(row, error)
+
+    def put_items(
+        self, table: str, items: Iterable[Item], body: Callable[[Item], bytes], window: int = 64
+    ) -> Iterator[tuple[Item, RefusalError | RowError | None]]:
+        """`put_many` of whatever `body` makes the body of a put of; where it raises `RowError`, that is told in the item's place."""
         if not 1 <= window <= LARGEST_WINDOW:
             raise ValueError(f"a window of {window}, wanted 1 to {LARGEST_WINDOW}")
         target = path("tables", table, "put")
-        pipeline = _Pipeline(self, target, iter(rows), window)
+        pipeline = _Pipeline(self, lambda item: self.request("POST", target, body(item)), iter(items), window)
         tries = 0
         while pipeline.unfinished():
             try:
-                for put in pipeline.run():
+                for told in pipeline.run():
                     tries = 0
-                    yield put
+                    yield told
             except (ConnectError, CutOffError, EdgeError):
                 tries += 1
                 if tries == TRIES:
@@ -184,66 +184,59 @@ class Client:
                 time.sleep(0.05 * 2**tries)
 
 
-class _Pipeline:
-    """The rows of a `put_many` that wait for their answers."""
+class _Pipeline(Generic[Item]):
+    """The items of a `put_items` that wait for their answers."""
 
-    def __init__(self, client: Client, target: str, rows: Iterator[Row], window: int) -> None:
+    def __init__(self, client: Client, request: Callable[[Item], bytes], items: Iterator[Item], window: int) -> None:
         self._client = client
-        self._target = target
-        self._rows = rows
+        self._request = request
+        self._items = items
         self._window = window
-        self._waiting: deque[_Waiting] = deque()
+        self._waiting: deque[tuple[Item, bytes, RowError | None]] = deque()
         self._more = True
 
     def unfinished(self) -> bool:
-        """Whether a row is still to be told."""
+        """Whether an item is still to be told."""
         return self._more or bool(self._waiting)
 
-    def run(self) -> Iterator[Put]:
-        """Tells what becomes of the rows, over one connection, until it ends or no row is left."""
+    def run(self) -> Iterator[tuple[Item, RefusalError | RowError | None]]:
+        """Tells what becomes of the items, over one connection, until it ends or no item is left."""
         connection = self._client._take()
         keeps = False
         try:
-            connection.send(b"".join(entry.request for entry in self._waiting))
+            connection.send(b"".join(request for _, request, _ in self._waiting))
             while self.unfinished():
                 if self._more and len(self._waiting) <= self._window // 2:
                     connection.send(self._fill())
-                if not self._waiting:
                     continue
-                if (refused := self._waiting[0].error) is not None:
-                    yield Put(self._waiting.popleft().row, refused)
-                    continue
-                reply = connection.receive()
-                error = _error(reply)
-                yield Put(self._waiting.popleft().row, error)
-                if not reply.keeps:
+                item, _, fault = self._waiting[0]
+                reply = None if fault is not None else connection.receive()
+                error = fault if reply is None else _error(reply)
+                self._waiting.popleft()
+                yield item, error
+                if reply is not None and not reply.keeps:
                     return
             keeps = True
         finally:
             self._client._give(connection, keeps)
 
     def _fill(self) -> bytes:
-        """Takes rows until the window is full, and returns their requests."""
-        requests = []
-        while len(self._waiting) < self._window:
-            row = next(self._rows, None)
-            if row is None:
-                self._more = False
-                break
-            entry = self._entry(row)
-            self._waiting.append(entry)
-            requests.append(entry.request)
-        return b"".join(requests)
-
-    def _entry(self, row: Row) -> _Waiting:
-        try:
-            return _Waiting(row, self._client.request("POST", self._target, row.body()), None)
-        except RowError as error:
-            return _Waiting(row, b"", error)
+        """Takes items until the window is full, and returns their requests."""
+        before = len(self._waiting)
+        for item in islice(self._items, self._window - before):
+            try:
+                self._waiting.append((item, self._request(item), None))
+            except RowError as error:
+                self._waiting.append((item, b"", error))
+        added = list(islice(self._waiting, before, None))
+        self._more = before + len(added) == self._window
+        return b"".join(request for _, request, _ in added)
 
 
 def _error(reply: Reply) -> RefusalError | None:
     """The refusal that a reply is, if it is one."""
+    if reply.status == 200 and reply.body == b'{"ok":true}':
+        return None
     try:
         reply.value()
     except RefusalError as error:

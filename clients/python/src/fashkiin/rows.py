@@ -129,7 +129,7 @@ def _read_note(name: str, label: str, point: tuple[int, int, int], note: str) ->
 
 
 def _exact(point: tuple[int, int, int], note: str) -> tuple[float, float, datetime, Properties] | None:
-    """What a note of the form above says, if it lies in the row's cell and second."""
+    """What a note of the form above says, if it lies in the row's cell and second and is JSON that can be written again."""
     if not note.startswith('{"at":'):
         return None
     try:
@@ -138,6 +138,8 @@ def _exact(point: tuple[int, int, int], note: str) -> tuple[float, float, dateti
         time = as_utc(parse_time(said["time"]))
         inside = (longitude_cell(lon), latitude_cell(lat), time_second(time)) == point
         properties = said.get("properties", {})
+        if properties:
+            to_json(properties).encode()
     except (ValueError, KeyError, TypeError, AttributeError, RecursionError):
         return None
     if not inside or type(lon) is not float or type(lat) is not float or not isinstance(properties, dict):

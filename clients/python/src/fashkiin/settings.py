@@ -13,7 +13,6 @@ The file is TOML: `--config`, `FASHKIIN_CONFIG`, or `fashkiin/config.toml` in `X
 from __future__ import annotations
 
 import math
-import os
 import tomllib
 from collections.abc import Mapping
 from dataclasses import dataclass

@@ -8,7 +8,7 @@ import select
 import socket
 import ssl
 from dataclasses import dataclass
-from typing import Any, BinaryIO
+from typing import Any
 from urllib.parse import urlsplit
 
 from fashkiin.errors import ConnectError, CutOffError, EdgeError, ReplyError, SettingsError, refusal
@@ -88,7 +88,7 @@ class Connection:
             self._socket = context.wrap_socket(plain, server_hostname=address.host) if context else plain
         except OSError as error:
             raise ConnectError(f"no connection to {address.authority}: {_reason(error)}") from None
-        self._file: BinaryIO = self._socket.makefile("rb", 1 << 16)
+        self._file = self._socket.makefile("rb", 1 << 16)
 
     def close(self) -> None:
         """Closes the connection."""
@@ -138,7 +138,7 @@ class Connection:
         return Reply(int(match[1]), self._body(length), keeps)
 
     def _line(self, room: int) -> bytes:
-        line = self._file.readline(max(room, 1))
+        line: bytes = self._file.readline(max(room, 1))
         if line.endswith(b"\n"):
             return line
         if len(line) < room:
@@ -148,7 +148,7 @@ class Connection:
     def _body(self, length: int | None) -> bytes:
         if length is None:
             raise ReplyError("a reply without a Content-Length")
-        body = self._file.read(length)
+        body: bytes = self._file.read(length)
         if len(body) < length:
             raise CutOffError(f"the reply was cut off after {len(body):,} of {length:,} bytes")
         return body

@@ -1,0 +1,62 @@
+"""Files of rows: CSV, GeoJSON, lines of GeoJSON, and GPX."""
+
+from __future__ import annotations
+
+import io
+import re
+from collections.abc import Callable, Iterable, Iterator
+from dataclasses import dataclass
+from pathlib import Path
+from typing import TextIO
+
+from fashkiin.formats import delimited, geojson, gpx
+from fashkiin.formats.fields import Found, InputError, Names, Source
+from fashkiin.rows import Row
+
+__all__ = ["FORMATS", "Format", "Found", "InputError", "Names", "Source", "format_of", "sniff"]
+
+
+@dataclass(frozen=True, slots=True)
+class Format:
+    """A format of files. `read` tells each row by its place, with the error of a row that is none; `unit` is what a place
+    counts. `write` writes rows that `read` gives back."""
+
+    name: str
+    unit: str
+    suffixes: tuple[str, ...]
+    read: Callable[[Source, Names], Iterator[Found]]
+    write: Callable[[Iterable[Row], TextIO, Names], None]
+
+
+FORMATS = {
+    form.name: form
+    for form in (
+        Format("csv", "line", (".csv", ".tsv", ".txt"), delimited.read, delimited.write),
+        Format("geojson", "feature", (".geojson", ".json"), geojson.read, geojson.write),
+        Format(
+            "geojsonseq",
+            "line",
+            (".geojsonseq", ".geojsonl", ".geojsons", ".jsonl", ".ndjson"),
+            geojson.read_lines,
+            geojson.write_lines,
+        ),
+        Format("gpx", "line", (".gpx",), gpx.read, gpx.write),
+    )
+}
+"""The formats by their names."""
+
+
+def format_of(name: str) -> Format | None:
+    """The format that a file's name says."""
+    suffix = Path(name).suffix.lower()
+    return next((form for form in FORMATS.values() if suffix in form.suffixes), None)
+
+
+def sniff(stream: io.BufferedReader) -> Format:
+    """The format that the first bytes of a stream say, which stay to be read."""
+    start = stream.peek(4096)[:4096].lstrip(b"\xef\xbb\xbf \t\r\n")
+    if start.startswith(b"<"):
+        return FORMATS["gpx"]
+    if not start.startswith((b"{", b"\x1e")):
+        return FORMATS["csv"]
+    return FORMATS["geojson" if re.search(rb'"FeatureCollection"', start) else "geojsonseq"]
