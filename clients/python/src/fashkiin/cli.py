@@ -23,6 +23,7 @@ from fashkiin.commands import (
     Command,
     Session,
     admin,
+    export,
     features,
     labels,
     load,
@@ -45,6 +46,7 @@ COMMANDS: tuple[Command, ...] = (
     whoami.COMMAND,
     tokens.COMMAND,
     features.COMMAND,
+    export.COMMAND,
 )
 
 

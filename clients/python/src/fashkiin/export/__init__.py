@@ -1,0 +1,1 @@
+"""The store for other databases: its users, authorizations, grants, tables and rows."""
