@@ -58,12 +58,10 @@ class Row:
 
     def note(self) -> str:
         """The note in the store; `RowError` where it takes more than 4,096 bytes or is no JSON."""
-        note: dict[str, Any] = {"at": [float(self.lon), float(self.lat)], "time": time_text(self.time)}
-        if self.properties:
-            note["properties"] = self.properties
+        text = f'{{"at":[{float(self.lon)!r},{float(self.lat)!r}],"time":"{time_text(self.time)}"'
         try:
-            text = to_json(note)
-        except (TypeError, ValueError):
+            text += f',"properties":{to_json(self.properties)}}}' if self.properties else "}"
+        except (TypeError, ValueError, RecursionError):
             raise RowError("properties", self.properties, "values of JSON, without NaN or Infinity") from None
         if len(text) > NOTE_BYTES or not text.isascii():
             bound("note", text, 0, NOTE_BYTES)
@@ -73,8 +71,9 @@ class Row:
         """The body of a put; `RowError` where the row cannot be stored. The label is judged by the server."""
         bound("id", self.id, 1, ID_BYTES)
         bound("label", self.label, 0, LABEL_BYTES)
-        put = {"id": self.id, "point": self.point(), "label": self.label, "note": self.note()}
-        return to_json(put).encode()
+        x, y, t = self.point()
+        texts = to_json(self.id), to_json(self.label), to_json(self.note())
+        return '{{"id":{},"point":[{},{},{}],"label":{},"note":{}}}'.format(texts[0], x, y, t, *texts[1:]).encode()
 
 
 def bound(name: str, text: str, least: int, most: int) -> None:

@@ -8,6 +8,7 @@ import select
 import socket
 import ssl
 from dataclasses import dataclass
+from functools import lru_cache
 from typing import Any
 from urllib.parse import urlsplit
 
@@ -117,41 +118,50 @@ class Connection:
             raise CutOffError(f"the reply was cut off: {_reason(error)}") from None
 
     def _receive(self) -> Reply:
-        room = HEAD_BYTES
-        match = _STATUS.match(self._line(room))
-        if match is None:
-            raise ReplyError("this is not HTTP/1.1: no status line")
-        length: int | None = None
-        keeps = True
-        while (line := self._line(room)) != b"\r\n":
-            room -= len(line)
-            found = _FIELD.match(line)
-            if found is None:
-                raise ReplyError("this is not HTTP/1.1: no header field")
-            name, value = found[1].lower(), found[2]
-            if name == b"content-length":
-                length = _length(value, length)
-            elif name == b"transfer-encoding":
-                raise ReplyError("a reply with a Transfer-Encoding, which this server never sends")
-            elif name == b"connection" and value.lower() == b"close":
-                keeps = False
-        return Reply(int(match[1]), self._body(length), keeps)
+        head = b""
+        while (line := self._line(HEAD_BYTES - len(head))) != b"\r\n":
+            head += line
+        status, length, keeps = _read_head(head)
+        return Reply(status, self._body(length), keeps)
 
     def _line(self, room: int) -> bytes:
-        line: bytes = self._file.readline(max(room, 1))
+        line: bytes = self._file.readline(room) if room > 0 else b""
         if line.endswith(b"\n"):
             return line
-        if len(line) < room:
-            raise CutOffError("the connection ended before the reply" if not line else "the reply was cut off in its head")
-        raise ReplyError(f"a reply's head of over {HEAD_BYTES:,} bytes")
+        if len(line) >= room:
+            raise ReplyError(f"a reply's head of over {HEAD_BYTES:,} bytes")
+        raise CutOffError("the reply was cut off in its head" if line else "the connection ended before a whole reply")
 
-    def _body(self, length: int | None) -> bytes:
-        if length is None:
-            raise ReplyError("a reply without a Content-Length")
+    def _body(self, length: int) -> bytes:
         body: bytes = self._file.read(length)
         if len(body) < length:
             raise CutOffError(f"the reply was cut off after {len(body):,} of {length:,} bytes")
         return body
+
+
+@lru_cache(maxsize=64)
+def _read_head(head: bytes) -> tuple[int, int, bool]:
+    """The status of a head, the length of its body, and whether the connection stays; `ReplyError` for another head."""
+    lines = head.splitlines(keepends=True) or [b""]
+    status = _STATUS.match(lines[0])
+    if status is None:
+        raise ReplyError("this is not HTTP/1.1: no status line")
+    length: int | None = None
+    keeps = True
+    for line in lines[1:]:
+        found = _FIELD.match(line)
+        if found is None:
+            raise ReplyError("this is not HTTP/1.1: no header field")
+        name, value = found[1].lower(), found[2]
+        if name == b"content-length":
+            length = _length(value, length)
+        elif name == b"transfer-encoding":
+            raise ReplyError("a reply with a Transfer-Encoding, which this server never sends")
+        elif name == b"connection" and value.lower() == b"close":
+            keeps = False
+    if length is None:
+        raise ReplyError("a reply without a Content-Length")
+    return int(status[1]), length, keeps
 
 
 def _length(value: bytes, before: int | None) -> int:

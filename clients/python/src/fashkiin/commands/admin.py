@@ -16,7 +16,9 @@ from fashkiin.errors import SettingsError
 Action = Callable[[Session, Client, argparse.Namespace], None]
 
 
-def _action(parsers: argparse._SubParsersAction[argparse.ArgumentParser], name: str, summary: str, action: Action) -> argparse.ArgumentParser:
+def _action(
+    parsers: argparse._SubParsersAction[argparse.ArgumentParser], name: str, summary: str, action: Action
+) -> argparse.ArgumentParser:
     parser = parsers.add_parser(name, help=summary, description=summary)
     parser.set_defaults(action=action)
     return parser
@@ -34,7 +36,9 @@ def _tables(parser: argparse.ArgumentParser) -> None:
     _action(parsers, "list", "list the tables", _list_tables)
     create = _action(parsers, "create", "make a table", lambda _, client, words: client.tables.create(words.name, words.period))
     drop = _action(parsers, "drop", "drop a table and its rows", lambda _, client, words: client.tables.drop(words.name))
-    period = _action(parsers, "period", "sort a table anew", lambda _, client, words: client.tables.set_period(words.name, words.period))
+    period = _action(
+        parsers, "period", "sort a table anew", lambda _, client, words: client.tables.set_period(words.name, words.period)
+    )
     constraint = _action(
         parsers,
         "constraint",
@@ -104,12 +108,16 @@ def _show_user(session: Session, client: Client, arguments: argparse.Namespace) 
 
 
 def _grant(parser: argparse.ArgumentParser) -> None:
-    parser.set_defaults(action=lambda _, client, words: client.grants.grant(*_granted(words), table=words.table, namespace=words.namespace))
+    parser.set_defaults(
+        action=lambda _, client, words: client.grants.grant(*_granted(words), table=words.table, namespace=words.namespace)
+    )
     _grant_arguments(parser)
 
 
 def _revoke(parser: argparse.ArgumentParser) -> None:
-    parser.set_defaults(action=lambda _, client, words: client.grants.revoke(*_granted(words), table=words.table, namespace=words.namespace))
+    parser.set_defaults(
+        action=lambda _, client, words: client.grants.revoke(*_granted(words), table=words.table, namespace=words.namespace)
+    )
     _grant_arguments(parser)
 
 

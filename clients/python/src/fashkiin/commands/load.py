@@ -51,7 +51,9 @@ def _arguments(parser: argparse.ArgumentParser) -> None:
     parser.add_argument("files", nargs="+", metavar="FILE", help="CSV, GeoJSON, GeoJSONSeq or GPX; - reads standard input")
     parser.add_argument("--format", choices=FORMATS, help="the format; by the file's name or its first bytes, if left out")
     add_names(parser)
-    parser.add_argument("--number", metavar="PREFIX", help="ids of rows without one: PREFIX-1, PREFIX-2 ..; the file's name, if left out")
+    parser.add_argument(
+        "--number", metavar="PREFIX", help="ids of rows without one: PREFIX-1, PREFIX-2 ..; the file's name, if left out"
+    )
     parser.add_argument("--default-label", metavar="LABEL", help="the label of rows without one; '' shows them to everybody")
     parser.add_argument("--only", metavar="NAME,..", help="keep these properties alone")
     parser.add_argument("--time-format", choices=("iso", "unix", "unix-ms"), default="iso", help="how times are written")
@@ -59,7 +61,9 @@ def _arguments(parser: argparse.ArgumentParser) -> None:
     parser.add_argument("--period", choices=("day", "week"), default="week", help="the length of its time bins, week if left out")
     parser.add_argument("--on-error", choices=("stop", "skip"), default="stop", help="at a row that cannot be stored")
     parser.add_argument("--rejects", metavar="FILE", help="write the rows that cannot be stored here, and go on")
-    parser.add_argument("--window", type=int, default=64, metavar="ROWS", help=f"rows on their way at a time, 1 to {LARGEST_WINDOW}")
+    parser.add_argument(
+        "--window", type=int, default=64, metavar="ROWS", help=f"rows on their way at a time, 1 to {LARGEST_WINDOW}"
+    )
     parser.add_argument("--quiet", action="store_true", help="show no progress")
 
 

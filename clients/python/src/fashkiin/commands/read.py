@@ -50,7 +50,9 @@ def show_rows(session: Session, rows: Iterable[Row]) -> int:
 def _dump_arguments(parser: argparse.ArgumentParser) -> None:
     add_table(parser)
     parser.add_argument("--format", choices=FORMATS, help="by the output's name, if left out; else geojsonseq")
-    parser.add_argument("--output", "-o", metavar="FILE", help="a file that is there once it is whole; standard output, if left out")
+    parser.add_argument(
+        "--output", "-o", metavar="FILE", help="a file that is there once it is whole; standard output, if left out"
+    )
     add_where(parser)
     add_names(parser)
 

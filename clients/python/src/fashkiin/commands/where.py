@@ -26,7 +26,9 @@ def add_table(parser: argparse.ArgumentParser) -> None:
 
 def add_auths(parser: argparse.ArgumentParser) -> None:
     """The authorizations by which is read."""
-    parser.add_argument("--auths", metavar="A,B", help="read by these of your authorizations, separated by commas; all, if left out")
+    parser.add_argument(
+        "--auths", metavar="A,B", help="read by these of your authorizations, separated by commas; all, if left out"
+    )
 
 
 def add_where(parser: argparse.ArgumentParser) -> None:

@@ -94,7 +94,9 @@ def _id_columns(source: Source, header: list[str], names: Names) -> list[int]:
         return [header.index(name) for name in names.id]
     found = [at for at, name in enumerate(header) if name.strip().lower() == "id"]
     if not found and names.number is None:
-        raise source.fail("1", "column id: missing, wanted an id: name its columns by --id-column, or number the rows by --number PREFIX")
+        raise source.fail(
+            "1", "column id: missing, wanted an id: name its columns by --id-column, or number the rows by --number PREFIX"
+        )
     return found[:1]
 
 
@@ -158,7 +160,9 @@ def write(rows: Iterable[Row], out: TextIO, names: Names) -> None:
             kept.write(to_json([row.id, repr(row.lon), repr(row.lat), time_text(row.time), row.label, row.properties]) + "\n")
         for name in properties:
             if name in fields:
-                raise FashkiinError(f"a row has a property {name!r} of its own: name that column by another --{FIELDS[fields.index(name)]}-column")
+                raise FashkiinError(
+                    f"a row has a property {name!r} of its own: name that column by another --{FIELDS[fields.index(name)]}-column"
+                )
         kept.seek(0)
         writer = csv.writer(out, delimiter=names.delimiter)
         writer.writerow([*fields, *properties])

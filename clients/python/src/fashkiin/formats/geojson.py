@@ -103,7 +103,9 @@ def write_feature(row: Row, names: Names) -> str:
     for name, value in row.properties.items():
         if name in properties:
             field = "time" if name == names.column("time") else "label"
-            raise FashkiinError(f"row {row.id!r} has a property {name!r} of its own: name the row's {field} by another --{field}-column")
+            raise FashkiinError(
+                f"row {row.id!r} has a property {name!r} of its own: name the row's {field} by another --{field}-column"
+            )
         properties[name] = value
     point = {"type": "Point", "coordinates": [row.lon, row.lat]}
     return to_json({"type": "Feature", "id": row.id, "geometry": point, "properties": properties})

@@ -19,7 +19,9 @@ from fashkiin.rows import Row
 POINTS = ("wpt", "trkpt", "rtept")
 NAMESPACE = "urn:fashkiin:row"
 PIECE = 65_536
-_HEAD = '<?xml version="1.0" encoding="UTF-8"?>\n<gpx xmlns="http://www.topografix.com/GPX/1/1" version="1.1" creator="fashkiin">\n'
+_HEAD = (
+    '<?xml version="1.0" encoding="UTF-8"?>\n<gpx xmlns="http://www.topografix.com/GPX/1/1" version="1.1" creator="fashkiin">\n'
+)
 
 
 def read(source: Source, names: Names) -> Iterator[Found]:
