@@ -10,7 +10,7 @@ import math
 from datetime import UTC, datetime, timedelta
 from typing import NamedTuple
 
-from fashkiin.errors import RowError
+from fashkiin.errors import Plain, RowError
 
 CELLS = 1 << 21
 LAST_CELL = CELLS - 1
@@ -104,7 +104,7 @@ def time_second(moment: datetime) -> int:
     """The second of a time from 1970-01-01T00:00:00Z to 2598-01-03T23:59:59Z; `RowError` for another."""
     second = (as_utc(moment) - EPOCH) // _SECOND
     if not 0 <= second <= LAST_SECOND:
-        raise RowError("time", time_text(moment), "1970-01-01T00:00:00Z to 2598-01-03T23:59:59Z")
+        raise RowError("time", Plain(time_text(moment)), "1970-01-01T00:00:00Z to 2598-01-03T23:59:59Z")
     return second
 
 

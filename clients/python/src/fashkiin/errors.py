@@ -14,6 +14,15 @@ class SettingsError(FashkiinError):
     """A setting, a token file or an argument that cannot be used."""
 
 
+class Plain(str):
+    """A text that messages show without quotes."""
+
+    __slots__ = ()
+
+    def __repr__(self) -> str:
+        return str(self)
+
+
 class RowError(FashkiinError, ValueError):
     """A row that cannot be stored: its field, the value there, and what was wanted."""
 

@@ -24,7 +24,7 @@ from fashkiin.cells import (
     time_second,
     time_text,
 )
-from fashkiin.errors import ReplyError, RowError
+from fashkiin.errors import Plain, ReplyError, RowError
 
 ID_BYTES = 64
 NOTE_BYTES = 4_096
@@ -85,7 +85,7 @@ def bound(name: str, text: str, least: int, most: int) -> None:
     except UnicodeEncodeError as error:
         raise RowError(name, text[error.start : error.start + 20], "UTF-8") from None
     if not least <= size <= most:
-        raise RowError(name, f"{size:,} bytes", f"{least} to {most:,} bytes")
+        raise RowError(name, Plain(f"{size:,} bytes"), f"{least} to {most:,} bytes")
 
 
 @dataclass(frozen=True, slots=True)

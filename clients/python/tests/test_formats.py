@@ -1,0 +1,125 @@
+"""Files: what is written is read back."""
+
+from __future__ import annotations
+
+import io
+from collections.abc import Sequence
+from datetime import UTC, datetime
+
+import pytest
+from hypothesis import given
+from hypothesis import strategies as st
+from strategies import names, rows, texts
+
+from fashkiin import FashkiinError, Row
+from fashkiin.formats import FORMATS, Found, Names, Source, format_of, sniff
+
+EXACT = ["geojson", "geojsonseq", "gpx"]
+
+
+def written(form: str, given_rows: Sequence[Row], naming: Names = Names()) -> bytes:
+    raw = io.BytesIO()
+    out = io.TextIOWrapper(raw, encoding="utf-8", newline="")
+    FORMATS[form].write(given_rows, out, naming)
+    out.flush()
+    return raw.getvalue()
+
+
+def found(form: str, data: bytes, naming: Names = Names()) -> list[Found]:
+    stream = io.BufferedReader(io.BytesIO(data))  # type: ignore[arg-type]
+    return list(FORMATS[form].read(Source("f", stream), naming))
+
+
+@pytest.mark.parametrize("form", EXACT)
+@given(given_rows=st.lists(rows(), max_size=4))
+def test_rows_are_read_back(form: str, given_rows: list[Row]) -> None:
+    assert [row for _, row in found(form, written(form, given_rows))] == given_rows
+
+
+@given(given_rows=st.lists(rows(texts.filter(bool)), max_size=4))
+def test_rows_of_texts_are_read_back_from_csv(given_rows: list[Row]) -> None:
+    assert [row for _, row in found("csv", written("csv", given_rows))] == given_rows
+
+
+@given(given_rows=st.lists(rows(), min_size=1, max_size=3), renamed=names)
+def test_other_names_of_the_time_are_read_back(given_rows: list[Row], renamed: str) -> None:
+    if any(renamed in row.properties for row in given_rows):
+        return
+    naming = Names(time=renamed)
+    assert [row for _, row in found("geojsonseq", written("geojsonseq", given_rows, naming), naming)] == given_rows
+
+
+@pytest.mark.parametrize("form", ["csv", "geojson", "geojsonseq"])
+def test_a_property_with_the_name_of_a_field_is_refused_not_lost(form: str) -> None:
+    row = Row("p", 1.0, 2.0, datetime(2024, 1, 1, tzinfo=UTC), "A", {"time": "noon"})
+    with pytest.raises(FashkiinError, match="'time' of its own: .* --time-column"):
+        written(form, [row])
+    assert [r for _, r in found(form, written(form, [row], Names(time="at")), Names(time="at"))] == [row]
+
+
+def test_a_csv_of_ship_positions() -> None:
+    data = (
+        b"\xef\xbb\xbfMMSI,BaseDateTime,LAT,LON,SOG,VesselName\r\n"
+        b'367,2024-01-01T00:00:03,29.5,-94.25,0.0,"SEA, STAR"\r\n'
+        b"368,2024-01-01T00:00:04,30.5,-95.25,,\r\n"
+    )
+    naming = Names(id=("MMSI", "BaseDateTime"), time="BaseDateTime", unlabelled="A")
+    assert found("csv", data, naming) == [
+        (
+            2,
+            Row(
+                "367/2024-01-01T00:00:03",
+                -94.25,
+                29.5,
+                datetime(2024, 1, 1, 0, 0, 3, tzinfo=UTC),
+                "A",
+                {"MMSI": "367", "SOG": "0.0", "VesselName": "SEA, STAR"},
+            ),
+        ),
+        (3, Row("368/2024-01-01T00:00:04", -95.25, 30.5, datetime(2024, 1, 1, 0, 0, 4, tzinfo=UTC), "A", {"MMSI": "368"})),
+    ]
+
+
+def test_a_gpx_track() -> None:
+    data = b"""<?xml version="1.0"?>
+<gpx xmlns="http://www.topografix.com/GPX/1/1" version="1.1" creator="watch">
+<trk><name>Sunday</name><trkseg>
+<trkpt lat="51.5" lon="4.25"><ele>12.5</ele><time>2024-05-01T12:00:00Z</time></trkpt>
+<trkpt lat="51.6" lon="4.5"><time>2024-05-01T12:00:01.5Z</time></trkpt>
+</trkseg></trk>
+<wpt lat="1" lon="2"><name>no time</name></wpt>
+</gpx>
+"""
+    (first, one), (second, two), (third, three) = found("gpx", data, Names(number="walk", unlabelled="A"))
+    assert (first, second, third) == (4, 5, 7)
+    assert one == Row("walk-1", 4.25, 51.5, datetime(2024, 5, 1, 12, tzinfo=UTC), "A", {"ele": "12.5", "track": "Sunday"})
+    assert two == Row("walk-2", 4.5, 51.6, datetime(2024, 5, 1, 12, 0, 1, 500_000, tzinfo=UTC), "A", {"track": "Sunday"})
+    assert str(three) == "time: missing, wanted a point with a <time>"
+
+
+def test_a_feature_with_a_height_and_an_id_of_its_own() -> None:
+    data = (
+        b'\x1e{"type":"Feature","id":7,"geometry":{"type":"Point","coordinates":[1,2,3]},"properties":{"when":0,"label":"A"}}\n'
+    )
+    naming = Names(time="when", time_format="unix")
+    assert found("geojsonseq", data, naming) == [(1, Row("7", 1.0, 2.0, datetime(1970, 1, 1, tzinfo=UTC), "A", {"ele": 3}))]
+
+
+@pytest.mark.parametrize(
+    ("data", "form"),
+    [
+        (b'<?xml version="1.0"?><gpx/>', "gpx"),
+        (b'{"type":"FeatureCollection","features":[{"type":"Feature"}]}', "geojson"),
+        (b'{"type":"Feature","geometry":null}\n', "geojsonseq"),
+        (b"\x1e{}", "geojsonseq"),
+        (b"id,lon,lat\n", "csv"),
+        (b"", "csv"),
+    ],
+)
+def test_the_format_of_first_bytes(data: bytes, form: str) -> None:
+    assert sniff(io.BufferedReader(io.BytesIO(data))) is FORMATS[form]  # type: ignore[arg-type]
+
+
+def test_the_format_of_a_name() -> None:
+    assert format_of("a/b.GeoJSON") is FORMATS["geojson"]
+    assert format_of("b") is None
