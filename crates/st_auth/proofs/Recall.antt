@@ -8,7 +8,7 @@ use Rattle.lru.proofs.CallerLemmas.{Contains-lookup, Contains-promoted, Contains
 use Rattle.lru.proofs.Splits.{Contains-nil}
 use Rattle.st_label.specs.Reading.{is_true}
 use Rattle.st_text.specs.Texts.{Text, is_among}
-use Rattle.st_auth.specs.Remembered.{AreOf, has_text}
+use Rattle.st_auth.specs.inner.Remembered.{AreOf, has_text}
 
 of_nothing : {A : Type 0} (names : List Text) → AreOf {A = A} names []
 of_nothing names = λ key verdict c. absurd (Contains-nil (key, verdict) c)

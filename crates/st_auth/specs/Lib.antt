@@ -1,3 +1,3 @@
 pub mod Names
 pub mod Order
-pub mod Remembered
+pub mod inner

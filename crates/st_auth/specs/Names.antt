@@ -1,4 +1,4 @@
--- Authorizations: names, and sets of them, which are lists in which a repeat counts for nothing.
+-- Authorizations: names, and sets of them as lists, in which repeats have no effect.
 use Rattle.std.specs.Prelude.{◌≡◌, ℕ, List, length, Bool, not, ◌&&◌, nat_le, Option, Some}
 use Rattle.std.specs.List.{position}
 use Rattle.st_text.specs.Texts.{Text, is_among}
@@ -6,18 +6,18 @@ use Rattle.st_auth.specs.declared.auths.AuthsFault.{AuthsFault}
 use Rattle.st_auth.specs.declared.auths.AuthsFault.TheVariants.{BadName, NoMemory}
 
 -- an authorization's name is 1 to 256 bytes
-abbrev pub is_name : Text → Bool
-is_name name = nat_le 1 (length name) && nat_le (length name) 256
+abbrev pub is_auth_name : Text → Bool
+is_auth_name name = nat_le 1 (length name) && nat_le (length name) 256
 
--- the place of the first text that is no name
+-- the index of the first text that is not a name
 abbrev pub first_bad : List Text → Option ℕ
-first_bad names = position (λ name. not (is_name name)) names
+first_bad names = position (λ name. not (is_auth_name name)) names
 
--- the place of the first name that is not in the set
+-- the index of the first name that is not in the set
 abbrev pub first_missing : List Text → List Text → Option ℕ
 first_missing set names = position (λ name. not (is_among set name)) names
 
--- Why the texts are no list of names.
-abbrev pub Refuses : List Text → AuthsFault → Type 0
-Refuses names (BadName index) = first_bad names ≡ Some index
-Refuses names NoMemory = Unit {0}
+-- why the texts are refused as a list of names
+abbrev pub RefusesNames : List Text → AuthsFault → Type 0
+RefusesNames names (BadName index) = first_bad names ≡ Some index
+RefusesNames names NoMemory = Unit {0}

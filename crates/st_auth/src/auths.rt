@@ -2,8 +2,8 @@
 ghost use Rattle.std.specs.Prelude.{◌≡◌, ◌↔◌, ◌<◌, ◌≤◌, [], None, option_map, find, IsTrue, IfSome, IfOk, IfErr, length, map, not, slice_index_or};
 ghost use Rattle.std.specs.List.{list_all, position, range_with_len};
 ghost use Rattle.st_text.specs.Texts.{is_among};
-ghost use Rattle.st_auth.specs.Names.{is_name, first_bad, first_missing, Refuses};
-ghost use Rattle.st_auth.specs.Order.{IsOrder, name_at as name_of};
+ghost use Rattle.st_auth.specs.Names.{is_auth_name as is_auth_name_of, first_bad, first_missing, RefusesNames};
+ghost use Rattle.st_auth.specs.Order.{IsOrder, name_at};
 ghost use Rattle.st_auth.specs.declared.auths.AuthsFault.TheVariants.{NoMemory};
 
 use st_label::{Names, Term};
@@ -15,11 +15,12 @@ use std::marker::Model;
 /// The greatest length of an authorization's name, in bytes.
 pub const MAX_NAME: usize = 256;
 
-/// Why a list of texts is no set of authorizations.
+/// Why a list of texts is refused as a set of authorizations.
 #[derive(Clone, Copy, PartialEq, Eq, Debug)]
 pub enum AuthsFault {
-    /// The place of the first text that is empty or longer than [`MAX_NAME`] bytes.
+    /// The text at this index, the first such, is empty or longer than [`MAX_NAME`] bytes.
     BadName { index: usize },
+    /// Out of memory.
     NoMemory,
 }
 
@@ -39,13 +40,13 @@ impl<T: Drop> From<AllocFailed<T>> for AuthsFault {
     }
 }
 
-/// A set of authorizations: names of 1 to 256 bytes, as Accumulo gives them to users. The order in
-/// which they were given and their repeats are kept, and count for nothing where a label is tested.
+/// A set of authorizations: names of 1 to 256 bytes, as Accumulo gives them to users. It keeps the
+/// order in which they were given and their repeats; neither matters when a label is tested.
 #[derive(Drop)]
 pub struct Auths<A: Allocator = Global> {
     alloc: A,
     names: Vec<Words<A>, A>,
-    // The places of the names, lesser names first.
+    // The indices of the names, lesser names first.
     order: Vec<usize, A>,
 }
 
@@ -69,7 +70,7 @@ impl<A: Allocator + Copy> Auths<A> {
     pub fn from_list(alloc: A, names: &[&str]) -> Result<Auths<A>, AuthsFault>
         ensures names { IfOk result (λ auths. auths ≡ map (λ name. name.now) names.now) }
         ensures good { IfOk result (λ auths. first_bad auths ≡ None) }
-        ensures fault { IfErr result (λ fault. Refuses (map (λ name. name.now) names.now) fault) }
+        ensures fault { IfErr result (λ fault. RefusesNames (map (λ name. name.now) names.now) fault) }
     {
         if let Some(index) = bad_place(names) {
             return Err(AuthsFault::BadName { index });
@@ -83,14 +84,14 @@ impl<A: Allocator + Copy> Auths<A> {
         })
     }
 
-    /// An equal set.
+    /// An equal set. `AllocError` when out of memory.
     pub fn copy(&self) -> Result<Auths<A>, AllocError>
         ensures { IfOk result (λ other. other ≡ self.now) }
     {
         self.copy_in(self.alloc)
     }
 
-    /// The set of no names, which takes no memory.
+    /// The empty set. It allocates nothing.
     pub fn none(alloc: A) -> Auths<A>
         ensures { result ≡ [] }
     {
@@ -108,20 +109,20 @@ impl<A: Allocator> Auths<A> {
         ensures { result ≡ is_among self.now name.now }
     {
         self.order
-            .binary_search_by(|place| name_at(&self.names, *place).cmp(name))
+            .binary_search_by(|place| name_or_empty(&self.names, *place).cmp(name))
             .is_ok()
     }
 
     #[tactic(auto, using(crate::proofs::Places::position_map))]
-    /// The place of the first of the names that this set lacks.
+    /// The index of the first of the names that this set lacks.
     pub fn first_missing(&self, names: &[&str]) -> Option<usize>
         ensures { result ≡ first_missing self.now (map (λ name. name.now) names.now) }
     {
         first_lacked(self, names)
     }
 
-    /// Whether each name of the other set is one of these. This walks once over both, which is cheaper
-    /// than to look up each of many names.
+    /// Whether this set has every name of the other. It walks once over both, which is cheaper than
+    /// looking up each of many names.
     pub fn has_all<B: Allocator>(&self, other: &Auths<B>) -> bool
         ensures { result ≡ list_all (is_among self.now) other.now }
     {
@@ -131,7 +132,7 @@ impl<A: Allocator> Auths<A> {
             let Some((our, greater)) = ours.split_first() else {
                 return false;
             };
-            match name_at(&self.names, *our).cmp(name_at(&other.names, *their)) {
+            match name_or_empty(&self.names, *our).cmp(name_or_empty(&other.names, *their)) {
                 Ordering::Less => ours = greater,
                 Ordering::Equal => theirs = rest,
                 Ordering::Greater => return false,
@@ -145,7 +146,7 @@ impl<A: Allocator> Auths<A> {
         ensures name { option_map (λ name. name.now) result ≡ find (λ name. not (is_among self.now name)) names.now }
         ensures sized { IfSome result (λ name. length name.now ≤ MAX_NAME) }
     {
-        // Where few names are asked of many, to look up each takes fewer comparisons than the walk.
+        // With few names and a large set, looking up each takes fewer comparisons than the walk.
         if names.len() >= self.len() / 8 && self.has_all(names) {
             return None;
         }
@@ -155,7 +156,7 @@ impl<A: Allocator> Auths<A> {
         }
     }
 
-    /// An equal set in memory of another allocator.
+    /// An equal set in another allocator. `AllocError` when out of memory.
     pub fn copy_in<B: Allocator + Copy>(&self, alloc: B) -> Result<Auths<B>, AllocError>
         ensures { IfOk result (λ other. other ≡ self.now) }
     {
@@ -185,21 +186,21 @@ impl<A: Allocator> Auths<A> {
         true
     }
 
-    /// How many names were given, repeats counted.
+    /// The number of names given, repeats included.
     pub fn len(&self) -> usize
         ensures { result ≡ length self.now }
     {
         self.names.len()
     }
 
-    /// The places of all names, those of lesser names first, by their bytes.
+    /// The indices of all names, those of lesser names first, by bytes.
     pub fn order(&self) -> &[usize]
         ensures { IsOrder self.now result.now }
     {
         &self.order
     }
 
-    /// The name at a place, in the order given.
+    /// The name at an index, in the order given.
     pub fn get(&self, index: usize) -> &str
         requires { index < length self.now }
         ensures { result.now ≡ slice_index_or self.now index result.now }
@@ -215,12 +216,12 @@ impl<A: Allocator> Names for Auths<A> {
 
     fn has_term(&self, term: &Term<'_>) -> bool {
         self.order
-            .binary_search_by(|place| term.compare(name_at(&self.names, *place)))
+            .binary_search_by(|place| term.compare(name_or_empty(&self.names, *place)))
             .is_ok()
     }
 }
 
-// The place of the first of the names that is not in the set.
+// The index of the first of the names that is not in the set.
 fn first_lacked<A: Allocator>(set: &Auths<A>, names: &[&str]) -> Option<usize>
     ensures { result ≡ position (λ name. not (is_among set.now name.now)) names.now }
 {
@@ -237,18 +238,21 @@ fn first_outside<'b, A: Allocator, B: Allocator>(
     names.iter().find(|name| !set.has(name.as_str()))
 }
 
-fn is_name_here(name: &str) -> bool
-    ensures { result ≡ is_name name.now }
+// Whether a text is a name: neither empty nor too long.
+fn is_auth_name(name: &str) -> bool
+    ensures { result ≡ is_auth_name_of name.now }
 {
     1 <= name.len() && name.len() <= MAX_NAME
 }
 
+// The index of the first text that is not a name.
 fn bad_place(names: &[&str]) -> Option<usize>
-    ensures { result ≡ position (λ name. not (is_name name.now)) names.now }
+    ensures { result ≡ position (λ name. not (is_auth_name_of name.now)) names.now }
 {
-    names.iter().position(|name| !is_name_here(*name))
+    names.iter().position(|name| !is_auth_name(*name))
 }
 
+// Copies of the names.
 fn copies<A: Allocator + Copy>(alloc: A, names: &[&str]) -> Result<Vec<Words<A>, A>, AllocError>
     ensures { IfOk result (λ list. list.items ≡ map (λ name. name.now) names.now) }
 {
@@ -259,9 +263,9 @@ fn copies<A: Allocator + Copy>(alloc: A, names: &[&str]) -> Result<Vec<Words<A>,
     Ok(list)
 }
 
-// The name at a place, or the empty text past the end.
-fn name_at<A: Allocator>(names: &[Words<A>], place: usize) -> &str
-    ensures { result.now ≡ name_of names.now place }
+// The name at an index, or the empty text past the end.
+fn name_or_empty<A: Allocator>(names: &[Words<A>], place: usize) -> &str
+    ensures { result.now ≡ name_at names.now place }
 {
     match names.get(place) {
         Some(name) => name.as_str(),
@@ -269,6 +273,7 @@ fn name_at<A: Allocator>(names: &[Words<A>], place: usize) -> &str
     }
 }
 
+// The numbers below `count`.
 fn places<A: Allocator>(alloc: A, count: usize) -> Result<Vec<usize, A>, AllocError>
     ensures { IfOk result (λ list. list.items ≡ range_with_len 0 count) }
 {
@@ -279,6 +284,7 @@ fn places<A: Allocator>(alloc: A, count: usize) -> Result<Vec<usize, A>, AllocEr
     Ok(list)
 }
 
+// The indices of the names, lesser names first.
 fn places_in_order<A: Allocator + Copy>(
     alloc: A,
     names: &[Words<A>],
@@ -286,6 +292,6 @@ fn places_in_order<A: Allocator + Copy>(
     ensures { IfOk result (λ order. IsOrder names.now order.items) }
 {
     let mut order = places(alloc, names.len())?;
-    order.sort_by(|one, other| name_at(names, *one).cmp(name_at(names, *other)))?;
+    order.sort_by(|one, other| name_or_empty(names, *one).cmp(name_or_empty(names, *other)))?;
     Ok(order)
 }

@@ -4,7 +4,7 @@
 mod auths;
 mod long_labels;
 mod set_verdicts;
-mod table;
+mod short_labels;
 mod truth;
 mod verdicts;
 

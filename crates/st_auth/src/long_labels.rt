@@ -1,9 +1,9 @@
-//! Verdicts on long labels.
-ghost use Rattle.std.specs.Prelude.{◌≡◌, List, IfSome};
+//! A cache of verdicts on long labels.
+ghost use Rattle.std.specs.Prelude.{◌≡◌, List};
 ghost use Rattle.std.specs.Map.{lookup};
 ghost use Rattle.st_label.specs.Reading.{is_true};
 ghost use Rattle.st_text.specs.Texts.{Text, is_among};
-ghost use Rattle.st_auth.specs.Remembered.{AreOf, AreHeld, has_text};
+ghost use Rattle.st_auth.specs.inner.Remembered.{AreOf, AreHeld, has_text};
 ghost use Rattle.lru.specs.LruCache.{lru_cache, promoted};
 
 use crate::auths::Auths;
@@ -15,8 +15,8 @@ use std::num::NonZeroUsize;
 
 type Cache<A> = LruCache<String<A>, bool, DefaultHasher, A>;
 
-/// Remembers which labels are true, and of more of them than it may hold forgets the one that was asked
-/// for longest ago. It takes memory with the first label.
+/// A cache of the verdicts on labels. When it is full, it forgets the label that was asked for longest
+/// ago. It allocates with the first label.
 #[derive(Drop)]
 pub struct LongLabels<A: Allocator> {
     alloc: A,
@@ -25,7 +25,7 @@ pub struct LongLabels<A: Allocator> {
 }
 
 impl<A: Allocator + Copy> LongLabels<A> {
-    /// Room for so many labels.
+    /// An empty cache with room for `capacity` labels.
     pub fn new(alloc: A, capacity: NonZeroUsize) -> LongLabels<A>
         ensures capacity { result.capacity ≡ capacity }
         ensures held { (names : List Text) → AreHeld names result.cache }
@@ -37,7 +37,7 @@ impl<A: Allocator + Copy> LongLabels<A> {
         }
     }
 
-    /// Forgets all.
+    /// Forgets all labels.
     pub fn forget(&mut self)
         ensures capacity { self.new.capacity ≡ self.old.capacity }
         ensures held { (names : List Text) → AreHeld names self.new.cache }
@@ -45,7 +45,7 @@ impl<A: Allocator + Copy> LongLabels<A> {
         self.cache = None;
     }
 
-    /// Whether the label is true for the set. It remembers nothing where it finds no memory for it.
+    /// Whether the label is true for the set. When out of memory it remembers nothing.
     pub fn ask<B: Allocator, C: Allocator>(&mut self, label: &Label<B>, auths: &Auths<C>) -> bool
         requires held { AreHeld auths.now self.old.cache }
         ensures value { result ≡ is_true (is_among auths.now) label.now }
@@ -61,7 +61,7 @@ impl<A: Allocator + Copy> LongLabels<A> {
     }
 }
 
-// The cache, or an empty one where there is none and there is memory for it.
+// The cache, or an empty one when there is none yet. `None` when out of memory.
 fn cache_of<A: Allocator + Copy>(
     alloc: A,
     capacity: NonZeroUsize,
@@ -78,7 +78,7 @@ fn cache_of<A: Allocator + Copy>(
     }
 }
 
-// Whether the label is true for the set, as the cache remembers it or as it is told now.
+// Whether the label is true for the set, from the cache or computed now.
 fn ask_in<A: Allocator + Copy, B: Allocator, C: Allocator>(
     alloc: A,
     cache: &mut Cache<A>,
@@ -97,6 +97,7 @@ fn ask_in<A: Allocator + Copy, B: Allocator, C: Allocator>(
     verdict
 }
 
+// The verdict that the cache remembers.
 fn recall<A: Allocator + Copy>(cache: &mut Cache<A>, text: &str) -> Option<bool>
     ensures value { result ≡ lookup (has_text text.now) cache.old.entries }
     ensures entries { cache.new ≡ lru_cache (promoted (has_text text.now) cache.old.entries) cache.old.cap }
@@ -104,9 +105,10 @@ fn recall<A: Allocator + Copy>(cache: &mut Cache<A>, text: &str) -> Option<bool>
     cache.get(text).copied()
 }
 
-// Leaves the cache as it was where there is no memory.
+// Remembers the verdict. When out of memory the cache is unchanged.
 fn remember<A: Allocator + Copy>(alloc: A, cache: &mut Cache<A>, text: &str, verdict: bool)
-    ensures { (names : List Text) → verdict ≡ is_true (is_among names) text.now → AreOf names cache.old.entries → AreOf names cache.new.entries }
+    ensures { (names : List Text) → verdict ≡ is_true (is_among names) text.now
+        → AreOf names cache.old.entries → AreOf names cache.new.entries }
 {
     if let Ok(text) = String::from_str(alloc, text) {
         let _kept = cache.put(text, verdict);

@@ -1,22 +1,22 @@
-//! Verdicts on labels for one set of authorizations.
+//! A cache of verdicts on labels for one set of authorizations.
 ghost use Rattle.std.specs.Prelude.{◌≡◌};
 ghost use Rattle.st_label.specs.Reading.{is_true};
 ghost use Rattle.st_text.specs.Texts.{is_among};
 
 use crate::auths::Auths;
 use crate::long_labels::LongLabels;
-use crate::table::Table;
+use crate::short_labels::ShortLabels;
 use st_label::Label;
 use std::alloc::{Allocator, Global};
 use std::marker::Model;
 use std::num::NonZeroUsize;
 
-/// Remembers which labels are true for one set of authorizations, as [`crate::Verdicts`] does, and never
-/// compares the set.
+/// A cache of the verdicts on labels for one set of authorizations. Unlike [`crate::Verdicts`] it
+/// borrows the set, and never compares it.
 #[derive(Drop)]
 pub struct SetVerdicts<'s, A: Allocator = Global, B: Allocator = Global> {
     auths: &'s Auths<B>,
-    short: Table<A>,
+    short: ShortLabels<A>,
     long: LongLabels<A>,
 }
 
@@ -25,7 +25,7 @@ impl<'s, A: Allocator, B: Allocator> Model for SetVerdicts<'s, A, B> {
 
     ghost Value = { List (List ℕ) };
 
-    ghost use Rattle.st_auth.specs.Remembered.{AreHeld, AreKnown};
+    ghost use Rattle.st_auth.specs.inner.Remembered.{AreHeld, AreKnown};
 
     ghost view = { λ v. v.auths.now };
 
@@ -33,19 +33,19 @@ impl<'s, A: Allocator, B: Allocator> Model for SetVerdicts<'s, A, B> {
 }
 
 impl<'s, A: Allocator + Copy, B: Allocator> SetVerdicts<'s, A, B> {
-    /// Room for so many long labels. It takes no memory before the first label.
+    /// An empty cache with room for `capacity` long labels. It allocates with the first label.
     pub fn new(alloc: A, capacity: NonZeroUsize, auths: &'s Auths<B>) -> SetVerdicts<'s, A, B>
         ensures { result ≡ auths.now }
     {
         SetVerdicts {
             auths,
-            short: Table::new(alloc),
+            short: ShortLabels::new(alloc),
             long: LongLabels::new(alloc, capacity),
         }
     }
 
-    /// Whether the label is true for the set, as [`crate::satisfies`] says. It remembers nothing where it
-    /// finds no memory for it.
+    /// Whether the label is true for the set, as [`crate::satisfies`] says. When out of
+    /// memory it remembers nothing.
     pub fn ask<C: Allocator>(&mut self, label: &Label<C>) -> bool
         ensures value { result ≡ is_true (is_among self.old) label.now }
         ensures set { self.new ≡ self.old }

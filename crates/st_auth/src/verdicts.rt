@@ -1,4 +1,4 @@
-//! Verdicts on labels, remembered.
+//! A cache of verdicts on labels.
 ghost use Rattle.std.specs.Prelude.{◌≡◌, IfOk};
 ghost use Rattle.std.specs.NonZero.{non_zero_usize_get};
 ghost use Rattle.st_label.specs.Reading.{is_true};
@@ -6,21 +6,21 @@ ghost use Rattle.st_text.specs.Texts.{is_among};
 
 use crate::auths::Auths;
 use crate::long_labels::LongLabels;
-use crate::table::Table;
+use crate::short_labels::ShortLabels;
 use crate::truth::satisfies;
 use st_label::Label;
 use std::alloc::{AllocError, Allocator, Global};
 use std::marker::Model;
 use std::num::NonZeroUsize;
 
-/// Remembers for one set of authorizations which labels are true for it. It forgets all where it is
-/// asked for another set, and of more long labels than it may hold the one that was asked for longest ago.
-/// Labels of at most [`st_text::MAX_SHORT`] bytes are in a table of their own, beside those.
+/// A cache of the verdicts on labels for one set of authorizations. Asked for another set, it forgets
+/// all. When it is full of long labels, it forgets the one that was asked for longest ago. Labels of at
+/// most [`st_text::MAX_SHORT`] bytes are cached apart.
 #[derive(Drop)]
 pub struct Verdicts<A: Allocator = Global> {
     alloc: A,
     auths: Auths<A>,
-    short: Table<A>,
+    short: ShortLabels<A>,
     long: LongLabels<A>,
 }
 
@@ -30,7 +30,7 @@ impl<A: Allocator> Model for Verdicts<A> {
 
     ghost Value = { ℕ };
 
-    ghost use Rattle.st_auth.specs.Remembered.{AreHeld, AreKnown};
+    ghost use Rattle.st_auth.specs.inner.Remembered.{AreHeld, AreKnown};
 
     ghost view = { λ v. non_zero_usize_get v.long.capacity };
 
@@ -38,20 +38,20 @@ impl<A: Allocator> Model for Verdicts<A> {
 }
 
 impl<A: Allocator + Copy> Verdicts<A> {
-    /// Room for so many labels.
+    /// An empty cache with room for `capacity` long labels. `AllocError` when out of memory.
     pub fn new(alloc: A, capacity: NonZeroUsize) -> Result<Verdicts<A>, AllocError>
         ensures { IfOk result (λ verdicts. verdicts ≡ non_zero_usize_get capacity) }
     {
         Ok(Verdicts {
             alloc,
             auths: Auths::none(alloc),
-            short: Table::new(alloc),
+            short: ShortLabels::new(alloc),
             long: LongLabels::new(alloc, capacity),
         })
     }
 
-    /// Whether the label is true for the set, as [`satisfies`] says. It remembers nothing where it
-    /// finds no memory for it.
+    /// Whether the label is true for the set, as [`satisfies`] says. When out of memory
+    /// it remembers nothing.
     pub fn ask<B: Allocator, C: Allocator>(&mut self, label: &Label<B>, auths: &Auths<C>) -> bool
         ensures value { result ≡ is_true (is_among auths.now) label.now }
         ensures capacity { self.new ≡ self.old }

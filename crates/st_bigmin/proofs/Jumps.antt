@@ -9,7 +9,7 @@ use Rattle.st_box.specs.declared.zbox.ZBox.{ZBox}
 use Rattle.st_box.specs.Corner.{IsWithin, spot_at, address_at, later_of, earlier_of}
 use Rattle.st_box.specs.ZBox.{IsInside, first_of, last_of}
 use Rattle.st_bigmin.specs.Jump.{IsLeastAbove, IsGreatestBelow}
-use Rattle.st_bigmin.specs.Run.{IsBetween}
+use Rattle.st_bigmin.specs.inner.Cells.{IsBetween}
 use Rattle.st_box.proofs.Cells.{after_first, before_last, in_cell, address-mono, address-spot, spot_in_cube, above_prefix, last_prefix, within-cube}
 use Rattle.st_box.proofs.Boxes.{cell_first, cell_last, Meets, meets, box_in_cube, box_ordered, inside_at}
 

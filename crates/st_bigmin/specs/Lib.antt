@@ -1,3 +1,4 @@
 pub mod First
 pub mod Jump
 pub mod Run
+pub mod inner

@@ -1,9 +1,7 @@
 -- Runs: the maximal intervals of consecutive numbers in a set.
-use Rattle.std.specs.Prelude.{ℕ, ◌≡◌, ◌<◌, ◌≤◌, ◌+◌, ◌-◌, ◌*◌, ◌^◌, ◌/◌}
-use Rattle.st_key.specs.Order.{Spot}
+use Rattle.std.specs.Prelude.{ℕ, ◌≡◌, ◌<◌, ◌≤◌, ◌+◌, ◌^◌, ◌/◌}
 use Rattle.st_bigmin.specs.declared.run.Run.{Run}
 use Rattle.st_box.specs.declared.zbox.ZBox.{ZBox}
-use Rattle.st_box.specs.Corner.{IsWithin, spot_at}
 use Rattle.st_box.specs.ZBox.{IsInside}
 
 -- r is the first run of the set P that is wholly at or after `from`
@@ -20,29 +18,13 @@ pub record IsRunTo (P : ℕ → Type 0) (from m : ℕ) : Type 0 where
   pub within : (a : ℕ) → from ≤ a → a ≤ m → P a
   pub after : P (m + 1) → ⊥
 
--- the place of the address is between these two
-pub record IsBetween (s t : Spot) (a : ℕ) : Type 0 where
-  pub from_first : IsWithin s (spot_at a)
-  pub to_last : IsWithin (spot_at a) t
-
--- so are the first and the last address that are p above their lowest k bits
-pub record HasCell (s t : Spot) (k p : ℕ) : Type 0 where
-  pub starts : IsWithin s (spot_at (p * 2 ^ k))
-  pub ends : IsWithin (spot_at (p * 2 ^ k + (2 ^ k - 1))) t
-
--- m is the first number from `from` on that is not between
-pub record IsFirstOutside (s t : Spot) (from m : ℕ) : Type 0 where
-  pub ahead : from ≤ m
-  pub before : (a : ℕ) → from ≤ a → a < m → IsBetween s t a
-  pub outside : IsBetween s t m → ⊥
-
--- m is the least address of the box that is p above its lowest k bits
+-- m is the least address of the box whose bits above the lowest k are p
 pub record IsLeastInCell (b : ZBox) (k p m : ℕ) : Type 0 where
   pub inside : IsInside b m
   pub prefix : m / 2 ^ k ≡ p
   pub least : (a : ℕ) → IsInside b a → a / 2 ^ k ≡ p → m ≤ a
 
--- and the greatest
+-- m is the greatest one
 pub record IsGreatestInCell (b : ZBox) (k p m : ℕ) : Type 0 where
   pub inside : IsInside b m
   pub prefix : m / 2 ^ k ≡ p

@@ -1,5 +1,5 @@
 //! The first key of a query.
-ghost use Rattle.std.specs.Prelude.{◌≡◌, ℕ, ◌≤◌, ◌<◌, ◌/◌, IfSome, IfNone};
+ghost use Rattle.std.specs.Prelude.{◌≤◌, ◌<◌, ◌/◌, IfSome, IfNone};
 ghost use Rattle.st_key.specs.Period.{seconds_of};
 ghost use Rattle.st_key.specs.Key.{IsBefore};
 ghost use Rattle.st_key.specs.declared.key.Key.{Key};
@@ -10,7 +10,7 @@ use crate::jump::bigmin;
 use st_box::Query;
 use st_key::{Key, Period};
 
-/// The first key in a bin of the query's span.
+// The first key in a bin of the query's span.
 fn first_in(query: &Query, bin: u32, period: Period) -> Key
     requires in_range { bin < 229376 }
     requires from_first { query.now.t0 / seconds_of period ≤ bin }

@@ -2,13 +2,13 @@
 ghost use Rattle.std.specs.Prelude.{◌≡◌, ℕ, ◌^◌, ◌<◌, ◌≤◌, ◌+◌, ◌-◌, ◌*◌, ◌/◌, IfSome, IfNone};
 ghost use Rattle.st_box.specs.Corner.{spot_at};
 ghost use Rattle.st_bigmin.specs.Jump.{IsLeastAbove, IsGreatestBelow};
-ghost use Rattle.st_bigmin.specs.Run.{IsBetween};
+ghost use Rattle.st_bigmin.specs.inner.Cells.{IsBetween};
 ghost use Rattle.st_box.specs.ZBox.{IsInside};
 
 use st_box::{Corner, ZBox};
 
-/// The first and the last place of the addresses that are `prefix` above their lowest `level`
-/// bits. They are all the places between these two.
+// The first and the last place of the addresses that are `prefix` above their lowest `level`
+// bits. They are all the places between these two.
 pub(crate) fn cell(prefix: u64, level: u32) -> (Corner, Corner)
     requires level_in_range { level < 64 }
     requires fits { (prefix + 1) * 2 ^ level ≤ 2 ^ 63 }
@@ -20,9 +20,9 @@ pub(crate) fn cell(prefix: u64, level: u32) -> (Corner, Corner)
     (Corner::at(first), Corner::at(last))
 }
 
-/// A level at which no address between two corners is both above `z` and in the cell of `z`. It
-/// is the highest bit at which `z` differs from the address of the place between them that is
-/// nearest to its own: that place is in each cell of `z` that has a place between them.
+// A level at which no address between two corners is both above `z` and in the cell of `z`. It
+// is the highest bit at which `z` differs from the address of the place between them that is
+// nearest to its own: that place is in each cell of `z` that has a place between them.
 fn first_level(z: u64, first: &Corner, last: &Corner) -> u32
     requires in_range { z < 2 ^ 63 }
     ensures { (a : ℕ) → IsBetween first.now last.now a → z < a → z / 2 ^ result < a / 2 ^ result }

@@ -1,6 +1,7 @@
 //! The runs of a box: the maximal intervals of consecutive addresses in it.
-ghost use Rattle.std.specs.Prelude.{◌≡◌, ◌↔◌, ℕ, ◌^◌, ◌<◌, ◌≤◌, ◌+◌, ◌-◌, ◌*◌, ◌/◌, IsTrue, IfSome, IfNone};
-ghost use Rattle.st_bigmin.specs.Run.{IsNextRun, IsRunTo, HasCell, IsFirstOutside, IsLeastInCell, IsGreatestInCell};
+ghost use Rattle.std.specs.Prelude.{◌≡◌, ◌↔◌, ℕ, ◌^◌, ◌<◌, ◌≤◌, ◌+◌, ◌*◌, ◌/◌, IsTrue, IfSome, IfNone};
+ghost use Rattle.st_bigmin.specs.Run.{IsNextRun, IsRunTo, IsLeastInCell, IsGreatestInCell};
+ghost use Rattle.st_bigmin.specs.inner.Cells.{HasCell, IsFirstOutside};
 ghost use Rattle.st_box.specs.ZBox.{IsInside};
 
 use crate::jump::{bigmin, cell};
@@ -13,8 +14,8 @@ pub struct Run {
     pub last: u64,
 }
 
-/// Whether the addresses that are `prefix` above their lowest `level` bits are all between two
-/// corners.
+// Whether the addresses that are `prefix` above their lowest `level` bits are all between two
+// corners.
 fn has_cell(first: &Corner, last: &Corner, prefix: u64, level: u32) -> bool
     requires level_in_range { level < 64 }
     requires fits { (prefix + 1) * 2 ^ level ≤ 2 ^ 63 }
@@ -24,7 +25,7 @@ fn has_cell(first: &Corner, last: &Corner, prefix: u64, level: u32) -> bool
     first.is_within(&cell_first) && cell_last.is_within(last)
 }
 
-/// The first address of a cell that is not between two corners.
+// The first address of a cell that is not between two corners.
 fn first_outside(first: &Corner, last: &Corner, prefix: u64, level: u32) -> u64
     requires level_in_range { level < 64 }
     requires fits { (prefix + 1) * 2 ^ level ≤ 2 ^ 63 }

@@ -10,8 +10,9 @@ use Rattle.st_key.proofs.MortonLemmas.{spread-mono}
 use Rattle.st_key.proofs.PeriodLemmas.{period}
 use Rattle.st_box.specs.declared.query.Query.{Query}
 use Rattle.st_box.specs.declared.zbox.ZBox.{ZBox}
-use Rattle.st_box.specs.KeyTest.{IsPlaceIn, IsTimeIn}
-use Rattle.st_box.specs.Query.{HasKey, StartsAt, EndsAt, first_offset_of, last_offset_of}
+use Rattle.st_box.specs.inner.KeyTest.{IsPlaceIn, IsTimeIn}
+use Rattle.st_box.specs.Query.{HasKey, first_offset_of, last_offset_of}
+use Rattle.st_box.specs.inner.Edges.{IsFirstOffset, IsLastOffset}
 use Rattle.st_box.specs.ZBox.{IsInside}
 use Rattle.st_box.proofs.Spans.{box_in, bins_of_key, offsets_ordered, starts_in, starts_before, ends_in, ends_after}
 
@@ -38,24 +39,24 @@ between f l v first last n ef el ev first_fits last_fits fits = (
 
 -- ---- offsets of a bin
 
-starts_at : (w : Period) (t bin : ℕ) → t / seconds_of w ≤ bin → StartsAt w bin t (first_offset_of w t bin)
+starts_at : (w : Period) (t bin : ℕ) → t / seconds_of w ≤ bin → IsFirstOffset w bin t (first_offset_of w t bin)
 starts_at w t bin from = at (nat_eq bin (t / seconds_of w)) refl
   where
-    at : (b : Bool) → nat_eq bin (t / seconds_of w) ≡ b → StartsAt w bin t (first_offset_of w t bin)
+    at : (b : Bool) → nat_eq bin (t / seconds_of w) ≡ b → IsFirstOffset w bin t (first_offset_of w t bin)
     at true e =
         let is : bin ≡ t / seconds_of w = eqb-true bin (t / seconds_of w) e in
-        rw e (subst (λ n. StartsAt w n t (t % seconds_of w)) (sym is) (starts_in w t))
+        rw e (subst (λ n. IsFirstOffset w n t (t % seconds_of w)) (sym is) (starts_in w t))
     at false e =
         let other = eqb-false bin (t / seconds_of w) e in
         rw e (starts_before w bin t (elim (cases_lt (t / seconds_of w) bin) [ inl less ↦ less | inr more ↦ absurd (other (omega arith)) ]))
 
-ends_at : (w : Period) (t bin : ℕ) → bin ≤ t / seconds_of w → EndsAt w bin t (last_offset_of w t bin)
+ends_at : (w : Period) (t bin : ℕ) → bin ≤ t / seconds_of w → IsLastOffset w bin t (last_offset_of w t bin)
 ends_at w t bin to = at (nat_eq bin (t / seconds_of w)) refl
   where
-    at : (b : Bool) → nat_eq bin (t / seconds_of w) ≡ b → EndsAt w bin t (last_offset_of w t bin)
+    at : (b : Bool) → nat_eq bin (t / seconds_of w) ≡ b → IsLastOffset w bin t (last_offset_of w t bin)
     at true e =
         let is : bin ≡ t / seconds_of w = eqb-true bin (t / seconds_of w) e in
-        rw e (subst (λ n. EndsAt w n t (t % seconds_of w)) (sym is) (ends_in w t))
+        rw e (subst (λ n. IsLastOffset w n t (t % seconds_of w)) (sym is) (ends_in w t))
     at false e =
         let other = eqb-false bin (t / seconds_of w) e in
         rw e (ends_after w bin t (elim (cases_lt bin (t / seconds_of w)) [ inl less ↦ less | inr more ↦ absurd (other (omega arith)) ]))

@@ -10,7 +10,8 @@ use Rattle.st_key.proofs.PeriodLemmas.{period}
 use Rattle.st_box.specs.declared.part.Part.{Part}
 use Rattle.st_box.specs.declared.query.Query.{Query}
 use Rattle.st_box.specs.declared.zbox.ZBox.{ZBox}
-use Rattle.st_box.specs.Part.{Cut, cut_of, cut_to, cuts_of, IsInPart, HasPart, FollowBins, IsEdge, IsMiddle}
+use Rattle.st_box.specs.Part.{Cut, cut_of, cut_to, cuts_of, IsInPart, HasPart, FollowBins}
+use Rattle.st_box.specs.inner.Edges.{IsEdge, IsMiddle}
 use Rattle.st_box.specs.Query.{HasKey, first_offset_of, last_offset_of}
 use Rattle.st_box.specs.ZBox.{HasBounds}
 use Rattle.st_box.proofs.Spans.{bins_of_key}

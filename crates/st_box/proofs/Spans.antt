@@ -12,17 +12,18 @@ use Rattle.st_key.proofs.MortonLemmas.{gather-lt}
 use Rattle.st_key.proofs.PeriodLemmas.{period}
 use Rattle.st_box.specs.declared.query.Query.{Query}
 use Rattle.st_box.specs.declared.zbox.ZBox.{ZBox}
-use Rattle.st_box.specs.Query.{HasKey, IsBoxIn, StartsAt, EndsAt}
+use Rattle.st_box.specs.Query.{HasKey, IsBoxIn}
+use Rattle.st_box.specs.inner.Edges.{IsFirstOffset, IsLastOffset}
 use Rattle.st_box.proofs.Bounds.{has, holds}
 
 -- a whole bin more
 row : (s m n : ℕ) → m < n → m * s + s ≤ n * s
 row s m n below = omega (arith, mul-le (m + 1) s n s (omega arith) (omega arith))
 
-pub starts_in : (w : Period) (t : ℕ) → StartsAt w (t / seconds_of w) t (t % seconds_of w)
+pub starts_in : (w : Period) (t : ℕ) → IsFirstOffset w (t / seconds_of w) t (t % seconds_of w)
 starts_in w t o within = let e = div-add-mod' t (seconds_of w) in (λ h. omega arith, λ h. omega arith)
 
-pub starts_before : (w : Period) (bin t : ℕ) → t / seconds_of w < bin → StartsAt w bin t 0
+pub starts_before : (w : Period) (bin t : ℕ) → t / seconds_of w < bin → IsFirstOffset w bin t 0
 starts_before w bin t after o within =
     let s = seconds_of w in
     let e = div-add-mod' t s in
@@ -30,10 +31,10 @@ starts_before w bin t after o within =
     let m = mod_below t s (period w).some in
     (λ h. omega arith, λ h. omega arith)
 
-pub ends_in : (w : Period) (t : ℕ) → EndsAt w (t / seconds_of w) t (t % seconds_of w)
+pub ends_in : (w : Period) (t : ℕ) → IsLastOffset w (t / seconds_of w) t (t % seconds_of w)
 ends_in w t o within = let e = div-add-mod' t (seconds_of w) in (λ h. omega arith, λ h. omega arith)
 
-pub ends_after : (w : Period) (bin t : ℕ) → bin < t / seconds_of w → EndsAt w bin t (seconds_of w - 1)
+pub ends_after : (w : Period) (bin t : ℕ) → bin < t / seconds_of w → IsLastOffset w bin t (seconds_of w - 1)
 ends_after w bin t before o within =
     let s = seconds_of w in
     let e = div-add-mod' t s in
@@ -46,8 +47,8 @@ pub record IsCut (q : Query) (w : Period) (bin : ℕ) (b : ZBox) : Type 0 where
   pub x_last : b.x_last ≡ q.x1
   pub y_first : b.y_first ≡ q.y0
   pub y_last : b.y_last ≡ q.y1
-  pub starts : StartsAt w bin q.t0 b.offset_first
-  pub ends : EndsAt w bin q.t1 b.offset_last
+  pub starts : IsFirstOffset w bin q.t0 b.offset_first
+  pub ends : IsLastOffset w bin q.t1 b.offset_last
   pub offset_below : b.offset_last < seconds_of w
 
 pub box_in : (q : Query) (w : Period) (bin : ℕ) (b : ZBox) → IsCut q w bin b → IsBoxIn q w bin b
@@ -94,7 +95,7 @@ box_in q w bin b cut k here =
     )
 
 -- a bin of the span has a second of it
-pub offsets_ordered : (w : Period) (bin t0 t1 first last : ℕ) → StartsAt w bin t0 first → EndsAt w bin t1 last → t0 ≤ t1
+pub offsets_ordered : (w : Period) (bin t0 t1 first last : ℕ) → IsFirstOffset w bin t0 first → IsLastOffset w bin t1 last → t0 ≤ t1
     → t0 / seconds_of w ≤ bin → bin ≤ t1 / seconds_of w → first ≤ last
 offsets_ordered w bin t0 t1 first last starts ends ordered from to =
     let s = seconds_of w in

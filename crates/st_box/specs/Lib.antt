@@ -1,5 +1,5 @@
 pub mod Corner
-pub mod KeyTest
 pub mod Part
 pub mod Query
 pub mod ZBox
+pub mod inner

@@ -1,11 +1,10 @@
 -- The parts of a query, bin by bin.
-use Rattle.std.specs.Prelude.{ℕ, ◌≡◌, ◌<◌, ◌≤◌, ◌+◌, ◌-◌, ◌/◌, ◌%◌, ◌⊎◌, List, [], ◌∷◌, ◌++◌, if◌then◌else◌, nat_eq, nat_lt}
+use Rattle.std.specs.Prelude.{ℕ, ◌≡◌, ◌≤◌, ◌+◌, ◌-◌, ◌/◌, ◌%◌, ◌⊎◌, List, [], ◌∷◌, ◌++◌, if◌then◌else◌, nat_eq, nat_lt}
 use Rattle.st_key.specs.declared.key.Key.{Key}
 use Rattle.st_key.specs.declared.period.Period.{Period}
 use Rattle.st_key.specs.Period.{seconds_of}
 use Rattle.st_box.specs.declared.part.Part.{Part}
 use Rattle.st_box.specs.declared.query.Query.{Query}
-use Rattle.st_box.specs.Query.{IsBoxIn, first_offset_of, last_offset_of}
 use Rattle.st_box.specs.ZBox.{IsInside}
 
 -- a part by its numbers: bins, and in each of them a box
@@ -44,7 +43,7 @@ cut_to q bin_lo bin_hi offset_first offset_last = record {
   offset_last = offset_last;
 }
 
--- one part where the span is in one bin; else its first bin, the whole bins between, if there are any, and its last bin
+-- one part when the span is in one bin; else its first bin, the whole bins between (if any) and its last bin
 unfoldable pub cuts_of : Period → Query → List Cut
 cuts_of period q =
     let seconds = seconds_of period in
@@ -69,17 +68,7 @@ abbrev pub HasPart : List Part → Key → Type 0
 HasPart [] k = ⊥
 HasPart (p ∷ ps) k = IsInPart p k ⊎ HasPart ps k
 
--- the parts' bins follow each other from one bin to another, so that no two parts have a key in common
+-- the parts' bins follow each other from one bin to another, so no two parts share a key
 abbrev pub FollowBins : ℕ → List Part → ℕ → Type 0
 FollowBins from [] to = from ≡ to + 1
 FollowBins from (p ∷ ps) to = (p.bin_lo ≡ from) × (p.bin_lo ≤ p.bin_hi) × FollowBins (p.bin_hi + 1) ps to
-
--- what the query is in one bin, as a part
-pub record IsEdge (q : Query) (period : Period) (bin : ℕ) (p : Part) : Type 0 where
-  pub cut : cut_of p ≡ cut_to q bin bin (first_offset_of period q.t0 bin) (last_offset_of period q.t1 bin)
-  pub keys : IsBoxIn q period bin p.zbox
-
--- what it is in the whole bins between its first and its last
-pub record IsMiddle (q : Query) (period : Period) (p : Part) : Type 0 where
-  pub cut : cut_of p ≡ cut_to q (q.t0 / seconds_of period + 1) (q.t1 / seconds_of period - 1) 0 (seconds_of period - 1)
-  pub keys : (bin : ℕ) → q.t0 / seconds_of period < bin → bin < q.t1 / seconds_of period → IsBoxIn q period bin p.zbox

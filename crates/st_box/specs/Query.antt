@@ -1,6 +1,5 @@
 -- Queries: boxes of space and time, both ends included.
-use Rattle.std.specs.Prelude.{ℕ, ◌≡◌, ◌≤◌, ◌<◌, ◌+◌, ◌-◌, ◌*◌, ◌/◌, ◌%◌, ◌^◌, ◌↔◌, Bool, ◌&&◌, if◌then◌else◌, nat_eq, nat_le, nat_lt, IsTrue}
-use Rattle.std.proofs.lemmas.Bool.{ltb-true, leb-true}
+use Rattle.std.specs.Prelude.{ℕ, ◌≡◌, ◌-◌, ◌/◌, ◌%◌, ◌↔◌, Bool, ◌&&◌, if◌then◌else◌, nat_eq, nat_le, IsTrue}
 use Rattle.st_key.specs.declared.key.Key.{Key}
 use Rattle.st_key.specs.declared.period.Period.{Period}
 use Rattle.st_key.specs.declared.point.Point.{Point}
@@ -18,24 +17,6 @@ Makes x0 x1 y0 y1 t0 t1 q = (q.x0 ≡ x0) × (q.x1 ≡ x1) × (q.y0 ≡ y0) × (
 abbrev pub is_inside : Query → Point → Bool
 is_inside q p = nat_le q.x0 p.x && nat_le p.x q.x1 && nat_le q.y0 p.y && nat_le p.y q.y1 && nat_le q.t0 p.t && nat_le p.t q.t1
 
--- the query with these bounds, for examples: `query_of 1 2 1 2 0 0 refl refl refl refl refl refl`
-abbrev pub query_of : (x0 x1 y0 y1 t0 t1 : ℕ) → IsTrue (nat_le x0 x1) → IsTrue (nat_le y0 y1) → IsTrue (nat_le t0 t1) →
-    IsTrue (nat_lt x1 (2 ^ 21)) → IsTrue (nat_lt y1 (2 ^ 21)) → IsTrue (nat_lt t1 19818086400) → Query
-query_of x0 x1 y0 y1 t0 t1 fx fy ft rx ry rt = record {
-  x0 = x0;
-  x1 = x1;
-  y0 = y0;
-  y1 = y1;
-  t0 = t0;
-  t1 = t1;
-  x_ordered = leb-true x0 x1 fx;
-  y_ordered = leb-true y0 y1 fy;
-  t_ordered = leb-true t0 t1 ft;
-  x_in_range = ltb-true x1 (2 ^ 21) rx;
-  y_in_range = ltb-true y1 (2 ^ 21) ry;
-  t_in_range = ltb-true t1 19818086400 rt;
-}
-
 -- the key is that of a point inside the query
 pub record HasKey (q : Query) (period : Period) (k : Key) : Type 0 where
   pub point : Point
@@ -45,14 +26,6 @@ pub record HasKey (q : Query) (period : Period) (k : Key) : Type 0 where
 -- the box has the query's addresses in this bin, and no other
 abbrev pub IsBoxIn : Query → Period → ℕ → ZBox → Type 0
 IsBoxIn q period bin b = (k : Key) → k.bin ≡ bin → (IsInside b k.address ↔ HasKey q period k)
-
--- the seconds of the bin from this offset on are those from t on
-abbrev pub StartsAt : Period → ℕ → ℕ → ℕ → Type 0
-StartsAt period bin t offset = (o : ℕ) → o < seconds_of period → (offset ≤ o) ↔ (t ≤ bin * seconds_of period + o)
-
--- the seconds of the bin up to this offset are those up to t
-abbrev pub EndsAt : Period → ℕ → ℕ → ℕ → Type 0
-EndsAt period bin t offset = (o : ℕ) → o < seconds_of period → (o ≤ offset) ↔ (bin * seconds_of period + o ≤ t)
 
 -- the first offset of a bin of the span, and the last
 abbrev pub first_offset_of : Period → (t0 bin : ℕ) → ℕ

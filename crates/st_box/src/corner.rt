@@ -1,5 +1,5 @@
 //! Corners of boxes.
-ghost use Rattle.std.specs.Prelude.{◌≡◌, ◌↔◌, ◌^◌, ◌<◌, ◌≤◌, IsTrue};
+ghost use Rattle.std.specs.Prelude.{◌≡◌, ◌↔◌, ◌^◌, ◌<◌, IsTrue};
 ghost use Rattle.st_key.specs.Morton.{spread, gather};
 ghost use Rattle.st_key.specs.Order.{Spot};
 ghost use Rattle.st_box.specs.Corner.{spot_at, address_at, IsWithin, later_of, earlier_of};
@@ -24,10 +24,12 @@ impl Model for Corner {
 
     ghost view = { λ c. record { x = gather 21 c.x; y = gather 21 c.y; offset = gather 21 c.offset } };
 
-    ghost invariant = { λ c. (c.x ≡ spread 21 (gather 21 c.x)) × (c.y ≡ spread 21 (gather 21 c.y)) × (c.offset ≡ spread 21 (gather 21 c.offset)) };
+    ghost invariant = { λ c.
+        (c.x ≡ spread 21 (gather 21 c.x)) × (c.y ≡ spread 21 (gather 21 c.y)) × (c.offset ≡ spread 21 (gather 21 c.offset)) };
 }
 
 impl Corner {
+    /// The place at these coordinates, each below 2^21.
     pub fn new(x: u32, y: u32, offset: u32) -> Corner
         requires x_in_range { x < 2 ^ 21 }
         requires y_in_range { y < 2 ^ 21 }

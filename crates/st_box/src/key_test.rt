@@ -1,4 +1,4 @@
-//! Tests of keys that decode none.
+//! Tests of keys that are not decoded.
 ghost use Rattle.std.specs.Prelude.{◌≡◌, ◌↔◌, ◌-◌, ◌/◌, ◌%◌, ◌≤◌, IsTrue};
 ghost use Rattle.st_key.specs.Morton.{spread as spread_of};
 ghost use Rattle.st_key.specs.Period.{seconds_of};
@@ -33,7 +33,7 @@ pub struct KeyTest {
 }
 
 impl KeyTest {
-    ghost use Rattle.st_box.specs.KeyTest.{IsPlaceIn, IsTimeIn};
+    ghost use Rattle.st_box.specs.inner.KeyTest.{IsPlaceIn, IsTimeIn};
     ghost use Rattle.st_box.specs.Query.{HasKey, first_offset_of, last_offset_of};
 
     /// The test for a query, in a period.

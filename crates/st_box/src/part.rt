@@ -3,7 +3,7 @@ ghost use Rattle.std.specs.Prelude.{◌≤◌, ◌<◌};
 
 use crate::zbox::ZBox;
 
-/// Bins that follow each other, and the box that a query is in each of them.
+/// Consecutive bins, and the box of the query in each of them.
 #[derive(Clone, Copy, PartialEq, Eq, Debug)]
 pub struct Part {
     pub bin_lo: u32,

@@ -1,12 +1,12 @@
 //! Queries.
-ghost use Rattle.std.specs.Prelude.{◌≡◌, ◌↔◌, ℕ, ◌^◌, ◌<◌, ◌≤◌, ◌/◌, ◌+◌, IsOk, IfOk, IsTrue, map};
+ghost use Rattle.std.specs.Prelude.{◌≡◌, ◌↔◌, ◌^◌, ◌<◌, ◌≤◌, ◌/◌, ◌+◌, IsOk, IfOk, IsTrue, map};
 
 use crate::part::Part;
 use crate::zbox::ZBox;
 use arrayvec::ArrayVec;
 use st_key::{Key, Period, Point};
 
-/// Six numbers that make no query: one is past its range, or a pair is reversed.
+/// The six numbers are not a query: one is out of range, or a pair is reversed.
 #[derive(Clone, Copy, Debug, PartialEq, Eq)]
 pub struct BadBox;
 
@@ -31,13 +31,16 @@ pub struct Query {
 impl Query {
     ghost use Rattle.st_key.specs.Period.{seconds_of};
     ghost use Rattle.st_key.specs.declared.key.Key.{Key};
-    ghost use Rattle.st_box.specs.Part.{cut_of, cuts_of, HasPart, FollowBins, IsEdge, IsMiddle};
-    ghost use Rattle.st_box.specs.Query.{Makes, is_inside, HasKey, IsBoxIn, StartsAt, EndsAt, first_offset_of, last_offset_of};
+    ghost use Rattle.st_box.specs.Part.{cut_of, cuts_of, HasPart, FollowBins};
+    ghost use Rattle.st_box.specs.inner.Edges.{IsEdge, IsMiddle};
+    ghost use Rattle.st_box.specs.Query.{Makes, is_inside, HasKey, IsBoxIn, first_offset_of, last_offset_of};
+    ghost use Rattle.st_box.specs.inner.Edges.{IsFirstOffset, IsLastOffset};
     ghost use Rattle.st_box.specs.ZBox.{HasBounds};
 
-    /// The query with these bounds. `BadBox` where one is past its range or a pair is reversed.
+    /// The query with these bounds. `BadBox` when one is out of range or a pair is reversed.
     pub fn new(x0: u64, x1: u64, y0: u64, y1: u64, t0: u64, t1: u64) -> Result<Query, BadBox>
-        ensures valid { IsOk result ↔ (x0 ≤ x1) × (x1 ≤ 2097151) × (y0 ≤ y1) × (y1 ≤ 2097151) × (t0 ≤ t1) × (t1 ≤ 19818086399) }
+        ensures valid { IsOk result
+            ↔ (x0 ≤ x1) × (x1 ≤ 2097151) × (y0 ≤ y1) × (y1 ≤ 2097151) × (t0 ≤ t1) × (t1 ≤ 19818086399) }
         ensures bounds { IfOk result (Makes x0 x1 y0 y1 t0 t1) }
     {
         let in_order = x0 <= x1 && y0 <= y1 && t0 <= t1;
@@ -77,10 +80,10 @@ impl Query {
         }
     }
 
-    /// The first offset of a bin that is in the span.
+    // The first offset of a bin that is in the span.
     fn first_offset(&self, bin: u32, period: Period) -> u32
         requires { self.now.t0 / seconds_of period ≤ bin }
-        ensures starts { StartsAt period bin self.now.t0 result }
+        ensures starts { IsFirstOffset period bin self.now.t0 result }
         ensures value { result ≡ first_offset_of period self.now.t0 bin }
     {
         if u64::from(bin) == self.t0 / period.seconds() {
@@ -90,10 +93,10 @@ impl Query {
         }
     }
 
-    /// The last offset of a bin that is in the span.
+    // The last offset of a bin that is in the span.
     fn last_offset(&self, bin: u32, period: Period) -> u32
         requires { bin ≤ self.now.t1 / seconds_of period }
-        ensures ends { EndsAt period bin self.now.t1 result }
+        ensures ends { IsLastOffset period bin self.now.t1 result }
         ensures value { result ≡ last_offset_of period self.now.t1 bin }
         ensures in_range { result < seconds_of period }
     {
@@ -104,12 +107,13 @@ impl Query {
         }
     }
 
-    /// What the query is in one bin of its span: the addresses of its keys there.
+    /// The query in one bin of its span: the addresses of its keys there.
     pub fn box_in(&self, bin: u32, period: Period) -> ZBox
         requires from_first { self.now.t0 / seconds_of period ≤ bin }
         requires to_last { bin ≤ self.now.t1 / seconds_of period }
         ensures keys { IsBoxIn self.now period bin result }
-        ensures bounds { HasBounds self.now.x0 self.now.x1 self.now.y0 self.now.y1 (first_offset_of period self.now.t0 bin) (last_offset_of period self.now.t1 bin) result }
+        ensures bounds { HasBounds self.now.x0 self.now.x1 self.now.y0 self.now.y1
+            (first_offset_of period self.now.t0 bin) (last_offset_of period self.now.t1 bin) result }
     {
         ZBox {
             x_first: self.x0,
@@ -121,7 +125,7 @@ impl Query {
         }
     }
 
-    /// What the query is in one bin of its span, as a part.
+    // The query in one bin of its span, as a part.
     fn edge(&self, bin: u32, period: Period) -> Part
         requires from_first { self.now.t0 / seconds_of period ≤ bin }
         requires to_last { bin ≤ self.now.t1 / seconds_of period }
@@ -134,7 +138,7 @@ impl Query {
         }
     }
 
-    /// What the query is in the bins between its first and its last.
+    // The query in the bins between its first and its last.
     fn middle(&self, first: u32, last: u32, period: Period) -> Part
         requires first { first ≡ self.now.t0 / seconds_of period }
         requires last { last ≡ self.now.t1 / seconds_of period }
@@ -156,7 +160,7 @@ impl Query {
     }
 
     /// The query cut at the edges of bins: its first bin, the whole bins between, and its last bin.
-    /// No two parts have a key in common, and together they have the query's keys.
+    /// No two parts share a key, and together they have all keys of the query.
     pub fn parts(&self, period: Period) -> ArrayVec<Part, 3>
         ensures cuts { map cut_of result.items ≡ cuts_of period self.now }
         ensures whole { (k : Key) → HasPart result.items k ↔ HasKey self.now period k }

@@ -42,9 +42,10 @@ impl Default for ZBox {
 impl ZBox {
     ghost use Rattle.st_box.specs.ZBox.{HasBounds, IsInside, first_of, last_of};
 
-    /// The box with these bounds, and `None` where one exceeds 2,097,151 or a pair is reversed.
+    /// The box with these bounds, and `None` when one exceeds 2,097,151 or a pair is reversed.
     pub fn new(x0: u32, x1: u32, y0: u32, y1: u32, o0: u32, o1: u32) -> Option<ZBox>
-        ensures valid { IsSome result ↔ (x0 ≤ x1) × (x1 ≤ 2097151) × (y0 ≤ y1) × (y1 ≤ 2097151) × (o0 ≤ o1) × (o1 ≤ 2097151) }
+        ensures valid { IsSome result
+            ↔ (x0 ≤ x1) × (x1 ≤ 2097151) × (y0 ≤ y1) × (y1 ≤ 2097151) × (o0 ≤ o1) × (o1 ≤ 2097151) }
         ensures bounds { IfSome result (HasBounds x0 x1 y0 y1 o0 o1) }
     {
         let in_order = x0 <= x1 && y0 <= y1 && o0 <= o1;

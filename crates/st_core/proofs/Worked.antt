@@ -3,11 +3,11 @@ use Rattle.std.proofs.Common.{ℕ, List, [], ◌∷◌, Some, refl, map}
 use Rattle.std.specs.Prelude.{codes}
 use Prim.Native.String.{String}
 use Rattle.st_text.specs.Texts.{Text}
-use Rattle.st_key.specs.Coordinates.{point_at}
+use Rattle.st_key.specs.inner.Coordinates.{point_at}
 use Rattle.st_key.specs.declared.point.Point.{Point}
 use Rattle.st_key.specs.declared.period.Period.{Period}
 use Rattle.st_box.specs.declared.query.Query.{Query}
-use Rattle.st_box.specs.Query.{query_of}
+use Rattle.st_box.specs.inner.Coordinates.{query_of}
 use Rattle.st_index.specs.declared.row.Row.{Row}
 use Rattle.st_dir.specs.declared.permission.Permission.{Permission}
 use Rattle.st_policy.specs.declared.denial.Denial.{Denial}

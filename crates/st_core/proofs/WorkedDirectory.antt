@@ -2,7 +2,7 @@
 use Rattle.std.proofs.Common.{◌≡◌, [], ◌∷◌, true, false, None, refl, map}
 use Rattle.std.specs.Prelude.{codes}
 use Rattle.st_key.specs.declared.period.Period.{Period}
-use Rattle.st_label.specs.Machine.{class_of}
+use Rattle.st_label.specs.inner.Machine.{class_of}
 use Rattle.st_label.specs.Reading.{reading}
 use Rattle.st_dir.specs.Permissions.{system_permissions, table_permissions}
 use Rattle.st_dir.specs.declared.permission.Permission.{Permission}

@@ -2,11 +2,11 @@
 use Rattle.std.proofs.Common.{◌≡◌, ℕ, List, [], ◌∷◌, ◌++◌, Bool, true, false, Some, refl, map}
 use Rattle.std.specs.Prelude.{codes}
 use Prim.Native.String.{String}
-use Rattle.st_key.specs.Coordinates.{point_at}
+use Rattle.st_key.specs.inner.Coordinates.{point_at}
 use Rattle.st_key.specs.Order.{bits_below}
 use Rattle.st_key.specs.declared.period.Period.{Period}
-use Rattle.st_box.specs.Query.{query_of}
-use Rattle.st_label.specs.Machine.{class_of}
+use Rattle.st_box.specs.inner.Coordinates.{query_of}
+use Rattle.st_label.specs.inner.Machine.{class_of}
 use Rattle.st_label.specs.Reading.{reading}
 use Rattle.st_dir.specs.declared.grant.Scope.TheVariants.{OnTable}
 use Rattle.st_dir.specs.declared.permission.Permission.{Permission}

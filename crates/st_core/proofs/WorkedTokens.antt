@@ -3,9 +3,9 @@ use Rattle.std.proofs.Common.{◌≡◌, ℕ, List, [], ◌∷◌, Option, Some,
 use Rattle.std.specs.Prelude.{codes}
 use Prim.Native.String.{String}
 use Rattle.sha2.specs.Sha256.{sha256, digest_bytes, hash_after, compress, rounds, schedule, first_words}
-use Rattle.st_key.specs.Coordinates.{point_at}
-use Rattle.st_box.specs.Query.{query_of}
-use Rattle.st_label.specs.Machine.{class_of}
+use Rattle.st_key.specs.inner.Coordinates.{point_at}
+use Rattle.st_box.specs.inner.Coordinates.{query_of}
+use Rattle.st_label.specs.inner.Machine.{class_of}
 use Rattle.st_label.specs.Reading.{reading}
 use Rattle.st_policy.specs.declared.denial.Denial.{Denial}
 use Rattle.st_policy.specs.declared.refusal.Refusal.{Refusal}

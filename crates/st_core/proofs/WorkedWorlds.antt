@@ -5,7 +5,7 @@ use Prim.Native.String.{String}
 use Rattle.sha2.specs.Sha256.{sha256, digest_bytes, hash_after, compress, rounds, schedule, first_words}
 use Rattle.st_key.specs.Order.{bits_below}
 use Rattle.st_key.specs.declared.period.Period.{Period}
-use Rattle.st_label.specs.Machine.{class_of}
+use Rattle.st_label.specs.inner.Machine.{class_of}
 use Rattle.st_label.specs.Reading.{reading}
 use Rattle.st_dir.specs.declared.permission.Permission.{Permission}
 use Rattle.st_policy.specs.declared.request.Request.{Request}

@@ -1,6 +1,6 @@
 //! The store: the state, and the requests on it.
 ghost use Rattle.std.specs.Prelude.{◌≡◌, None, codes, ◌++◌, ◌∷◌, [], map, option_map, IfOk, IfErr, OnOk, OnErr};
-ghost use Rattle.st_auth.specs.Names.{Refuses, first_bad};
+ghost use Rattle.st_auth.specs.Names.{RefusesNames, first_bad};
 ghost use Rattle.circular_buffer.specs.Buffer.{keep_last};
 ghost use Rattle.st_key.specs.declared.period.Period.TheVariants.{Week};
 ghost use Rattle.st_policy.specs.Entries.{entry_of};
@@ -101,7 +101,7 @@ impl<A: Allocator + Copy> Store<A> {
     pub fn open(alloc: A, digest: [u8; 32], auths: &[&str]) -> Result<Store<A>, AuthsFault>
         ensures ok { IfOk result (λ store. store ≡ first_state digest (map (λ name. name.now) auths.now)) }
         ensures good { OnOk result (first_bad (map (λ name. name.now) auths.now) ≡ None) }
-        ensures fault { IfErr result (λ fault. Refuses (map (λ name. name.now) auths.now) fault) }
+        ensures fault { IfErr result (λ fault. RefusesNames (map (λ name. name.now) auths.now) fault) }
     {
         let auths = Auths::from_list(alloc, auths)?;
         let directory = Directory::new(alloc, digest, auths)?;

@@ -5,7 +5,7 @@ use Rattle.serde_json.specs.Find.{get}
 use Rattle.st_key.specs.declared.place.Place.{Place}
 use Rattle.st_label.specs.Reading.{IsLabel}
 use Rattle.st_label.specs.Refusals.{max_len}
-use Rattle.st_label.specs.Faults.{Refuses}
+use Rattle.st_label.specs.Faults.{RefusesLabel}
 use Rattle.st_label.specs.declared.label.LabelFault.{LabelFault}
 use Rattle.st_label.specs.declared.label.LabelFault.TheVariants as fault
 use Rattle.st_label.proofs.Refused.{not_both, one_fault}
@@ -53,7 +53,7 @@ place_of fault.NoMemory = max_len
 record Told (text : List ℕ) (at : ℕ) : Type 0 where
   why : LabelFault
   known : why ≢ fault.NoMemory
-  refuses : Refuses text why
+  refuses : RefusesLabel text why
   place : place_of why ≡ at
 
 told : (text : List ℕ) (at : ℕ) → RefusesAt text at → Told text at

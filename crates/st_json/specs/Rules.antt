@@ -12,7 +12,7 @@ use Rattle.st_key.specs.declared.period.Period.{Period}
 use Rattle.st_key.specs.declared.place.Place.{Place}
 use Rattle.st_label.specs.Reading.{IsLabel}
 use Rattle.st_label.specs.Refusals.{max_len}
-use Rattle.st_label.specs.Faults.{Refuses}
+use Rattle.st_label.specs.Faults.{RefusesLabel}
 use Rattle.st_label.specs.declared.label.LabelFault.TheVariants as fault
 use Rattle.st_dir.specs.Permissions.{table_permissions, system_permissions}
 use Rattle.st_dir.specs.declared.permission.Permission.{Permission}
@@ -98,7 +98,7 @@ QueryOf b = Has BadBox (IsQuery b)
 
 -- The place at which the text is no label: its greatest length, where it is too long.
 abbrev pub RefusesAt : Text → ℕ → Type 0
-RefusesAt text at = Refuses text (fault.BadLabel at) ⊎ (Refuses text (fault.TooDeep at) ⊎ (Refuses text fault.TooLong × (at ≡ max_len)))
+RefusesAt text at = RefusesLabel text (fault.BadLabel at) ⊎ (RefusesLabel text (fault.TooDeep at) ⊎ (RefusesLabel text fault.TooLong × (at ≡ max_len)))
 
 -- the label that is written so, or the place that shows that the text is none
 abbrev pub LabelOf : Text → Result Text Refusal → Type 0

@@ -1,5 +1,5 @@
-pub mod Coordinates
 pub mod Key
 pub mod Morton
 pub mod Order
 pub mod Period
+pub mod inner

@@ -11,7 +11,8 @@ ghost use Rattle.st_key.specs.declared.point.Point.{Point};
 /// Digits come in the order of the bin, and in one bin of the bits at the highest level at which the
 /// points differ.
 pub fn scan_order()
-    ensures { (period : Period) (p q : Point) → IsTrue (is_lt (slice_cmp nat_cmp (digits_of period p) (digits_of period q))) ↔ ComesBefore period p q }
+    ensures { (period : Period) (p q : Point)
+        → IsTrue (is_lt (slice_cmp nat_cmp (digits_of period p) (digits_of period q))) ↔ ComesBefore period p q }
 {}
 
 /// The order of keys is the order of their points in a scan.
@@ -26,7 +27,7 @@ pub fn one_key()
     ensures point { (period : Period) (p q : Point) (k : Key) → IsKeyOf period p k → IsKeyOf period q k → p ≡ q }
 {}
 
-/// A key comes before another where fewer keys come before it.
+/// A key comes before another if and only if fewer keys come before it.
 pub fn ranks()
     ensures before { (k l : Key) → IsBefore k l ↔ (rank k < rank l) }
     ensures same { (k l : Key) → rank k ≡ rank l → k ≡ l }

@@ -1,7 +1,7 @@
 //! Points of space and time.
 ghost use Rattle.std.specs.Prelude.{◌≡◌, ◌↔◌, ◌^◌, ◌<◌, ◌≤◌, IsOk, IfOk};
 
-/// A coordinate is above 2,097,151, or a time above 19,818,086,399.
+/// Not a point: a coordinate is above 2,097,151, or a time above 19,818,086,399.
 #[derive(Clone, Copy, Debug, PartialEq, Eq)]
 pub struct OutOfRange;
 
@@ -24,7 +24,7 @@ impl Point {
     /// One more than the latest second.
     pub const END: u64 = 19_818_086_400;
 
-    /// The point at these numbers. `OutOfRange` where one of them is too large.
+    /// The point with these coordinates. `OutOfRange` when one of them is too large.
     pub fn new(x: u64, y: u64, t: u64) -> Result<Point, OutOfRange>
         ensures valid { IsOk result ↔ (x ≤ 2097151) × (y ≤ 2097151) × (t ≤ 19818086399) }
         ensures fields { IfOk result (λ p. (p.x ≡ x) × (p.y ≡ y) × (p.t ≡ t)) }

@@ -1,16 +1,16 @@
 -- The reader over a character's bytes, and over a label's.
-use Rattle.std.proofs.Common.{◌≡◌, ℕ, ◌+◌, ◌/◌, ◌<◌, ◌≤◌, ◌==◌, nat_le, List, [], ◌∷◌, ◌++◌, length, Bool, true, false, Option, Some, None, sym, ap, ◌∙◌, refl, arith, append_assoc, option_and_then, ◌&&◌}
+use Rattle.std.proofs.Common.{◌≡◌, ℕ, ◌+◌, ◌/◌, ◌<◌, ◌≤◌, ◌==◌, List, [], ◌∷◌, ◌++◌, length, Bool, true, false, Option, Some, None, sym, ap, ◌∙◌, refl, arith, append_assoc, option_and_then}
 use lib.Utf8.{encode, next}
 use lib.Dec.{ltb}
-use Rattle.std.proofs.lemmas.Bool.{lt-leb, ltb-true, ltb-false}
+use Rattle.std.proofs.lemmas.Bool.{ltb-true, ltb-false}
 use Rattle.std.proofs.lemmas.Bool.Decides.{nat_tests}
 use Rattle.std.proofs.lemmas.Str.{encode_ascii, length-encode, len_utf8_bounds}
 use Rattle.std.proofs.lemmas.List.{append-nil}
 use Rattle.st_label.specs.Tree.{Tree}
-use Rattle.st_label.specs.Grammar.{is_plain, between}
-use Rattle.st_label.specs.Refusals.{max_depth, Begins, Viable, EndsAt}
+use Rattle.st_label.specs.Grammar.{is_plain}
+use Rattle.st_label.specs.Refusals.{max_depth, Begins, Viable, IsUnfinishedAt}
 use Rattle.st_label.specs.Reading.{reading, IsLabel}
-use Rattle.st_label.specs.Machine.{Other, class_of, Frame, Mode, Start, Word, Quoted, Escape, Done, State, state, init, step_mode, step, run, tree_of}
+use Rattle.st_label.specs.inner.Machine.{Other, class_of, Frame, Mode, Start, Word, Quoted, Escape, Done, State, state, init, step_mode, step, run, tree_of}
 use Rattle.st_label.proofs.Places.{takes, runs_begins, run_append, run_mono, begins_runs}
 
 -- bytes past ASCII
@@ -38,19 +38,11 @@ first_of (b ∷ bs) h = (b, bs, refl)
 some_bytes : (c : ℕ) → (b : ℕ) × (bs : List ℕ) × (encode c ≡ b ∷ bs)
 some_bytes c = let bounds = len_utf8_bounds c in first_of (encode c) (omega (arith, length-encode c, bounds.0))
 
-between_high : (low high b : ℕ) → high < b → between low high b ≡ false
-between_high low high b h = rw (lt-leb b high h) (and_false (nat_le low b))
-  where
-    and_false : (x : Bool) → (x && false) ≡ false
-    and_false true = refl
-    and_false false = refl
-
 pub not_same : (b n : ℕ) → n < b → (b == n) ≡ false
 not_same b n h = grind (arith, nat_tests)
 
 plain_high : (b : ℕ) → 128 ≤ b → is_plain b ≡ false
-plain_high b h =
-    rw (between_high 65 90 b (omega arith), between_high 97 122 b (omega arith), between_high 48 57 b (omega arith), not_same b 95 (omega arith), not_same b 45 (omega arith), not_same b 58 (omega arith), not_same b 46 (omega arith), not_same b 47 (omega arith)) refl
+plain_high b h = grind (arith, nat_tests)
 
 class_high : (b : ℕ) → 128 ≤ b → class_of b ≡ Other
 unfolding class_of
@@ -113,7 +105,7 @@ one_wider p b wide s t h k =
 pub some_none : (o : Option Tree) (r : Tree) → o ≡ Some r → o ≡ None → ⊥
 some_none o r h k = cc
 
-pub ends : (text rest : List ℕ) (at : ℕ) (s : State) → Behind text at rest s → length rest ≡ 0 → tree_of s ≡ None → EndsAt text (length text)
+pub ends : (text rest : List ℕ) (at : ℕ) (s : State) → Behind text at rest s → length rest ≡ 0 → tree_of s ≡ None → IsUnfinishedAt text (length text)
 ends text rest at s h none fails =
     let empty : rest ≡ [] = nil_from_length rest none in
     let whole : text ≡ h.front = h.parts ∙ rw (empty, append-nil) refl in

@@ -2,9 +2,9 @@
 use Rattle.std.proofs.Common.{◌≡◌, ℕ, true, false, length, List, [], ◌∷◌, None, Result, refl, arith}
 use Rattle.std.specs.Prelude.{◌==◌}
 use Rattle.std.proofs.lemmas.Grind.{common_steps}
-use Rattle.st_label.specs.Machine.{Frame, Mode, whole}
-use Rattle.st_label.specs.Views.{tree_view, outer_view}
-use Rattle.st_label.specs.Gives.{Gives}
+use Rattle.st_label.specs.inner.Machine.{Frame, Mode, whole}
+use Rattle.st_label.specs.inner.Views.{tree_view, outer_view}
+use Rattle.st_label.specs.inner.Gives.{Gives}
 use Rattle.st_label.specs.declared.tree.Tree.{Tree}
 use Rattle.st_label.specs.declared.reader.Level.{Level}
 use Rattle.st_label.specs.declared.reader.ReadFault.{ReadFault}

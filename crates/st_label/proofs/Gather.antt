@@ -16,8 +16,9 @@ use Rattle.std.proofs.lemmas.Slice.Eq.{bytes_eq-Decides}
 use Rattle.st_label.specs.Tree as label
 use Rattle.st_label.specs.Tree.{operands}
 use Rattle.st_label.specs.Grammar.{Op, All, Any}
-use Rattle.st_label.specs.Normal.{operand_text, insert_operand, insert_all, parts, gathered, normal, normal_operands}
-use Rattle.st_label.specs.Views.{tree_view, op_view}
+use Rattle.st_label.specs.Normal.{operand_text, insert_operand, insert_all, parts, normal, normal_operands}
+use Rattle.st_label.specs.inner.Gathered.{gathered}
+use Rattle.st_label.specs.inner.Views.{tree_view, op_view}
 use Rattle.st_label.specs.declared.tree.Operator.{Operator}
 use Rattle.st_label.specs.declared.tree.Tree.{Tree, Empty, Term, And, Or}
 use Rattle.st_label.proofs.Seen.{view-Empty, view-And, view-Or, view-Term}

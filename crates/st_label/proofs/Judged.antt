@@ -3,10 +3,10 @@ use Rattle.std.proofs.Common.{◌≡◌, ◌+◌, ◌≤◌, ◌<◌, ℕ, List,
 use Rattle.std.proofs.lemmas.List.{take_more, take_all, drop_more, append-nil, length-take-le}
 use Rattle.st_label.specs.Tree.{Tree, holds}
 use Rattle.st_label.specs.Grammar.{Reads}
-use Rattle.st_label.specs.Refusals.{max_depth, max_len, StopsAt, EndsAt, TooDeepAt}
+use Rattle.st_label.specs.Refusals.{max_depth, max_len, StopsAt, IsUnfinishedAt, TooDeepAt}
 use Rattle.st_label.specs.Reading.{is_true, IsLabel}
-use Rattle.st_label.specs.Machine.{class_of, State, init, step, run, tree_of}
-use Rattle.st_label.specs.Truth.{Stage, pass_step, pass_truth, IsPlaced}
+use Rattle.st_label.specs.inner.Machine.{class_of, State, init, step, run, tree_of}
+use Rattle.st_label.specs.inner.Truth.{Stage, pass_step, pass_truth, IsPlaced}
 use Rattle.st_label.specs.declared.truth.Level.{Level}
 use Rattle.st_label.specs.declared.truth.Part.{Part}
 use Rattle.st_label.proofs.Truths.{Stands, Both, step_both, end_truth, unit_placed}
@@ -115,7 +115,7 @@ ends_well has text at g t short h r e =
     let reads : Reads max_depth text found.0 = runs_reads max_depth text end.last found.0 end.runs found.1 in
     (is_label text found.0 short reads, found.2 ∙ ap (holds has) (sym (reading_is text found.0 reads)))
 
-pub ends_at : (has : List ℕ → Bool) (text : List ℕ) (at : ℕ) (g : Stage) → length text ≤ at → Reached has text at g → pass_truth has text g.outer g.level g.unit ≡ None → EndsAt text (length text)
+pub ends_at : (has : List ℕ → Bool) (text : List ℕ) (at : ℕ) (g : Stage) → length text ≤ at → Reached has text at g → pass_truth has text g.outer g.level g.unit ≡ None → IsUnfinishedAt text (length text)
 ends_at has text at g h r e =
     let end = at_end has text at g h r in
     ends text [] (length text) end.last (record { front = text; parts = sym (append-nil text); place = refl; runs = end.runs }) refl (no_tree has (tree_of end.last) (sym end.truth ∙ e))

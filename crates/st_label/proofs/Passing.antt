@@ -3,8 +3,8 @@ use Rattle.std.proofs.Common.{◌≡◌, ◌≢◌, ℕ, suc, ◌≤◌, ◌==�
 use Rattle.std.proofs.lemmas.Bool.{lt-ltb, le-ltb}
 use Rattle.st_label.specs.Refusals.{max_depth}
 use Rattle.st_label.specs.Grammar.{All, Any}
-use Rattle.st_label.specs.Machine.{Class, Plain, Sign, Quote, Backslash, Open, Close, Other}
-use Rattle.st_label.specs.Truth.{Stage, stage, stage_of, pass_start, pass_done, pass_word, pass_step, term_truth, Passes}
+use Rattle.st_label.specs.inner.Machine.{Class, Plain, Sign, Quote, Backslash, Open, Close, Other}
+use Rattle.st_label.specs.inner.Truth.{Stage, stage, stage_of, pass_start, pass_done, pass_word, pass_step, term_truth, Passes}
 use Rattle.st_label.specs.declared.truth.Level.{Level}
 use Rattle.st_label.specs.declared.truth.Part.{Part}
 use Rattle.st_label.specs.declared.truth.Pass.{Pass}

@@ -6,7 +6,7 @@ use Rattle.st_label.specs.Tree.{Tree, Or, none as no_operands}
 use Rattle.st_label.specs.Grammar.{Reads, nothing, level}
 use Rattle.st_label.specs.Refusals.{Begins, Viable, max_len, max_depth}
 use Rattle.st_label.specs.Reading.{reading, IsLabel}
-use Rattle.st_label.specs.Machine.{Class, Plain, Sign, Quote, Backslash, Open, Close, Other, class_of, Frame, Free, Mode, Start, Word, Quoted, Escape, Done, State, state, init, step_mode, step_start, step, run, tree_of}
+use Rattle.st_label.specs.inner.Machine.{Class, Plain, Sign, Quote, Backslash, Open, Close, Other, class_of, Frame, Free, Mode, Start, Word, Quoted, Escape, Done, State, state, init, step_mode, step_start, step, run, tree_of}
 use Rattle.st_label.proofs.Complete.{level_runs, Ends, whole_after}
 use Rattle.st_label.proofs.Sound.{At, AtNext, init_at, run_at, begins, reads}
 

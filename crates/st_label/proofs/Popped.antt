@@ -5,7 +5,7 @@ use Rattle.std.proofs.lemmas.List.{append_assoc, map-append, length-map}
 use Rattle.st_label.specs.Tree as label
 use Rattle.st_label.specs.Grammar.{Op, node}
 use Rattle.st_label.specs.Normal.{whole_of}
-use Rattle.st_label.specs.Views.{tree_view, op_view}
+use Rattle.st_label.specs.inner.Views.{tree_view, op_view}
 use Rattle.st_label.specs.declared.tree.Operator.{Operator}
 use Rattle.st_label.specs.declared.tree.Tree.{Tree, Empty, And, Or}
 use Rattle.st_label.proofs.Seen.{view-And, view-Or, view-Empty}

@@ -6,10 +6,10 @@ use Rattle.std.proofs.lemmas.Bool.{lt-ltb, ltb-true, ltb-false}
 use Rattle.std.proofs.lemmas.List.{take-take, append-nil, length-append}
 use Rattle.st_label.specs.Tree.{Tree}
 use Rattle.st_label.specs.Grammar.{Reads}
-use Rattle.st_label.specs.Machine.{Class, Plain, Sign, Quote, Backslash, Open, Close, Other, class_of, Frame, Free, Mode, Start, Word, Quoted, Escape, Done, State, state, init, step_start, step_mode, step, run, tree_of}
+use Rattle.st_label.specs.inner.Machine.{Class, Plain, Sign, Quote, Backslash, Open, Close, Other, class_of, Frame, Free, Mode, Start, Word, Quoted, Escape, Done, State, state, init, step_start, step_mode, step, run, tree_of}
 use Rattle.st_label.specs.Reading.{reading, IsLabel}
-use Rattle.st_label.specs.Refusals.{max_depth, max_len, Begins, StopsAt, EndsAt, TooDeepAt}
-use Rattle.st_label.specs.Faults.{Refuses}
+use Rattle.st_label.specs.Refusals.{max_depth, max_len, Begins, StopsAt, IsUnfinishedAt, TooDeepAt}
+use Rattle.st_label.specs.Faults.{RefusesLabel}
 use Rattle.st_label.specs.declared.label.LabelFault.{LabelFault}
 use Rattle.st_label.specs.declared.label.LabelFault.TheVariants.{BadLabel, TooLong, TooDeep, NoMemory}
 use Rattle.st_label.proofs.Places.{no_step, runs_begins, runs_reads, run_append, is_label}
@@ -49,19 +49,19 @@ not_below text a b x y less = x.past (begins_take max_depth text (a + 1) b (omeg
 one_break : (text : List ℕ) (a b : ℕ) → Breaks text a → Breaks text b → a ≡ b
 one_break text a b x y = omega (arith, not_below text a b x y, not_below text b a y x)
 
-one_bad : (text : List ℕ) (a b : ℕ) → StopsAt text a ⊎ EndsAt text a → StopsAt text b ⊎ EndsAt text b → a ≡ b
+one_bad : (text : List ℕ) (a b : ℕ) → StopsAt text a ⊎ IsUnfinishedAt text a → StopsAt text b ⊎ IsUnfinishedAt text b → a ≡ b
 one_bad text a b (inl s) (inl t) = one_break text a b (by_stop text a s) (by_stop text b t)
 one_bad text a b (inl s) (inr e) = absurd (begins_all text a (by_stop text a s) e.before)
 one_bad text a b (inr e) (inl t) = absurd (begins_all text b (by_stop text b t) e.before)
 one_bad text a b (inr e) (inr k) = e.end ∙ sym k.end
 
-bad_or_deep : (text : List ℕ) (a b : ℕ) → StopsAt text a ⊎ EndsAt text a → TooDeepAt text b → ⊥
+bad_or_deep : (text : List ℕ) (a b : ℕ) → StopsAt text a ⊎ IsUnfinishedAt text a → TooDeepAt text b → ⊥
 bad_or_deep text a b (inl s) d =
     let same = one_break text a b (by_stop text a s) (by_depth text b d) in
     s.here (rw same d.viable)
 bad_or_deep text a b (inr e) d = begins_all text b (by_depth text b d) e.before
 
-pub one_fault : (text : List ℕ) (f g : LabelFault) → f ≢ NoMemory → g ≢ NoMemory → Refuses text f → Refuses text g → f ≡ g
+pub one_fault : (text : List ℕ) (f g : LabelFault) → f ≢ NoMemory → g ≢ NoMemory → RefusesLabel text f → RefusesLabel text g → f ≡ g
 one_fault text (BadLabel a) (BadLabel b) h k x y = ap BadLabel (one_bad text a b x.1 y.1)
 one_fault text (BadLabel a) TooLong h k x y = let short = x.0 in absurd (omega arith)
 one_fault text (BadLabel a) (TooDeep b) h k x y = absurd (bad_or_deep text a b x.1 y.1)
@@ -81,7 +81,7 @@ one_fault text (TooDeep a) NoMemory h k x y = absurd (k refl)
 begins_itself : (text : List ℕ) → IsLabel text → Begins max_depth text
 begins_itself text is = record { rest = []; tree = reading text; reads = subst (λ s. Reads max_depth s (reading text)) (sym (append-nil text)) is.reads }
 
-pub not_both : (text : List ℕ) (f : LabelFault) → f ≢ NoMemory → IsLabel text → Refuses text f → ⊥
+pub not_both : (text : List ℕ) (f : LabelFault) → f ≢ NoMemory → IsLabel text → RefusesLabel text f → ⊥
 not_both text (BadLabel a) h is (short, inl s) = begins_all text a (by_stop text a s) (begins_itself text is)
 not_both text (BadLabel a) h is (short, inr e) = e.here max_depth (reading text) is.reads
 not_both text TooLong h is x = let short = is.short in omega arith
@@ -91,7 +91,7 @@ not_both text NoMemory h is x = h refl
 -- ---- a label or a fault
 
 abbrev pub Refused : List ℕ → Type 0
-Refused text = (f : LabelFault) × (f ≢ NoMemory) × Refuses text f
+Refused text = (f : LabelFault) × (f ≢ NoMemory) × RefusesLabel text f
 
 -- A byte that isn't taken is taken at no depth, or at a greater one.
 AtNoDepth : (ℕ → Option State) → Type 0

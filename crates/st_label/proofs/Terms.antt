@@ -6,7 +6,7 @@ use Rattle.std.specs.Cmp.Lexicographic.{slice_cmp}
 use Rattle.std.specs.Ordering.{nat_cmp}
 use Rattle.std.specs.declared.cmp.Ordering.TheVariants.{Less, Greater}
 use Rattle.st_label.specs.Grammar.{escaped}
-use Rattle.st_label.specs.Terms.{unescaped_from}
+use Rattle.st_label.specs.inner.Terms.{unescaped_from}
 
 pub nothing_left : (behind : Bool) → unescaped_from behind [] ≡ []
 nothing_left true = refl

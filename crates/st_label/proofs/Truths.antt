@@ -5,9 +5,9 @@ use Rattle.std.proofs.lemmas.List.{length-map, length-append, length-drop, drop-
 use Rattle.std.proofs.Math.Seq.{take-append_seam}
 use Rattle.st_label.specs.Tree.{Tree, Term, operands, holds, all_hold, one_holds}
 use Rattle.st_label.specs.Grammar.{Op, All, Any, escaped, escaped_byte}
-use Rattle.st_label.specs.Terms.{unescaped_from}
-use Rattle.st_label.specs.Machine.{Class, Plain, Sign, Quote, Backslash, Open, Close, Other, class_of, Frame, Free, Joined, Mode, Start, Word, Quoted, Escape, Done, State, state, with_sign, closed, started, popped, unquoted, step_done, step_start, step_word, step_quoted, step_escape, step_mode, step, whole, tree_of}
-use Rattle.st_label.specs.Truth.{Stage, stage, op_code, sign_truth, level_truth, begun, left, pass_done, pass_start, pass_word, pass_quoted, pass_escape, pass_step, pass_truth, IsPlaced}
+use Rattle.st_label.specs.inner.Terms.{unescaped_from}
+use Rattle.st_label.specs.inner.Machine.{Class, Plain, Sign, Quote, Backslash, Open, Close, Other, class_of, Frame, Free, Joined, Mode, Start, Word, Quoted, Escape, Done, State, state, with_sign, closed, started, popped, unquoted, step_done, step_start, step_word, step_quoted, step_escape, step_mode, step, whole, tree_of}
+use Rattle.st_label.specs.inner.Truth.{Stage, stage, op_code, sign_truth, level_truth, begun, left, pass_done, pass_start, pass_word, pass_quoted, pass_escape, pass_step, pass_truth, IsPlaced}
 use Rattle.st_label.specs.declared.truth.Level.{Level}
 use Rattle.st_label.specs.declared.truth.Part.{Part}
 use Rattle.st_label.specs.declared.tree.Operator.{Operator}

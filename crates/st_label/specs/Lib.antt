@@ -1,11 +1,7 @@
 pub mod Tree
 pub mod Grammar
 pub mod Refusals
-pub mod Terms
-pub mod Machine
-pub mod Truth
 pub mod Reading
-pub mod Views
-pub mod Gives
 pub mod Faults
 pub mod Normal
+pub mod inner

@@ -1,10 +1,10 @@
-//! A label: its written text, and what it says.
-ghost use Rattle.std.specs.Prelude.{◌≡◌, ◌↔◌, ◌<◌, ◌≤◌, IfOk, IfErr, IsTrue, length, string_bytes};
+//! Labels: their text as written, and what it means.
+ghost use Rattle.std.specs.Prelude.{◌≡◌, ◌↔◌, ◌≤◌, IfOk, IfErr, IsTrue, length, string_bytes};
 ghost use Rattle.st_label.specs.Reading.{reading, is_true, IsLabel};
-ghost use Rattle.st_label.specs.Views.{tree_view};
+ghost use Rattle.st_label.specs.inner.Views.{tree_view};
 ghost use Rattle.st_label.specs.declared.label.LabelFault.TheVariants.{NoMemory};
 ghost use Rattle.st_label.specs.Normal.{normal as normal_of, normal_text, text_of};
-ghost use Rattle.st_label.specs.Faults.{Refuses};
+ghost use Rattle.st_label.specs.Faults.{RefusesLabel};
 
 use crate::normal::normal;
 use crate::print::push_tree;
@@ -19,16 +19,17 @@ use std::marker::Model;
 /// The greatest length of a label's text, in bytes.
 pub const MAX_LEN: usize = 256;
 
-/// Why a text is no label. Places count the bytes of the text, from 0.
+/// Why a text is not a label. `at` is an index of a byte of the text.
 #[derive(Clone, Copy, PartialEq, Eq, Debug)]
 pub enum LabelFault {
-    /// The first byte up to which the text begins no label of any depth, or the text's length where it
-    /// begins one but is none.
+    /// The first byte that no label continues with, whatever its depth, or the text's length when the
+    /// text begins a label but is not one.
     BadLabel { at: usize },
     /// The text is longer than [`MAX_LEN`] bytes.
     TooLong,
-    /// The place of a parenthesis that would be one more than may be open at once.
+    /// The parenthesis that opens one level more than allowed.
     TooDeep { at: usize },
+    /// Out of memory.
     NoMemory,
 }
 
@@ -61,13 +62,13 @@ impl<A: Allocator> Model for Label<A> {
 }
 
 impl<A: Allocator + Copy> Label<A> {
-    /// Reads a label. The grammar is that of Accumulo's column visibilities; between quotes may stand
-    /// any characters, with a backslash before a quote and before a backslash. A text of at most
-    /// [`st_text::MAX_SHORT`] bytes takes no memory.
+    /// Reads a label. The grammar is that of Accumulo's column visibilities. Between quotes any
+    /// character is allowed, with a backslash before a quote and before a backslash. A text of at most
+    /// [`st_text::MAX_SHORT`] bytes allocates nothing.
     pub fn parse(alloc: A, text: &str) -> Result<Label<A>, LabelFault>
         ensures text { IfOk result (λ label. label ≡ text.now) }
         ensures label { IfOk result (λ _. IsLabel text.now) }
-        ensures fault { IfErr result (λ fault. Refuses text.now fault) }
+        ensures fault { IfErr result (λ fault. RefusesLabel text.now fault) }
     {
         if text.len() > MAX_LEN {
             return Err(LabelFault::TooLong);
@@ -79,7 +80,7 @@ impl<A: Allocator + Copy> Label<A> {
         Ok(Label { alloc, text })
     }
 
-    /// An equal label.
+    /// An equal label. `AllocError` when out of memory.
     pub fn copy(&self) -> Result<Label<A>, AllocError>
         ensures { IfOk result (λ other. other ≡ self.now) }
     {
@@ -89,9 +90,10 @@ impl<A: Allocator + Copy> Label<A> {
         })
     }
 
-    /// The label's normal form, which is true for the same names. Operands of an operand with the same
-    /// operator stand in its place; they are sorted by the bytes that they print as, and each stands once; a
-    /// single one stands for the whole. A name is in quotes only where it must be.
+    /// The label's normal form, which is true for the same names. An operand with the same operator is
+    /// replaced by its own operands; operands are sorted by the bytes that they print as, and repeats
+    /// dropped; a single operand replaces the whole. A name is in quotes only where it must be.
+    /// `AllocError` when out of memory.
     pub fn normal(&self) -> Result<Label<A>, AllocError>
         ensures { IfOk result (λ label. label ≡ normal_text self.now) }
     {
@@ -102,7 +104,7 @@ impl<A: Allocator + Copy> Label<A> {
         })
     }
 
-    /// Whether the written text is that of the normal form.
+    /// Whether the text is its own normal form. `AllocError` when out of memory.
     pub fn is_normal(&self) -> Result<bool, AllocError>
         ensures { IfOk result (λ answer. IsTrue answer ↔ (normal_text self.now ≡ self.now)) }
     {
@@ -112,7 +114,7 @@ impl<A: Allocator + Copy> Label<A> {
 }
 
 impl<A: Allocator> Label<A> {
-    /// The written text.
+    /// The text as written.
     pub fn text(&self) -> &str
         ensures value { result.now ≡ self.now }
         ensures label { IsLabel self.now }
@@ -121,8 +123,8 @@ impl<A: Allocator> Label<A> {
         self.text.as_str()
     }
 
-    /// Whether the label is true for the names: the empty label is, a term where its name is one of
-    /// them, an And where all its operands are, and an Or where one is. It takes no memory.
+    /// Whether the label is true for the names: the empty label is, a term if its name is one of them,
+    /// an And if all its operands are, and an Or if one is. It allocates nothing.
     pub fn is_true_for<N: Names>(&self, names: &N) -> bool
         ensures { result ≡ is_true (N.among names.now) self.now }
     {
@@ -144,7 +146,7 @@ fn normal_form<A: Allocator + Copy>(alloc: A, label: &str) -> Result<String<A>, 
     text
 }
 
-// The normal form of what a label says.
+// The normal form of a label's tree.
 fn normal_tree<A: Allocator + Copy>(alloc: A, label: &str) -> Result<Tree<A>, AllocError>
     requires { IsLabel label.now }
     ensures { IfOk result (λ tree. tree_view tree ≡ normal_of (reading label.now)) }
@@ -164,7 +166,7 @@ fn printed<A: Allocator + Copy>(alloc: A, tree: &Tree<A>) -> Result<String<A>, A
     Ok(text)
 }
 
-// What a label says.
+// A label's tree.
 fn tree_of<A: Allocator + Copy>(alloc: A, label: &str) -> Result<Tree<A>, AllocError>
     requires { IsLabel label.now }
     ensures { IfOk result (λ tree. tree_view tree ≡ reading label.now) }

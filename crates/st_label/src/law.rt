@@ -4,24 +4,25 @@ ghost use Rattle.st_label.specs.Tree.{Tree, Or, none};
 ghost use Rattle.st_label.specs.Grammar.{Reads};
 ghost use Rattle.st_label.specs.Refusals.{max_depth};
 ghost use Rattle.st_label.specs.Reading.{reading, is_true, IsLabel};
-ghost use Rattle.st_label.specs.Faults.{Refuses};
+ghost use Rattle.st_label.specs.Faults.{RefusesLabel};
 ghost use Rattle.st_label.specs.Normal.{normal, normal_text};
 ghost use Rattle.st_label.specs.declared.label.LabelFault.{LabelFault};
 ghost use Rattle.st_label.specs.declared.label.LabelFault.TheVariants.{NoMemory};
 
-/// A text has one tree, by which its reading goes; a text that has none is true for nobody.
+/// A text of the grammar has one tree, and that is its reading. The reading of any other text is true for
+/// nobody.
 pub fn one_reading()
     ensures one { (d e : ℕ) (text : List ℕ) (r s : Tree) → Reads d text r → Reads e text s → r ≡ s }
     ensures reading { (text : List ℕ) (tree : Tree) → Reads max_depth text tree → reading text ≡ tree }
     ensures nothing { (text : List ℕ) → ((tree : Tree) → Reads max_depth text tree → ⊥) → reading text ≡ Or none }
 {}
 
-/// A text is a label or is refused, and not both, with one fault at one place.
+/// A text either is a label or is refused, with exactly one fault.
 pub fn one_answer()
-    ensures some { (text : List ℕ) → IsLabel text ⊎ ((fault : LabelFault) × (fault ≢ NoMemory) × Refuses text fault) }
-    ensures not_both { (text : List ℕ) (fault : LabelFault) → fault ≢ NoMemory → IsLabel text → Refuses text fault → ⊥ }
+    ensures some { (text : List ℕ) → IsLabel text ⊎ ((fault : LabelFault) × (fault ≢ NoMemory) × RefusesLabel text fault) }
+    ensures not_both { (text : List ℕ) (fault : LabelFault) → fault ≢ NoMemory → IsLabel text → RefusesLabel text fault → ⊥ }
     ensures one { (text : List ℕ) (fault other : LabelFault) → fault ≢ NoMemory → other ≢ NoMemory
-        → Refuses text fault → Refuses text other → fault ≡ other }
+        → RefusesLabel text fault → RefusesLabel text other → fault ≡ other }
 {}
 
 /// The normal form of a label is a label, and true for the same names. Its text reads as the normal form of

@@ -1,17 +1,18 @@
-//! The normal form of what a label says.
+//! The normal form of a tree.
 ghost use Rattle.std.specs.Prelude.{◌≡◌, [], IfOk, map, string_bytes};
 ghost use Rattle.std.specs.Cmp.Lexicographic.{slice_cmp};
 ghost use Rattle.std.specs.List.{position};
 ghost use Rattle.std.specs.Ordering.{nat_cmp, is_le};
 ghost use Rattle.st_label.specs.Tree.{operands};
-ghost use Rattle.st_label.specs.Normal.{operand_text, parts, insert_operand, insert_all, gathered, whole_of, normal as normal_of, normal_operands};
-ghost use Rattle.st_label.specs.Views.{tree_view, op_view};
+ghost use Rattle.st_label.specs.Normal.{operand_text, parts, insert_operand, insert_all, whole_of, normal as normal_of, normal_operands};
+ghost use Rattle.st_label.specs.inner.Gathered.{gathered};
+ghost use Rattle.st_label.specs.inner.Views.{tree_view, op_view};
 
 use crate::print::push_operand;
 use crate::tree::{Operator, Tree};
 use std::alloc::{AllocError, Allocator};
 
-// Operands of a level, each with its printed form, sorted by it, and each once.
+// Operands of a level with their printed forms, sorted by these, without repeats.
 #[derive(Drop)]
 struct Gathered<A: Allocator> {
     alloc: A,
@@ -31,9 +32,10 @@ impl<A: Allocator + Copy> Gathered<A> {
         }
     }
 
-    // One more operand at its place by its printed form, where none of that form is there.
+    // One more operand in the order of printed forms, unless one of its form is there.
     fn with(self, tree: Tree<A>) -> Result<Gathered<A>, AllocError>
-        ensures { IfOk result (λ more. map tree_view more.trees.items ≡ insert_operand (tree_view tree) (map tree_view self.trees.items)) }
+        ensures { IfOk result (λ more.
+            map tree_view more.trees.items ≡ insert_operand (tree_view tree) (map tree_view self.trees.items)) }
     {
         let Gathered {
             alloc,
@@ -70,8 +72,10 @@ impl<A: Allocator + Copy> Gathered<A> {
         }
     }
 
+    // The operands of another level.
     fn with_all(self, mut others: Vec<Tree<A>, A>) -> Result<Gathered<A>, AllocError>
-        ensures { IfOk result (λ more. map tree_view more.trees.items ≡ insert_all (map tree_view others.items) (map tree_view self.trees.items)) }
+        ensures { IfOk result (λ more.
+            map tree_view more.trees.items ≡ insert_all (map tree_view others.items) (map tree_view self.trees.items)) }
     {
         let mut all = self;
         while let Some(tree) = others.pop() {
@@ -80,9 +84,10 @@ impl<A: Allocator + Copy> Gathered<A> {
         Ok(all)
     }
 
-    // The operands of an operand of the same operator, and else the operand.
+    // The operands of an operand with the same operator, or else the operand.
     fn with_parts(self, operator: Operator, tree: Tree<A>) -> Result<Gathered<A>, AllocError>
-        ensures { IfOk result (λ more. map tree_view more.trees.items ≡ insert_all (parts (op_view operator) (tree_view tree)) (map tree_view self.trees.items)) }
+        ensures { IfOk result (λ more. map tree_view more.trees.items
+            ≡ insert_all (parts (op_view operator) (tree_view tree)) (map tree_view self.trees.items)) }
     {
         match tree {
             Tree::And(trees) => match operator {
@@ -132,6 +137,7 @@ fn place_of<A: Allocator>(texts: &Vec<String<A>, A>, text: &str) -> Option<usize
     texts.iter().position(|other| text <= other.as_str())
 }
 
+// The operands of a level, gathered.
 fn gather<A: Allocator + Copy>(
     alloc: A,
     operator: Operator,
@@ -159,19 +165,22 @@ pub fn normal<A: Allocator + Copy>(alloc: A, tree: &Tree<A>) -> Result<Tree<A>, 
     }
 }
 
+// The normal form of a level.
 #[cycle(normal)]
 fn normal_level<A: Allocator + Copy>(
     alloc: A,
     operator: Operator,
     trees: &Vec<Tree<A>, A>,
 ) -> Result<Tree<A>, AllocError>
-    ensures { IfOk result (λ other. tree_view other ≡ whole_of (op_view operator) (normal_operands (op_view operator) (operands (map tree_view trees.now.items)))) }
+    ensures { IfOk result (λ other. tree_view other
+        ≡ whole_of (op_view operator) (normal_operands (op_view operator) (operands (map tree_view trees.now.items)))) }
 {
     let normals = normal_each(alloc, trees)?;
     let all = gather(alloc, operator, normals)?;
     Ok(all.whole(operator))
 }
 
+// The normal form of each operand.
 #[cycle(normal)]
 fn normal_each<A: Allocator + Copy>(
     alloc: A,

@@ -1,8 +1,9 @@
+//! Reads the tree of a label.
 ghost use Rattle.std.specs.Prelude.{◌≡◌, ◌++◌, ◌∷◌, [], Option, IfOk, option_map, Ok, Err, Some, map, string_bytes, encode_utf8};
-ghost use Rattle.st_label.specs.Machine.{Mode, Open, Word, Quoted, Done, Joined as JoinedOf, init, state, step_mode, step_start, step_done, popped, with_sign, closed as closed_by, whole as whole_by, tree_of, class_of as class_at};
+ghost use Rattle.st_label.specs.inner.Machine.{Mode, Open, Word, Quoted, Done, Joined as JoinedOf, init, state, step_mode, step_start, step_done, popped, with_sign, closed as closed_by, whole as whole_by, tree_of, class_of as class_at};
 ghost use Rattle.st_label.specs.Refusals.{max_depth};
-ghost use Rattle.st_label.specs.Views.{reader_view, tree_view, level_view, outer_view, unit_view, op_view, class_view};
-ghost use Rattle.st_label.specs.Gives.{Gives, named};
+ghost use Rattle.st_label.specs.inner.Views.{reader_view, tree_view, level_view, outer_view, unit_view, op_view, class_view};
+ghost use Rattle.st_label.specs.inner.Gives.{Gives, named};
 ghost use Rattle.st_label.specs.declared.reader.ReadFault.TheVariants.{NoMemory};
 
 use crate::class::{Class, class_of};
@@ -12,11 +13,12 @@ use std::alloc::{AllocError, AllocFailed, Allocator};
 /// The most parentheses that may be open at once.
 pub const MAX_DEPTH: usize = 16;
 
-/// Why a character is not taken.
+/// Why a character is refused.
 #[derive(Drop)]
 pub enum ReadFault {
-    /// No label goes on so.
+    /// No label continues with it.
     Refused,
+    /// Out of memory.
     NoMemory,
 }
 
@@ -36,7 +38,7 @@ impl<T: Drop> From<AllocFailed<T>> for ReadFault {
     }
 }
 
-/// A level so far: no unit, or units with an operator behind each.
+/// A level so far: no unit, or units each followed by the operator.
 #[derive(Drop)]
 pub enum Level<A: Allocator> {
     Free,
@@ -79,14 +81,15 @@ fn reader_at<A: Allocator>(
     })
 }
 
-// A reader with these parts, or what kept its unit from being.
+// A reader with these parts, or the fault of its unit.
 fn with_unit<A: Allocator>(
     alloc: A,
     outer: Vec<Level<A>, A>,
     level: Level<A>,
     unit: Result<Unit<A>, ReadFault>,
 ) -> Result<Reader<A>, ReadFault>
-    ensures { (next : Option Mode) → Gives unit_view next unit → Gives reader_view (option_map (state (outer_view outer.items) (level_view level)) next) result }
+    ensures { (next : Option Mode) → Gives unit_view next unit
+        → Gives reader_view (option_map (state (outer_view outer.items) (level_view level)) next) result }
 {
     match unit {
         Ok(unit) => reader_at(alloc, outer, level, unit),
@@ -98,7 +101,7 @@ fn with_unit<A: Allocator>(
     }
 }
 
-// The levels are given up, since no label goes on so.
+// Drops the levels: no label continues like this.
 fn refused<A: Allocator>(outer: Vec<Level<A>, A>, level: Level<A>) -> Result<Reader<A>, ReadFault>
     ensures { result ≡ Err ReadFault.Refused }
 {
@@ -108,6 +111,7 @@ fn refused<A: Allocator>(outer: Vec<Level<A>, A>, level: Level<A>) -> Result<Rea
 }
 
 impl<A: Allocator + Copy> Reader<A> {
+    /// A reader at the start of a text.
     pub fn new(alloc: A) -> Reader<A>
         ensures { reader_view result ≡ init }
     {
@@ -119,9 +123,10 @@ impl<A: Allocator + Copy> Reader<A> {
         }
     }
 
-    /// The reader behind one more character.
+    /// The reader after one more character.
     pub fn step(self, c: char) -> Result<Reader<A>, ReadFault>
-        ensures { Gives reader_view (step_mode max_depth (outer_view self.outer.items) (level_view self.level) (encode_utf8 c) (class_at c) (unit_view self.unit)) result }
+        ensures { Gives reader_view (step_mode max_depth (outer_view self.outer.items) (level_view self.level)
+            (encode_utf8 c) (class_at c) (unit_view self.unit)) result }
     {
         let Reader {
             alloc,
@@ -231,7 +236,8 @@ fn start<A: Allocator + Copy>(
     c: char,
     class: Class,
 ) -> Result<Reader<A>, ReadFault>
-    ensures { Gives reader_view (step_start max_depth (outer_view outer.items) (level_view level) (encode_utf8 c) (class_view class)) result }
+    ensures { Gives reader_view
+        (step_start max_depth (outer_view outer.items) (level_view level) (encode_utf8 c) (class_view class)) result }
 {
     match class {
         Class::Plain => with_unit(alloc, outer, level, word(String::new(alloc), c)),
@@ -256,7 +262,7 @@ fn opened<A: Allocator>(
     reader_at(alloc, outer, Level::Free, Unit::Start)
 }
 
-// What comes behind a whole unit.
+// The step after a whole unit.
 fn behind<A: Allocator + Copy>(
     alloc: A,
     outer: Vec<Level<A>, A>,
@@ -297,7 +303,7 @@ fn left<A: Allocator>(
     }
 }
 
-// The level so far with one more unit and the operator behind it.
+// The level so far with one more unit, followed by the operator.
 fn joined<A: Allocator + Copy>(
     alloc: A,
     operator: Operator,

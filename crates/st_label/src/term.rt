@@ -1,8 +1,8 @@
-//! The terms of a label, as they are written.
-ghost use Rattle.std.specs.Prelude.{◌≡◌, List, ℕ, Bool, true, false};
+//! Terms of labels, as they are written.
+ghost use Rattle.std.specs.Prelude.{◌≡◌, List, ℕ, Bool, false};
 ghost use Rattle.std.specs.Cmp.Lexicographic.{slice_cmp};
 ghost use Rattle.std.specs.Ordering.{nat_cmp};
-ghost use Rattle.st_label.specs.Terms.{unescaped_from};
+ghost use Rattle.st_label.specs.inner.Terms.{unescaped_from};
 
 use std::cmp::Ordering;
 use std::marker::Model;
@@ -16,11 +16,11 @@ pub struct Term<'a> {
 
 impl<'a> Model for Term<'a> {
     ghost use Rattle.std.specs.Prelude.{ℕ, List};
-    ghost use Rattle.st_label.specs.Terms.{name_of};
+    ghost use Rattle.st_label.specs.inner.Terms.{term_name};
 
     ghost Value = { List ℕ };
 
-    ghost view = { λ t. name_of t.quoted t.bytes.now };
+    ghost view = { λ t. term_name t.quoted t.bytes.now };
 }
 
 impl<'a> Term<'a> {
@@ -34,7 +34,7 @@ impl<'a> Term<'a> {
         }
     }
 
-    // What stands between quotes.
+    // The bytes between quotes.
     pub(crate) fn quoted(bytes: &'a [u8]) -> Term<'a>
         ensures { result ≡ unescaped_from false bytes.now }
     {
@@ -44,7 +44,7 @@ impl<'a> Term<'a> {
         }
     }
 
-    /// How a name compares with the one that the term stands for, byte by byte. It takes no memory.
+    /// Compares a name with the one that the term stands for, byte by byte. It allocates nothing.
     pub fn compare(&self, name: &str) -> Ordering
         ensures { result ≡ slice_cmp nat_cmp name.now self.now }
     {
@@ -56,7 +56,7 @@ impl<'a> Term<'a> {
     }
 }
 
-// How a name compares with what stands between quotes.
+// Compares a name with the bytes between quotes.
 fn compare_unescaped(name: &[u8], quoted: &[u8]) -> Ordering
     ensures { result ≡ slice_cmp nat_cmp name.now (unescaped_from false quoted.now) }
 {
@@ -83,7 +83,7 @@ fn compare_unescaped(name: &[u8], quoted: &[u8]) -> Ordering
     }
 }
 
-/// A set of names, for which a label is true or not.
+/// A set of names, for which a label is true or false.
 pub trait Names {
     ghost among: { Self → List ℕ → Bool };
 
@@ -92,7 +92,7 @@ pub trait Names {
         ensures { result ≡ among self.now term.now };
 }
 
-/// The set of no names.
+// The set of no names.
 #[derive(Drop)]
 pub(crate) struct Nobody;
 

@@ -1,6 +1,7 @@
+//! Trees of labels.
 ghost use Rattle.std.specs.Prelude.{◌≡◌};
 ghost use Rattle.st_label.specs.Grammar.{sign};
-ghost use Rattle.st_label.specs.Views.{op_view};
+ghost use Rattle.st_label.specs.inner.Views.{op_view};
 
 use std::alloc::Allocator;
 
@@ -12,7 +13,7 @@ pub enum Operator {
 }
 
 impl Operator {
-    /// The character that it is written by.
+    /// The character that it is written as.
     pub fn sign(self) -> char
         ensures { result ≡ sign (op_view self) }
     {
@@ -23,7 +24,7 @@ impl Operator {
     }
 }
 
-/// What a label says.
+/// What a label says: nothing, a term by its name, all of the operands, or one of them.
 #[derive(Drop)]
 pub enum Tree<A: Allocator> {
     Empty,

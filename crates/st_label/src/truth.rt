@@ -1,11 +1,11 @@
-//! Whether a label is true, by one pass over its text that takes no memory.
-ghost use Rattle.std.specs.Prelude.{◌≡◌, ◌<◌, ◌≤◌, ◌≢◌, ◌^◌, ℕ, IfOk, IfErr, Ok, Err, Some, None, true, false, length, reverse, [], slice_index_or, take};
-ghost use Rattle.st_label.specs.Machine.{class_of as class_at};
-ghost use Rattle.st_label.specs.Views.{class_view};
+//! Whether a label is true, by one pass over its text that allocates nothing.
+ghost use Rattle.std.specs.Prelude.{◌≡◌, ◌<◌, ◌≤◌, ◌≢◌, ◌^◌, IfOk, IfErr, Ok, Err, length, reverse, [], slice_index_or};
+ghost use Rattle.st_label.specs.inner.Machine.{class_of as class_at};
+ghost use Rattle.st_label.specs.inner.Views.{class_view};
 ghost use Rattle.st_label.specs.Refusals.{max_len};
 ghost use Rattle.st_label.specs.Reading.{is_true, IsLabel};
-ghost use Rattle.st_label.specs.Faults.{Refuses};
-ghost use Rattle.st_label.specs.Truth.{joins, sign_truth, level_truth, pass_done, pass_start, pass_step, pass_truth, Passes, IsPlaced};
+ghost use Rattle.st_label.specs.Faults.{RefusesLabel};
+ghost use Rattle.st_label.specs.inner.Truth.{joins, sign_truth, level_truth, pass_done, pass_start, pass_step, pass_truth, Passes, IsPlaced};
 
 use crate::class::{Class, class_of};
 use crate::label::LabelFault;
@@ -14,7 +14,7 @@ use crate::term::{Names, Term};
 use crate::tree::Operator;
 use arrayvec::ArrayVec;
 
-// A level so far: no unit, or units with an operator behind each, and what they come to.
+// A level so far: no unit, or units each followed by the operator, and their truth.
 #[derive(Clone, Copy)]
 enum Level {
     Free,
@@ -27,7 +27,7 @@ impl Default for Level {
     }
 }
 
-// The unit so far, by the place of its first byte, or what it comes to.
+// The unit so far, by the index of its first byte, or its truth.
 #[derive(Clone, Copy)]
 enum Part {
     Start,
@@ -37,7 +37,7 @@ enum Part {
     Done(bool),
 }
 
-// Why a byte is not taken.
+// Why a byte is refused.
 #[derive(Drop)]
 enum Stop {
     NotViable,
@@ -74,11 +74,12 @@ impl Pass {
         }
     }
 
-    // The reader behind one more byte, which stands at this place.
+    // The reader after the byte at this index.
     fn step<N: Names>(self, names: &N, text: &[u8], at: usize) -> Result<Pass, Stop>
         requires inside { at < length text.now }
         requires placed { IsPlaced self.unit at }
-        ensures { Passes (λ room. pass_step room (N.among names.now) text.now at (reverse self.outer.items) self.level self.unit (class_at (slice_index_or text.now at 0))) result }
+        ensures { Passes (λ room. pass_step room (N.among names.now) text.now at
+            (reverse self.outer.items) self.level self.unit (class_at (slice_index_or text.now at 0))) result }
     {
         let Pass { outer, level, unit } = self;
         let class = class_of(text[at] as char);
@@ -110,7 +111,7 @@ impl Pass {
         }
     }
 
-    // What the whole text comes to.
+    // The truth of the whole text.
     fn finish<N: Names>(self, names: &N, text: &[u8]) -> Option<bool>
         requires { IsPlaced self.unit (length text.now) }
         ensures { result ≡ pass_truth (N.among names.now) text.now (reverse self.outer.items) self.level self.unit }
@@ -131,12 +132,12 @@ impl Pass {
     }
 }
 
-/// Whether a text is true for the names, or why it is no label. It takes no memory.
+// Whether a text is true for the names, or why it is not a label. It allocates nothing.
 pub(crate) fn judge<N: Names>(text: &[u8], names: &N) -> Result<bool, LabelFault>
     requires { length text.now ≤ max_len }
     ensures label { IfOk result (λ _. IsLabel text.now) }
     ensures truth { IfOk result (λ truth. truth ≡ is_true (N.among names.now) text.now) }
-    ensures fault { IfErr result (λ fault. Refuses text.now fault) }
+    ensures fault { IfErr result (λ fault. RefusesLabel text.now fault) }
     ensures memory { result ≢ Err LabelFault.NoMemory }
 {
     let mut pass = Pass::new();
@@ -172,7 +173,7 @@ fn start(mut outer: Outer, level: Level, at: usize, class: Class) -> Result<Pass
     }
 }
 
-// What comes behind a whole unit.
+// The step after a whole unit.
 fn behind(mut outer: Outer, level: Level, truth: bool, class: Class) -> Result<Pass, Stop>
     ensures { Passes (λ room. pass_done (reverse outer.items) level truth (class_view class)) result }
 {
@@ -189,7 +190,7 @@ fn behind(mut outer: Outer, level: Level, truth: bool, class: Class) -> Result<P
     }
 }
 
-// The level so far with one more unit and the operator behind it.
+// The level so far with one more unit, followed by the operator.
 fn joined(operator: Operator, level: Level, truth: bool) -> Option<Level>
     ensures { result ≡ sign_truth operator level truth }
 {
@@ -204,7 +205,7 @@ fn joined(operator: Operator, level: Level, truth: bool) -> Option<Level>
     }
 }
 
-// What two operands come to.
+// The truth of two operands together.
 fn join(operator: Operator, one: bool, other: bool) -> bool
     ensures { result ≡ joins operator one other }
 {

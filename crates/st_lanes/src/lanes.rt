@@ -6,7 +6,7 @@ ghost use Rattle.st_lanes.specs.Lanes.{IsInBox};
 use st_box::ZBox;
 use std::simd::prelude::*;
 
-/// Bit k says whether lane k of the one is below that of the other.
+// Bit k is set if lane k of `one` is below lane k of `other`.
 fn below(one: u32x8, other: u32x8) -> u64
     requires one { length one ≡ 8 }
     requires other { length other ≡ 8 }
@@ -15,16 +15,17 @@ fn below(one: u32x8, other: u32x8) -> u64
     one.simd_lt(other).to_bitmask()
 }
 
-/// Bit k says whether item `at + k` is outside these bounds.
+// Bit k is set if item `at + k` is outside the bounds.
 fn outside(items: &[u32], at: usize, low: u32, high: u32) -> u64
     requires { at + 8 ≤ length items.now }
-    ensures { (k : ℕ) → k < 8 → (bit_at result k ≡ 0) ↔ (low ≤ slice_index items.now (at + k)) × (slice_index items.now (at + k) ≤ high) }
+    ensures { (k : ℕ) → k < 8
+        → (bit_at result k ≡ 0) ↔ (low ≤ slice_index items.now (at + k)) × (slice_index items.now (at + k) ≤ high) }
 {
     let lanes = u32x8::from_slice(&items[at..]);
     below(lanes, u32x8::splat(low)) | below(u32x8::splat(high), lanes)
 }
 
-/// Writes for each of the lowest eight bits whether it is 0.
+// Writes whether each of the lowest eight bits is 0.
 fn put_eight(out: &mut [bool], at: usize, mask: u64)
     requires { at + 8 ≤ length out.old }
     ensures put { (k : ℕ) → k < 8 → IsTrue (slice_index_or out.new (at + k) false) ↔ (bit_at mask k ≡ 0) }
@@ -47,13 +48,15 @@ pub fn in_box(zbox: &ZBox, x: u32, y: u32, offset: u32) -> bool
         && offset <= zbox.offset_last
 }
 
-/// Says of each place whether it is in the box, as `in_box` does, but eight at a time. The slices
-/// are of one length.
+/// Writes to `out` whether each place is in the box, as `in_box` says, eight places at a time. All
+/// slices have the same length.
 pub fn in_box_mask(xs: &[u32], ys: &[u32], offsets: &[u32], zbox: &ZBox, out: &mut [bool])
     requires ys { length ys.now ≡ length xs.now }
     requires offsets { length offsets.now ≡ length xs.now }
     requires out { length out.old ≡ length xs.now }
-    ensures { (i : ℕ) → i < length xs.now → IsTrue (slice_index_or out.new i false) ↔ IsInBox zbox.now (slice_index xs.now i) (slice_index ys.now i) (slice_index offsets.now i) }
+    ensures { (i : ℕ) → i < length xs.now
+        → IsTrue (slice_index_or out.new i false)
+        ↔ IsInBox zbox.now (slice_index xs.now i) (slice_index ys.now i) (slice_index offsets.now i) }
 {
     let mut at = 0;
     'eights: while xs.len() - at >= 8 {

@@ -5,7 +5,8 @@ ghost use Rattle.st_box.specs.ZBox.{IsInside};
 ghost use Rattle.st_box.specs.declared.zbox.ZBox.{ZBox};
 ghost use Rattle.st_lanes.specs.Lanes.{IsInBox};
 
-/// A place is in a box where its address is one of the box.
+/// A place is in a box if and only if its address is one of the box.
 pub fn places()
-    ensures { (b : ZBox) (x y offset : ℕ) → x < 2 ^ 21 → y < 2 ^ 21 → offset < 2 ^ 21 → IsInBox b x y offset ↔ IsInside b (address_of x y offset) }
+    ensures { (b : ZBox) (x y offset : ℕ) → x < 2 ^ 21 → y < 2 ^ 21 → offset < 2 ^ 21
+        → IsInBox b x y offset ↔ IsInside b (address_of x y offset) }
 {}

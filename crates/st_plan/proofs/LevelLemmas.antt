@@ -9,7 +9,8 @@ use Rattle.st_box.specs.ZBox.{IsInside}
 use Rattle.st_bigmin.specs.Run.{IsNextRun}
 use Rattle.st_box.proofs.Cells.{address-spot}
 use Rattle.st_box.proofs.Lanes.{same_spot}
-use Rattle.st_plan.specs.Coarse.{InCoarse, Runs, Begins, HasFewRuns, HasManyRuns, IsTooFine}
+use Rattle.st_plan.specs.Coarse.{InCoarse, Runs, IsTooFine}
+use Rattle.st_plan.specs.inner.Levels.{AreFirstRuns, HasFewRuns, HasManyRuns}
 use Rattle.st_plan.proofs.CoarseLemmas.{up, down}
 use Rattle.st_plan.proofs.RunLists.{begins-append, begins-runs, runs-begins, no_fewer}
 
@@ -26,7 +27,7 @@ next_along P Q from r same n = record {
 
 pub record Counted (b : ZBox) (level from count : ℕ) : Type 0 where
   pub runs : List Run
-  pub begins : Begins (InCoarse b level) 0 runs from
+  pub begins : AreFirstRuns (InCoarse b level) 0 runs from
   pub counted : length runs ≡ count
 
 pub counted-zero : (b : ZBox) (level : ℕ) → Counted b level 0 0
@@ -60,7 +61,7 @@ pub too_fine : (b : ZBox) (level budget m : ℕ) → HasManyRuns b level budget 
 too_fine b level budget m many le rs runs =
     let j = level - m in
     let e : level ≡ m + j = omega arith in
-    let begins : Begins (InCoarse b (m + j)) 0 many.runs many.end = subst (λ n. Begins (InCoarse b n) 0 many.runs many.end) e many.begins in
+    let begins : AreFirstRuns (InCoarse b (m + j)) 0 many.runs many.end = subst (λ n. AreFirstRuns (InCoarse b n) 0 many.runs many.end) e many.begins in
     let le = no_fewer (InCoarse b m) (InCoarse b (m + j)) (3 * j) (λ a there. up b m j a there) many.runs rs 0 0 many.end
     (λ c le there. let one = down b m j c there in record { number = one.address; late = omega arith; inside = one.inside; prefix = one.prefix })
     begins runs in

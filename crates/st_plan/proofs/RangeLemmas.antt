@@ -9,8 +9,10 @@ use Rattle.st_box.specs.ZBox.{IsInside}
 use Rattle.st_bigmin.specs.Run.{IsNextRun, IsRunTo, IsLeastInCell, IsGreatestInCell}
 use Rattle.st_box.proofs.Cells.{above_prefix}
 use Rattle.st_plan.specs.declared.range.Range.{Range}
-use Rattle.st_plan.specs.Coarse.{InCoarse, Runs, Begins, HasFewRuns}
-use Rattle.st_plan.specs.Plan.{IsRangeOf, Ranges, AreRangesAt, IsPlanOf, Rise, Hold, HoldExactly}
+use Rattle.st_plan.specs.Coarse.{InCoarse, Runs}
+use Rattle.st_plan.specs.inner.Levels.{AreFirstRuns, HasFewRuns}
+use Rattle.st_plan.specs.Plan.{IsRangeOf, Ranges, IsPlanOf, Rise, Hold, HoldExactly}
+use Rattle.st_plan.specs.inner.Levels.{AreRangesAt}
 use Rattle.st_plan.proofs.CoarseLemmas.{up, down}
 use Rattle.st_plan.proofs.RunLists.{begins-append, begins-runs}
 use Rattle.st_plan.proofs.LevelLemmas.{next_along, same_length}
@@ -81,7 +83,7 @@ range_is b level lo hi last run range el eh least greatest to exact =
 
 pub record SoFar (b : ZBox) (level from : ℕ) (xs : List Range) : Type 0 where
   pub runs : List Run
-  pub begins : Begins (InCoarse b level) 0 runs from
+  pub begins : AreFirstRuns (InCoarse b level) 0 runs from
   pub ranges : Ranges b level runs xs
 
 pub so_far-none : (b : ZBox) (level : ℕ) → SoFar b level 0 []

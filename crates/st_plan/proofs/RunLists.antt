@@ -7,19 +7,20 @@ use Rattle.st_bigmin.specs.declared.run.Run.{Run}
 use Rattle.st_bigmin.specs.Run.{IsNextRun}
 use Rattle.st_box.proofs.Cells.{above_prefix, first_prefix}
 use Rattle.st_bigmin.proofs.Runs.{below_prefix}
-use Rattle.st_plan.specs.Coarse.{Runs, Begins}
+use Rattle.st_plan.specs.Coarse.{Runs}
+use Rattle.st_plan.specs.inner.Levels.{AreFirstRuns}
 
-pub begins-append : (P : ℕ → Type 0) (rs : List Run) (from mid : ℕ) (r : Run) → Begins P from rs mid → IsNextRun P mid r → Begins P from (rs ++ (r ∷ [])) (r.last + 1)
+pub begins-append : (P : ℕ → Type 0) (rs : List Run) (from mid : ℕ) (r : Run) → AreFirstRuns P from rs mid → IsNextRun P mid r → AreFirstRuns P from (rs ++ (r ∷ [])) (r.last + 1)
 begins-append P [] from mid r begins next = (subst (λ n. IsNextRun P n r) (sym begins) next, omega arith)
 begins-append P (s ∷ rs) from mid r begins next = (begins.0, begins-append P rs (s.last + 1) mid r begins.1 next)
 
-pub begins-runs : (P : ℕ → Type 0) (rs : List Run) (from end : ℕ) → Begins P from rs end → ((a : ℕ) → end ≤ a → P a → ⊥) → Runs P from rs
+pub begins-runs : (P : ℕ → Type 0) (rs : List Run) (from end : ℕ) → AreFirstRuns P from rs end → ((a : ℕ) → end ≤ a → P a → ⊥) → Runs P from rs
 begins-runs P [] from end begins none = λ a le. none a (omega arith)
 begins-runs P (s ∷ rs) from end begins none = (begins.0, begins-runs P rs (s.last + 1) end begins.1 none)
 
 pub record Begun (P : ℕ → Type 0) (from : ℕ) (rs : List Run) : Type 0 where
   pub end : ℕ
-  pub begins : Begins P from rs end
+  pub begins : AreFirstRuns P from rs end
 
 pub runs-begins : (P : ℕ → Type 0) (rs : List Run) (from : ℕ) → Runs P from rs → Begun P from rs
 runs-begins P [] from runs = record { end = from; begins = omega arith }
@@ -50,7 +51,7 @@ ends_within P Q k start from r s raise nr ns first =
 
 -- so a set has no fewer runs than the set of its prefixes
 pub no_fewer : (P Q : ℕ → Type 0) (k : ℕ) → ((a : ℕ) → P a → Q (a / 2 ^ k)) → (ss rs : List Run) (start from end : ℕ)
-    → ((c : ℕ) → from ≤ c → Q c → Comes P Q k start c) → Begins Q from ss end → Runs P start rs → length ss ≤ length rs
+    → ((c : ℕ) → from ≤ c → Q c → Comes P Q k start c) → AreFirstRuns Q from ss end → Runs P start rs → length ss ≤ length rs
 no_fewer P Q k raise [] rs start from end comes begins runs = omega arith
 no_fewer P Q k raise (s ∷ ss) [] start from end comes begins runs =
     let ns = begins.0 in

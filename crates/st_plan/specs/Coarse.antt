@@ -1,5 +1,5 @@
 -- The coarse box of a box, and its runs.
-use Rattle.std.specs.Prelude.{ℕ, ◌≡◌, ◌<◌, ◌≤◌, ◌+◌, ◌/◌, ◌^◌, List, [], ◌∷◌, length}
+use Rattle.std.specs.Prelude.{ℕ, ◌<◌, ◌≤◌, ◌+◌, ◌/◌, ◌^◌, List, [], ◌∷◌, length}
 use Rattle.st_key.specs.Order.{Spot}
 use Rattle.st_box.specs.declared.zbox.ZBox.{ZBox}
 use Rattle.st_bigmin.specs.declared.run.Run.{Run}
@@ -20,24 +20,6 @@ pub record InCoarse (b : ZBox) (level a : ℕ) : Type 0 where
 abbrev pub Runs : (ℕ → Type 0) → ℕ → List Run → Type 0
 Runs P from [] = (a : ℕ) → from ≤ a → P a → ⊥
 Runs P from (r ∷ rs) = IsNextRun P from r × Runs P (r.last + 1) rs
-
--- these are the first of them, up to the number before end
-abbrev pub Begins : (ℕ → Type 0) → ℕ → List Run → ℕ → Type 0
-Begins P from [] end = from ≡ end
-Begins P from (r ∷ rs) end = IsNextRun P from r × Begins P (r.last + 1) rs end
-
--- the coarse box of this level has at most so many runs
-pub record HasFewRuns (b : ZBox) (level budget : ℕ) : Type 0 where
-  pub runs : List Run
-  pub all_runs : Runs (InCoarse b level) 0 runs
-  pub few : length runs ≤ budget
-
--- it has more
-pub record HasManyRuns (b : ZBox) (level budget : ℕ) : Type 0 where
-  pub runs : List Run
-  pub end : ℕ
-  pub begins : Begins (InCoarse b level) 0 runs end
-  pub many : budget < length runs
 
 -- however its runs are listed, they are more than the budget
 abbrev pub IsTooFine : ZBox → ℕ → ℕ → Type 0

@@ -3,3 +3,4 @@ pub mod Plan
 pub mod PlanOf
 pub mod QueryPlan
 pub mod Range
+pub mod inner

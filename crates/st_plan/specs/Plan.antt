@@ -46,9 +46,3 @@ Hold (x ∷ xs) a = ((x.lo ≤ a) × (a ≤ x.hi)) ⊎ Hold xs a
 abbrev pub HoldExactly : List Range → ℕ → Type 0
 HoldExactly [] a = ⊥
 HoldExactly (x ∷ xs) a = (IsTrue x.exact × (x.lo ≤ a) × (a ≤ x.hi)) ⊎ HoldExactly xs a
-
--- these are the ranges of all runs of the level
-pub record AreRangesAt (b : ZBox) (level : ℕ) (xs : List Range) : Type 0 where
-  pub runs : List Run
-  pub all_runs : Runs (InCoarse b level) 0 runs
-  pub ranges : Ranges b level runs xs

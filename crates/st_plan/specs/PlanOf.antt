@@ -10,17 +10,17 @@ use Rattle.st_plan.specs.declared.range.Range.{Range}
 
 -- ---- sets of numbers
 
--- so many numbers from one on
+-- `count` numbers from one on
 unfoldable pub numbers : ℕ → ℕ → List ℕ
 numbers from zero = []
 numbers from (suc count) = from ∷ numbers (from + 1) count
 
--- the first of so many numbers from one on that is not in the set; where all are, the number after them
+-- the first of `count` numbers from one on that is not in the set, or the number after them when all are
 unfoldable pub first_not : (ℕ → Bool) → ℕ → ℕ → ℕ
 first_not set from zero = from
 first_not set from (suc count) = if set from then first_not set (from + 1) count else from
 
--- the greatest number of the set below this one, where there is one
+-- the greatest number of the set below this one, or 0
 unfoldable pub last_below : (ℕ → Bool) → ℕ → ℕ
 last_below set zero = 0
 last_below set (suc n) = if set n then n else last_below set n
@@ -43,7 +43,8 @@ between lo hi n = nat_le lo n && nat_le n hi
 
 -- whether the address is that of a place in the box
 abbrev pub has_address : Cut → ℕ → Bool
-has_address c a = between c.x_first c.x_last (x_of a) && between c.y_first c.y_last (y_of a) && between c.offset_first c.offset_last (offset_of a)
+has_address c a =
+    between c.x_first c.x_last (x_of a) && between c.y_first c.y_last (y_of a) && between c.offset_first c.offset_last (offset_of a)
 
 -- each bound divided by 2^level
 abbrev pub coarse_cut : ℕ → Cut → Cut

@@ -43,7 +43,7 @@ abbrev pub AreRising : {A : Type 0} → List (PartPlan A) → Type 0
 AreRising [] = Unit {0}
 AreRising (x ∷ xs) = Rise 0 x.ranges × AreRising xs
 
--- each part has at most so many ranges
+-- no part has more ranges than the budget
 abbrev pub AreInBudget : {A : Type 0} → ℕ → List (PartPlan A) → Type 0
 AreInBudget budget [] = Unit {0}
 AreInBudget budget (x ∷ xs) = (length x.ranges ≤ budget) × AreInBudget budget xs

@@ -1,8 +1,9 @@
 //! The plan of one box.
-ghost use Rattle.std.specs.Prelude.{◌≡◌, ℕ, ◌^◌, ◌<◌, ◌≤◌, ◌+◌, IfOk, List, length};
+ghost use Rattle.std.specs.Prelude.{◌≡◌, ℕ, ◌<◌, ◌≤◌, IfOk, List, length};
 ghost use Rattle.st_box.specs.ZBox.{IsInside};
-ghost use Rattle.st_plan.specs.Coarse.{InCoarse, HasFewRuns, IsTooFine};
-ghost use Rattle.st_plan.specs.Plan.{IsRangeOf, IsPlanOf, AreRangesAt, Rise, Hold, HoldExactly};
+ghost use Rattle.st_plan.specs.Coarse.{InCoarse};
+ghost use Rattle.st_plan.specs.Plan.{IsRangeOf, IsPlanOf, Rise, Hold, HoldExactly};
+ghost use Rattle.st_plan.specs.inner.Levels.{AreRangesAt};
 ghost use Rattle.st_plan.specs.declared.range.Range.{Range};
 
 use crate::level::{coarse, level_within};
@@ -11,7 +12,7 @@ use st_bigmin::{Run, first_in_cell, last_in_cell, next_run, run_last};
 use st_box::ZBox;
 use std::alloc::{AllocError, Allocator};
 
-/// What a run of the coarse box of a level covers of the box.
+// What a run of the coarse box of a level covers of the box.
 fn range_of(zbox: &ZBox, level: u32, run: Run) -> Range
     requires level_in_range { level ≤ 21 }
     requires first { InCoarse zbox.now level run.first }
@@ -24,7 +25,7 @@ fn range_of(zbox: &ZBox, level: u32, run: Run) -> Range
     Range { lo, hi, exact }
 }
 
-/// The ranges of the runs of a level.
+// The ranges of the runs of a level.
 fn ranges_at<A: Allocator + Copy>(
     alloc: A,
     zbox: &ZBox,

@@ -1,13 +1,13 @@
-//! Why no plan is made.
+//! Faults of plans.
 
 use std::alloc::AllocError;
 
-/// Why no plan is made.
+/// Why a query was not planned.
 #[derive(Clone, Copy, PartialEq, Eq, Debug)]
 pub enum PlanFault {
     /// The budget is not 1 to 64.
     BadBudget,
-    /// There is no memory for the ranges.
+    /// Out of memory.
     NoMemory,
 }
 

@@ -1,7 +1,8 @@
 //! The level of a plan.
-ghost use Rattle.std.specs.Prelude.{◌≡◌, ◌↔◌, ℕ, ◌^◌, ◌<◌, ◌≤◌, ◌+◌, IsTrue};
+ghost use Rattle.std.specs.Prelude.{◌↔◌, ℕ, ◌<◌, ◌≤◌, IsTrue};
 ghost use Rattle.st_box.specs.ZBox.{IsInside};
-ghost use Rattle.st_plan.specs.Coarse.{InCoarse, HasFewRuns, HasManyRuns, IsTooFine};
+ghost use Rattle.st_plan.specs.Coarse.{InCoarse, IsTooFine};
+ghost use Rattle.st_plan.specs.inner.Levels.{HasFewRuns, HasManyRuns};
 
 use st_bigmin::next_run;
 use st_box::ZBox;
@@ -21,7 +22,7 @@ pub fn coarse(zbox: &ZBox, level: u32) -> ZBox
     }
 }
 
-/// Whether the coarse box of a level has more runs than the budget.
+// Whether the coarse box of a level has more runs than the budget.
 fn exceeds(zbox: &ZBox, level: u32, budget: u32) -> bool
     requires { level ≤ 21 }
     ensures more { IsTrue result → HasManyRuns zbox.now level budget }

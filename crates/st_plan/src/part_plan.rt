@@ -47,7 +47,7 @@ impl<A: Allocator> PartPlan<A> {
         false
     }
 
-    /// Whether the part has the bin.
+    // Whether the part has the bin.
     fn has_bin(&self, bin: u32) -> bool
         ensures { result ≡ (nat_le self.now.bin_lo bin && nat_le bin self.now.bin_hi) }
     {

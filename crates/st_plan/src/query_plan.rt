@@ -1,5 +1,5 @@
 //! The plan of a query.
-ghost use Rattle.std.specs.Prelude.{◌≡◌, ℕ, ◌↔◌, ◌⊎◌, ◌<◌, ◌≤◌, IsOk, IfOk, IfErr, IsTrue, List, length};
+ghost use Rattle.std.specs.Prelude.{◌≡◌, ◌↔◌, ◌⊎◌, ◌<◌, ◌≤◌, IsOk, IfOk, IfErr, IsTrue, List};
 ghost use Rattle.st_key.specs.declared.key.Key.{Key};
 ghost use Rattle.st_box.specs.Query.{HasKey};
 ghost use Rattle.st_plan.specs.declared.fault.PlanFault.TheVariants.{BadBudget};
@@ -15,7 +15,7 @@ use st_key::Period;
 use st_text::Items;
 use std::alloc::{AllocError, Allocator};
 
-/// The plan of one part.
+// The plan of one part.
 fn plan_part<A: Allocator + Copy>(
     alloc: A,
     part: &Part,
@@ -32,7 +32,7 @@ fn plan_part<A: Allocator + Copy>(
     })
 }
 
-/// The plan of each part.
+// The plan of each part.
 fn plan_parts<A: Allocator + Copy>(
     alloc: A,
     parts: &[Part],
@@ -51,7 +51,7 @@ fn plan_parts<A: Allocator + Copy>(
 /// The plan of a query: for each part of its span the ranges of addresses that hold the part's keys,
 /// at most `budget` of them. The ranges are those of the runs of the part's box, its bounds divided
 /// by the least power of 2 that leaves no more runs than the budget, each cut down to the box's
-/// addresses in it. `BadBudget` where the budget is not 1 to 64.
+/// addresses in it. `BadBudget` unless the budget is 1 to 64.
 pub fn plan<A: Allocator + Copy>(
     alloc: A,
     query: &Query,

@@ -1,3 +1,3 @@
 pub mod Texts
 pub mod Names
-pub mod Compact
+pub mod inner

@@ -1,4 +1,4 @@
--- Which texts are names of users, of namespaces and of tables.
+-- Which texts are names of users, namespaces and tables.
 use Rattle.std.specs.Prelude.{ℕ, ◌&&◌, ◌||◌, ◌==◌, nat_le, nat_lt, length, Bool, Option, Some, None, if◌then◌else◌}
 use Rattle.std.specs.List.{list_all, position_or_len, before_first, after_first}
 use Rattle.std.specs.Char.{is_ascii_alphanumeric}
@@ -8,7 +8,7 @@ use Rattle.st_text.specs.Texts.{Text}
 abbrev pub is_name_byte : ℕ → Bool
 is_name_byte b = is_ascii_alphanumeric b || b == 95
 
--- 1 to 32 of them
+-- a name: 1 to 32 of them
 abbrev pub is_name : Text → Bool
 is_name text = nat_lt 0 (length text) && nat_le (length text) 32 && list_all is_name_byte text
 
@@ -19,7 +19,7 @@ is_dot b = b == 46
 abbrev pub has_dot : Text → Bool
 has_dot text = nat_lt (position_or_len is_dot text) (length text)
 
--- what stands before the first dot, and behind it
+-- the part before the first dot, and the part behind it
 abbrev pub before_dot : Text → Text
 before_dot text = before_first is_dot text
 

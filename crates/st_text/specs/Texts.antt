@@ -1,4 +1,4 @@
--- Texts, which are their bytes, and lists of them in an order.
+-- Texts as lists of bytes, and lists of texts in order.
 use Rattle.std.specs.Prelude.{ℕ, List, [], ◌∷◌, Bool, if◌then◌else◌, nat_eq}
 use Rattle.std.specs.List.{list_any}
 use Rattle.std.specs.Ordering.{nat_cmp, is_lt}
@@ -15,7 +15,7 @@ same = pointwise nat_eq
 abbrev pub is_among : List Text → Text → Bool
 is_among names name = list_any (same name) names
 
--- a list of texts comes before another by the first text that differs, a text by the first byte that does
+-- lists are compared by the first text that differs, texts by the first byte that differs
 abbrev pub comes_before : List Text → List Text → Bool
 comes_before key other = is_lt (slice_cmp (slice_cmp nat_cmp) key other)
 
@@ -33,6 +33,6 @@ abbrev pub each_once : List Text → List Text
 each_once [] = []
 each_once (name ∷ names) = if is_among names name then each_once names else name ∷ each_once names
 
--- the set of the texts, as a list: each once, by bytes
+-- the set of the texts as a list: each once, in byte order
 abbrev pub set_of : List Text → List Text
 set_of names = in_order (λ name. name ∷ []) (each_once names)

@@ -1,4 +1,4 @@
-//! Texts of any length, of which short ones take no memory.
+//! Texts of any length. Short ones allocate nothing.
 ghost use Rattle.std.specs.Prelude.{◌≡◌, IfOk};
 ghost use Rattle.st_text.specs.Texts.{same};
 
@@ -6,50 +6,50 @@ use crate::short::{MAX_SHORT, ShortText};
 use std::alloc::{AllocError, Allocator, Global};
 use std::marker::Model;
 
-// Where the bytes of a text lie.
+// Where the bytes of a text are stored.
 #[derive(Drop)]
-enum Place<A: Allocator> {
+enum Storage<A: Allocator> {
     Inline(ShortText),
     Heap(Box<String<A>, A>),
 }
 
-/// A text of any length. One of at most [`MAX_SHORT`] bytes lies in the value itself, and a
-/// longer one in memory of its own. The value takes 24 bytes where its allocator takes none.
+/// A text of any length. Up to [`MAX_SHORT`] bytes are stored in the value itself, more on the heap.
+/// The value takes 24 bytes when its allocator takes none.
 #[derive(Drop)]
 pub struct CompactText<A: Allocator = Global> {
     alloc: A,
-    place: Place<A>,
+    storage: Storage<A>,
 }
 
 const _: () = prove!(size_of::<CompactText>() == 24);
 
 impl<A: Allocator> Model for CompactText<A> {
     ghost use Rattle.std.specs.Prelude.{ℕ, List};
-    ghost use Rattle.st_text.specs.Compact.{placed_bytes};
+    ghost use Rattle.st_text.specs.inner.Compact.{stored_bytes};
 
     ghost Value = { List ℕ };
 
-    ghost view = { λ t. placed_bytes t.place };
+    ghost view = { λ t. stored_bytes t.storage };
 }
 
 impl<A: Allocator + Copy> CompactText<A> {
-    /// A copy of the text, or an error where it is long and there is no memory for it.
+    /// A copy of the text. `AllocError` when it is longer than [`MAX_SHORT`] bytes and memory runs out.
     pub fn new(alloc: A, text: &str) -> Result<CompactText<A>, AllocError>
         ensures { IfOk result (λ compact. compact ≡ text.now) }
     {
         match ShortText::new(text) {
             Some(short) => Ok(CompactText {
                 alloc,
-                place: Place::Inline(short),
+                storage: Storage::Inline(short),
             }),
             None => Ok(CompactText {
                 alloc,
-                place: Place::Heap(Box::new(alloc, String::from_str(alloc, text)?)?),
+                storage: Storage::Heap(Box::new(alloc, String::from_str(alloc, text)?)?),
             }),
         }
     }
 
-    /// An equal text, or an error where it is long and there is no memory for it.
+    /// An equal text. `AllocError` when it is longer than [`MAX_SHORT`] bytes and memory runs out.
     pub fn copy(&self) -> Result<CompactText<A>, AllocError>
         ensures { IfOk result (λ compact. compact ≡ self.now) }
     {
@@ -62,9 +62,9 @@ impl<A: Allocator> CompactText<A> {
     pub fn as_str(&self) -> &str
         ensures { result.now ≡ self.now }
     {
-        match &self.place {
-            Place::Inline(short) => short.as_str(),
-            Place::Heap(text) => text.as_str(),
+        match &self.storage {
+            Storage::Inline(short) => short.as_str(),
+            Storage::Heap(text) => text.as_str(),
         }
     }
 

@@ -1,10 +1,10 @@
-//! Lists.
+//! Lists that contracts see as their items.
 ghost use Rattle.std.specs.Prelude.{◌≡◌, ◌++◌, ◌∷◌, [], OnOk, OnErr, length};
 
 use std::alloc::{AllocError, Allocator, Global};
 use std::marker::Model;
 
-/// A list, in memory of its own.
+/// A list on the heap. Contracts see it as its items.
 #[derive(Drop)]
 pub struct Items<T: Drop, A: Allocator = Global> {
     items: Vec<T, A>,
@@ -19,7 +19,7 @@ impl<T: Drop, A: Allocator> Model for Items<T, A> {
 }
 
 impl<T: Drop, A: Allocator> Items<T, A> {
-    /// The empty list, which takes no memory.
+    /// The empty list. It allocates nothing.
     pub fn new(alloc: A) -> Items<T, A>
         ensures { result ≡ [] }
     {
@@ -42,14 +42,14 @@ impl<T: Drop, A: Allocator> Items<T, A> {
         self.items.as_slice()
     }
 
-    /// How many items there are.
+    /// The number of items.
     pub fn len(&self) -> usize
         ensures { result ≡ length self.now }
     {
         self.items.len()
     }
 
-    /// Puts an item at the end, or leaves the list as it was where there is no memory for it.
+    /// Appends an item. `AllocError` when out of memory; the list is then unchanged.
     pub fn push(&mut self, item: T) -> Result<(), AllocError>
         ensures ok { OnOk result (self.new ≡ self.old ++ item ∷ []) }
         ensures err { OnErr result (self.new ≡ self.old) }
@@ -60,8 +60,7 @@ impl<T: Drop, A: Allocator> Items<T, A> {
 }
 
 impl<T: Copy + Drop, A: Allocator> Items<T, A> {
-    /// Puts copies of the items at the end, or leaves the list as it was where there is no memory
-    /// for them.
+    /// Appends copies of the items. `AllocError` when out of memory; the list is then unchanged.
     pub fn extend(&mut self, items: &[T]) -> Result<(), AllocError>
         ensures ok { OnOk result (self.new ≡ self.old ++ items.now) }
         ensures err { OnErr result (self.new ≡ self.old) }

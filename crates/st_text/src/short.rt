@@ -8,7 +8,7 @@ use std::str;
 /// The greatest length of a [`ShortText`], in bytes.
 pub const MAX_SHORT: usize = 15;
 
-/// A text of at most [`MAX_SHORT`] bytes, which lie in the value itself: 16 bytes in all.
+/// A text of at most [`MAX_SHORT`] bytes, stored in the value itself: 16 bytes in all.
 #[derive(Drop)]
 pub struct ShortText {
     len: u8,
@@ -29,7 +29,7 @@ impl Model for ShortText {
 }
 
 impl ShortText {
-    /// The text, or `None` where it is longer than [`MAX_SHORT`] bytes.
+    /// The text, or `None` when it is longer than [`MAX_SHORT`] bytes.
     pub fn new(text: &str) -> Option<ShortText>
         ensures fits { IsSome result ↔ (length text.now ≤ MAX_SHORT) }
         ensures value { IfSome result (λ t. t ≡ text.now) }

@@ -5,7 +5,7 @@ ghost use Rattle.st_text.specs.Texts.{same};
 use arrayvec::ArrayString;
 use std::marker::Model;
 
-/// A text of at most `CAP` bytes of UTF-8, which lie in the value itself.
+/// A text of at most `CAP` bytes of UTF-8, stored in the value itself.
 #[derive(Drop)]
 pub struct Text<const CAP: usize> {
     bytes: ArrayString<CAP>,
@@ -20,7 +20,7 @@ impl<const CAP: usize> Model for Text<CAP> {
 }
 
 impl<const CAP: usize> Text<CAP> {
-    /// The text, or `None` where it has more than `CAP` bytes.
+    /// The text, or `None` when it has more than `CAP` bytes.
     pub fn new(text: &str) -> Option<Text<CAP>>
         ensures fits { IsSome result ↔ (length text.now ≤ CAP) }
         ensures value { IfSome result (λ t. t ≡ text.now) }

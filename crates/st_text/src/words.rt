@@ -5,7 +5,7 @@ ghost use Rattle.st_text.specs.Texts.{same};
 use std::alloc::{AllocError, Allocator, Global};
 use std::marker::Model;
 
-/// A text of any length, in memory of its own.
+/// A text of any length, on the heap.
 #[derive(Drop)]
 pub struct Words<A: Allocator = Global> {
     text: String<A>,
@@ -20,7 +20,7 @@ impl<A: Allocator> Model for Words<A> {
 }
 
 impl<A: Allocator + Copy> Words<A> {
-    /// A copy of the text, or an error where there is no memory for it.
+    /// A copy of the text. `AllocError` when out of memory.
     pub fn new(alloc: A, text: &str) -> Result<Words<A>, AllocError>
         ensures { IfOk result (λ words. words ≡ text.now) }
     {
@@ -28,7 +28,7 @@ impl<A: Allocator + Copy> Words<A> {
         Ok(Words { text })
     }
 
-    /// An equal text, or an error where there is no memory for it.
+    /// An equal text. `AllocError` when out of memory.
     pub fn copy(&self) -> Result<Words<A>, AllocError>
         ensures { IfOk result (λ words. words ≡ self.now) }
     {

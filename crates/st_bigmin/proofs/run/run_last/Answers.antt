@@ -1,5 +1,5 @@
 use Rattle.std.proofs.Common.{◌/◌, ◌+◌, ◌*◌, ◌^◌, subst, arith, rules}
-use Rattle.st_bigmin.specs.Run.{HasCell, IsFirstOutside}
+use Rattle.st_bigmin.specs.inner.Cells.{HasCell, IsFirstOutside}
 use Rattle.st_box.specs.ZBox.{first_of}
 use Rattle.st_bigmin.proofs.Jumps.{room_above}
 use Rattle.st_bigmin.proofs.Runs.{runs_to-suc, run_to-end, run_to-cell}

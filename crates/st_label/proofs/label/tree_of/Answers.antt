@@ -1,4 +1,4 @@
-use Rattle.st_label.specs.Views.{reader_view}
+use Rattle.st_label.specs.inner.Views.{reader_view}
 use Rattle.st_label.proofs.Chars.{one_more, never_refused, whole_label, some_none, same_tree}
 use Rattle.st_label.proofs.label.tree_of.Goals as goal
 

@@ -1,8 +1,8 @@
 use Rattle.std.proofs.Common.{◌≡◌}
 use Rattle.std.specs.Str.Iter.{chars_rest}
-use Rattle.st_label.specs.Machine.{init, run}
+use Rattle.st_label.specs.inner.Machine.{init, run}
 use Rattle.st_label.specs.Refusals.{max_depth}
-use Rattle.st_label.specs.Views.{reader_view}
+use Rattle.st_label.specs.inner.Views.{reader_view}
 use Rattle.st_label.proofs.label.tree_of.Given as goal
 
 -- what is left decides

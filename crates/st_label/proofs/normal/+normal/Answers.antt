@@ -1,8 +1,9 @@
 use Rattle.std.proofs.Common.{◌≡◌, length, map, ap, ◌∙◌, sym, arith}
 use Rattle.std.proofs.lemmas.Simd.{map-map}
 use Rattle.std.proofs.lemmas.List.{take_all}
-use Rattle.st_label.specs.Normal.{normal, gathered, whole_of}
-use Rattle.st_label.specs.Views.{tree_view, op_view}
+use Rattle.st_label.specs.Normal.{normal, whole_of}
+use Rattle.st_label.specs.inner.Gathered.{gathered}
+use Rattle.st_label.specs.inner.Views.{tree_view, op_view}
 use Rattle.st_label.proofs.Gather.{one_more_normal, level_gathered}
 use Rattle.st_label.proofs.normal.+normal.Goals as goal
 

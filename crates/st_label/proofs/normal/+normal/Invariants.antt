@@ -1,6 +1,6 @@
 use Rattle.std.proofs.Common.{◌≡◌, map, take}
 use Rattle.st_label.specs.Normal.{normal}
-use Rattle.st_label.specs.Views.{tree_view}
+use Rattle.st_label.specs.inner.Views.{tree_view}
 use Rattle.st_label.proofs.normal.+normal.Given as goal
 
 abbrev pub invariant-normal_each-loop-tree : goal.invariant-normal_each-loop-tree

@@ -1,8 +1,9 @@
 use Rattle.std.specs.Prelude.{vec_len}
 use Rattle.std.proofs.Common.{arith, [], ◌∷◌, sym, ap, ◌∙◌, map}
 use Rattle.std.proofs.lemmas.List.{append-nil}
-use Rattle.st_label.specs.Normal.{insert_all, parts, gathered}
-use Rattle.st_label.specs.Views.{tree_view, op_view}
+use Rattle.st_label.specs.Normal.{insert_all, parts}
+use Rattle.st_label.specs.inner.Gathered.{gathered}
+use Rattle.st_label.specs.inner.Views.{tree_view, op_view}
 use Rattle.st_label.proofs.Popped.{one_popped, all_popped, nothing_left}
 use Rattle.st_label.proofs.normal.gather.Goals as goal
 

@@ -1,7 +1,7 @@
 use Rattle.std.proofs.Common.{◌≡◌, ◌++◌, List, length, map}
 use Rattle.st_label.specs.Tree as label
-use Rattle.st_label.specs.Normal.{gathered}
-use Rattle.st_label.specs.Views.{tree_view, op_view}
+use Rattle.st_label.specs.inner.Gathered.{gathered}
+use Rattle.st_label.specs.inner.Views.{tree_view, op_view}
 use Rattle.st_label.proofs.normal.gather.Given as goal
 
 -- the operands that are done

@@ -1,5 +1,5 @@
 use Rattle.std.proofs.Common.{arith, []}
-use Rattle.st_label.specs.Views.{outer_view, level_view}
+use Rattle.st_label.specs.inner.Views.{outer_view, level_view}
 use Rattle.st_label.proofs.Steps.{full}
 use Rattle.st_label.proofs.Seen.{outer_length}
 use Rattle.st_label.proofs.reader.opened.Goals as goal

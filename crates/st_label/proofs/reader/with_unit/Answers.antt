@@ -1,5 +1,5 @@
 use Rattle.std.proofs.Common.{refl}
-use Rattle.st_label.specs.Views.{outer_view, level_view}
+use Rattle.st_label.specs.inner.Views.{outer_view, level_view}
 use Rattle.st_label.proofs.Steps.{made, not_made}
 use Rattle.st_label.proofs.reader.with_unit.Goals as goal
 

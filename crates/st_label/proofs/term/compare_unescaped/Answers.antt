@@ -2,7 +2,7 @@ use Rattle.std.proofs.Common.{inl, inr, sym, ◌∙◌, ap}
 use Rattle.std.proofs.lemmas.List.{drop_all}
 use Rattle.std.specs.Cmp.Lexicographic.{slice_cmp}
 use Rattle.std.specs.Ordering.{nat_cmp}
-use Rattle.st_label.specs.Terms.{unescaped_from}
+use Rattle.st_label.specs.inner.Terms.{unescaped_from}
 use Rattle.st_label.proofs.Terms.{nothing_there, greater}
 use Rattle.st_label.proofs.term.compare_unescaped.Goals as goal
 use Rattle.st_label.proofs.term.compare_unescaped.Goals.{else-not-behind-via-then-not-behind+else-b-eq92, else-not-behind-via-else-not-behind}

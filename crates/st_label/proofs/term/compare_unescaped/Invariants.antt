@@ -1,7 +1,7 @@
 use Rattle.std.proofs.Common.{◌≡◌, drop, false}
 use Rattle.std.specs.Cmp.Lexicographic.{slice_cmp}
 use Rattle.std.specs.Ordering.{nat_cmp}
-use Rattle.st_label.specs.Terms.{unescaped_from}
+use Rattle.st_label.specs.inner.Terms.{unescaped_from}
 use Rattle.st_label.proofs.term.compare_unescaped.Given as goal
 
 -- what is left of both decides

@@ -1,5 +1,5 @@
 use Rattle.std.proofs.Common.{inl, inr, ap, sym, ◌∙◌, reverse}
-use Rattle.st_label.specs.Truth.{stage_of}
+use Rattle.st_label.specs.inner.Truth.{stage_of}
 use Rattle.st_label.proofs.Judged.{at_start, further, stops_at, deep_at, ends_well, ends_at}
 use Rattle.st_label.proofs.truth.judge.Goals as goal
 

@@ -1,4 +1,4 @@
-use Rattle.st_label.specs.Truth.{stage_of}
+use Rattle.st_label.specs.inner.Truth.{stage_of}
 use Rattle.st_label.proofs.Judged.{Reached}
 use Rattle.st_label.proofs.truth.judge.Given as goal
 

@@ -1,6 +1,6 @@
 use Rattle.std.proofs.Common.{ap, arith, reverse}
 use Rattle.std.proofs.lemmas.List.{length-reverse}
-use Rattle.st_label.specs.Views.{class_view}
+use Rattle.st_label.specs.inner.Views.{class_view}
 use Rattle.st_label.proofs.Passing.{deep}
 use Rattle.st_label.proofs.truth.start.Goals as goal
 

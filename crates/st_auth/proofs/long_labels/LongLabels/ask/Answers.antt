@@ -1,5 +1,5 @@
 use Rattle.std.proofs.Common.{sym, subst}
-use Rattle.st_auth.specs.Remembered.{AreHeld}
+use Rattle.st_auth.specs.inner.Remembered.{AreHeld}
 use Rattle.st_auth.proofs.long_labels.LongLabels.ask.Goals as goal
 
 pub ask_in-verdict-requires : goal.ask_in-verdict-requires

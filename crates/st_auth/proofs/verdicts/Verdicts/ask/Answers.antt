@@ -1,5 +1,5 @@
 use Rattle.std.proofs.Common.{rules}
-use Rattle.st_auth.specs.Remembered.{AreHeld}
+use Rattle.st_auth.specs.inner.Remembered.{AreHeld}
 use Rattle.st_auth.proofs.verdicts.Verdicts.ask.Goals as goal
 use Rattle.st_auth.proofs.verdicts.Verdicts.ask.Goals.{then-not-is_same+in-Ok, else-not-is_same}
 

@@ -1,5 +1,5 @@
 use Rattle.std.proofs.Common.{◌≡◌, true, false, sym, ◌∙◌, subst}
-use Rattle.st_box.specs.KeyTest.{IsPlaceIn, IsTimeIn}
+use Rattle.st_box.specs.inner.KeyTest.{IsPlaceIn, IsTimeIn}
 use Rattle.st_box.proofs.KeyTests.{keyed}
 use Rattle.st_box.proofs.key_test.KeyTest.has_key.Goals as goal
 

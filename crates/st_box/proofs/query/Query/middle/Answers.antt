@@ -1,7 +1,7 @@
 use Rattle.std.proofs.Common.{◌≡◌, ◌+◌, ◌-◌, ap, sym, subst, refl, arith}
 use Rattle.st_key.specs.Period.{seconds_of}
 use Rattle.st_key.proofs.PeriodLemmas.{period}
-use Rattle.st_box.specs.Query.{EndsAt}
+use Rattle.st_box.specs.inner.Edges.{IsLastOffset}
 use Rattle.st_box.proofs.Parts.{middle_cut}
 use Rattle.st_box.proofs.Spans.{box_in, starts_before, ends_after}
 use Rattle.st_box.proofs.query.Query.middle.Goals as goal
@@ -20,7 +20,7 @@ returns c =
         y_first = refl;
         y_last = refl;
         starts = starts_before w bin q.t0 after;
-        ends = subst (EndsAt w bin q.t1) e (ends_after w bin q.t1 before);
+        ends = subst (IsLastOffset w bin q.t1) e (ends_after w bin q.t1 before);
         offset_below = omega (arith, c.seconds.ensures, p.some);
       });
     }

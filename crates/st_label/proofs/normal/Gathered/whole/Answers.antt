@@ -1,6 +1,6 @@
 use Rattle.std.specs.Prelude.{vec_len}
 use Rattle.std.proofs.Common.{◌∙◌, ap, arith}
-use Rattle.st_label.specs.Views.{tree_view, op_view}
+use Rattle.st_label.specs.inner.Views.{tree_view, op_view}
 use Rattle.st_label.proofs.Popped.{whole_all, whole_any, one_left, none_left, nothing_left}
 use Rattle.st_label.proofs.normal.Gathered.whole.Goals.{in-Some, in-None}
 use Rattle.st_label.proofs.normal.Gathered.whole.Goals as goal

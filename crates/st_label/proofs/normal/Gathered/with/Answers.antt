@@ -1,7 +1,7 @@
 use Rattle.std.proofs.Common.{◌≡◌, ◌≢◌, Some, None, true, false, string_bytes, get_or, map, arith, refl, sym, ap, ◌∙◌}
 use Rattle.std.proofs.lemmas.Slice.Eq.{bytes_eq-Decides}
 use Rattle.st_label.specs.Normal.{operand_text}
-use Rattle.st_label.specs.Views.{tree_view}
+use Rattle.st_label.specs.inner.Views.{tree_view}
 use Rattle.st_label.proofs.Gather.{PlaceOf, place_is, place_inside, printed_place, more_at_end, more_at_place, more_at_same}
 use Rattle.st_label.proofs.normal.Gathered.with.Goals as goal
 

@@ -2,7 +2,7 @@ use Rattle.std.specs.Prelude.{vec_len}
 use Rattle.std.proofs.Common.{arith, [], ◌∷◌, refl, sym, ap, ◌∙◌, map}
 use Rattle.std.proofs.lemmas.List.{append-nil}
 use Rattle.st_label.specs.Normal.{insert_all, insert_operand}
-use Rattle.st_label.specs.Views.{tree_view}
+use Rattle.st_label.specs.inner.Views.{tree_view}
 use Rattle.st_label.proofs.Popped.{one_popped, all_popped, nothing_left}
 use Rattle.st_label.proofs.normal.Gathered.with_all.Goals as goal
 

@@ -1,7 +1,7 @@
 use Rattle.std.proofs.Common.{◌≡◌, ◌++◌, List, length, map}
 use Rattle.st_label.specs.Tree as label
 use Rattle.st_label.specs.Normal.{insert_all}
-use Rattle.st_label.specs.Views.{tree_view}
+use Rattle.st_label.specs.inner.Views.{tree_view}
 use Rattle.st_label.proofs.normal.Gathered.with_all.Given as goal
 
 -- the operands that are done

@@ -1,6 +1,6 @@
 use Rattle.std.proofs.Common.{◌∙◌, sym, arith}
 use Rattle.std.specs.Prelude.{vec_len}
-use Rattle.st_label.specs.Views.{outer_view}
+use Rattle.st_label.specs.inner.Views.{outer_view}
 use Rattle.st_label.proofs.Seen.{outer_length}
 use Rattle.st_label.proofs.Ended.{empty_by, some_by, ends_empty, ends_open}
 use Rattle.st_label.proofs.reader.Reader.finish.Goals as goal

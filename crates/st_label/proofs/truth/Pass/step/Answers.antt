@@ -1,5 +1,5 @@
 use Rattle.std.proofs.Common.{rules, ap, sym, ◌∙◌, refl, reverse}
-use Rattle.st_label.specs.Views.{class_view}
+use Rattle.st_label.specs.inner.Views.{class_view}
 use Rattle.st_label.proofs.Seen.{not_plain}
 use Rattle.st_label.proofs.Passing.{done_passes, word_passes, quote_passes}
 use Rattle.st_label.proofs.truth.Pass.step.Goals as goal

@@ -1,9 +1,9 @@
 use Rattle.std.proofs.Common.{sym, ap, ◌∙◌, string_bytes}
-use Rattle.st_text.specs.Compact.{placed_bytes}
+use Rattle.st_text.specs.inner.Compact.{stored_bytes}
 use Rattle.st_text.proofs.compact.CompactText.as_str.Goals as goal
 
 pub returns-in-Inline : goal.returns-in-Inline
-returns-in-Inline g c = c.as_str.ensures.value ∙ sym (ap placed_bytes c.in-Inline.is) ∙ c.self.view_is
+returns-in-Inline g c = c.as_str.ensures.value ∙ sym (ap stored_bytes c.in-Inline.is) ∙ c.self.view_is
 
 pub returns-in-Heap : goal.returns-in-Heap
-returns-in-Heap g c = c.as_str-in-Heap.ensures.value ∙ ap string_bytes c.deref.ensures ∙ sym (ap placed_bytes c.in-Heap.is) ∙ c.self.view_is
+returns-in-Heap g c = c.as_str-in-Heap.ensures.value ∙ ap string_bytes c.deref.ensures ∙ sym (ap stored_bytes c.in-Heap.is) ∙ c.self.view_is

@@ -1,20 +1,21 @@
--- Verdicts that are remembered for one set.
+-- An invariant of a representation, which no reader has to believe: what the caches of verdicts hold.
 use Rattle.std.specs.Prelude.{◌≡◌, ℕ, List, Bool, Contains, String, string_bytes, bytes_eq, Option, Some, None}
 use Rattle.std.specs.List.{All}
 use Rattle.st_label.specs.Reading.{is_true}
 use Rattle.st_text.specs.Texts.{Text, is_among}
-use Rattle.st_auth.specs.declared.table.Known.{Known}
+use Rattle.st_auth.specs.declared.short_labels.Known.{Known}
 use Rattle.lru.specs.LruCache.{LruCache}
 
--- Each is whether the label is true for the set.
+-- each verdict is whether the label is true for the set
 abbrev pub AreOf : {A : Type 0} → List Text → List (String A × Bool) → Type 0
-AreOf {A} names entries = (text : String A) (verdict : Bool) → Contains entries (text, verdict) → verdict ≡ is_true (is_among names) (string_bytes text)
+AreOf {A} names entries =
+    (text : String A) (verdict : Bool) → Contains entries (text, verdict) → verdict ≡ is_true (is_among names) (string_bytes text)
 
 -- whether a key is the text
 abbrev pub has_text : {A : Type 0} → List ℕ → String A → Bool
 has_text text key = bytes_eq text (string_bytes key)
 
--- and so is each that a cache remembers, if there is one
+-- and so is each that a cache remembers, if there is a cache
 abbrev pub AreHeld : {A : Type 0} → List Text → Option (LruCache (String A) Bool) → Type 0
 AreHeld names None = Unit {0}
 AreHeld names (Some cache) = AreOf names cache.entries

@@ -1,8 +1,8 @@
-//! Verdicts on short labels.
+//! A cache of verdicts on short labels.
 ghost use Rattle.std.specs.Prelude.{◌≡◌, ◌<◌, List, IfSome};
 ghost use Rattle.st_label.specs.Reading.{is_true};
 ghost use Rattle.st_text.specs.Texts.{Text, is_among};
-ghost use Rattle.st_auth.specs.Remembered.{AreKnown};
+ghost use Rattle.st_auth.specs.inner.Remembered.{AreKnown};
 
 use crate::auths::Auths;
 use crate::truth::satisfies;
@@ -10,10 +10,10 @@ use st_label::Label;
 use st_text::{MAX_SHORT, ShortText};
 use std::alloc::Allocator;
 
-// How many places there are.
-const PLACES: usize = 64;
+// How many slots there are.
+const SLOTS: usize = 64;
 
-// At how many places after each other a label may be.
+// In how many consecutive slots a label may be.
 const STEPS: usize = 4;
 
 // The factor of the hash of a text, whose highest bits depend on all bits that are multiplied.
@@ -26,34 +26,35 @@ struct Known {
     verdict: bool,
 }
 
-/// Remembers which labels of at most [`MAX_SHORT`] bytes are true. Where a label finds no free place, it
-/// takes that of another. It takes memory with the first label.
+/// A cache of the verdicts on labels of at most [`MAX_SHORT`] bytes. A label that finds no free slot
+/// replaces another. It allocates with the first label.
 #[derive(Drop)]
-pub struct Table<A: Allocator> {
-    // Which of the known labels is at each place. At a free place it is none of them.
-    places: [u8; PLACES],
+pub struct ShortLabels<A: Allocator> {
+    // The index in `known` of each slot's label. A free slot has an index past its end.
+    slots: [u8; SLOTS],
     known: Vec<Known, A>,
 }
 
-impl<A: Allocator> Table<A> {
-    pub fn new(alloc: A) -> Table<A>
+impl<A: Allocator> ShortLabels<A> {
+    /// The empty cache.
+    pub fn new(alloc: A) -> ShortLabels<A>
         ensures { (names : List Text) → AreKnown names result.known.items }
     {
-        Table {
-            places: [u8::MAX; PLACES],
+        ShortLabels {
+            slots: [u8::MAX; SLOTS],
             known: Vec::new(alloc),
         }
     }
 
-    /// Forgets all.
+    /// Forgets all labels.
     pub fn forget(&mut self)
         ensures { (names : List Text) → AreKnown names self.new.known.items }
     {
-        self.places = [u8::MAX; PLACES];
+        self.slots = [u8::MAX; SLOTS];
         self.known.clear();
     }
 
-    /// Whether the label is true for the set, where its text is short.
+    /// Whether the label is true for the set, or `None` when its text is not short.
     pub fn ask<B: Allocator, C: Allocator>(
         &mut self,
         label: &Label<B>,
@@ -74,13 +75,14 @@ impl<A: Allocator> Table<A> {
         Some(verdict)
     }
 
-    // The verdict on a label, where it is remembered.
+    // The verdict on a label, if it is remembered.
     fn verdict(&self, text: &str) -> Option<bool>
-        ensures { (names : List Text) → AreKnown names self.now.known.items → IfSome result (λ verdict. verdict ≡ is_true (is_among names) text.now) }
+        ensures { (names : List Text) → AreKnown names self.now.known.items
+            → IfSome result (λ verdict. verdict ≡ is_true (is_among names) text.now) }
     {
-        let first = place_of(text);
+        let first = slot_of(text);
         for step in 0..STEPS {
-            let number = self.places[(first + step) % PLACES];
+            let number = self.slots[(first + step) % SLOTS];
             let Some(known) = self.known.get(number as usize) else {
                 return None;
             };
@@ -91,15 +93,16 @@ impl<A: Allocator> Table<A> {
         None
     }
 
-    // Remembers the verdict on a label, where its text is short and there is memory for it.
+    // Remembers the verdict on a label, if its text is short and memory suffices.
     fn keep(&mut self, text: &str, verdict: bool)
-        ensures { (names : List Text) → verdict ≡ is_true (is_among names) text.now → AreKnown names self.old.known.items → AreKnown names self.new.known.items }
+        ensures { (names : List Text) → verdict ≡ is_true (is_among names) text.now
+            → AreKnown names self.old.known.items → AreKnown names self.new.known.items }
     {
         let Some(short) = ShortText::new(text) else {
             return;
         };
-        let place = self.place_for(text);
-        let number = self.places[place] as usize;
+        let slot = self.slot_for(text);
+        let number = self.slots[slot] as usize;
         let count = self.known.len();
         let known = Known {
             text: short,
@@ -107,29 +110,29 @@ impl<A: Allocator> Table<A> {
         };
         if number < count {
             self.known[number] = known;
-        } else if count < PLACES && self.known.push(known).is_ok() {
-            self.places[place] = count as u8;
+        } else if count < SLOTS && self.known.push(known).is_ok() {
+            self.slots[slot] = count as u8;
         }
     }
 
-    // The first free place of those that a label may have, or the first of them.
-    fn place_for(&self, text: &str) -> usize
-        ensures { result < PLACES }
+    // The first free slot of those that a label may have, or the first of them.
+    fn slot_for(&self, text: &str) -> usize
+        ensures { result < SLOTS }
     {
-        let first = place_of(text);
+        let first = slot_of(text);
         for step in 0..STEPS {
-            let place = (first + step) % PLACES;
-            if self.places[place] as usize >= self.known.len() {
-                return place;
+            let slot = (first + step) % SLOTS;
+            if self.slots[slot] as usize >= self.known.len() {
+                return slot;
             }
         }
         first
     }
 }
 
-// The first place of a label's text, by a hash of its length and of four of its bytes.
-fn place_of(text: &str) -> usize
-    ensures { result < PLACES }
+// The first slot of a label's text, by a hash of its length and of four of its bytes.
+fn slot_of(text: &str) -> usize
+    ensures { result < SLOTS }
 {
     let bytes = text.as_bytes();
     let Some(last) = bytes.last() else {

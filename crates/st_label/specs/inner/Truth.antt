@@ -1,9 +1,9 @@
--- The reader's steps with a truth in place of each tree, and the place of each unit's first byte in place of its bytes.
--- `proofs/` shows that it finds the truth of the tree that the text reads as: no public clause cites this.
+-- A machine, which no reader has to believe: the reader's steps with a truth in place of each tree, and the index of each
+-- unit's first byte in place of its bytes. `proofs/` shows that it finds the truth of the tree that the text reads as.
 use Rattle.std.specs.Prelude.{◌≡◌, ◌≤◌, ℕ, ◌+◌, ◌==◌, nat_lt, List, [], ◌∷◌, length, slice_range, drop, reverse, Bool, true, false, ◌&&◌, ◌||◌, Option, Some, None, Result, Ok, Err, if◌then◌else◌}
 use Rattle.st_label.specs.Refusals.{max_depth}
-use Rattle.st_label.specs.Terms.{name_of}
-use Rattle.st_label.specs.Machine.{Class, Plain, Sign, Quote, Backslash, Open, Close, Other}
+use Rattle.st_label.specs.inner.Terms.{term_name}
+use Rattle.st_label.specs.inner.Machine.{Class, Plain, Sign, Quote, Backslash, Open, Close, Other}
 use Rattle.st_label.specs.declared.tree.Operator.{Operator}
 use Rattle.st_label.specs.declared.truth.Level.{Level}
 use Rattle.st_label.specs.declared.truth.Part.{Part}
@@ -103,7 +103,7 @@ pass_escape outer level from Other = None
 
 -- the truth of the term that stands from one place up to another
 abbrev pub term_truth : (List ℕ → Bool) → Bool → List ℕ → ℕ → ℕ → Bool
-term_truth has quoted text from at = has (name_of quoted (slice_range text from at))
+term_truth has quoted text from at = has (term_name quoted (slice_range text from at))
 
 -- behind one more byte, where at most so many parentheses may be open
 abbrev pub pass_step : ℕ → (List ℕ → Bool) → List ℕ → ℕ → List Level → Level → Part → Class → Option Stage

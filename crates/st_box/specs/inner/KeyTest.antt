@@ -1,4 +1,4 @@
--- What a key's address and bin say of the query that it is in.
+-- A stage of the code, which no reader has to believe: what a key's address and its bin say of a query.
 use Rattle.std.specs.Prelude.{ℕ, ◌≤◌, ◌/◌}
 use Rattle.st_key.specs.declared.period.Period.{Period}
 use Rattle.st_key.specs.Morton.{x_of, y_of, offset_of}
