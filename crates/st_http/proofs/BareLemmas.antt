@@ -5,7 +5,8 @@ use Rattle.std.proofs.lemmas.List.Elements.{All-cons, All-nil}
 use Rattle.httparse.specs.Grammar.{IsToken, is_token_byte, is_uri_byte, LineEnd, crlf, lf, print_end, print_blank, print_version, print_section, RequestHead, ReadsRequest, HasNoRequest, MayBecomeRequest}
 use Rattle.httparse.proofs.GrammarLemmas.{print_request-append, ReadsRequest-append}
 use Rattle.httparse.proofs.PieceLemmas.{Stops_token}
-use Rattle.st_http.specs.Head.{window, IsBare, TellsBare, StartsInLine}
+use Rattle.st_http.specs.Head.{window, IsBare, TellsBare}
+use Rattle.st_http.specs.inner.Windows.{StartsInLine}
 use Rattle.st_http.proofs.TargetLemmas.{blank_parts, method_unique}
 use Rattle.st_http.proofs.WindowLemmas.{fronts, window_grows, window_full, target_open}
 

@@ -1,7 +1,7 @@
 -- Texts appended in turn.
 use Rattle.std.proofs.Common.{◌≡◌, ◌∙◌, ℕ, List, [], ◌++◌, ap, sym, append_assoc}
 use Rattle.std.proofs.lemmas.List.{append-nil}
-use Rattle.st_http.specs.Reply.{GrowsTo}
+use Rattle.st_http.specs.inner.Growth.{GrowsTo}
 
 -- one text more
 after : (out front all line : List ℕ) → all ≡ out ++ front → all ++ line ≡ out ++ (front ++ line)

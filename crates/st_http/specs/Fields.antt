@@ -1,14 +1,13 @@
 -- What the fields of a head say of its message (RFC 9112, "Field Syntax"). A field is a name and a value
 -- without the white space around it.
-use Rattle.std.specs.Prelude.{◌≡◌, ℕ, Bool, true, false, ◌&&◌, ◌||◌, not, List, [], ◌∷◌, length, map, filter, min, if◌then◌else◌, ◌==◌, nat_lt, codes, Option, Some, None, Result, Ok, Err}
+use Rattle.std.specs.Prelude.{ℕ, Bool, true, false, ◌&&◌, ◌||◌, not, List, [], ◌∷◌, length, map, filter, if◌then◌else◌, ◌==◌}
+use Rattle.std.specs.Prelude.{nat_lt, codes, Result, Ok, Err}
 use Rattle.std.specs.List.{list_all, list_any, slice_split}
 use Rattle.std.specs.Char.{is_ascii_digit}
 use Rattle.std.specs.Str.{str_eq_ignore_ascii_case}
 use Rattle.std.specs.Str.Parse.{digits_value}
 use Rattle.httparse.specs.Ascii.{comma}
 use Rattle.httparse.specs.Grammar.{trim_ows}
-use Rattle.st_http.specs.declared.fields.Named.{Named}
-use Rattle.st_http.specs.declared.fields.Named.TheVariants.{Missing, Once, Repeated}
 use Rattle.st_http.specs.declared.fields.Reason.{Reason}
 use Rattle.st_http.specs.declared.fields.Reason.TheVariants as reasons
 
@@ -23,22 +22,12 @@ has_name name field = str_eq_ignore_ascii_case field.0 name
 unfoldable pub values_of : List ℕ → Fields → List (List ℕ)
 values_of name fields = map (λ field. field.1) (filter (has_name name) fields)
 
--- what is told of these values: that there is none, the one, or that there are more
-abbrev pub Tells : Named → List (List ℕ) → Type 0
-Tells Missing values = values ≡ []
-Tells (Once value) values = values ≡ value.now ∷ []
-Tells Repeated values = (first : List ℕ) × (second : List ℕ) × (more : List (List ℕ)) × (values ≡ first ∷ second ∷ more)
-
 -- one or more digits
 abbrev pub is_number : List ℕ → Bool
 is_number text = nat_lt 0 (length text) && list_all is_ascii_digit text
 
--- the number that they write, or 65,537 for any above 65,536
-abbrev pub number_of : List ℕ → Option ℕ
-number_of text = if is_number text then Some (min (digits_value 10 text) 65537) else None
-
--- the length of a body by the values of Content-Length (RFC 9110, "Content-Length"): no field says none, more
--- than one field or another text than a number is no head, and more than 65,536 bytes are too many
+-- the length of a body by the values of Content-Length (RFC 9110, "Content-Length"): without a field there is no body;
+-- a second field, or a value that is not a number, breaks the head; more than 65,536 bytes are too many
 abbrev pub length_by : List (List ℕ) → Result ℕ Reason
 length_by [] = Ok 0
 length_by (value ∷ []) =
@@ -52,12 +41,12 @@ breaks_host minor [] = minor == 1
 breaks_host minor (host ∷ []) = false
 breaks_host minor (host ∷ other ∷ hosts) = true
 
--- there is a Transfer-Encoding field (RFC 9112, "Transfer-Encoding"); no coding is served
+-- there is a Transfer-Encoding field (RFC 9112, "Transfer-Encoding"), which the server does not support
 abbrev pub has_coding : List (List ℕ) → Bool
 has_coding [] = false
 has_coding (coding ∷ codings) = true
 
--- the first rule that a head's fields break, or the length of its body (RFC 9112, "Message Body Length")
+-- the length of a message's body, or the first rule that the fields of its head break (RFC 9112, "Message Body Length")
 unfoldable pub body_length_of : ℕ → Fields → Result ℕ Reason
 body_length_of minor fields =
     if breaks_host minor (values_of (codes "host") fields) then Err reasons.Host else
@@ -80,18 +69,18 @@ field_lists name word field = has_name name field && lists word field.1
 unfoldable pub closes_after : ℕ → Fields → Bool
 closes_after minor fields = minor == 0 || list_any (field_lists (codes "connection") (codes "close")) fields
 
--- the status code of a fault (RFC 9110, "Status Codes", and RFC 6585 for 431)
-abbrev pub status_of : Reason → ℕ
-status_of reasons.Head = 400
-status_of reasons.Host = 400
-status_of reasons.Length = 411
-status_of reasons.Size = 413
-status_of reasons.Headers = 431
+-- the status code of the reply to a text that is not a message (RFC 9110, "Status Codes", and RFC 6585 for 431)
+abbrev pub reason_status : Reason → ℕ
+reason_status reasons.Head = 400
+reason_status reasons.Host = 400
+reason_status reasons.Length = 411
+reason_status reasons.Size = 413
+reason_status reasons.Headers = 431
 
--- the word by which a fault's reply names it
-abbrev pub name_of : Reason → List ℕ
-name_of reasons.Head = codes "head"
-name_of reasons.Host = codes "host"
-name_of reasons.Length = codes "length"
-name_of reasons.Size = codes "size"
-name_of reasons.Headers = codes "headers"
+-- the word by which that reply names the reason
+abbrev pub reason_name : Reason → List ℕ
+reason_name reasons.Head = codes "head"
+reason_name reasons.Host = codes "host"
+reason_name reasons.Length = codes "length"
+reason_name reasons.Size = codes "size"
+reason_name reasons.Headers = codes "headers"

@@ -1,4 +1,4 @@
--- The first item of a text: a message, a fault, or none yet.
+-- What a text begins with, its first item: a message, a fault, or too little to tell.
 use Rattle.std.specs.Prelude.{◌≡◌, ℕ, ◌+◌, Bool, List, take, drop, map, length, if◌then◌else◌, nat_lt, nat_le, Result, Ok, Err}
 use Rattle.httparse.specs.Grammar.{RequestHead, print_request}
 use Rattle.httparse.specs.Spans.{name_and_value}
@@ -12,7 +12,7 @@ pub data First : Type 0 where
   message : RequestHead → List ℕ → Bool → First
   -- the rule that the text breaks, and whether it is a HEAD request
   fault : Reason → Bool → First
-  -- the text is too short for either
+  -- the text is too short to tell
   more : First
 
 -- the fields of a head, each a name and a value

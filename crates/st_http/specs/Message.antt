@@ -1,17 +1,17 @@
--- How the answer of `take` shows the first item of a text.
+-- What the code answers for the first item of a text.
 use Rattle.std.specs.Prelude.{◌≡◌, ℕ, ◌<◌, ◌≤◌, Bool, List, option_map, ⊤}
 use Rattle.httparse.specs.Grammar.{RequestHead}
 use Rattle.st_http.specs.declared.message.Take.{Take}
 use Rattle.st_http.specs.declared.message.Take.TheVariants as takes
 use Rattle.st_http.specs.declared.message.Message.{Message}
-use Rattle.st_http.specs.Routes.{Tells, routed}
+use Rattle.st_http.specs.Routes.{ShowsRoute, routed}
 use Rattle.st_http.specs.Token.{token_of}
 use Rattle.st_http.specs.Fields.{closes_after}
 use Rattle.st_http.specs.First.{First, message, fault, more, IsFirst, fields_of, size_of}
 
 -- the message of this head and this body
 pub record ShowsMessage (h : RequestHead) (body : List ℕ) (bare : Bool) (m : Message) : Type 0 where
-  pub route : Tells m.route (routed h.method h.target)
+  pub route : ShowsRoute m.route (routed h.method h.target)
   pub token : option_map (λ found. (found.user.now, found.secret)) m.token ≡ token_of (fields_of h)
   pub body_is : m.body.now ≡ body
   pub close : m.close ≡ closes_after h.minor (fields_of h)

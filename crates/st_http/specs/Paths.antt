@@ -1,4 +1,4 @@
--- The paths and the endpoints of the table of requests.
+-- The paths, and the endpoints of each.
 use Rattle.std.specs.Prelude.{ℕ, List, [], ◌∷◌, ◌++◌, find, codes, option_map, Option}
 use Rattle.std.specs.Str.{bytes_eq}
 use Rattle.st_http.specs.declared.path.Path.{Path}
@@ -6,7 +6,7 @@ use Rattle.st_http.specs.declared.path.Path.TheVariants as paths
 use Rattle.st_http.specs.declared.routes.Endpoint.{Endpoint}
 use Rattle.st_http.specs.declared.routes.Endpoint.TheVariants as endpoints
 
--- how a path of the table is written
+-- how a path is written, with a placeholder for the name in it
 abbrev pub pattern_of : Path → List ℕ
 pattern_of paths.Whoami = codes "/whoami"
 pattern_of paths.Tables = codes "/tables"
@@ -35,11 +35,12 @@ pattern_of paths.RevokeTable = codes "/tables/{table}/revoke"
 pattern_of paths.GrantNamespace = codes "/namespaces/{namespace}/grant"
 pattern_of paths.RevokeNamespace = codes "/namespaces/{namespace}/revoke"
 
--- the paths of the table of requests, in its order, each once
+-- all paths, each once
 unfoldable pub all_paths : List Path
 all_paths =
     paths.Whoami ∷ paths.Tables ∷ paths.Users ∷ paths.User ∷ paths.Grants ∷ paths.NamespaceGrants ∷ paths.Label ∷ paths.Audit
-    ∷ paths.Get ∷ paths.Scan ∷ paths.Count ∷ paths.Grid ∷ paths.Plan ∷ paths.Put ∷ paths.Delete ∷ paths.Table ∷ paths.Constraint ∷ paths.Period ∷ paths.Token ∷ paths.Auths
+    ∷ paths.Get ∷ paths.Scan ∷ paths.Count ∷ paths.Grid ∷ paths.Plan ∷ paths.Put ∷ paths.Delete
+    ∷ paths.Table ∷ paths.Constraint ∷ paths.Period ∷ paths.Token ∷ paths.Auths
     ∷ paths.GrantSystem ∷ paths.RevokeSystem ∷ paths.GrantTable ∷ paths.RevokeTable ∷ paths.GrantNamespace ∷ paths.RevokeNamespace ∷ []
 
 -- the methods (RFC 9110, "Methods")

@@ -1,5 +1,5 @@
 -- The head of a reply (RFC 9112, "Status Line" and "Field Syntax").
-use Rattle.std.specs.Prelude.{◌≡◌, ℕ, Bool, ◌==◌, if◌then◌else◌, List, [], ◌++◌, codes, Option, Some, None}
+use Rattle.std.specs.Prelude.{ℕ, Bool, ◌==◌, if◌then◌else◌, List, [], ◌++◌, codes, Option, Some, None}
 use Rattle.std.specs.Fmt.{decimal}
 use Rattle.http.specs.StatusCode.{status_text}
 use Rattle.httparse.specs.Ascii.{crlf_bytes}
@@ -8,7 +8,7 @@ use Rattle.httparse.specs.Ascii.{crlf_bytes}
 abbrev pub status_line : ℕ → List ℕ
 status_line status = codes "HTTP/1.1 " ++ status_text status ++ crlf_bytes
 
--- the methods that a path has (RFC 9110, "Allow")
+-- the methods of a path (RFC 9110, "Allow")
 abbrev pub allow_line : Option (List ℕ) → List ℕ
 allow_line None = []
 allow_line (Some methods) = codes "Allow: " ++ methods ++ crlf_bytes
@@ -17,7 +17,7 @@ allow_line (Some methods) = codes "Allow: " ++ methods ++ crlf_bytes
 abbrev pub challenge_line : ℕ → List ℕ
 challenge_line status = if status == 401 then codes "WWW-Authenticate: Bearer realm=\"points\"" ++ crlf_bytes else []
 
--- how many bytes the body has (RFC 9110, "Content-Length")
+-- the length of the body in bytes (RFC 9110, "Content-Length")
 abbrev pub length_line : Option ℕ → List ℕ
 length_line None = []
 length_line (Some length) = codes "Content-Length: " ++ decimal length ++ crlf_bytes
@@ -36,7 +36,3 @@ head_text status allow length close =
     ++ length_line length
     ++ close_line close
     ++ crlf_bytes
-
--- a text with nothing or more behind it
-abbrev pub GrowsTo : List ℕ → List ℕ → Type 0
-GrowsTo old new = (more : List ℕ) × (new ≡ old ++ more)

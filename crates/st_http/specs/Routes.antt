@@ -1,5 +1,6 @@
--- The endpoint of the table of requests that a method and a target name.
-use Rattle.std.specs.Prelude.{◌≡◌, ℕ, Bool, ◌==◌, if◌then◌else◌, List, [], length, take, drop, fold, codes, nat_lt, option_map, Option, Some, None, Result, Ok, Err}
+-- Routing: the endpoint that a method and a target name.
+use Rattle.std.specs.Prelude.{◌≡◌, ℕ, Bool, ◌==◌, if◌then◌else◌, List, [], length, take, drop, fold}
+use Rattle.std.specs.Prelude.{codes, nat_lt, option_map, Option, Some, None, Result, Ok, Err}
 use Rattle.std.specs.List.{before_first, after_first, position_or_len}
 use Rattle.std.specs.Str.{str_eq_ignore_ascii_case}
 use Rattle.matchit.specs.Rows.{RowsOf}
@@ -50,7 +51,7 @@ name_in path = before_first (λ b. b == slash) (after_first (λ b. b == slash) (
 abbrev pub Rows : Type 0
 Rows = RowsOf (RouteOf Path)
 
--- the rows with a path more, where its text is a route
+-- the rows and one more path, if its text is a route
 abbrev pub with_read : Result Scan InsertError → Path → Rows → Rows
 with_read (Ok scan) path rows = placed (scan.pattern, route_from scan path) rows
 with_read (Err e) path rows = rows
@@ -62,13 +63,13 @@ with_path rows path = with_read (parse_route (pattern_of path)) path rows
 unfoldable pub routes : Rows
 routes = fold with_path [] all_paths
 
--- the path of the table that a path is
+-- the known path that a path matches
 abbrev pub path_at : List ℕ → Option Path
 path_at path = option_map (λ route. route.value) (first routes path)
 
 -- what a method and a target name
 pub data Routed : Type 0 where
-  -- an endpoint of the table, and the name in the path
+  -- an endpoint, and the name in the path
   found : Endpoint → List ℕ → Routed
   no_route : Routed
   -- the path has other methods, those of this text
@@ -85,8 +86,8 @@ at_path (Some path) method name = with_endpoint path name (endpoint_of method (e
 unfoldable pub routed : List ℕ → List ℕ → Routed
 routed method target = at_path (path_at (path_of target)) method (name_in (path_of target))
 
--- how a `Route` tells it
-abbrev pub Tells : Route → Routed → Type 0
-Tells (answers.Found endpoint name) r = r ≡ found endpoint name.now
-Tells answers.NoRoute r = r ≡ no_route
-Tells (answers.BadMethod allow) r = r ≡ bad_method allow.now
+-- the code's answer is this
+abbrev pub ShowsRoute : Route → Routed → Type 0
+ShowsRoute (answers.Found endpoint name) r = r ≡ found endpoint name.now
+ShowsRoute answers.NoRoute r = r ≡ no_route
+ShowsRoute (answers.BadMethod allow) r = r ≡ bad_method allow.now

@@ -1,5 +1,6 @@
 -- The user and the secret that a head's Authorization field names (RFC 6750, "Authorization Request Header Field").
-use Rattle.std.specs.Prelude.{ℕ, Bool, ◌&&◌, ◌==◌, if◌then◌else◌, List, [], ◌∷◌, take, drop, codes, slice_index, Option, Some, None, Result, Ok, Err}
+use Rattle.std.specs.Prelude.{ℕ, Bool, ◌&&◌, ◌==◌, if◌then◌else◌, List, [], ◌∷◌, take, drop}
+use Rattle.std.specs.Prelude.{codes, slice_index, Option, Some, None, Result, Ok, Err}
 use Rattle.std.specs.List.{before_first, after_first}
 use Rattle.std.specs.Str.{str_eq_ignore_ascii_case}
 use Rattle.hex.specs.Hex.{decode_sized}
@@ -24,7 +25,7 @@ credentials_of text =
     then with_secret (before_first is_dot text) (decode_sized (after_first is_dot text) 32)
     else None
 
--- the text from its first byte that is no space
+-- the text without its leading spaces
 abbrev pub skip_spaces : List ℕ → List ℕ
 skip_spaces [] = []
 skip_spaces (b ∷ text) = if b == space then skip_spaces text else b ∷ text

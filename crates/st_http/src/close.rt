@@ -1,6 +1,5 @@
-//! Whether a request asks to close its connection (RFC 9112, "Persistence").
+//! Whether the connection is closed after a request (RFC 9112, "Persistence").
 ghost use Rattle.std.specs.Prelude.{◌≡◌, codes, reverse, length, map, All};
-ghost use Rattle.std.specs.List.{list_any};
 ghost use Rattle.httparse.specs.Grammar.{skip_ows, trim_ows};
 ghost use Rattle.httparse.specs.Spans.{IsHeaderWithin, header_bytes};
 ghost use Rattle.st_http.specs.Fields.{is_word, lists, closes_after};
@@ -8,7 +7,7 @@ ghost use Rattle.st_http.specs.Fields.{is_word, lists, closes_after};
 use crate::fields::is_named;
 use httparse::spans::HeaderSpan;
 
-// The text without the white space at its start.
+// The text without leading white space.
 fn trim_start(text: &[u8]) -> &[u8]
     ensures { result.now ≡ skip_ows text.now }
 {
@@ -19,7 +18,7 @@ fn trim_start(text: &[u8]) -> &[u8]
     }
 }
 
-// The text without the white space at its end.
+// The text without trailing white space.
 fn trim_end(text: &[u8]) -> &[u8]
     ensures { result.now ≡ reverse (skip_ows (reverse text.now)) }
 {
@@ -45,7 +44,7 @@ fn is_close(item: &[u8]) -> bool
     trim(item).eq_ignore_ascii_case(b"close")
 }
 
-// Whether `close` stands in the list.
+// Whether `close` is an item of the list.
 fn has_close(list: &[u8]) -> bool
     ensures { result ≡ lists (codes "close") list.now }
 {

@@ -1,24 +1,25 @@
 //! What the fields of a head say of its message (RFC 9112, "Field Syntax" and "Message Body Length").
-ghost use Rattle.std.specs.Prelude.{◌≡◌, ◌≤◌, ◌<◌, List, ℕ, length, map, All};
+ghost use Rattle.std.specs.Prelude.{◌≡◌, length, map, All};
 ghost use Rattle.std.specs.List.{list_all};
 ghost use Rattle.std.specs.Char.{is_ascii_digit};
 ghost use Rattle.httparse.specs.Spans.{IsHeaderWithin, header_bytes};
-ghost use Rattle.st_http.specs.Fields.{has_name, values_of, Tells, is_number, number_of, body_length_of, status_of, name_of};
+ghost use Rattle.st_http.specs.Fields.{has_name, values_of, is_number, body_length_of, reason_status, reason_name};
+ghost use Rattle.st_http.specs.inner.Values.{AreNamed, bounded_number};
 
 use http::StatusCode;
 use httparse::spans::HeaderSpan;
 
-/// The most bytes that a body may have.
+/// The most bytes of a body.
 pub const BODY_LIMIT: usize = 65_536;
 
-/// The rule that a text breaks where no message can be read. The connection is closed after it.
+/// The rule that a text breaks when it is not a message.
 #[derive(Clone, Copy, Debug, PartialEq, Eq)]
 pub enum Reason {
-    /// No head stands there (RFC 9112, "Request Line"), or its Content-Length is repeated or no number.
+    /// It does not begin with a request head (RFC 9112, "Request Line"), or Content-Length is repeated or not a number.
     Head,
-    /// The Host field is missing in a request of version 1.1, or repeated (RFC 9112, "Request Target").
+    /// Host is missing in a request of HTTP/1.1, or repeated (RFC 9112, "Request Target").
     Host,
-    /// The body has a transfer coding (RFC 9112, "Transfer-Encoding"), and none is served.
+    /// The body has a transfer coding, which the server does not support (RFC 9112, "Transfer-Encoding").
     Length,
     /// The body is longer than `BODY_LIMIT`.
     Size,
@@ -29,7 +30,7 @@ pub enum Reason {
 impl Reason {
     /// The status code of the reply: 400, 411 or 413 (RFC 9110, "Status Codes"), or 431 (RFC 6585).
     pub fn status(self) -> StatusCode
-        ensures { result ≡ status_of self }
+        ensures { result ≡ reason_status self }
     {
         match self {
             Reason::Head | Reason::Host => StatusCode::BAD_REQUEST,
@@ -39,9 +40,9 @@ impl Reason {
         }
     }
 
-    /// The word by which the reply's body names it.
+    /// The word for it in the reply's body.
     pub fn name(self) -> &'static str
-        ensures { result.now ≡ name_of self }
+        ensures { result.now ≡ reason_name self }
     {
         match self {
             Reason::Head => "head",
@@ -53,7 +54,7 @@ impl Reason {
     }
 }
 
-// How many fields have a name, and the value of a lone one.
+// Whether a name has no field, one with this value, or more than one.
 #[derive(Clone, Copy)]
 pub(crate) enum Named<'b> {
     Missing,
@@ -69,10 +70,10 @@ pub(crate) fn is_named(text: &[u8], field: &HeaderSpan, name: &[u8]) -> bool
     field.name.of(text).eq_ignore_ascii_case(name)
 }
 
-// What the fields of a name are.
+// The fields of a name.
 pub(crate) fn find<'b>(text: &'b [u8], fields: &[HeaderSpan], name: &[u8]) -> Named<'b>
     requires { All (IsHeaderWithin (length text.now)) fields.now }
-    ensures { Tells result (values_of name.now (map (header_bytes text.now) fields.now)) }
+    ensures { AreNamed result (values_of name.now (map (header_bytes text.now) fields.now)) }
 {
     let mut found = Named::Missing;
     for field in fields {
@@ -100,9 +101,9 @@ fn is_number(text: &[u8]) -> bool
     !text.is_empty() && are_digits(text)
 }
 
-// The number that digits write, or the least above the limit of a body.
+// The number that digits write, or `BODY_LIMIT + 1` for a larger one.
 fn number(text: &[u8]) -> Option<usize>
-    ensures { result ≡ number_of text.now }
+    ensures { result ≡ bounded_number text.now }
 {
     if !is_number(text) {
         return None;
@@ -115,7 +116,7 @@ fn number(text: &[u8]) -> Option<usize>
 }
 
 #[tactic(auto, unfolding(crate::specs::Fields::body_length_of))]
-// The length of a message's body, or the first rule that its head's fields break.
+// The length of a message's body, or the first rule that the fields of its head break.
 pub(crate) fn body_length(minor: u8, text: &[u8], fields: &[HeaderSpan]) -> Result<usize, Reason>
     requires { All (IsHeaderWithin (length text.now)) fields.now }
     ensures { result ≡ body_length_of minor (map (header_bytes text.now) fields.now) }

@@ -1,31 +1,33 @@
-//! Whether the next bytes hold the head of a request (RFC 9112, "Request Line" and "Field Syntax").
-ghost use Rattle.std.specs.Prelude.{◌≡◌, [], ◌≤◌, ◌<◌, ◌↔◌, ◌++◌, ℕ, List, length, IsTrue, IfSome, IfNone, position};
+//! The head of a request: its request line and its fields (RFC 9112, "Request Line" and "Field Syntax").
+ghost use Rattle.std.specs.Prelude.{◌≡◌, [], ◌≤◌, ◌<◌, ◌↔◌, ◌++◌, ℕ, List, length, IsTrue, IfSome, IfNone};
+ghost use Rattle.std.specs.Prelude.{position};
 ghost use Rattle.httparse.specs.Grammar.{AllPass, is_uri_byte, EndsInTarget, LineEnd, print_end, print_blank};
 ghost use Rattle.httparse.specs.Spans.{RequestOverflows};
-ghost use Rattle.st_http.specs.Head.{Answers, IsBare, StartsInLine, BeginsWithMethod, ends_method};
+ghost use Rattle.st_http.specs.Head.{IsBare};
+ghost use Rattle.st_http.specs.inner.Windows.{Answers, StartsInLine, BeginsWithMethod, ends_method};
 
 use httparse::spans::{EMPTY_HEADER_SPAN, HeaderSpan, RequestSpans, parse_request};
 use httparse::{Error, Status, is_method_token, is_uri_token};
 
-/// The most bytes that a head may have, empty lines before it included.
+/// The most bytes of a head, with the empty lines before it.
 pub const HEAD_LIMIT: usize = 8192;
 
-/// The most fields that a head may have.
+/// The most fields of a head.
 pub const FIELD_LIMIT: usize = 64;
 
-// A field takes three bytes at least, so no window holds more.
+// A field has at least three bytes, so a window of `HEAD_LIMIT` bytes holds no more.
 const FIELDS_IN_WINDOW: usize = 2730;
 
 // What a window holds.
 #[derive(Clone, Copy)]
 pub(crate) enum HeadRead {
-    // A head that is a prefix.
+    // A whole head, at its start.
     Whole(RequestSpans),
-    // A head that is a prefix, with too many fields.
+    // A whole head with too many fields, at its start.
     Crowded,
     // The beginning of a head.
     Begun,
-    // Nothing that can become a head.
+    // Bytes that cannot become a head.
     Hopeless,
 }
 
@@ -73,7 +75,7 @@ fn after_method(text: &[u8]) -> Option<&[u8]>
     }
 }
 
-// Whether the text may go on with a target, of which it has no end.
+// Whether the text may be the beginning of a target.
 fn is_open_target(text: &[u8]) -> bool
     ensures { IsTrue result ↔ AllPass is_uri_byte text.now }
 {
@@ -90,14 +92,14 @@ fn ends_in_target(text: &[u8]) -> bool
     }
 }
 
-// Whether the text is that of a HEAD request, as far as its first word tells.
+// Whether the first word of the text is HEAD.
 pub(crate) fn is_bare(text: &[u8]) -> bool
     ensures { IsTrue result ↔ IsBare text.now }
 {
     after_empty_lines(text).starts_with(b"HEAD ")
 }
 
-// The reading of a window that begins no head of so few fields.
+// Reads a window whose head, if it has one, has more than `FIELD_LIMIT` fields.
 #[cold]
 fn read_crowded(window: &[u8]) -> HeadRead
     requires within { length window.now ≤ HEAD_LIMIT }
@@ -114,7 +116,7 @@ fn read_crowded(window: &[u8]) -> HeadRead
     }
 }
 
-// Reads the head at the front of a window, and writes where its fields are.
+// Reads the head at the start of a window, and writes where its fields stand.
 pub(crate) fn read_head(window: &[u8], headers: &mut [HeaderSpan; FIELD_LIMIT]) -> HeadRead
     requires { length window.now ≤ HEAD_LIMIT }
     ensures { Answers window.now headers.new result }

@@ -1,4 +1,4 @@
-//! What the definitions say of each text, whatever the program does.
+//! Laws of the definitions, for every text.
 ghost use Rattle.std.specs.Prelude.{◌≡◌, ◌≢◌, ◌<◌, ◌≤◌, ◌+◌, ◌∷◌, false, true, Bool, ◌↔◌, ◌++◌, List, ℕ, length, Some};
 ghost use Rattle.st_http.specs.First.{First, message, more, IsFirst, fields_of, size_of};
 ghost use Rattle.st_http.specs.Items.{IsMessage, Items, after_message};
@@ -7,28 +7,28 @@ ghost use Rattle.st_http.specs.Token.{token_of};
 ghost use Rattle.st_text.specs.Names.{is_name};
 ghost use Rattle.httparse.specs.Grammar.{RequestHead};
 
-/// A text has one first item.
+/// A text begins with one thing only.
 pub fn one_first()
     ensures { (text : List ℕ) (a b : First) → IsFirst text a → IsFirst text b → a ≡ b }
 {}
 
-/// A text keeps its first item, whatever follows.
+/// What a text begins with stays when text is appended, unless it was too short to tell.
 pub fn first_stays()
     ensures { (text after : List ℕ) (first : First) → first ≢ more → IsFirst text first → IsFirst (text ++ after) first }
 {}
 
-/// A text without a first item is shorter than the longest head and the longest body together.
+/// A text that is too short to tell has fewer bytes than the longest head and the longest body together.
 pub fn more_is_short()
     ensures { (text : List ℕ) → IsFirst text more → length text < 8192 + 65536 }
 {}
 
-/// A message is first where the text begins with its head and its body.
+/// A text begins with a message exactly where it begins with its head and its body.
 pub fn message_is()
     ensures { (text : List ℕ) (h : RequestHead) (body : List ℕ) (bare : Bool)
         → IsFirst text (message h body bare) ↔ IsMessage text h body bare }
 {}
 
-/// A message has a byte at least, and no more than its text.
+/// A message has at least one byte, and no more than its text.
 pub fn message_fits()
     ensures { (text : List ℕ) (h : RequestHead) (body : List ℕ) (bare : Bool) → IsFirst text (message h body bare)
         → (0 < size_of h body) × (size_of h body ≤ length text) }
@@ -39,14 +39,14 @@ pub fn one_list()
     ensures { (text : List ℕ) (a b : List First) (x y : List ℕ) → Items text a x → Items text b y → (a ≡ b) × (x ≡ y) }
 {}
 
-/// The items of what follows a message are those after it, though more came meanwhile.
+/// The items behind a message are those of the text behind it, also when more text has come meanwhile.
 pub fn next_items()
     ensures { (text after : List ℕ) (h : RequestHead) (body : List ℕ) (bare : Bool) (items : List First) (rest : List ℕ)
         → IsFirst text (message h body bare) → closes_after h.minor (fields_of h) ≡ false
         → Items (after_message text h body ++ after) items rest → Items (text ++ after) (message h body bare ∷ items) rest }
 {}
 
-/// The user of a token has the form of a name.
+/// The user of a token is a name.
 pub fn user_is_name()
     ensures { (fields : Fields) (user secret : List ℕ) → token_of fields ≡ Some (user, secret) → is_name user ≡ true }
 {}

@@ -1,4 +1,4 @@
-//! The first item of a text.
+//! The first message of a text.
 ghost use Rattle.std.specs.Prelude.{◌≡◌, ◌≤◌, length, take, drop};
 ghost use Rattle.httparse.specs.Grammar.{RequestHead, print_request};
 ghost use Rattle.httparse.specs.Spans.{IsRequestWithin, IsRequestOf, IsRequestAt};
@@ -20,33 +20,33 @@ use std::str::from_utf8;
 pub struct Message<'a> {
     /// What its method and its target name.
     pub route: Route<'a>,
-    /// What its token names; none where it has no token of the one form that is read.
+    /// The user and the secret of its bearer token; none without a well-formed one.
     pub token: Option<Credentials<'a>>,
-    /// At most `BODY_LIMIT` bytes.
+    /// Its body, at most `BODY_LIMIT` bytes.
     pub body: &'a [u8],
     /// Whether the connection is closed after it.
     pub close: bool,
-    /// Whether it is a HEAD request, whose reply has no body (RFC 9110, "HEAD").
+    /// Whether it is a HEAD request, so that the reply has no body (RFC 9110, "HEAD").
     pub bare: bool,
 }
 
-/// What stands in a message's place. The connection is closed after it.
+/// Why the text is not a message. The connection is closed after the reply.
 #[derive(Clone, Copy)]
 pub struct Fault {
-    /// The rule that is broken.
+    /// The rule that the text breaks.
     pub reason: Reason,
-    /// Whether it is a HEAD request, whose reply has no body (RFC 9110, "HEAD").
+    /// Whether it is a HEAD request, so that the reply has no body (RFC 9110, "HEAD").
     pub bare: bool,
 }
 
-/// The first item of a text.
+/// What a text begins with.
 #[derive(Clone, Copy)]
 pub enum Take<'a> {
-    /// A message, and how many bytes it has.
+    /// A message, and its length in bytes.
     Message(Message<'a>, usize),
-    /// The text holds no item yet; it is shorter than `HEAD_LIMIT + BODY_LIMIT` bytes.
+    /// The text is too short to tell; it has fewer than `HEAD_LIMIT + BODY_LIMIT` bytes.
     More,
-    /// No message can be read, whatever follows.
+    /// The text is not a message, whatever follows.
     Fault(Fault),
 }
 
@@ -64,7 +64,7 @@ fn front(text: &[u8], limit: usize) -> &[u8]
 }
 
 #[tactic(auto, unfolding(crate::specs::Head::window))]
-// The next bytes, of which a head may have all.
+// The bytes among which a head must end.
 fn window(text: &[u8]) -> &[u8]
     ensures bytes { result.now ≡ window_of text.now }
     ensures few { length result.now ≤ HEAD_LIMIT }
@@ -73,7 +73,7 @@ fn window(text: &[u8]) -> &[u8]
     front(text, HEAD_LIMIT)
 }
 
-// The item of a head.
+// The message of a head, once its body is there.
 fn item<'a>(
     routes: &'a Routes,
     text: &'a [u8],
@@ -111,7 +111,7 @@ fn item<'a>(
 }
 
 impl Routes {
-    /// The first item of a text, which more text behind it does not change. It takes no memory.
+    /// What a text begins with. More text behind it does not change the answer, unless that is `More`. It allocates nothing.
     pub fn take<'a>(&'a self, text: &'a [u8]) -> Take<'a>
         ensures first { Takes text.now result }
         ensures within { IsWithin (length text.now) result }

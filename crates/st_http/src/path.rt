@@ -1,11 +1,11 @@
-//! The paths of the table of requests.
+//! The paths of the endpoints.
 ghost use Rattle.std.specs.Prelude.{◌≡◌, map, find, option_map};
 ghost use Rattle.std.specs.Str.{bytes_eq};
 ghost use Rattle.st_http.specs.Paths.{pattern_of, endpoints_of, endpoint_of, allow_of};
 
 use crate::routes::Endpoint;
 
-/// A path of the table of requests.
+// A path of one or two endpoints.
 #[derive(Clone, Copy)]
 pub(crate) enum Path {
     Whoami,
@@ -36,7 +36,7 @@ pub(crate) enum Path {
     RevokeNamespace,
 }
 
-/// The paths of the table of requests, in its order.
+// All paths, each once.
 pub(crate) const ALL: [Path; 26] = [
     Path::Whoami,
     Path::Tables,
@@ -66,8 +66,11 @@ pub(crate) const ALL: [Path; 26] = [
     Path::RevokeNamespace,
 ];
 
-// The first of the rows that has this method.
-fn row_of<'a>(rows: &'a [(&'static str, Endpoint)], method: &[u8]) -> Option<&'a (&'static str, Endpoint)>
+// The first row with this method.
+fn row_of<'a>(
+    rows: &'a [(&'static str, Endpoint)],
+    method: &[u8],
+) -> Option<&'a (&'static str, Endpoint)>
     ensures { option_map (λ row. row.now) result ≡ find (λ row. bytes_eq row.0.now method.now) rows.now }
 {
     rows.iter().find(|row| row.0.as_bytes() == method)
@@ -108,7 +111,7 @@ impl Path {
         }
     }
 
-    /// The endpoint of the path that has this method.
+    // The endpoint of the path that has this method.
     pub(crate) fn endpoint(self, method: &[u8]) -> Option<Endpoint>
         ensures { result ≡ endpoint_of method.now (endpoints_of self) }
     {
@@ -118,7 +121,7 @@ impl Path {
         }
     }
 
-    /// The methods of its endpoints.
+    // The methods of its endpoints.
     pub(crate) fn allow(self) -> &'static str
         ensures { result.now ≡ allow_of (endpoints_of self) }
     {
@@ -148,7 +151,7 @@ impl Path {
         }
     }
 
-    /// How the path is written.
+    // How the path is written, with a placeholder for the name in it.
     pub(crate) fn pattern(self) -> &'static str
         ensures { result.now ≡ pattern_of self }
     {

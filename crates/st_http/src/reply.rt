@@ -1,7 +1,8 @@
 //! The head of a reply (RFC 9112, "Status Line" and "Field Syntax").
 ghost use Rattle.std.specs.Prelude.{◌≡◌, ◌++◌, ◌↔◌, IfOk, OnOk, OnErr, IsSome, option_map, codes, unwrap_or, decimal};
 ghost use Rattle.http.specs.StatusCode.{reason_phrase, status_text};
-ghost use Rattle.st_http.specs.Reply.{status_line, allow_line, challenge_line, length_line, close_line, head_text, GrowsTo};
+ghost use Rattle.st_http.specs.Reply.{status_line, allow_line, challenge_line, length_line, close_line, head_text};
+ghost use Rattle.st_http.specs.inner.Growth.{GrowsTo};
 
 use http::StatusCode;
 use itoa::Buffer;
@@ -54,7 +55,7 @@ fn push_status_line<A: Allocator + Copy>(
     Ok(())
 }
 
-// Writes the line of an Allow field.
+// Writes the Allow field.
 fn push_allow<A: Allocator + Copy>(
     out: &mut Vec<u8, A>,
     allow: Option<&str>,
@@ -70,7 +71,7 @@ fn push_allow<A: Allocator + Copy>(
     Ok(())
 }
 
-// Writes the line that asks for a token.
+// Writes the field that asks for a token.
 fn push_challenge<A: Allocator + Copy>(
     out: &mut Vec<u8, A>,
     status: StatusCode,
@@ -84,7 +85,7 @@ fn push_challenge<A: Allocator + Copy>(
     Ok(())
 }
 
-// Writes the line of a Content-Length field.
+// Writes the Content-Length field.
 fn push_length<A: Allocator + Copy>(
     out: &mut Vec<u8, A>,
     length: Option<usize>,
@@ -100,7 +101,7 @@ fn push_length<A: Allocator + Copy>(
     Ok(())
 }
 
-// Writes the line that tells of the close.
+// Writes the field that says that the connection is closed.
 fn push_close<A: Allocator + Copy>(out: &mut Vec<u8, A>, close: bool) -> Result<(), AllocError>
     ensures wrote { OnOk result (out.new.items ≡ out.old.items ++ close_line close) }
     ensures grows { GrowsTo out.old.items out.new.items }
@@ -112,7 +113,7 @@ fn push_close<A: Allocator + Copy>(out: &mut Vec<u8, A>, close: bool) -> Result<
 }
 
 #[tactic(auto, unfolding(crate::specs::Reply::head_text))]
-// Writes a head, or a part of it.
+// Writes a head, or the beginning of one when memory runs out.
 fn push_lines<A: Allocator + Copy>(
     out: &mut Vec<u8, A>,
     status: StatusCode,
@@ -133,9 +134,9 @@ fn push_lines<A: Allocator + Copy>(
     Ok(())
 }
 
-/// Appends the head of a reply: its status, the methods that a path has (given exactly with 405), the length of
-/// its body in bytes (none where the reply is to a HEAD request), and whether the connection is closed.
-/// Where memory is wanting, nothing is appended.
+/// Appends the head of a reply: its status, the methods of the path (with 405, and with no other status), the length of
+/// its body in bytes (none for a HEAD request), and whether the connection is closed.
+/// If memory runs out, nothing is appended.
 pub fn push_head<A: Allocator + Copy>(
     out: &mut Vec<u8, A>,
     status: StatusCode,

@@ -1,13 +1,13 @@
-//! The endpoint of the table of requests that a method and a target name.
-ghost use Rattle.std.specs.Prelude.{◌≡◌, ◌==◌, ◌<◌, codes, take, drop, IfOk, OnOk};
-ghost use Rattle.std.specs.List.{before_first, after_first, position_or_len};
-ghost use Rattle.st_http.specs.Routes.{slash, from_slash, path_of, is_absolute, name_in, routes, path_at, with_path, routed, Tells};
+//! Routing: the endpoint that a method and a target name.
+ghost use Rattle.std.specs.Prelude.{◌≡◌, ◌==◌, ◌<◌, IfOk, OnOk};
+ghost use Rattle.std.specs.List.{before_first, after_first};
+ghost use Rattle.st_http.specs.Routes.{from_slash, path_of, is_absolute, name_in, routes, path_at, with_path, routed, ShowsRoute};
 
 use crate::path::{ALL, Path};
 use matchit::Router;
 use std::alloc::{AllocError, Global};
 
-/// An endpoint of the table of requests.
+/// A request that is served: a method and a path.
 #[derive(Clone, Copy, Debug, PartialEq, Eq)]
 pub enum Endpoint {
     /// `GET /whoami`
@@ -73,15 +73,15 @@ pub enum Endpoint {
 /// What a method and a target name.
 #[derive(Clone, Copy)]
 pub enum Route<'a> {
-    /// An endpoint, and the name in the path, of any form; the empty text where the path has none.
+    /// An endpoint, and the name in its path, not checked; empty where the path has none.
     Found(Endpoint, &'a str),
-    /// No endpoint has the path: the reply's status is 404.
+    /// No endpoint has this path: 404.
     NoRoute,
-    /// The path's endpoints have other methods, those that `allow` lists: the reply's status is 405.
+    /// The path has other methods, which `allow` lists: 405.
     BadMethod { allow: &'static str },
 }
 
-// Adds a path of the table.
+// Adds a path to the router.
 fn add(router: &mut Router<Path>, path: Path) -> Result<(), AllocError>
     ensures { OnOk result (router.new ≡ with_path router.old path) }
 {
@@ -91,7 +91,7 @@ fn add(router: &mut Router<Path>, path: Path) -> Result<(), AllocError>
     }
 }
 
-/// The paths that the server knows.
+/// The paths that the server serves.
 #[derive(Drop)]
 pub struct Routes {
     router: Router<Path>,
@@ -99,7 +99,7 @@ pub struct Routes {
 }
 
 impl Routes {
-    /// The routes of the table of requests. It fails only where memory is wanting.
+    /// The routes of all endpoints. It fails only when memory runs out.
     pub fn new(global: Global) -> Result<Routes, AllocError>
         ensures { IfOk result (λ made. made.router ≡ routes) }
     {
@@ -110,7 +110,7 @@ impl Routes {
         Ok(Routes { router })
     }
 
-    // The path of the table that a path is.
+    // The known path that this path matches.
     fn at(&self, path: &str) -> Option<Path>
         ensures { result ≡ path_at path.now }
     {
@@ -123,7 +123,7 @@ impl Routes {
     #[tactic(auto, unfolding(crate::specs::Routes::routed))]
     // What a method and a target name.
     pub(crate) fn find<'a>(&self, method: &[u8], target: &'a str) -> Route<'a>
-        ensures { Tells result (routed method.now target.now) }
+        ensures { ShowsRoute result (routed method.now target.now) }
     {
         let path = target_path(target);
         let Some(found) = self.at(path) else {

@@ -11,16 +11,17 @@ use hex::FromHex;
 use httparse::spans::HeaderSpan;
 use std::str::from_utf8;
 
-/// What a bearer token names.
+/// The user and the secret of a bearer token.
 #[derive(Clone, Copy)]
 pub struct Credentials<'a> {
-    /// 1 to 32 bytes of `A-Z a-z 0-9 _`.
+    /// 1 to 32 of the characters `A-Z a-z 0-9 _`.
     pub user: &'a str,
+    /// What the 64 hexadecimal digits behind the dot write.
     pub secret: [u8; 32],
     ghost named: { is_name user.now ≡ true },
 }
 
-// Whether each byte may stand in a name.
+// Whether a name may have each of these bytes.
 fn are_name_bytes(text: &[u8]) -> bool
     ensures { result ≡ list_all is_name_byte text.now }
 {
@@ -69,7 +70,7 @@ fn parse_credentials(text: &[u8]) -> Option<Credentials>
     }
 }
 
-// The text without the spaces at its start.
+// The text without its leading spaces.
 fn skip_spaces(text: &[u8]) -> &[u8]
     ensures { result.now ≡ skip_spaces text.now }
 {
@@ -87,7 +88,7 @@ fn is_bearer(value: &[u8]) -> bool
 }
 
 #[tactic(auto, unfolding(crate::specs::Token::credentials_in))]
-// What the value of an Authorization field names.
+// The credentials in the value of an Authorization field.
 fn credentials_in(value: &[u8]) -> Option<Credentials>
     ensures { option_map (λ found. (found.user.now, found.secret)) result ≡ credentials_in value.now }
 {
@@ -98,7 +99,7 @@ fn credentials_in(value: &[u8]) -> Option<Credentials>
 }
 
 #[tactic(auto, unfolding(crate::specs::Token::token_of))]
-// What the one Authorization field of a head names.
+// The credentials of a head that has one Authorization field.
 pub(crate) fn token<'b>(text: &'b [u8], fields: &[HeaderSpan]) -> Option<Credentials<'b>>
     requires { All (IsHeaderWithin (length text.now)) fields.now }
     ensures { option_map (λ found. (found.user.now, found.secret)) result ≡ token_of (map (header_bytes text.now) fields.now) }

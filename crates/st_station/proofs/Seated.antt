@@ -8,7 +8,7 @@ use Rattle.st_http.specs.declared.routes.Route.{Route}
 use Rattle.st_http.specs.declared.routes.Route.TheVariants as routes
 use Rattle.st_http.specs.declared.message.Message.{Message}
 use Rattle.st_http.specs.First.{message, fields_of}
-use Rattle.st_http.specs.Routes.{Routed, found, no_route, bad_method, Tells, routed}
+use Rattle.st_http.specs.Routes.{Routed, found, no_route, bad_method, ShowsRoute, routed}
 use Rattle.st_http.specs.Message.{ShowsMessage}
 use Rattle.st_http.specs.Token.{UserAndSecret, token_of}
 use Rattle.st_text.specs.Texts.{Text}
@@ -47,7 +47,7 @@ unfolding reply_of
 change_told s asked e = judged_change s (asker_of s.directory asked.token) asked.call e
 
 -- a route tells one thing, where it tells an endpoint
-one_told : (route : Route) (endpoint : Endpoint) (name : List ℕ) (r : Routed) → Tells route (found endpoint name) → Tells route r → r ≡ found endpoint name
+one_told : (route : Route) (endpoint : Endpoint) (name : List ℕ) (r : Routed) → ShowsRoute route (found endpoint name) → ShowsRoute route r → r ≡ found endpoint name
 one_told (routes.Found l n) endpoint name r a b = b ∙ sym a
 one_told routes.NoRoute endpoint name r a b = absurd (let e : found endpoint name ≡ no_route = a in cc)
 one_told (routes.BadMethod allow) endpoint name r a b = absurd (let e : found endpoint name ≡ bad_method allow.now = a in cc)
@@ -117,7 +117,7 @@ seated_unasked start s m bytes is = seated_busy start s s m bytes is (record { s
 -- a message without an endpoint
 pub seated_unrouted : (start : State) (s : Seat) (m : Message) (bytes : List ℕ) → (IsFound m → ⊥) → ((state : State) → ServiceReplied state m bytes state) → Replied start s m bytes s
 seated_unrouted start s m bytes none told h body bare shows =
-    unrouted (λ endpoint name is. none (endpoint, name, subst (Tells m.route) is shows.route)) (λ state. told state h body bare shows)
+    unrouted (λ endpoint name is. none (endpoint, name, subst (ShowsRoute m.route) is shows.route)) (λ state. told state h body bare shows)
 
 -- a route that is none, or another method's, is no endpoint
 pub not_found : (m : Message) → (m.route ≡ routes.NoRoute) ⊎ ((allow : _) × (m.route ≡ routes.BadMethod allow)) → IsFound m → ⊥
