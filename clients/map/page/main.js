@@ -1,0 +1,225 @@
+// The page: a token opens it, then each change of view, time, table or authorizations asks the server anew.
+import { readAddress, writeAddress } from './address.js';
+import { Chart } from './chart.js';
+import { classesOf, drawLegend } from './legend.js';
+import { LAST_SECOND } from './places.js';
+import { itemOf, readRow } from './rows.js';
+import { Refusal, Server } from './server.js';
+import { Timeline, WORLD, endsOf } from './time.js';
+import { cellBox, countsOf, viewBox, viewOf } from './view.js';
+
+const PAGE = 20; // rows of a cell that are listed at a time
+const PAUSE = 150; // milliseconds without a further move before the server is asked
+
+const $ = id => document.getElementById(id);
+const number = value => value.toLocaleString('en');
+const rowsText = count => `${number(count)} ${count === 1 ? 'row' : 'rows'}`;
+
+const chart = new Chart($('map'));
+const timeline = new Timeline({ from: $('from'), to: $('to'), bars: $('bars'), span: $('span') }, () => refreshSoon());
+let server = null;
+let table = null;
+let ends = null; // the first and last second of the table
+let asked = new AbortController(); // what the last refresh asks
+let histogramOf = ''; // the view, table and time that the bars show
+
+// What the server is asked, and what comes of it.
+
+const auths = () => [...$('auths').querySelectorAll('input:checked')].map(input => input.name);
+
+/** Does the work with the page marked as busy; a failure is told, and an end by a newer request is none. */
+async function busy(work) {
+  const mine = asked;
+  document.body.setAttribute('aria-busy', 'true');
+  try {
+    await work();
+    if (mine === asked) $('error').textContent = '';
+  } catch (error) {
+    if (error.name === 'AbortError') return;
+    $('error').textContent = error.message;
+    if (error instanceof Refusal && error.error === 'token') close(error.message);
+  } finally {
+    if (mine === asked) document.body.setAttribute('aria-busy', 'false');
+  }
+}
+
+function begin() {
+  asked.abort();
+  asked = new AbortController();
+  return asked.signal;
+}
+
+const refresh = () => {
+  const signal = begin();
+  return busy(() => draw(signal));
+};
+
+async function draw(signal) {
+  const view = viewOf(chart.bounds, chart.pixels), { from, to } = timeline.chosen, names = auths();
+  const counts = await countsOf(view, ({ box, nx, ny }) => server.grid(table, { box: [...box, from, to], auths: names, nx, ny }, signal));
+  const classes = classesOf(Math.max(...counts)), total = counts.reduce((sum, count) => sum + count, 0);
+  chart.drawCells(view, counts, classes);
+  drawLegend($('legend'), classes);
+  $('total').textContent = `${rowsText(total)} in view`;
+  onCell = index => open(view, index, counts[index]);
+  writeAddress({ table, place: chart.place, ...(timeline.isWhole && isWholeTable() ? {} : timeline.chosen) });
+  await drawBars(viewBox(view), names, signal);
+}
+
+async function drawBars(box, names, signal) {
+  const key = JSON.stringify([table, box, names, timeline.window]);
+  if (key === histogramOf) return;
+  timeline.setCounts(await Promise.all(timeline.slices.map(({ from, to }) =>
+    server.count(table, { box: [...box, from, to], auths: names }, signal))));
+  histogramOf = key;
+}
+
+let wait = 0;
+function refreshSoon() {
+  if (!table) return;
+  document.body.setAttribute('aria-busy', 'true');
+  clearTimeout(wait);
+  wait = setTimeout(refresh, PAUSE);
+}
+
+// The rows of a cell.
+
+let onCell = () => {};
+
+function closeCell() {
+  chart.frame(null);
+  $('celltitle').textContent = 'Choose a cell to list its rows';
+  $('rows').replaceChildren();
+  $('more').hidden = true;
+}
+
+function open(view, index, count) {
+  const box = cellBox(view, index), { from, to } = timeline.chosen;
+  chart.frame(box);
+  $('celltitle').textContent = `${count === 0 ? 'No rows' : rowsText(count)} in this cell`;
+  $('rows').replaceChildren();
+  $('more').hidden = true;
+  $('cell').scrollIntoView({ block: 'start' });
+  if (count) busy(() => list({ box: [...box, from, to], auths: auths(), limit: PAGE }, asked.signal));
+}
+
+async function list(query, signal) {
+  const { rows, next } = await server.scan(table, query, signal);
+  for (const row of rows.map(readRow)) {
+    $('rows').append(itemOf(row));
+    chart.mark(row);
+  }
+  $('more').hidden = next === null;
+  $('more').onclick = () => busy(() => list({ ...query, after: next }, asked.signal));
+}
+
+// Tables and authorizations.
+
+const isWholeTable = () => ends !== null && timeline.window.begin === ends.begin && timeline.window.end === ends.end;
+
+async function findEnds(signal) {
+  ends = await endsOf(async from => {
+    const query = { box: [...WORLD, from, LAST_SECOND], auths: auths(), limit: 1 };
+    return (await server.scan(table, query, signal)).rows[0];
+  });
+  return ends ?? { begin: 0, end: LAST_SECOND };
+}
+
+async function openTable(name, wanted = {}) {
+  const signal = begin();
+  await busy(async () => {
+    table = name;
+    $('table').value = name;
+    closeCell();
+    timeline.setWindow(await findEnds(signal), wanted);
+    await draw(signal);
+  });
+}
+
+/** The first table that the user may read, the wanted one before the others; those that refuse are marked. */
+async function firstReadable(names, wanted) {
+  const order = [...new Set([...(names.includes(wanted) ? [wanted] : []), ...names])];
+  for (const name of order) {
+    try {
+      await server.scan(name, { box: [...WORLD, 0, LAST_SECOND], auths: [], limit: 1 });
+      return name;
+    } catch (error) {
+      if (error.error !== 'permission') throw error;
+      [...$('table').options].find(option => option.value === name).disabled = true;
+    }
+  }
+  throw new Error('There is no table that you may read.');
+}
+
+function offerAuths(names) {
+  $('auths').replaceChildren(...names.map(name => {
+    const label = document.createElement('label'), input = document.createElement('input');
+    Object.assign(input, { type: 'checkbox', checked: true, name });
+    input.addEventListener('change', () => {
+      closeCell();
+      refresh();
+    });
+    label.append(input, ` ${name}`);
+    return label;
+  }));
+  if (!names.length) $('auths').textContent = 'You hold none: you see the rows that everybody may see.';
+}
+
+// Opening and closing.
+
+async function login(token) {
+  server = new Server(token);
+  const [account, names] = await Promise.all([server.whoami(), server.tables()]);
+  const { table: wanted, place, from, to } = readAddress();
+  $('user').textContent = `Signed in as ${account.user}`;
+  $('table').replaceChildren(...names.map(name => new Option(name, name)));
+  offerAuths(account.auths);
+  const first = await firstReadable(names, wanted);
+  for (const id of ['panel', 'time']) $(id).hidden = false;
+  $('opening').close();
+  if (place) chart.place = place;
+  chart.focus();
+  await openTable(first, first === wanted ? { from, to } : {});
+}
+
+function close(reason) {
+  server = null;
+  table = null;
+  begin();
+  closeCell();
+  for (const id of ['panel', 'time']) $(id).hidden = true;
+  chart.drawCells(viewOf(chart.bounds, chart.pixels), [], []);
+  $('refused').textContent = reason;
+  $('opening').showModal();
+}
+
+$('login').addEventListener('submit', event => {
+  event.preventDefault();
+  const token = $('token').value;
+  $('token').value = '';
+  $('refused').textContent = '';
+  login(token).catch(error => {
+    server = null;
+    $('refused').textContent = error.message;
+  });
+});
+$('opening').addEventListener('cancel', event => event.preventDefault());
+$('forget').addEventListener('click', () => location.reload());
+// A page that the browser kept for "back" would still hold the token.
+window.addEventListener('pageshow', event => event.persisted && location.reload());
+window.addEventListener('hashchange', () => {
+  const { table: wanted, place, from, to } = readAddress();
+  if (!server) return;
+  if (place) chart.place = place;
+  if (wanted && [...$('table').options].some(option => option.value === wanted)) openTable(wanted, { from, to });
+});
+
+$('table').addEventListener('change', () => openTable($('table').value));
+$('narrow').addEventListener('click', () => {
+  timeline.setWindow({ begin: timeline.chosen.from, end: timeline.chosen.to });
+  refresh();
+});
+$('alltime').addEventListener('click', () => openTable(table));
+chart.onMove(refreshSoon);
+chart.onChoose(index => onCell(index));
+$('opening').showModal();
