@@ -15,7 +15,8 @@ async function drawOutlines(map, land, lines, file) {
   const outlines = await (await fetch(file)).json();
   const group = L.layerGroup([
     L.geoJSON(outlines, { interactive: false, renderer: land, style: { stroke: false, fillColor: '#f3f1ea', fillOpacity: 1 } }),
-    L.geoJSON(outlines, { interactive: false, renderer: lines, style: { color: '#5d6b70', weight: 0.8, fill: false } }),
+    L.geoJSON(outlines, { interactive: false, renderer: lines, style: { color: '#ffffff', opacity: 0.5, weight: 2.4, fill: false } }),
+    L.geoJSON(outlines, { interactive: false, renderer: lines, style: { color: '#37474f', weight: 0.8, fill: false } }),
   ]);
   return group.addTo(map);
 }
@@ -27,8 +28,7 @@ export class Chart {
 
   constructor(element) {
     this.#map = L.map(element, {
-      crs: L.CRS.EPSG4326, minZoom: 0, maxZoom: 16, zoomSnap: 0.5, worldCopyJump: false,
-      maxBounds: [[-95, -190], [95, 190]], maxBoundsViscosity: 0.8,
+      crs: L.CRS.EPSG4326, minZoom: 0, maxZoom: 16, zoomSnap: 0.5,
     }).setView([20, 0], 1);
     this.#map.attributionControl.setPrefix('').addAttribution('Made with Natural Earth');
     const land = pane(this.#map, 'land', 210);
@@ -39,7 +39,7 @@ export class Chart {
     this.#chosen = L.layerGroup().addTo(this.#map);
     this.#marks = L.layerGroup().addTo(this.#map);
     this.#loadOutlines(land, lines);
-    new ResizeObserver(() => this.#map.invalidateSize({ pan: false })).observe(element);
+    new ResizeObserver(() => this.#map.invalidateSize({ animate: false })).observe(element);
     this.#map.on('mousemove', event => this.#hint(event.latlng)).on('mouseout', () => this.#tooltip.remove());
   }
 
@@ -85,6 +85,7 @@ export class Chart {
   }
 
   set place({ lat, lng, zoom }) {
+    this.#map.invalidateSize({ pan: false });
     this.#map.setView([lat, lng], zoom, { animate: false });
   }
 
@@ -94,6 +95,7 @@ export class Chart {
 
   /** Shows the whole box of cells of the store as large as it fits. */
   show(box) {
+    this.#map.invalidateSize({ pan: false });
     this.#map.fitBounds(cornersOf(box), { animate: false });
   }
 
@@ -128,7 +130,7 @@ export class Chart {
 
   /** A mark at the exact place of a listed row. */
   mark(place) {
-    const style = { radius: 4, color: '#ffffff', weight: 1.5, fillColor: '#c2185b', fillOpacity: 1 };
+    const style = { radius: 3.5, color: '#ffffff', weight: 1, fillColor: '#c2185b', fillOpacity: 1 };
     L.circleMarker(place, { ...style, interactive: false, renderer: this.#markRenderer }).addTo(this.#marks);
   }
 }

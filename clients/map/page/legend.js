@@ -3,15 +3,17 @@
 // Viridis from its light end to its dark one: the lightness falls at each step, so the classes differ for every eye.
 export const COLOURS = ['#addc30', '#5ec962', '#21918c', '#31688e', '#443983', '#440154'];
 
-/** The classes of the counts 1 to `most`, each `{ from, to, colour }`: one for each count where there are few, else by powers. */
-export function classesOf(most) {
-  const bounds = [];
-  for (let at = 1; at <= COLOURS.length && (bounds.at(-1) ?? 0) < most; at++) {
-    const power = Math.round(most ** (at / COLOURS.length));
-    bounds.push(Math.max(power, (bounds.at(-1) ?? 0) + 1));
-  }
+/**
+ * The classes of the counts that are not 0, each `{ from, to, colour }`: as many cells in each as distinct integers allow, so that
+ * the map has contrast wherever rows lie. None where all counts are 0.
+ */
+export function classesOf(counts) {
+  const sorted = counts.filter(count => count > 0).sort((one, other) => one - other);
+  if (!sorted.length) return [];
+  const quantile = at => sorted[Math.ceil((at + 1) * sorted.length / COLOURS.length) - 1];
+  const bounds = [...new Set(COLOURS.map((_, at) => quantile(at)))];
   return bounds.map((to, at) => ({
-    from: (bounds[at - 1] ?? 0) + 1,
+    from: at ? bounds[at - 1] + 1 : 1,
     to,
     colour: COLOURS[bounds.length === 1 ? 2 : Math.round(at * (COLOURS.length - 1) / (bounds.length - 1))],
   }));

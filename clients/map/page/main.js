@@ -2,13 +2,14 @@
 import { readAddress, writeAddress } from './address.js';
 import { Chart } from './chart.js';
 import { classesOf, drawLegend } from './legend.js';
-import { LAST_SECOND } from './places.js';
+import { CELLS, LAST_SECOND } from './places.js';
 import { itemOf, readRow } from './rows.js';
 import { Refusal, Server } from './server.js';
 import { Timeline, WORLD, endsOf } from './time.js';
-import { cellBox, countsOf, viewBox, viewOf } from './view.js';
+import { cellBox, countsOf, rowsBox, viewBox, viewOf } from './view.js';
 
 const PAGE = 20; // rows of a cell that are listed at a time
+const WHOLE_VIEW = { columns: { size: CELLS / 64, begin: 0, count: 64 }, lines: { size: CELLS / 64, begin: 0, count: 64 } };
 const PAUSE = 150; // milliseconds without a further move before the server is asked
 
 const $ = id => document.getElementById(id);
@@ -19,7 +20,7 @@ const chart = new Chart($('map'));
 const timeline = new Timeline({ from: $('from'), to: $('to'), bars: $('bars'), span: $('span') }, () => refreshSoon());
 let server = null;
 let table = null;
-let ends = null; // the first and last second of the table
+let ends = { begin: 0, end: LAST_SECOND }; // the first and last second of the table
 let asked = new AbortController(); // what the last refresh asks
 let histogramOf = ''; // the view, table and time that the bars show
 
@@ -50,20 +51,37 @@ function begin() {
 }
 
 const refresh = () => {
+  if (!table) return undefined;
   const signal = begin();
   return busy(() => draw(signal));
 };
 
+const askCounts = (name, view, signal) => countsOf(view, ({ box, nx, ny }) =>
+  server.grid(name, { box: [...box, timeline.chosen.from, timeline.chosen.to], auths: auths(), nx, ny }, signal));
+
 async function draw(signal) {
-  const view = viewOf(chart.bounds, chart.pixels), { from, to } = timeline.chosen, names = auths();
-  const counts = await countsOf(view, ({ box, nx, ny }) => server.grid(table, { box: [...box, from, to], auths: names, nx, ny }, signal));
-  const classes = classesOf(Math.max(...counts)), total = counts.reduce((sum, count) => sum + count, 0);
+  const view = viewOf(chart.bounds, chart.pixels), counts = await askCounts(table, view, signal);
+  const classes = classesOf(counts), total = counts.reduce((sum, count) => sum + count, 0);
   chart.drawCells(view, counts, classes);
   drawLegend($('legend'), classes);
   $('total').textContent = `${rowsText(total)} in view`;
   onCell = index => open(view, index, counts[index]);
-  writeAddress({ table, place: chart.place, ...(timeline.isWhole && isWholeTable() ? {} : timeline.chosen) });
-  await drawBars(viewBox(view), names, signal);
+  writeAddress({ table, place: chart.place, ...(isAllTime() ? {} : timeline.chosen) });
+  await drawBars(viewBox(view), auths(), signal);
+}
+
+/** Moves the map to where the chosen rows are. */
+async function fit(name, signal) {
+  const box = rowsBox(WHOLE_VIEW, await askCounts(name, WHOLE_VIEW, signal));
+  if (box) chart.show(box);
+}
+
+function showAll() {
+  const signal = begin();
+  return busy(async () => {
+    await fit(table, signal);
+    await draw(signal);
+  });
 }
 
 async function drawBars(box, names, signal) {
@@ -99,8 +117,12 @@ function open(view, index, count) {
   $('celltitle').textContent = `${count === 0 ? 'No rows' : rowsText(count)} in this cell`;
   $('rows').replaceChildren();
   $('more').hidden = true;
-  $('cell').scrollIntoView({ block: 'start' });
-  if (count) busy(() => list({ box: [...box, from, to], auths: auths(), limit: PAGE }, asked.signal));
+  if (count) {
+    busy(async () => {
+      await list({ box: [...box, from, to], auths: auths(), limit: PAGE }, asked.signal);
+      $('cell').scrollIntoView({ block: 'start' });
+    });
+  }
 }
 
 async function list(query, signal) {
@@ -115,23 +137,27 @@ async function list(query, signal) {
 
 // Tables and authorizations.
 
-const isWholeTable = () => ends !== null && timeline.window.begin === ends.begin && timeline.window.end === ends.end;
+const isAllTime = () => timeline.chosen.from === ends.begin && timeline.chosen.to === ends.end;
 
-async function findEnds(signal) {
-  ends = await endsOf(async from => {
+async function findEnds(name, signal) {
+  const found = await endsOf(async from => {
     const query = { box: [...WORLD, from, LAST_SECOND], auths: auths(), limit: 1 };
-    return (await server.scan(table, query, signal)).rows[0];
+    return (await server.scan(name, query, signal)).rows[0];
   });
-  return ends ?? { begin: 0, end: LAST_SECOND };
+  return found ?? { begin: 0, end: LAST_SECOND };
 }
 
-async function openTable(name, wanted = {}) {
+/** Opens a table, with all its time chosen where no time is wanted, and the map where its rows are if `anywhere`. */
+async function openTable(name, { from, to, anywhere = false } = {}) {
   const signal = begin();
+  table = null; // until the table's time and place are known, moves of the map ask nothing
   await busy(async () => {
-    table = name;
     $('table').value = name;
     closeCell();
-    timeline.setWindow(await findEnds(signal), wanted);
+    ends = await findEnds(name, signal);
+    timeline.setWindow(ends, { from, to });
+    if (anywhere) await fit(name, signal);
+    table = name;
     await draw(signal);
   });
 }
@@ -177,9 +203,9 @@ async function login(token) {
   const first = await firstReadable(names, wanted);
   for (const id of ['panel', 'time']) $(id).hidden = false;
   $('opening').close();
-  if (place) chart.place = place;
   chart.focus();
-  await openTable(first, first === wanted ? { from, to } : {});
+  if (place) chart.place = place;
+  await openTable(first, first === wanted ? { from, to, anywhere: !place } : { anywhere: !place });
 }
 
 function close(reason) {
@@ -220,6 +246,7 @@ $('narrow').addEventListener('click', () => {
   refresh();
 });
 $('alltime').addEventListener('click', () => openTable(table));
+$('all').addEventListener('click', showAll);
 chart.onMove(refreshSoon);
 chart.onChoose(index => onCell(index));
 $('opening').showModal();

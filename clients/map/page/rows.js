@@ -41,7 +41,7 @@ const textOf = value => typeof value === 'object' ? JSON.stringify(value) : Stri
 export function itemOf(row) {
   const label = element('code', row.label ? 'label' : 'label everybody', row.label || 'everybody');
   label.title = 'Who may see this row';
-  const place = `${row.lat.toFixed(4)}, ${row.lng.toFixed(4)}`;
+  const place = [row.lat, row.lng].map(degrees => Number(degrees.toFixed(5))).join(', ');
   const fields = element('dl', '');
   for (const [name, value] of row.fields) fields.append(element('dt', '', name), element('dd', '', textOf(value)));
   return element('li', '',

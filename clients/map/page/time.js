@@ -1,5 +1,5 @@
 // The time of a table: its two ends, a histogram of the view, and two sliders between the ends.
-import { CELLS, LAST_SECOND, isoOf, timeText } from './places.js';
+import { CELLS, LAST_SECOND, timeText } from './places.js';
 
 const BARS = 32;
 const STEPS = 1024; // steps of a slider, as the page has them: each bar is 32 of them
@@ -28,7 +28,6 @@ export const WORLD = [0, CELLS - 1, 0, CELLS - 1];
 /** The sliders and bars of the page. `window` is what they span, `chosen` the part between the sliders, in whole seconds. */
 export class Timeline {
   #from; #to; #bars; #span;
-  #counts = [];
   window = { begin: 0, end: LAST_SECOND };
   chosen = { from: 0, to: LAST_SECOND };
 
@@ -95,7 +94,6 @@ export class Timeline {
   }
 
   setCounts(counts) {
-    this.#counts = counts;
     const slices = this.slices, most = Math.max(1, ...counts);
     this.#bars.replaceChildren(...counts.map((count, at) => {
       const bar = document.createElement('i');
@@ -103,10 +101,10 @@ export class Timeline {
       bar.title = `${count.toLocaleString('en')} rows, ${timeText(slices[at].from)} to ${timeText(slices[at].to)}`;
       return bar;
     }));
-    const top = counts.indexOf(Math.max(...counts));
-    this.#bars.setAttribute('aria-label', `Rows of the view by time, ${isoOf(this.window.begin)} to ${isoOf(this.window.end)}; `
-      + `the most, ${counts[top].toLocaleString('en')}, from ${timeText(slices[top].from)}`);
     this.#paint();
+    const top = counts.indexOf(Math.max(...counts));
+    this.#bars.setAttribute('aria-label', `Rows of the view by time, ${timeText(this.window.begin)} to ${timeText(this.window.end)}; `
+      + `the most, ${counts[top].toLocaleString('en')}, from ${timeText(slices[top].from)}`);
   }
 
   // Bars that the chosen time meets are dark.

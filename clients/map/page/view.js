@@ -33,6 +33,13 @@ export const viewBox = view => boxOf(view, 0, 0, view.columns.count, view.lines.
 export const cellBox = (view, index) =>
   boxOf(view, index % view.columns.count, Math.floor(index / view.columns.count), 1, 1);
 
+/** The columns and lines of the store that the cells with rows hold, or undefined where there are none. */
+export function rowsBox(view, counts) {
+  const boxes = counts.flatMap((count, index) => count ? [cellBox(view, index)] : []);
+  if (!boxes.length) return undefined;
+  return [0, 1, 2, 3].map(at => boxes.map(box => box[at]).reduce((one, other) => at % 2 ? Math.max(one, other) : Math.min(one, other)));
+}
+
 /** South-west and north-east corner of a box, as latitude and longitude. */
 export const cornersOf = ([x0, x1, y0, y1]) => [
   [beginOf(y0, LATITUDE), beginOf(x0, LONGITUDE)],

@@ -4,6 +4,7 @@ from collections.abc import Iterator
 
 import pytest
 
+from page import Page, chromium
 from stack import Stack
 
 
@@ -11,3 +12,10 @@ from stack import Stack
 def stack(tmp_path_factory: pytest.TempPathFactory) -> Iterator[Stack]:
     with Stack(tmp_path_factory.mktemp("stack")) as made:
         yield made
+
+
+@pytest.fixture(scope="session")
+def page(stack: Stack) -> Iterator[Page]:
+    driver = chromium()
+    yield Page(driver, stack.url)
+    driver.quit()

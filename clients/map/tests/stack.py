@@ -2,49 +2,25 @@
 
 from __future__ import annotations
 
-import hashlib
 import json
-import os
 import re
 import socket
 import subprocess
 import time
-from contextlib import ExitStack
+from collections.abc import Iterator
+from contextlib import ExitStack, contextmanager
 from pathlib import Path
 from typing import Any
 from urllib.request import Request, urlopen
 
-TOP = Path(__file__).resolve().parents[3]
-SERVED = Path(os.environ.get("ST_SERVED", TOP / "crates/st_served/out/st_served")).absolute()
-WAIT = int(os.environ.get("ST_SERVED_SECONDS", "10"))
-"""How long a server may take until it listens; an unproved one under `rt try` takes a minute."""
+from served import TOP, free_port, served, token
 
 ROOT_AUTHS = ["storms", "flight", "wind"]
 
 
-def secret(user: str) -> str:
-    """The secret of a user of the tests: 64 hexadecimal digits."""
-    return hashlib.sha256(user.encode()).hexdigest()
-
-
-def digest(user: str) -> str:
-    """What the server keeps of the secret."""
-    return hashlib.sha256(bytes.fromhex(secret(user))).hexdigest()
-
-
-def token(user: str) -> str:
-    return f"{user}.{secret(user)}"
-
-
-def free_ports(count: int) -> list[int]:
-    with ExitStack() as stack:
-        sockets = [stack.enter_context(socket.create_server(("127.0.0.1", 0))) for _ in range(count)]
-        return [it.getsockname()[1] for it in sockets]
-
-
-def until_open(port: int, process: subprocess.Popen[bytes], seconds: float) -> None:
+def until_open(port: int, process: subprocess.Popen[bytes]) -> None:
     """Waits until a port takes connections; fails where its process ends before."""
-    end = time.monotonic() + seconds
+    end = time.monotonic() + 10
     while time.monotonic() < end:
         if process.poll() is not None:
             raise RuntimeError(f"{process.args} ended with {process.returncode}")
@@ -62,29 +38,23 @@ class Stack:
     def __init__(self, folder: Path) -> None:
         self.folder = folder
         self.log = folder / "haproxy.log"
-        self._processes: list[subprocess.Popen[bytes]] = []
-        self.served, self.edge, self.metrics, self.page = free_ports(4)
-        self.url = f"http://127.0.0.1:{self.edge}"
+        self._open = ExitStack()
 
     def __enter__(self) -> Stack:
-        try:
-            self._start()
-        except BaseException:
-            self.close()
-            raise
+        with ExitStack() as opening:
+            self.served = opening.enter_context(served(*ROOT_AUTHS))
+            self.edge, self.metrics, self.page = free_port(), free_port(), free_port()
+            self.url = f"http://127.0.0.1:{self.edge}"
+            page = ["-p", TOP / "clients/map", "-c", self._write("nginx.conf"), "-e", "stderr", "-g", f"pid {self.folder}/nginx.pid;"]
+            nginx = opening.enter_context(self._running("nginx", *page))
+            haproxy = opening.enter_context(self._running("haproxy", "-f", self._write("haproxy.cfg")))
+            until_open(self.page, nginx)
+            until_open(self.edge, haproxy)
+            self._open = opening.pop_all()
         return self
 
     def __exit__(self, *_: object) -> None:
-        self.close()
-
-    def _start(self) -> None:
-        server = self._run("st_served", [SERVED, "--root", digest("root"), "--port", self.served, "--timeout", 60, *ROOT_AUTHS])
-        nginx = self._run("nginx", ["nginx", "-p", TOP / "clients/map", "-c", self._write("nginx.conf"), "-e", "stderr",
-                                    "-g", f"pid {self.folder}/nginx.pid;"])
-        haproxy = self._run("haproxy", ["haproxy", "-f", self._write("haproxy.cfg")])
-        until_open(self.page, nginx, 10)
-        until_open(self.edge, haproxy, 10)
-        until_open(self.served, server, WAIT)
+        self._open.close()
 
     def _write(self, name: str) -> Path:
         """A file of deploy/ with the ports of this stack; the line of TLS, which needs a certificate, is left out."""
@@ -96,21 +66,16 @@ class Stack:
         file.write_text(text)
         return file
 
-    def _run(self, name: str, words: list[Any]) -> subprocess.Popen[bytes]:
+    @contextmanager
+    def _running(self, name: str, *words: object) -> Iterator[subprocess.Popen[bytes]]:
+        """The program, with its output in a file of its name."""
         with open(self.folder / f"{name}.log", "wb") as log:
-            process = subprocess.Popen([str(it) for it in words], stdin=subprocess.DEVNULL, stdout=log, stderr=log)
-        self._processes.append(process)
-        return process
-
-    def close(self) -> None:
-        for process in self._processes:
+            process = subprocess.Popen([name, *map(str, words)], stdin=subprocess.DEVNULL, stdout=log, stderr=log)
+        try:
+            yield process
+        finally:
             process.terminate()
-        for process in self._processes:
-            try:
-                process.wait(10)
-            except subprocess.TimeoutExpired:
-                process.kill()
-                process.wait()
+            process.wait(10)
 
     def ask(self, user: str, method: str, path: str, body: object = None, timeout: float = 10) -> Any:
         """One request through the edge, on a connection of its own."""

@@ -12,13 +12,16 @@ from urllib.request import urlopen
 
 import pytest
 
-from stack import Stack, secret, token
+from served import token
+from stack import Stack
 
 
 def half_sent(stack: Stack, head: str, sent: int) -> socket.socket:
     """A client without a valid token that sends a head and so many bytes of a body, and stops."""
     client = socket.create_connection(("127.0.0.1", stack.edge), 10)
-    client.sendall(f"POST /label HTTP/1.1\r\nHost: x\r\nAuthorization: Bearer x.{'0' * 64}\r\n{head}\r\n\r\n".encode() + b" " * sent)
+    chunk = f"{sent + 1:x}\r\n" if "chunked" in head else ""
+    request = f"POST /label HTTP/1.1\r\nHost: x\r\nAuthorization: Bearer x.{'0' * 64}\r\n{head}\r\n\r\n{chunk}"
+    client.sendall(request.encode() + b" " * sent)
     return client
 
 
@@ -29,6 +32,7 @@ def half_sent(stack: Stack, head: str, sent: int) -> socket.socket:
         ("Content-Length: 65536", 65_535),
         ("Content-Length: 1000000", 100_000),
         ("Transfer-Encoding: chunked", 0),
+        ("Transfer-Encoding: chunked", 100_000),
     ],
 )
 def test_bodies_that_stop_hold_no_worker(stack: Stack, head: str, sent: int) -> None:
@@ -54,10 +58,17 @@ def test_body_of_the_greatest_size_passes(stack: Stack) -> None:
     assert reply.endswith(b'{"normal":"storms"}')
 
 
+def test_larger_body_is_refused_as_by_the_server(stack: Stack) -> None:
+    with half_sent(stack, "Content-Length: 65537", 65_537) as client:
+        reply = client.recv(65_536)
+    assert reply.startswith(b"HTTP/1.1 413 ")
+    assert reply.endswith(b'\r\n\r\n{"error":"size"}')
+
+
 def test_log_has_the_user_and_no_secret(stack: Stack) -> None:
     before = len(stack.lines())
     stack.ask("root", "GET", "/whoami")
-    asked = [f"Bearer {token('eve')}", f"Bearer {secret('root')}", f"Basic {token('root')}", 'Bearer "quoted".' + "0" * 64]
+    asked = [f"Bearer {token('eve')}", f"Bearer {token('root').partition('.')[2]}", f"Basic {token('root')}", 'Bearer "quoted".' + "0" * 64]
     for authorization in asked:
         with socket.create_connection(("127.0.0.1", stack.edge), 10) as client:
             client.sendall(
@@ -66,7 +77,7 @@ def test_log_has_the_user_and_no_secret(stack: Stack) -> None:
             )
             client.recv(65_536)
     lines = stack.lines(before + 1 + len(asked))[before:]
-    assert [line["user"] for line in lines] == ["root", "eve", "", "", ""]
+    assert [line["user"] for line in lines] == ["root", "eve", "-", "-", "-"]
     assert (lines[0]["method"], lines[0]["path"], lines[0]["status"]) == ("GET", "/whoami", 200)
     assert {line["path"] for line in lines[1:]} == {'/tables/"a\\b"'}
     assert not re.search(r"[0-9a-f]{64}", stack.log.read_text())

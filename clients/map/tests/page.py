@@ -1,0 +1,92 @@
+"""The map page in a headless Chromium."""
+
+from __future__ import annotations
+
+from typing import Any
+
+from selenium.webdriver import ActionChains, Chrome, ChromeOptions, Keys
+from selenium.webdriver.chrome.service import Service
+from selenium.webdriver.common.by import By
+from selenium.webdriver.remote.webelement import WebElement
+from selenium.webdriver.support.ui import WebDriverWait
+
+SECONDS = 30
+
+
+def chromium() -> Chrome:
+    options = ChromeOptions()
+    options.binary_location = "/usr/bin/chromium"
+    for word in ("--headless=new", "--no-sandbox", "--disable-gpu", "--disable-dev-shm-usage", "--window-size=1280,800"):
+        options.add_argument(word)
+    options.set_capability("goog:loggingPrefs", {"browser": "ALL", "performance": "ALL"})
+    return Chrome(service=Service("/usr/bin/chromedriver"), options=options)
+
+
+class Page:
+    """The page at an edge, as a user has it before the eyes."""
+
+    def __init__(self, driver: Chrome, url: str) -> None:
+        self.driver = driver
+        self.url = url
+
+    def go(self, address: str = "") -> None:
+        """Opens the page anew, at an address such as `table=geo.trips&at=50,0&zoom=3`."""
+        self.driver.get("about:blank")
+        self.driver.get(f"{self.url}/map/#{address}")
+
+    def open(self, token: str, address: str = "") -> None:
+        """Opens the page anew and signs in."""
+        self.go(address)
+        self.sign_in(token)
+
+    def sign_in(self, token: str) -> None:
+        self["token"].send_keys(token + Keys.ENTER)
+        self.until(lambda: self["panel"].is_displayed())
+        self.settle()
+
+    def __getitem__(self, id: str) -> WebElement:
+        return self.driver.find_element(By.ID, id)
+
+    def all(self, selector: str) -> list[WebElement]:
+        return self.driver.find_elements(By.CSS_SELECTOR, selector)
+
+    def run(self, script: str, *words: object) -> Any:
+        return self.driver.execute_script(script, *words)
+
+    def until(self, holds: Any) -> Any:
+        return WebDriverWait(self.driver, SECONDS, 0.05).until(lambda _: holds())
+
+    def settle(self) -> None:
+        """Waits until the page has drawn what it was asked."""
+        self.until(lambda: self.run("return document.body.getAttribute('aria-busy')") == "false")
+
+    @property
+    def total(self) -> int:
+        """The rows in view, as the page tells them."""
+        return int(self["total"].text.split()[0].replace(",", ""))
+
+    @property
+    def address(self) -> dict[str, str]:
+        return dict(self.run("return [...new URLSearchParams(location.hash.slice(1))]"))
+
+    def tick(self, authorization: str) -> None:
+        self.driver.find_element(By.CSS_SELECTOR, f'#auths input[name="{authorization}"]').click()
+        self.settle()
+
+    def drag(self, slider: str, part: float) -> None:
+        """Drags the handle of a slider, which is at an end of it, by a part of the slider's length."""
+        element = self[slider]
+        half = element.size["width"] // 2 - 12
+        begin = -half if slider == "from" else half
+        chain = ActionChains(self.driver).move_to_element_with_offset(element, begin, 0).click_and_hold()
+        chain.move_by_offset(int(2 * half * part), 0).release().perform()
+        self.settle()
+
+    def click_map(self, right: int = 0, down: int = 0) -> None:
+        """Clicks so many pixels right of the middle of the map, and down from it."""
+        ActionChains(self.driver).move_to_element_with_offset(self["map"], right, down).click().perform()
+        self.settle()
+
+    @property
+    def rows(self) -> list[str]:
+        return [it.text for it in self.all("#rows li")]
