@@ -30,7 +30,7 @@ impl Size {
         }
     }
 
-    /// The size with this share of each side.
+    // The size with this share of each side.
     fn of(share: &str) -> Option<Size> {
         match share {
             "0.02" => Some(Size::Small),
@@ -41,7 +41,7 @@ impl Size {
     }
 }
 
-/// The box of a line `share x0 x1 y0 y1 t0 t1`.
+// The box of a line `share x0 x1 y0 y1 t0 t1`.
 fn box_in(line: &str) -> Option<Asked> {
     let mut words = line.split(' ');
     let Some(size) = Size::of(words.next().unwrap_or("")) else {

@@ -10,7 +10,7 @@ use boxes::{Asked, Size, boxes_in};
 use std::{env, fs, io};
 use times::Bench;
 
-/// The kilobytes of memory that the process has held at most, by the line `VmHWM` of Linux's `status`.
+// The kilobytes of memory that the process has held at most, by the line `VmHWM` of Linux's `status`.
 fn most_memory(rt: &HostRuntime) -> io::Result<u64> {
     let text = fs::read_to_string(rt, "/proc/self/status")?;
     for line in text.as_str().lines() {
@@ -21,7 +21,7 @@ fn most_memory(rt: &HostRuntime) -> io::Result<u64> {
     Ok(0)
 }
 
-/// Fills a table with the points of a text, and prints how long a put takes, and how much memory a row.
+// Fills a table with the points of a text, and prints how long a put takes, and how much memory a row.
 fn fill(rt: &HostRuntime, bench: &mut Bench, points: &str) -> io::Result<()> {
     let count = (points.lines().count() as u64).max(1);
     let before = most_memory(rt)?;
@@ -34,7 +34,7 @@ fn fill(rt: &HostRuntime, bench: &mut Bench, points: &str) -> io::Result<()> {
     )
 }
 
-/// Prints what the counts of one size show and take.
+// Prints what the counts of one size show and take.
 fn print_counts(rt: &HostRuntime, bench: &Bench, boxes: &[Asked], size: Size) -> io::Result<()> {
     let mut times = bench.counts(rt, boxes, size)?;
     let middle = times.middle()?;
@@ -47,7 +47,7 @@ fn print_counts(rt: &HostRuntime, bench: &Bench, boxes: &[Asked], size: Size) ->
     eprintln!(rt; "{}: {middle} ns the middle count", size.share())
 }
 
-/// Prints what the pages of the large boxes show and take.
+// Prints what the pages of the large boxes show and take.
 fn print_pages(rt: &HostRuntime, bench: &Bench, boxes: &[Asked]) -> io::Result<()> {
     let mut times = bench.pages(rt, boxes, Size::Large)?;
     let middle = times.middle()?;
@@ -55,7 +55,7 @@ fn print_pages(rt: &HostRuntime, bench: &Bench, boxes: &[Asked]) -> io::Result<(
     eprintln!(rt; "page: {middle} ns the middle one of 100 rows")
 }
 
-/// Prints what counts and pages show and take.
+// Prints what counts and pages show and take.
 fn print_reads(rt: &HostRuntime, bench: &Bench, boxes: &[Asked]) -> io::Result<()> {
     for size in Size::ALL {
         print_counts(rt, bench, boxes, size)?;
@@ -63,14 +63,14 @@ fn print_reads(rt: &HostRuntime, bench: &Bench, boxes: &[Asked]) -> io::Result<(
     print_pages(rt, bench, boxes)
 }
 
-/// Times a table of these points, and reads of it in these boxes.
+// Times a table of these points, and reads of it in these boxes.
 fn time(rt: &HostRuntime, points: &str, boxes: &[Asked]) -> io::Result<()> {
     let mut bench = Bench::new(rt.alloc())?;
     fill(rt, &mut bench, points)?;
     print_reads(rt, &bench, boxes)
 }
 
-/// Times a table of the points of a file, and reads of it in the boxes of another.
+// Times a table of the points of a file, and reads of it in the boxes of another.
 fn time_files(rt: &HostRuntime, points: &str, boxes: &str) -> io::Result<()> {
     let points = fs::read_to_string(rt, points)?;
     let text = fs::read_to_string(rt, boxes)?;

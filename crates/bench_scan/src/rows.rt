@@ -7,7 +7,7 @@ use std::alloc::{AllocError, Global};
 /// The authorizations that each count asks for.
 pub const HELD: [&str; 4] = ["A", "B", "D", "G"];
 
-/// A row of these parts, or none where one of them is none.
+// A row of these parts, or none where one of them is none.
 fn row_with(point: Point, label: Label, id: Option<Id>, note: Option<Note>) -> Option<Row> {
     let id = id?;
     let note = note?;
@@ -19,7 +19,7 @@ fn row_with(point: Point, label: Label, id: Option<Id>, note: Option<Note>) -> O
     })
 }
 
-/// A row without a note, or none where the words make none.
+// A row without a note, or none where the words make none.
 fn row_of(
     alloc: Global,
     id: &str,

@@ -13,14 +13,14 @@ use std::time::Instant;
 // How many rows a page has.
 const LIMIT: usize = 100;
 
-/// How long a call took, in nanoseconds, and how many rows it showed.
+// How long a call took, in nanoseconds, and how many rows it showed.
 #[derive(Clone, Copy)]
 struct Took {
     nanoseconds: u64,
     rows: u64,
 }
 
-/// The nanoseconds since then.
+// The nanoseconds since then.
 fn since(rt: &HostRuntime, start: Instant) -> io::Result<u64> {
     let nanoseconds = start.elapsed(rt)?.as_nanos();
     Ok(u64::try_from(nanoseconds).unwrap_or(u64::MAX))
@@ -41,7 +41,7 @@ impl Times {
         }
     }
 
-    /// Adds a call.
+    // Adds a call.
     fn add(&mut self, took: Took) -> Result<(), AllocError> {
         self.each.push(took.nanoseconds)?;
         self.rows = self.rows.wrapping_add(took.rows);
@@ -91,7 +91,7 @@ impl Bench {
         Ok(nanoseconds)
     }
 
-    /// Puts in the row of a line.
+    // Puts in the row of a line.
     fn put_line(&mut self, rt: &HostRuntime, line: &str) -> io::Result<u64> {
         match row_in(self.alloc, line)? {
             Some(row) => self.time_put(rt, &row),
@@ -99,7 +99,7 @@ impl Bench {
         }
     }
 
-    /// Times the put of a row.
+    // Times the put of a row.
     fn time_put(&mut self, rt: &HostRuntime, row: &Row) -> io::Result<u64> {
         let start = Instant::now(rt)?;
         self.table.put(row)?;
@@ -128,7 +128,7 @@ impl Bench {
         Ok(times)
     }
 
-    /// Times a count of a box.
+    // Times a count of a box.
     fn time_count(&self, rt: &HostRuntime, asked: &Asked) -> io::Result<Took> {
         let start = Instant::now(rt)?;
         let rows = self.table.count(&asked.query, &self.auths);
@@ -136,7 +136,7 @@ impl Bench {
         Ok(Took { nanoseconds, rows })
     }
 
-    /// Times a page of 100 rows of a box.
+    // Times a page of 100 rows of a box.
     fn time_page(&self, rt: &HostRuntime, asked: &Asked) -> io::Result<Took> {
         let start = Instant::now(rt)?;
         let rows = self.first_rows(asked)?;
@@ -144,7 +144,7 @@ impl Bench {
         Ok(Took { nanoseconds, rows })
     }
 
-    /// How many rows the first page of a box has.
+    // How many rows the first page of a box has.
     fn first_rows(&self, asked: &Asked) -> Result<u64, AllocError> {
         let after: Option<&Place<Global>> = None;
         match self.table.page(&asked.query, &self.auths, after, LIMIT) {

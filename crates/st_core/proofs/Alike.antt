@@ -120,10 +120,10 @@ module _ {A : Type 0} (sight : Sight) (user : Text) (s t : State A) (alike : Ali
     within : (h : Held A) → passes h ≡ true → is_visible sight h ≡ true
     within h e =
         let in_table = and_true (same h.table table) (test h.row && is_true (is_among auths) h.row.label) e in
-        let is_seen = and_true (test h.row) (is_true (is_among auths) h.row.label) in_table.1 in
+        let is_visible_inside = and_true (test h.row) (is_true (is_among auths) h.row.label) in_table.1 in
         and_intro
         (subst (λ k. sight.reads k ≡ true) (sym (same-eq h.table table in_table.0)) (covers.reads table (and_intro may.there may.may_read)))
-        (is_true_more (is_among auths) sight.holds (λ a among. covers.holds a (may.held a among)) h.row.label is_seen.1)
+        (is_true_more (is_among auths) sight.holds (λ a among. covers.holds a (may.held a among)) h.row.label is_visible_inside.1)
 
     agree : (x y : Held A) → passes x ≡ true → passes y ≡ true → R (key y.row) (key x.row) ≡ Equal → R (full_name y) (full_name x) ≡ Equal
     agree x y p q e =

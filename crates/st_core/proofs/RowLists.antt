@@ -5,7 +5,7 @@ use Rattle.st_text.proofs.Same.{same-eq}
 use Rattle.st_text.proofs.Resorting.{filter_in_order}
 use Rattle.st_policy.specs.declared.request.Request.{Request}
 use Rattle.st_policy.specs.Requests.{table_of}
-use Rattle.st_table.specs.Rows.{Held, full_name, is_held, put_row, rows_of, without_row}
+use Rattle.st_table.specs.Rows.{Held, full_name, is_held, put_row, rows_in_table, without_row}
 use Rattle.st_core.specs.Changes.{rows_after}
 
 differ : (own table : Text) → (Some own ≡ Some table → ⊥) → same own table ≡ false
@@ -59,7 +59,7 @@ module _ {A : Type 0} where
       ∙ others_without_row held.table held.row.id held.row.label table apart rows
 
   pub others_stay : (request : Request A) (rows : List (Held A)) (table : Text) → in_order full_name rows ≡ rows → (table_of request ≡ Some table → ⊥)
-      → rows_of table (rows_after request rows) ≡ rows_of table rows
+      → rows_in_table table (rows_after request rows) ≡ rows_in_table table rows
   others_stay Request.Whoami rows table listed apart = refl
   others_stay Request.Tables rows table listed apart = refl
   others_stay Request.Users rows table listed apart = refl

@@ -14,8 +14,8 @@ use Rattle.st_dir.proofs.Sorted.{changed, found, none_found, none_from_find, put
 use Rattle.st_dir.proofs.Keys.{own_name}
 use Rattle.st_index.specs.declared.row.Row.{Row}
 use Rattle.st_index.specs.Order.{InScanOrder, scan_key}
-use Rattle.st_table.specs.Rows.{Held, all_held, full_name, put_row, rows_of, without_row, without_table}
-use Rattle.st_table.specs.Table.{HasEachOnce, rows_by_label, with_row, without as without_named}
+use Rattle.st_table.specs.Rows.{Held, all_held, full_name, put_row, rows_in_table, without_row, without_table}
+use Rattle.st_table.specs.Table.{HasEachOnce, rows_by_label, with_row, without_named}
 use Rattle.st_table.proofs.Storing.{elsewhere, table_put, table_delete, table_dropped, resorted}
 use Rattle.st_table.proofs.Reading.{seen_is}
 use Rattle.st_table.proofs.Getting.{got_is}
@@ -268,11 +268,11 @@ module _ {A : Type 0} (name : Text) where
         ∙ append-nil rows
 
     pub scans_are : InScanOrder t.table.period t.table.rows → (test : Row A → Bool)
-        → in_order (scan_key t.table.period) (filter test (rows_of name (tables_in ts).rows)) ≡ filter test t.table.rows
+        → in_order (scan_key t.table.period) (filter test (rows_in_table name (tables_in ts).rows)) ≡ filter test t.table.rows
     scans_are sorted test = seen_is t.table.period name test (rows_in ts) t.table.rows own_rows sorted
 
     pub gets_are : HasEachOnce t.table.rows → (id : Text) (test : Row A → Bool)
-        → rows_by_label id test (rows_of name (tables_in ts).rows) ≡ rows_by_label id test t.table.rows
+        → rows_by_label id test (rows_in_table name (tables_in ts).rows) ≡ rows_by_label id test t.table.rows
     gets_are once id test = got_is id test name (rows_in ts) t.table.rows own_rows once
 
     pub heading_is : heading_named name (headings_in ts) ≡ Some (record { table = name; period = t.table.period })

@@ -16,13 +16,13 @@ use Rattle.st_dir.specs.Listings.{who, users_of, tables_of, grants_on}
 use Rattle.st_dir.specs.declared.grant.Scope.TheVariants.{OnTable, OnNamespace}
 use Rattle.st_policy.specs.declared.refusal.Refusal.{Refusal}
 use Rattle.st_policy.specs.declared.request.Request.{Request}
-use Rattle.st_table.specs.Rows.{Held, rows_of}
+use Rattle.st_table.specs.Rows.{Held, rows_in_table}
 use Rattle.st_policy.specs.declared.reply.Reply.{Reply}
 use Rattle.st_core.specs.State.{State}
 
 -- the rows of the table that pass the test and whose label is true for the authorizations
 abbrev pub rows_that : {A : Type 0} → (Row A → Bool) → Text → List Text → List (Held A) → List (Row A)
-rows_that test table auths rows = filter (λ row. test row && is_true (is_among auths) row.label) (rows_of table rows)
+rows_that test table auths rows = filter (λ row. test row && is_true (is_among auths) row.label) (rows_in_table table rows)
 
 -- the seen rows of the table inside the query, in scan order
 abbrev pub seen : {A : Type 0} → State A → Text → Query → List Text → List (Row A)

@@ -10,7 +10,7 @@ ghost use Rattle.st_policy.specs.declared.refusal.Refusal.{Refusal};
 ghost use Rattle.st_core.specs.declared.asked.Asked.{Asked as Event};
 ghost use Rattle.st_policy.specs.declared.reply.Reply.{Reply};
 ghost use Rattle.st_core.specs.declared.asked.Call.{Call};
-ghost use Rattle.st_table.specs.Rows.{Held, full_name, rows_of};
+ghost use Rattle.st_table.specs.Rows.{Held, full_name, rows_in_table};
 ghost use Rattle.st_core.specs.Changes.{rows_after};
 ghost use Rattle.st_core.specs.State.{State};
 ghost use Rattle.st_core.specs.Step.{asker_of, asks_for_change, result_of, step};
@@ -41,7 +41,7 @@ pub fn changes_are_listed<A: Allocator>()
 /// A request leaves the rows of each table but its own as they were.
 pub fn other_tables_stay<A: Allocator>()
     ensures { (request : Request A) (rows : List (Held A)) (table : Text)
-        → in_order full_name rows ≡ rows → (table_of request ≡ Some table → ⊥) → rows_of table (rows_after request rows) ≡ rows_of table rows }
+        → in_order full_name rows ≡ rows → (table_of request ≡ Some table → ⊥) → rows_in_table table (rows_after request rows) ≡ rows_in_table table rows }
 {}
 
 /// What a user may not see cannot be noticed. Let a user hold SYSTEM at no moment of a run. Then the replies to the user's own

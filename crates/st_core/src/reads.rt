@@ -4,7 +4,7 @@ ghost use Rattle.st_text.specs.Texts.{Text, in_order};
 ghost use Rattle.st_dir.specs.Directory.{is_table, period_of};
 ghost use Rattle.st_index.specs.Order.{scan_key};
 ghost use Rattle.st_index.specs.declared.row.Row.{Row as Labelled};
-ghost use Rattle.st_table.specs.Rows.{rows_of};
+ghost use Rattle.st_table.specs.Rows.{rows_in_table};
 ghost use Rattle.st_table.specs.Table.{rows_by_label};
 ghost use Rattle.st_plan.specs.PlanOf.{plan_of};
 ghost use Rattle.st_scan.specs.Grids.{grid_of};
@@ -31,8 +31,8 @@ impl<A: Allocator + Copy> Store<A> {
     fn table(&self, table: &TableName) -> &Table<UbTree<A>>
         requires { is_table self.now.directory table.now ≡ true }
         ensures period { result.now.period ≡ period_of self.now.directory table.now }
-        ensures scans { (test : Labelled A → Bool) → in_order (scan_key result.now.period) (filter test (rows_of table.now self.now.rows)) ≡ filter test result.now.rows }
-        ensures gets { (id : Text) (test : Labelled A → Bool) → rows_by_label id test (rows_of table.now self.now.rows) ≡ rows_by_label id test result.now.rows }
+        ensures scans { (test : Labelled A → Bool) → in_order (scan_key result.now.period) (filter test (rows_in_table table.now self.now.rows)) ≡ filter test result.now.rows }
+        ensures gets { (id : Text) (test : Labelled A → Bool) → rows_by_label id test (rows_in_table table.now self.now.rows) ≡ rows_by_label id test result.now.rows }
     {
         self.tables.table(table.as_str())
     }

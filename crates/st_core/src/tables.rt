@@ -5,8 +5,8 @@ ghost use Rattle.st_key.specs.declared.period.Period.{Period as Length};
 ghost use Rattle.st_dir.specs.Sorted.{Rises, IsPlace, IsAlone};
 ghost use Rattle.st_index.specs.Order.{InScanOrder, scan_key};
 ghost use Rattle.st_index.specs.declared.row.Row.{Row as Labelled};
-ghost use Rattle.st_table.specs.Rows.{put_row, rows_of, without_row};
-ghost use Rattle.st_table.specs.Table.{HasEachOnce, rows_by_label, with_row, without as without_named};
+ghost use Rattle.st_table.specs.Rows.{put_row, rows_in_table, without_row};
+ghost use Rattle.st_table.specs.Table.{HasEachOnce, rows_by_label, with_row, without_named};
 ghost use Rattle.st_core.specs.Tables.{heading_key, heading_named, headings_with, is_of, without};
 ghost use Rattle.st_core.specs.Shelves.{heading_of, headings_in};
 ghost use Rattle.st_core.specs.declared.tables.Shelf.{Shelf as Kept};
@@ -197,8 +197,8 @@ impl<A: Allocator + Copy> Tables<A> {
     pub(crate) fn table(&self, name: &str) -> &Table<UbTree<A>>
         requires { is_some (heading_named name.now self.now.headings) ≡ true }
         ensures period { heading_named name.now self.now.headings ≡ Some (record { table = name.now; period = result.now.period }) }
-        ensures scans { (test : Labelled A → Bool) → in_order (scan_key result.now.period) (filter test (rows_of name.now self.now.rows)) ≡ filter test result.now.rows }
-        ensures gets { (id : Text) (test : Labelled A → Bool) → rows_by_label id test (rows_of name.now self.now.rows) ≡ rows_by_label id test result.now.rows }
+        ensures scans { (test : Labelled A → Bool) → in_order (scan_key result.now.period) (filter test (rows_in_table name.now self.now.rows)) ≡ filter test result.now.rows }
+        ensures gets { (id : Text) (test : Labelled A → Bool) → rows_by_label id test (rows_in_table name.now self.now.rows) ≡ rows_by_label id test result.now.rows }
     {
         let place = position(&self.shelves, name);
         self.shelves[place].table()

@@ -23,7 +23,7 @@ use Rattle.st_key.proofs.PeriodLemmas.{period as lengths}
 use Rattle.st_key.proofs.PointLemmas.{before_by_rank, one_point, same_rank}
 use Rattle.st_text.specs.Texts.{comes_before}
 use Rattle.st_index.specs.declared.row.Row.{Row}
-use Rattle.st_index.specs.Rows.{EntryValue, NamesRise, Rises, name_cmp, name_of, place_of, rows_of}
+use Rattle.st_index.specs.Rows.{EntryValue, NamesRise, Rises, name_cmp, name_of, rank_of, rows_of}
 use Rattle.st_index.specs.Index.{IsAbsent}
 use Rattle.st_index.proofs.Climbing.{all_right}
 use Rattle.st_index.specs.Order.{InScanOrder, scan_key}
@@ -69,37 +69,37 @@ then_same Equal rest e h = h
 then_same Greater rest e h = cc
 
 module _ {A : Type 0} (period : Period) where
-  place_is : (r : Row A) → place_of period r ≡ rank (key_for period r.point).key
-  unfolding place_of
+  place_is : (r : Row A) → rank_of period r ≡ rank (key_for period r.point).key
+  unfolding rank_of
   place_is r = sym (key_for period r.point).by_rank
 
-  digits_less : (r s : Row A) → place_of period r < place_of period s → is_lt (slice_cmp nat_cmp (digits_of period r.point) (digits_of period s.point)) ≡ true
+  digits_less : (r s : Row A) → rank_of period r < rank_of period s → is_lt (slice_cmp nat_cmp (digits_of period r.point) (digits_of period s.point)) ≡ true
   digits_less r s h =
       let k = key_for period r.point in
       let l = key_for period s.point in
-      let less : rank k.key < rank l.key = subst (λ n. n < rank l.key) (place_is r) (subst (λ n. place_of period r < n) (place_is s) h) in
+      let less : rank k.key < rank l.key = subst (λ n. n < rank l.key) (place_is r) (subst (λ n. rank_of period r < n) (place_is s) h) in
       (digits_by_level period r.point s.point).1 ((before_by_key period r.point s.point k.key l.key k.is l.is).0 ((before_by_rank k.key l.key).1 less))
 
-  digits_same : (r s : Row A) → place_of period r ≡ place_of period s → digits_of period r.point ≡ digits_of period s.point
+  digits_same : (r s : Row A) → rank_of period r ≡ rank_of period s → digits_of period r.point ≡ digits_of period s.point
   digits_same r s h =
       let k = key_for period r.point in
       let l = key_for period s.point in
       let e = same_rank k.key l.key (sym (place_is r) ∙ h ∙ place_is s) in
       ap (digits_of period) (one_point period r.point s.point l.key (subst (IsKeyOf period r.point) e k.is) l.is)
 
-  pub before_by_place : (r s : Row A) → place_of period r < place_of period s → IsTrue (comes_before (scan_key period r) (scan_key period s))
+  pub before_by_place : (r s : Row A) → rank_of period r < rank_of period s → IsTrue (comes_before (scan_key period r) (scan_key period s))
   before_by_place r s h = then_less _ _ (digits_less r s h)
 
-  pub before_by_name : (r s : Row A) → place_of period r ≡ place_of period s → name_cmp (name_of r) (name_of s) ≡ Less → IsTrue (comes_before (scan_key period r) (scan_key period s))
+  pub before_by_name : (r s : Row A) → rank_of period r ≡ rank_of period s → name_cmp (name_of r) (name_of s) ≡ Less → IsTrue (comes_before (scan_key period r) (scan_key period s))
   before_by_name r s h n =
       then_same _ _ (ap (λ d. slice_cmp nat_cmp d (digits_of period s.point)) (digits_same r s h) ∙ tied_itself nat_list_cmp_total (digits_of period s.point))
       (then_named (slice_cmp nat_cmp r.id s.id) (slice_cmp nat_cmp r.label s.label) n)
 
-  scan_rows : (k : ℕ) (rows more : List (Row A)) → NamesRise rows → All (λ r. place_of period r ≡ k) rows → All (λ r. k + 1 ≤ place_of period r) more → InScanOrder period more → InScanOrder period (rows ++ more)
+  scan_rows : (k : ℕ) (rows more : List (Row A)) → NamesRise rows → All (λ r. rank_of period r ≡ k) rows → All (λ r. k + 1 ≤ rank_of period r) more → InScanOrder period more → InScanOrder period (rows ++ more)
   scan_rows k [] more named placed later h = h
   scan_rows k (r ∷ rs) more named placed later h =
-      let at : place_of period r ≡ k = All-head (λ s. place_of period s ≡ k) r rs placed in
-      let rest : All (λ s. place_of period s ≡ k) rs = All-tail (λ s. place_of period s ≡ k) r rs placed in
+      let at : rank_of period r ≡ k = All-head (λ s. rank_of period s ≡ k) r rs placed in
+      let rest : All (λ s. rank_of period s ≡ k) rs = All-tail (λ s. rank_of period s ≡ k) r rs placed in
       let P : Row A → Type 0 = λ s. IsTrue (comes_before (scan_key period r) (scan_key period s)) in (
         All-append P rs more
             (λ j d l. before_by_name r (get_or rs j d) (at ∙ sym (rest j d l)) (named.0 j d l))
@@ -112,7 +112,7 @@ module _ {A : Type 0} (period : Period) where
   scan_rises lo hi (e ∷ es) h = scan_rows e.at e.rows (rows_of es) h.1.named h.1.placed (rows_from period (e.at + 1) hi es h.2) (scan_rises (e.at + 1) hi es h.2)
 
 module _ {A : Type 0} (period : Period) where
-  same_scan : (r s : Row A) → place_of period r ≡ place_of period s → name_of r ≡ name_of s → IsTrue (comes_before (scan_key period r) (scan_key period s)) → ⊥
+  same_scan : (r s : Row A) → rank_of period r ≡ rank_of period s → name_of r ≡ name_of s → IsTrue (comes_before (scan_key period r) (scan_key period s)) → ⊥
   same_scan r s p n h =
       let d = digits_same period r s p in
       let same : scan_key period r ≡ scan_key period s = λ i. d i ∷ (n i).id ∷ (n i).label ∷ [] in
@@ -120,9 +120,9 @@ module _ {A : Type 0} (period : Period) where
       true≢false (sym h ∙ ap (λ k. comes_before k (scan_key period s)) same ∙ ap is_lt tied)
 
   -- no other row of a content in scan order has the key and the name of one of its rows
-  pub scan_apart : (front : List (Row A)) (row : Row A) (back : List (Row A)) → InScanOrder period (front ++ row ∷ back) → IsAbsent period (place_of period row) (name_of row) (front ++ back)
+  pub scan_apart : (front : List (Row A)) (row : Row A) (back : List (Row A)) → InScanOrder period (front ++ row ∷ back) → IsAbsent period (rank_of period row) (name_of row) (front ++ back)
   scan_apart [] row back h = λ k d l p n. same_scan row (get_or back k d) (sym p) (sym n) (h.0 k d l)
   scan_apart (r ∷ rs) row back h =
       let P : Row A → Type 0 = λ s. IsTrue (comes_before (scan_key period r) (scan_key period s)) in
       let first : P row = All-head P row back (all_right P rs (row ∷ back) h.0) in
-      All-cons (λ s. place_of period s ≡ place_of period row → name_of s ≡ name_of row → ⊥) r (rs ++ back) (λ p n. same_scan r row p n first) (scan_apart rs row back h.1)
+      All-cons (λ s. rank_of period s ≡ rank_of period row → name_of s ≡ name_of row → ⊥) r (rs ++ back) (λ p n. same_scan r row p n first) (scan_apart rs row back h.1)

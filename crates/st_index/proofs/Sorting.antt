@@ -8,16 +8,16 @@ use Rattle.st_text.specs.Texts.{comes_before, put_in_order, in_order}
 use Rattle.st_index.specs.declared.row.Row.{Row}
 use Rattle.st_index.specs.Order.{InScanOrder, scan_key}
 use Rattle.st_index.specs.Index.{Adds}
-use Rattle.st_index.specs.Rows.{key_end, place_of}
+use Rattle.st_index.specs.Rows.{key_end, rank_of}
 use Rattle.st_key.specs.Period.{seconds_of}
 use Rattle.st_key.proofs.MortonLemmas.{joined-lt}
 use Rattle.st_key.proofs.PeriodLemmas.{period as lengths}
 use Rattle.st_text.proofs.Sorted.{one_before}
 
 -- the key of each point lies before the period's end
-pub place_below : {A : Type 0} (period : Period) (r : Row A) → place_of period r < key_end period
-unfolding place_of
-place_below period r =
+pub rank_below : {A : Type 0} (period : Period) (r : Row A) → rank_of period r < key_end period
+unfolding rank_of
+rank_below period r =
     let w = lengths period in
     let b = w.bin_below r.point.t r.point.t_in_range in
     let a = joined-lt 21 r.point.x r.point.y (r.point.t % seconds_of period) in

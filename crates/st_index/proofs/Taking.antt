@@ -8,7 +8,7 @@ use Rattle.std.specs.declared.cmp.Ordering.{Ordering}
 use Rattle.std.specs.declared.cmp.Ordering.TheVariants.{Less, Equal, Greater}
 use Rattle.std.specs.Ordering.{nat_cmp, ordering_index}
 use Rattle.std.specs.Cmp.{tied_itself}
-use Rattle.st_index.specs.Rows.{Name, name_of, EntryValue, IsEntry, Rises, NamesRise, name_cmp, place_of, rows_of}
+use Rattle.st_index.specs.Rows.{Name, name_of, EntryValue, IsEntry, Rises, NamesRise, name_cmp, rank_of, rows_of}
 use Rattle.st_index.specs.Index.{Adds, Swaps, IsAbsent, Holds}
 use Rattle.st_index.proofs.Climbing.{all_left, all_right, within_take, within_drop, climbs_search, climbs_drop, climbs_swap}
 use Rattle.st_index.proofs.Rising.{rises_bounds, rises_from, rises_join, rises_around, rises_all, Around}
@@ -75,29 +75,29 @@ module _ {A : Type 0} (period : Period) where
 
   -- where the rows of entries stand
 
-  pub rows_from : (lo hi : ℕ) (es : List (EntryValue A)) → Rises period lo hi es → All (λ r. lo ≤ place_of period r) (rows_of es)
+  pub rows_from : (lo hi : ℕ) (es : List (EntryValue A)) → Rises period lo hi es → All (λ r. lo ≤ rank_of period r) (rows_of es)
   rows_from lo hi [] h = λ k d l. absurd (omega (arith, l))
   rows_from lo hi (e ∷ es) h =
-      All-append (λ r. lo ≤ place_of period r) e.rows (rows_of es)
+      All-append (λ r. lo ≤ rank_of period r) e.rows (rows_of es)
       (λ k d l. let p = h.1.placed k d l in omega (arith, p, h.0))
       (rows_from lo hi es (rises_from period lo (e.at + 1) hi es (omega (arith, h.0)) h.2))
 
-  pub rows_below : (lo hi : ℕ) (es : List (EntryValue A)) → Rises period lo hi es → All (λ r. place_of period r < hi) (rows_of es)
+  pub rows_below : (lo hi : ℕ) (es : List (EntryValue A)) → Rises period lo hi es → All (λ r. rank_of period r < hi) (rows_of es)
   rows_below lo hi [] h = λ k d l. absurd (omega (arith, l))
   rows_below lo hi (e ∷ es) h =
       let b = rises_bounds period (e.at + 1) hi es h.2 in
-      All-append (λ r. place_of period r < hi) e.rows (rows_of es)
+      All-append (λ r. rank_of period r < hi) e.rows (rows_of es)
       (λ k d l. let p = h.1.placed k d l in omega (arith, p, b))
       (rows_below (e.at + 1) hi es h.2)
 
-  pub absent_low : (k : ℕ) (n : Name) (rows : List (Row A)) → All (λ r. place_of period r < k) rows → IsAbsent period k n rows
+  pub absent_low : (k : ℕ) (n : Name) (rows : List (Row A)) → All (λ r. rank_of period r < k) rows → IsAbsent period k n rows
   absent_low k n rows h = λ j d l e named. let p = h j d l in omega (arith, p, e)
 
-  pub absent_high : (k : ℕ) (n : Name) (rows : List (Row A)) → All (λ r. k < place_of period r) rows → IsAbsent period k n rows
+  pub absent_high : (k : ℕ) (n : Name) (rows : List (Row A)) → All (λ r. k < rank_of period r) rows → IsAbsent period k n rows
   absent_high k n rows h = λ j d l e named. let p = h j d l in omega (arith, p, e)
 
   pub absent_join : (k : ℕ) (n : Name) (xs ys : List (Row A)) → IsAbsent period k n xs → IsAbsent period k n ys → IsAbsent period k n (xs ++ ys)
-  absent_join k n xs ys a b = All-append (λ r. place_of period r ≡ k → (name_of r) ≡ n → ⊥) xs ys a b
+  absent_join k n xs ys a b = All-append (λ r. rank_of period r ≡ k → (name_of r) ≡ n → ⊥) xs ys a b
 
   pub absent_entries : (k : ℕ) (n : Name) (es : List (EntryValue A)) (lo hi : ℕ) → Rises period lo hi es → All (λ (e : EntryValue A). e.at ≡ k → ⊥) es → IsAbsent period k n (rows_of es)
   absent_entries k n [] lo hi h a = λ j d l. absurd (omega (arith, l))
@@ -139,7 +139,7 @@ module _ {A : Type 0} (period : Period) where
     pub absent_around : (lo hi : ℕ) (n : Name) → Rises period lo hi es → All (λ (r : Row A). (name_of r) ≡ n → ⊥) e.rows → IsAbsent period e.at n (rows_of es)
     absent_around lo hi n h none =
         let a = around lo hi h in
-        let P : Row A → Type 0 = λ r. place_of period r ≡ e.at → (name_of r) ≡ n → ⊥ in
+        let P : Row A → Type 0 = λ r. rank_of period r ≡ e.at → (name_of r) ≡ n → ⊥ in
         subst (All P) (sym (rows_at es i e f l read))
         (absent_join e.at n (rows_of (take i es)) (e.rows ++ rows_of (drop (suc i) es)) (absent_low e.at n (rows_of (take i es)) (rows_below lo e.at (take i es) a.front))
         (absent_join e.at n e.rows (rows_of (drop (suc i) es)) (λ j d b p named. none j d b named)
@@ -147,29 +147,29 @@ module _ {A : Type 0} (period : Period) where
 
   pub taken_entry : (e f : EntryValue A) (row : Row A) → Adds row f.rows e.rows → f.at ≡ e.at → (f.rows ≡ [] → ⊥) → (NamesRise e.rows → NamesRise f.rows) → IsEntry period e → IsEntry period f
   taken_entry e f row h same some named entry =
-      let P : Row A → Type 0 = λ r. place_of period r ≡ e.at in
+      let P : Row A → Type 0 = λ r. rank_of period r ≡ e.at in
       let placed = subst (All P) h.new_is entry.placed in
       let rest = All-append P h.front h.back (all_left P h.front (row ∷ h.back) placed) (All-tail P row h.back (all_right P h.front (row ∷ h.back) placed)) in
-      record { held = some; placed = subst (λ n. All (λ r. place_of period r ≡ n) f.rows) (sym same) (subst (All P) (sym h.old_is) rest); named = named entry.named }
+      record { held = some; placed = subst (λ n. All (λ r. rank_of period r ≡ n) f.rows) (sym same) (subst (All P) (sym h.old_is) rest); named = named entry.named }
 
-  pub taken_placed : (e : EntryValue A) (rows : List (Row A)) (row : Row A) → Adds row rows e.rows → IsEntry period e → place_of period row ≡ e.at
+  pub taken_placed : (e : EntryValue A) (rows : List (Row A)) (row : Row A) → Adds row rows e.rows → IsEntry period e → rank_of period row ≡ e.at
   taken_placed e rows row h entry =
-      let P : Row A → Type 0 = λ r. place_of period r ≡ e.at in
+      let P : Row A → Type 0 = λ r. rank_of period r ≡ e.at in
       All-head P row h.back (all_right P h.front (row ∷ h.back) (subst (All P) h.new_is entry.placed))
 
-  pub swapped_placed : (e : EntryValue A) (rows : List (Row A)) (out row : Row A) → Swaps out row e.rows rows → IsEntry period e → place_of period out ≡ e.at
+  pub swapped_placed : (e : EntryValue A) (rows : List (Row A)) (out row : Row A) → Swaps out row e.rows rows → IsEntry period e → rank_of period out ≡ e.at
   swapped_placed e rows out row h entry =
-      let P : Row A → Type 0 = λ r. place_of period r ≡ e.at in
+      let P : Row A → Type 0 = λ r. rank_of period r ≡ e.at in
       All-head P out h.back (all_right P h.front (out ∷ h.back) (subst (All P) h.old_is entry.placed))
 
-  pub swapped_entry : (e f : EntryValue A) (out row : Row A) → Swaps out row e.rows f.rows → f.at ≡ e.at → place_of period row ≡ e.at → (NamesRise e.rows → NamesRise f.rows) → IsEntry period e → IsEntry period f
+  pub swapped_entry : (e f : EntryValue A) (out row : Row A) → Swaps out row e.rows f.rows → f.at ≡ e.at → rank_of period row ≡ e.at → (NamesRise e.rows → NamesRise f.rows) → IsEntry period e → IsEntry period f
   swapped_entry e f out row h same at named entry =
-      let P : Row A → Type 0 = λ r. place_of period r ≡ e.at in
+      let P : Row A → Type 0 = λ r. rank_of period r ≡ e.at in
       let placed = subst (All P) h.old_is entry.placed in
       let rest = All-append P h.front (row ∷ h.back) (all_left P h.front (out ∷ h.back) placed) (All-cons P row h.back at (All-tail P out h.back (all_right P h.front (out ∷ h.back) placed))) in
       record {
         held = λ none. let n = ap length (sym h.new_is ∙ none) in omega (arith, n, length-append h.front (row ∷ h.back));
-        placed = subst (λ n. All (λ r. place_of period r ≡ n) f.rows) (sym same) (subst (All P) (sym h.new_is) rest);
+        placed = subst (λ n. All (λ r. rank_of period r ≡ n) f.rows) (sym same) (subst (All P) (sym h.new_is) rest);
         named = named entry.named;
       }
 
@@ -200,5 +200,5 @@ module _ {A : Type 0} (period : Period) where
 
   pub absent_held : (k : ℕ) (n : Name) (rows : List (Row A)) → Holds period k n rows → IsAbsent period k n rows → ⊥
   absent_held k n rows h absent =
-      let P : Row A → Type 0 = λ r. place_of period r ≡ k → (name_of r) ≡ n → ⊥ in
+      let P : Row A → Type 0 = λ r. rank_of period r ≡ k → (name_of r) ≡ n → ⊥ in
       All-head P h.row h.back (all_right P h.front (h.row ∷ h.back) (subst (All P) h.is absent)) h.placed h.named

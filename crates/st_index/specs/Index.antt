@@ -4,8 +4,7 @@ use Rattle.std.specs.List.{All}
 use Rattle.st_key.specs.declared.period.Period.{Period}
 use Rattle.st_index.specs.declared.row.Row.{Row}
 use Rattle.st_index.specs.Order.{InScanOrder}
-use Rattle.st_index.specs.Rows.{key_end}
-use Rattle.st_index.specs.Rows.{EntryValue, Name, Rises, name_of, place_of, rows_of}
+use Rattle.st_index.specs.Rows.{key_end, EntryValue, Name, Rises, name_of, rank_of, rows_of}
 
 -- new is old with this row put in
 pub record Adds {A : Type 0} (row : Row A) (old new : List (Row A)) : Type 0 where
@@ -23,7 +22,7 @@ pub record Swaps {A : Type 0} (out row : Row A) (old new : List (Row A)) : Type 
 
 -- no row has this place and this name
 abbrev pub IsAbsent : {A : Type 0} → Period → ℕ → Name → List (Row A) → Type 0
-IsAbsent period place name rows = All (λ r. place_of period r ≡ place → name_of r ≡ name → ⊥) rows
+IsAbsent period place name rows = All (λ r. rank_of period r ≡ place → name_of r ≡ name → ⊥) rows
 
 -- some row has this place and this name
 pub record Holds {A : Type 0} (period : Period) (place : ℕ) (name : Name) (rows : List (Row A)) : Type 0 where
@@ -31,7 +30,7 @@ pub record Holds {A : Type 0} (period : Period) (place : ℕ) (name : Name) (row
   pub front : List (Row A)
   pub back : List (Row A)
   pub is : rows ≡ front ++ row ∷ back
-  pub placed : place_of period row ≡ place
+  pub placed : rank_of period row ≡ place
   pub named : name_of row ≡ name
 
 -- the keys from the first to the last, by rank
@@ -48,15 +47,16 @@ Follow lo hi [] = lo ≡ hi
 Follow lo hi (r ∷ rs) = (r.first ≡ lo) × (lo ≤ r.last) × Follow (r.last + 1) hi rs
 
 -- the region holds the key, and the entries are exactly the content's in it
-pub record IsLeafAt {A : Type 0} (period : Period) (key : ℕ) (content : List (Row A)) (region : Region) (entries : List (EntryValue A)) : Type 0 where
+pub record IsLeafAt {A : Type 0} (period : Period) (key : ℕ) (content : List (Row A)) (region : Region)
+    (entries : List (EntryValue A)) : Type 0 where
   pub from : region.first ≤ key
   pub to : key ≤ region.last
   pub within : region.last < key_end period
   pub before : List (Row A)
   pub after : List (Row A)
   pub parts : content ≡ before ++ (rows_of entries ++ after)
-  pub earlier : All (λ r. place_of period r < region.first) before
-  pub later : All (λ r. region.last < place_of period r) after
+  pub earlier : All (λ r. rank_of period r < region.first) before
+  pub later : All (λ r. region.last < rank_of period r) after
   pub rising : Rises period region.first (region.last + 1) entries
 
 -- an index's content is in scan order, its regions follow each other over all keys of the period, and both are

@@ -4,6 +4,5 @@ pub mod Rows
 pub mod Order
 pub mod Index
 pub mod ListValue
-pub mod Lists
-pub mod RowLists
 pub mod RowViews
+pub mod inner

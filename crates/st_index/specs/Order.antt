@@ -13,4 +13,5 @@ scan_key period row = digits_of period row.point ∷ row.id ∷ row.label ∷ []
 -- each row is scanned before all that stand after it
 abbrev pub InScanOrder : {A : Type 0} → Period → List (Row A) → Type 0
 InScanOrder period [] = Unit {0}
-InScanOrder period (row ∷ rows) = All (λ later. IsTrue (comes_before (scan_key period row) (scan_key period later))) rows × InScanOrder period rows
+InScanOrder period (row ∷ rows) = All (λ later. IsTrue (comes_before (scan_key period row) (scan_key period later))) rows
+    × InScanOrder period rows

@@ -28,8 +28,8 @@ pub record EntryValue (A : Type 0) : Type 0 where
   pub rows : List (Row A)
 
 -- the rank of the key of the row's point
-unfoldable pub place_of : {A : Type 0} → Period → Row A → ℕ
-place_of period r = (r.point.t / seconds_of period) * 2 ^ 63 + address_of r.point.x r.point.y (r.point.t % seconds_of period)
+unfoldable pub rank_of : {A : Type 0} → Period → Row A → ℕ
+rank_of period r = (r.point.t / seconds_of period) * 2 ^ 63 + address_of r.point.x r.point.y (r.point.t % seconds_of period)
 
 -- by the id's bytes, then by the label's
 abbrev pub name_cmp : Name → Name → Ordering
@@ -47,7 +47,7 @@ NamesRise = Climbs name_cmp name_of
 -- an entry has rows, all of its own key, in the order of their names
 pub record IsEntry {A : Type 0} (period : Period) (e : EntryValue A) : Type 0 where
   pub held : e.rows ≡ [] → ⊥
-  pub placed : All (λ r. place_of period r ≡ e.at) e.rows
+  pub placed : All (λ r. rank_of period r ≡ e.at) e.rows
   pub named : NamesRise e.rows
 
 -- the entries' keys rise, from lo on and below hi

@@ -6,7 +6,7 @@ ghost use Rattle.std.specs.Ordering.{nat_cmp};
 ghost use Rattle.st_key.specs.declared.period.Period.{Period};
 ghost use Rattle.st_index.specs.declared.row.Row.{Row};
 ghost use Rattle.st_key.specs.Key.{rank};
-ghost use Rattle.st_index.specs.Rows.{EntryValue, name_of, Rises, rows_of, place_of};
+ghost use Rattle.st_index.specs.Rows.{EntryValue, name_of, Rises, rows_of, rank_of};
 ghost use Rattle.st_index.specs.Index.{Adds, Swaps, IsAbsent};
 
 use crate::entry::Entry;
@@ -55,9 +55,10 @@ pub fn put<A: Allocator + Copy>(
 )
     requires empty { rows.items ≡ [] }
     requires room { vec_len entries.old < vec_capacity entries.old }
-    requires rows_room { All (λ (e : EntryValue A). e.at ≡ rank key → 0 < length e.rows → length e.rows < vec_capacity rows) entries.old.items }
+    requires rows_room { All (λ (e : EntryValue A). e.at ≡ rank key → 0 < length e.rows
+        → length e.rows < vec_capacity rows) entries.old.items }
     ensures added { Adds row (rows_of entries.old.items) (rows_of entries.new.items) }
-    ensures rising { (period : Period) (lo hi : _) → rank key ≡ place_of period row → Rises period lo hi entries.old.items → lo ≤ rank key
+    ensures rising { (period : Period) (lo hi : _) → rank key ≡ rank_of period row → Rises period lo hi entries.old.items → lo ≤ rank key
         → rank key < hi → IsAbsent period (rank key) (name_of row) (rows_of entries.old.items) → Rises period lo hi entries.new.items }
     ensures longer { vec_len entries.old ≤ vec_len entries.new }
     ensures at_most_one { vec_len entries.new ≤ vec_len entries.old + 1 }
@@ -81,8 +82,10 @@ pub fn take<A: Allocator + Copy>(
     id: &str,
     label: &str,
 ) -> Option<Row<A>>
-    ensures some { IfSome result (λ row. Adds row (rows_of entries.new.items) (rows_of entries.old.items) × ((name_of row) ≡ record { id = id.now; label = label.now })) }
-    ensures placed { IfSome result (λ row. (period : Period) (lo hi : _) → Rises period lo hi entries.old.items → place_of period row ≡ rank key) }
+    ensures some { IfSome result (λ row. Adds row (rows_of entries.new.items) (rows_of entries.old.items)
+        × ((name_of row) ≡ record { id = id.now; label = label.now })) }
+    ensures placed { IfSome result (λ row. (period : Period) (lo hi : _) → Rises period lo hi entries.old.items
+        → rank_of period row ≡ rank key) }
     ensures none { IfNone result (entries.new.items ≡ entries.old.items) }
     ensures absent { IfNone result
         ((period : Period) (lo hi : _) → Rises period lo hi entries.old.items
@@ -109,10 +112,14 @@ pub fn swap<A: Allocator + Copy>(
     key: Key,
     row: Row<A>,
 ) -> Result<Row<A>, Row<A>>
-    ensures ok { IfOk result (λ out. Swaps out row (rows_of entries.old.items) (rows_of entries.new.items) × ((name_of out) ≡ (name_of row))) }
-    ensures placed { IfOk result (λ out. (period : Period) (lo hi : _) → Rises period lo hi entries.old.items → place_of period out ≡ rank key) }
-    ensures absent { OnErr result ((period : Period) (lo hi : _) → Rises period lo hi entries.old.items → IsAbsent period (rank key) (name_of row) (rows_of entries.old.items)) }
-    ensures rising { (period : Period) (lo hi : _) → rank key ≡ place_of period row → Rises period lo hi entries.old.items → Rises period lo hi entries.new.items }
+    ensures ok { IfOk result (λ out. Swaps out row (rows_of entries.old.items) (rows_of entries.new.items)
+        × ((name_of out) ≡ (name_of row))) }
+    ensures placed { IfOk result (λ out. (period : Period) (lo hi : _) → Rises period lo hi entries.old.items
+        → rank_of period out ≡ rank key) }
+    ensures absent { OnErr result ((period : Period) (lo hi : _) → Rises period lo hi entries.old.items
+        → IsAbsent period (rank key) (name_of row) (rows_of entries.old.items)) }
+    ensures rising { (period : Period) (lo hi : _) → rank key ≡ rank_of period row → Rises period lo hi entries.old.items
+        → Rises period lo hi entries.new.items }
     ensures len { vec_len entries.new ≡ vec_len entries.old }
     ensures capacity { vec_capacity entries.new ≡ vec_capacity entries.old }
 {
@@ -130,7 +137,8 @@ pub fn swap<A: Allocator + Copy>(
 
 /// How many rows the key has.
 pub fn count_at<A: Allocator + Copy>(entries: &[Entry<A>], key: Key) -> usize
-    ensures value { (period : Period) (lo hi : _) → Rises period lo hi entries.now → All (λ (e : EntryValue A). e.at ≡ rank key → length e.rows ≡ result) entries.now }
+    ensures value { (period : Period) (lo hi : _) → Rises period lo hi entries.now
+        → All (λ (e : EntryValue A). e.at ≡ rank key → length e.rows ≡ result) entries.now }
     ensures none { All (λ (e : EntryValue A). e.at ≡ rank key → ⊥) entries.now → result ≡ 0 }
     ensures in_range { result + 1 < 2 ^ 64 }
 {

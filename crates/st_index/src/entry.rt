@@ -5,7 +5,7 @@ ghost use Rattle.st_key.specs.declared.period.Period.{Period};
 ghost use Rattle.st_index.specs.declared.row.Row.{Row};
 ghost use Rattle.st_key.specs.Key.{rank};
 ghost use Rattle.st_index.specs.RowViews.{viewed};
-ghost use Rattle.st_index.specs.Rows.{name_of, NamesRise, place_of};
+ghost use Rattle.st_index.specs.Rows.{name_of, NamesRise, rank_of};
 ghost use Rattle.st_index.specs.Index.{Adds, Swaps, IsAbsent};
 
 use crate::row::Row;
@@ -52,8 +52,8 @@ impl<A: Allocator + Copy> Entry<A> {
         requires room { 0 < length self.old.rows → length self.old.rows < vec_capacity rows }
         ensures at { self.new.at ≡ self.old.at }
         ensures added { Adds row self.old.rows self.new.rows }
-        ensures named { (period : Period) → NamesRise self.old.rows → IsAbsent period (place_of period row) (name_of row) self.old.rows
-            → All (λ r. place_of period r ≡ place_of period row) self.old.rows → NamesRise self.new.rows }
+        ensures named { (period : Period) → NamesRise self.old.rows → IsAbsent period (rank_of period row) (name_of row) self.old.rows
+            → All (λ r. rank_of period r ≡ rank_of period row) self.old.rows → NamesRise self.new.rows }
     {
         let place = match self.rows().find(row.id.as_str(), row.label.text()) {
             Ok(place) => place,
@@ -86,8 +86,10 @@ impl<A: Allocator + Copy> Entry<A> {
 
     /// The row of this name.
     pub fn get(&self, id: &str, label: &str) -> Option<&Row<A>>
-        ensures some { IfSome result (λ row. Contains self.now.rows row.now × ((name_of row.now) ≡ record { id = id.now; label = label.now })) }
-        ensures absent { IfNone result (NamesRise self.now.rows → All (λ (r : Row A). (name_of r) ≡ record { id = id.now; label = label.now } → ⊥) self.now.rows) }
+        ensures some { IfSome result (λ row. Contains self.now.rows row.now
+            × ((name_of row.now) ≡ record { id = id.now; label = label.now })) }
+        ensures absent { IfNone result (NamesRise self.now.rows
+            → All (λ (r : Row A). (name_of r) ≡ record { id = id.now; label = label.now } → ⊥) self.now.rows) }
     {
         let rows = self.rows();
         match rows.find(id, label) {
@@ -99,9 +101,11 @@ impl<A: Allocator + Copy> Entry<A> {
     /// Takes out the row of this name.
     pub fn take(&mut self, id: &str, label: &str) -> Option<Row<A>>
         ensures at { self.new.at ≡ self.old.at }
-        ensures some { IfSome result (λ row. Adds row self.new.rows self.old.rows × ((name_of row) ≡ record { id = id.now; label = label.now })) }
+        ensures some { IfSome result (λ row. Adds row self.new.rows self.old.rows
+            × ((name_of row) ≡ record { id = id.now; label = label.now })) }
         ensures none { IfNone result (self.new ≡ self.old) }
-        ensures absent { IfNone result (NamesRise self.old.rows → All (λ (r : Row A). (name_of r) ≡ record { id = id.now; label = label.now } → ⊥) self.old.rows) }
+        ensures absent { IfNone result (NamesRise self.old.rows
+            → All (λ (r : Row A). (name_of r) ≡ record { id = id.now; label = label.now } → ⊥) self.old.rows) }
         ensures named { NamesRise self.old.rows → NamesRise self.new.rows }
     {
         match self.rows().find(id, label) {

@@ -28,8 +28,7 @@ impl<A: Allocator> Model for Id<A> {
 }
 
 impl<A: Allocator + Copy> Id<A> {
-    /// The id, or `None` where the text is empty or longer than [`MAX_ID`] bytes. An error where there is no memory
-    /// for it.
+    /// The id, or `None` where the text is empty or longer than [`MAX_ID`] bytes. An error if memory runs out.
     pub fn new(alloc: A, text: &str) -> Result<Option<Id<A>>, AllocError>
         ensures fits { IfOk result (λ id. IsSome id ↔ IsId text.now) }
         ensures value { IfOk result (λ id. IfSome id (λ i. i ≡ text.now)) }
@@ -41,7 +40,7 @@ impl<A: Allocator + Copy> Id<A> {
         Ok(Some(Id { text }))
     }
 
-    /// An equal id, or an error where there is no memory for it.
+    /// An equal id, or an error if memory runs out.
     pub fn copy(&self) -> Result<Id<A>, AllocError>
         ensures { IfOk result (λ id. id ≡ self.now) }
     {

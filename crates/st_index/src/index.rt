@@ -3,9 +3,8 @@ ghost use Rattle.std.specs.Prelude.{◌≡◌, ◌<◌, List, IfOk, IfSome, IfNo
 ghost use Rattle.std.specs.List.{Contains};
 ghost use Rattle.st_key.specs.declared.period.Period.{Period};
 ghost use Rattle.st_index.specs.declared.row.Row.{Row};
-ghost use Rattle.st_index.specs.Rows.{key_end};
+ghost use Rattle.st_index.specs.Rows.{key_end, name_of, rank_of};
 ghost use Rattle.st_key.specs.Key.{rank};
-ghost use Rattle.st_index.specs.Rows.{name_of, place_of};
 ghost use Rattle.st_index.specs.Index.{Adds, Swaps, IsAbsent, Holds, Region, region, IsLawful, IsLeafAt};
 
 use crate::entry::Entry;
@@ -29,7 +28,7 @@ pub trait AsRow<A: Allocator + Copy>: Drop {
     fn as_row(&self) -> &Row<A>
         ensures { result.now ≡ value self.now };
 
-    /// An equal row, or an error where there is no memory for it.
+    /// An equal row, or an error if memory runs out.
     fn copy_of(row: &Row<A>) -> Result<Self, AllocError>
         ensures { IfOk result (λ other. value other ≡ row.now) };
 }
@@ -76,19 +75,21 @@ pub trait RowIndex {
     /// The region that holds the key, with exactly the content's entries in it. It takes no memory.
     fn leaf_at(&self, key: Key) -> Leaf<'_, Self::Alloc>
         requires { rank key < key_end (period_of self.now) }
-        ensures leaf { IsLeafAt (period_of self.now) (rank key) (content self.now) (region (rank result.first) (rank result.last)) result.entries.now }
+        ensures leaf { IsLeafAt (period_of self.now) (rank key) (content self.now)
+            (region (rank result.first) (rank result.last)) result.entries.now }
         ensures of_regions { Contains (regions self.now) (region (rank result.first) (rank result.last)) };
 
-    /// All the memory that putting in this row now takes. An error where there is none, or where
+    /// All the memory that it takes to put in this row now. An error if memory runs out, or if
     /// 2^64 - 1 rows are held.
     fn prepare(&self, row: &Row<Self::Alloc>) -> Result<Self::Spare, AllocError>
         ensures { IfOk result (λ spare. has_room self.now row.now spare) };
 
-    /// Puts in a row, by the memory prepared for it at this content. No row of its key, its id and its
-    /// label's text may be held. It takes no further memory.
+    /// Puts in a row, with the memory that was prepared for it at this content. No row with its key, its id
+    /// and its label's text may be held. It takes no further memory.
     fn insert(&mut self, row: Self::Row, spare: Self::Spare)
         requires room { has_room self.old (Self.Row.value row) spare }
-        requires absent { IsAbsent (period_of self.old) (place_of (period_of self.old) (Self.Row.value row)) (name_of (Self.Row.value row)) (content self.old) }
+        requires absent { IsAbsent (period_of self.old) (rank_of (period_of self.old) (Self.Row.value row)) (name_of (Self.Row.value row))
+            (content self.old) }
         ensures adds { Adds (Self.Row.value row) (content self.old) (content self.new) }
         ensures period { period_of self.new ≡ period_of self.old }
         ensures lawful { IsLawful (period_of self.new) (content self.new) (regions self.new) };
@@ -97,20 +98,22 @@ pub trait RowIndex {
     /// is held, as at a key past the period's end. It takes no memory.
     fn remove(&mut self, key: Key, id: &str, label: &str) -> Option<Row<Self::Alloc>>
         ensures some { IfSome result (λ row. Adds row (content self.new) (content self.old)) }
-        ensures placed { IfSome result (λ row. place_of (period_of self.old) row ≡ rank key) }
+        ensures placed { IfSome result (λ row. rank_of (period_of self.old) row ≡ rank key) }
         ensures named { IfSome result (λ row. name_of row ≡ record { id = id.now; label = label.now }) }
         ensures none { IfNone result (content self.new ≡ content self.old) }
         ensures same_regions { IfNone result (regions self.new ≡ regions self.old) }
-        ensures absent { IfNone result (IsAbsent (period_of self.old) (rank key) (record { id = id.now; label = label.now }) (content self.old)) }
+        ensures absent { IfNone result (IsAbsent (period_of self.old) (rank key) (record { id = id.now; label = label.now })
+            (content self.old)) }
         ensures period { period_of self.new ≡ period_of self.old }
         ensures lawful { IsLawful (period_of self.new) (content self.new) (regions self.new) };
 
     /// Puts a row in the place of the held row of its key, its id and its label's text, which is handed
     /// back. It takes no memory.
     fn replace(&mut self, row: Self::Row) -> Row<Self::Alloc>
-        requires { Holds (period_of self.old) (place_of (period_of self.old) (Self.Row.value row)) (name_of (Self.Row.value row)) (content self.old) }
+        requires { Holds (period_of self.old) (rank_of (period_of self.old) (Self.Row.value row)) (name_of (Self.Row.value row))
+            (content self.old) }
         ensures swaps { Swaps result (Self.Row.value row) (content self.old) (content self.new) }
-        ensures placed { place_of (period_of self.old) result ≡ place_of (period_of self.old) (Self.Row.value row) }
+        ensures placed { rank_of (period_of self.old) result ≡ rank_of (period_of self.old) (Self.Row.value row) }
         ensures named { name_of result ≡ name_of (Self.Row.value row) }
         ensures period { period_of self.new ≡ period_of self.old }
         ensures lawful { IsLawful (period_of self.new) (content self.new) (regions self.new) };

@@ -5,7 +5,7 @@ ghost use Rattle.st_text.specs.Texts.{in_order};
 ghost use Rattle.st_index.specs.declared.row.Row.{Row};
 ghost use Rattle.st_index.specs.Index.{Adds};
 ghost use Rattle.st_index.specs.Order.{InScanOrder, scan_key};
-ghost use Rattle.st_index.specs.Rows.{key_end, place_of};
+ghost use Rattle.st_index.specs.Rows.{key_end, rank_of};
 
 use std::alloc::Allocator;
 
@@ -13,15 +13,17 @@ use std::alloc::Allocator;
 /// test are in scan order.
 pub fn scan_order<A: Allocator>()
     ensures sorted { (period : Period) (rows : List (Row A)) → InScanOrder period rows → in_order (scan_key period) rows ≡ rows }
-    ensures filtered { (period : Period) (test : Row A → Bool) (rows : List (Row A)) → InScanOrder period rows → InScanOrder period (filter test rows) }
+    ensures filtered { (period : Period) (test : Row A → Bool) (rows : List (Row A)) → InScanOrder period rows
+        → InScanOrder period (filter test rows) }
 {}
 
 /// A row that is put into rows in scan order stands where sorting by scan keys puts it.
 pub fn added_in_order<A: Allocator>()
-    ensures { (period : Period) (row : Row A) (old new : List (Row A)) → Adds row old new → InScanOrder period new → new ≡ in_order (scan_key period) (row ∷ old) }
+    ensures { (period : Period) (row : Row A) (old new : List (Row A)) → Adds row old new → InScanOrder period new
+        → new ≡ in_order (scan_key period) (row ∷ old) }
 {}
 
 /// The key of each point lies before the period's end.
-pub fn place_below<A: Allocator>()
-    ensures { (period : Period) (row : Row A) → place_of period row < key_end period }
+pub fn rank_below<A: Allocator>()
+    ensures { (period : Period) (row : Row A) → rank_of period row < key_end period }
 {}

@@ -28,7 +28,8 @@ impl<A: Allocator> Model for ListIndex<A> {
 
     ghost view = { λ s. record { period = s.period; entries = s.entries.items } };
 
-    ghost invariant = { λ s. Rises s.period 0 (key_end s.period) s.entries.items × (s.len ≡ length (rows_of s.entries.items)) × (s.len < 2 ^ 64) };
+    ghost invariant = { λ s. Rises s.period 0 (key_end s.period) s.entries.items × (s.len ≡ length (rows_of s.entries.items))
+        × (s.len < 2 ^ 64) };
 }
 
 impl<A: Allocator + Copy> ListIndex<A> {
@@ -58,7 +59,7 @@ impl<A: Allocator + Copy> RowIndex for ListIndex<A> {
 
     type Spare = ListSpare<A>;
 
-    ghost use Rattle.st_index.specs.Lists.{HasListRoom};
+    ghost use Rattle.st_index.specs.inner.Lists.{HasListRoom};
 
     ghost period_of = { λ s. s.period };
 

@@ -31,8 +31,7 @@ impl<A: Allocator> Model for Note<A> {
 }
 
 impl<A: Allocator + Copy> Note<A> {
-    /// The note, or `None` where the text is longer than [`MAX_NOTE`] bytes. An error where there is no memory
-    /// for it.
+    /// The note, or `None` where the text is longer than [`MAX_NOTE`] bytes. An error if memory runs out.
     pub fn new(alloc: A, text: &str) -> Result<Option<Note<A>>, AllocError>
         ensures fits { IfOk result (λ note. IsSome note ↔ IsNote text.now) }
         ensures value { IfOk result (λ note. IfSome note (λ n. n ≡ text.now)) }
@@ -44,7 +43,7 @@ impl<A: Allocator + Copy> Note<A> {
         Ok(Some(Note { alloc, text }))
     }
 
-    /// An equal note, or an error where there is no memory for it.
+    /// An equal note, or an error if memory runs out.
     pub fn copy(&self) -> Result<Note<A>, AllocError>
         ensures { IfOk result (λ note. note ≡ self.now) }
     {

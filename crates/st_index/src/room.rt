@@ -4,7 +4,7 @@ ghost use Rattle.std.specs.List.{insert};
 
 use std::alloc::Allocator;
 
-/// Puts an item in at an index. The list takes it without more memory.
+// Puts an item in at an index. The list takes it without more memory.
 pub(crate) fn put<T: Drop, A: Allocator>(items: &mut Vec<T, A>, index: usize, item: T)
     requires index { index ≤ length items.old.items }
     requires room { length items.old.items < vec_capacity items.old }
@@ -17,7 +17,7 @@ pub(crate) fn put<T: Drop, A: Allocator>(items: &mut Vec<T, A>, index: usize, it
     };
 }
 
-/// Moves all items of a list into one that has none, and room for one more.
+// Moves all items of a list into one that has none, and room for one more.
 pub(crate) fn take_over<T: Drop, A: Allocator>(list: &mut Vec<T, A>, from: &mut Vec<T, A>)
     requires empty { list.old.items ≡ [] }
     requires room { length from.old.items < vec_capacity list.old }
@@ -29,7 +29,7 @@ pub(crate) fn take_over<T: Drop, A: Allocator>(list: &mut Vec<T, A>, from: &mut 
     };
 }
 
-/// The items that are held, in a list with room for one more: their own, or the new one where that is full.
+// The items that are held, in a list with room for one more: their own, or the new one where that is full.
 pub(crate) fn with_room<T: Drop, A: Allocator>(
     mut held: Vec<T, A>,
     mut list: Vec<T, A>,
@@ -46,7 +46,7 @@ pub(crate) fn with_room<T: Drop, A: Allocator>(
     list
 }
 
-/// Lets a value lie where another did, which is let go.
+// Lets a value lie where another did, which is let go.
 pub(crate) fn overwrite<T: Drop>(at: &mut T, value: T)
     ensures { at.new ≡ value }
 {

@@ -1,8 +1,7 @@
 //! Rows.
 ghost use Rattle.std.specs.Prelude.{◌≡◌, ◌<◌, IfOk};
-ghost use Rattle.st_index.specs.Rows.{key_end};
+ghost use Rattle.st_index.specs.Rows.{key_end, name_cmp, name_of, rank_of};
 ghost use Rattle.st_key.specs.Key.{rank};
-ghost use Rattle.st_index.specs.Rows.{name_cmp, name_of, place_of};
 
 use crate::id::Id;
 use crate::note::Note;
@@ -39,7 +38,7 @@ impl<A: Allocator + Copy> Row<A> {
 
     /// The key of the row's point.
     pub fn key(&self, period: Period) -> Key
-        ensures value { rank result ≡ place_of period self.now }
+        ensures value { rank result ≡ rank_of period self.now }
         ensures in_period { rank result < key_end period }
     {
         Key::of(&self.point, period)

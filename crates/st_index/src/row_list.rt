@@ -1,7 +1,7 @@
 //! The rows of an entry, in their order.
 ghost use Rattle.std.specs.Prelude.{◌≡◌, ◌+◌, ◌<◌, ◌≤◌, ◌^◌, [], ◌∷◌, length, get_or, set, vec_capacity};
 ghost use Rattle.std.specs.List.{insert, remove};
-ghost use Rattle.st_index.specs.RowLists.{placed_rows};
+ghost use Rattle.st_index.specs.inner.RowLists.{stored_rows};
 ghost use Rattle.st_index.specs.RowViews.{viewed};
 
 use crate::room::{overwrite, put, with_room};
@@ -13,7 +13,7 @@ use std::mem;
 
 // Where rows lie.
 #[derive(Drop)]
-enum Place<A: Allocator> {
+enum Storage<A: Allocator> {
     Nowhere,
     Inline(Row<A>),
     Heap(Vec<Row<A>, A>),
@@ -22,17 +22,17 @@ enum Place<A: Allocator> {
 /// Rows in an order. A single one lies in the value itself, and takes no memory of its own.
 #[derive(Drop)]
 pub struct RowList<A: Allocator = Global> {
-    place: Place<A>,
+    place: Storage<A>,
 }
 
 impl<A: Allocator> Model for RowList<A> {
     ghost use Rattle.std.specs.Prelude.{List};
     ghost use Rattle.st_index.specs.declared.row.Row.{Row};
-    ghost use Rattle.st_index.specs.RowLists.{placed_rows};
+    ghost use Rattle.st_index.specs.inner.RowLists.{stored_rows};
 
     ghost Value = { List (Row A) };
 
-    ghost view = { λ r. placed_rows r.place };
+    ghost view = { λ r. stored_rows r.place };
 }
 
 impl<A: Allocator + Copy> RowList<A> {
@@ -41,7 +41,7 @@ impl<A: Allocator + Copy> RowList<A> {
         ensures { result ≡ row ∷ [] }
     {
         RowList {
-            place: Place::Inline(row),
+            place: Storage::Inline(row),
         }
     }
 
@@ -50,9 +50,9 @@ impl<A: Allocator + Copy> RowList<A> {
         ensures { viewed result ≡ self.now }
     {
         match &self.place {
-            Place::Nowhere => RowsView::Many(&[]),
-            Place::Inline(row) => RowsView::One(row),
-            Place::Heap(rows) => RowsView::Many(rows.as_slice()),
+            Storage::Nowhere => RowsView::Many(&[]),
+            Storage::Inline(row) => RowsView::One(row),
+            Storage::Heap(rows) => RowsView::Many(rows.as_slice()),
         }
     }
 
@@ -62,9 +62,9 @@ impl<A: Allocator + Copy> RowList<A> {
         ensures in_range { result + 1 < 2 ^ 64 }
     {
         match &self.place {
-            Place::Nowhere => 0,
-            Place::Inline(_) => 1,
-            Place::Heap(rows) => rows.len(),
+            Storage::Nowhere => 0,
+            Storage::Inline(_) => 1,
+            Storage::Heap(rows) => rows.len(),
         }
     }
 
@@ -76,7 +76,7 @@ impl<A: Allocator + Copy> RowList<A> {
         requires room { 0 < length self.old → length self.old < vec_capacity list }
         ensures { self.new ≡ insert self.old index row }
     {
-        let place = mem::replace(&mut self.place, Place::Nowhere);
+        let place = mem::replace(&mut self.place, Storage::Nowhere);
         overwrite(&mut self.place, with_row(place, index, row, list));
     }
 
@@ -86,7 +86,7 @@ impl<A: Allocator + Copy> RowList<A> {
         ensures value { result ≡ get_or self.old index result }
         ensures rows { self.new ≡ remove self.old index }
     {
-        let place = mem::replace(&mut self.place, Place::Nowhere);
+        let place = mem::replace(&mut self.place, Storage::Nowhere);
         let (row, left) = without_row(place, index);
         overwrite(&mut self.place, left);
         row
@@ -99,29 +99,29 @@ impl<A: Allocator + Copy> RowList<A> {
         ensures rows { self.new ≡ set self.old index row }
     {
         match &mut self.place {
-            Place::Nowhere => unreachable!(),
-            Place::Inline(held) => mem::replace(held, row),
-            Place::Heap(rows) => mem::replace(&mut rows[index], row),
+            Storage::Nowhere => unreachable!(),
+            Storage::Inline(held) => mem::replace(held, row),
+            Storage::Heap(rows) => mem::replace(&mut rows[index], row),
         }
     }
 }
 
 // The place of the rows of a place and of a row at an index.
 fn with_row<A: Allocator + Copy>(
-    place: Place<A>,
+    place: Storage<A>,
     index: usize,
     row: Row<A>,
     list: Vec<Row<A>, A>,
-) -> Place<A>
-    requires index { index ≤ length (placed_rows place) }
+) -> Storage<A>
+    requires index { index ≤ length (stored_rows place) }
     requires empty { list.items ≡ [] }
-    requires room { 0 < length (placed_rows place) → length (placed_rows place) < vec_capacity list }
-    ensures { placed_rows result ≡ insert (placed_rows place) index row }
+    requires room { 0 < length (stored_rows place) → length (stored_rows place) < vec_capacity list }
+    ensures { stored_rows result ≡ insert (stored_rows place) index row }
 {
     match place {
-        Place::Nowhere => Place::Inline(row),
-        Place::Inline(held) => Place::Heap(two(index, row, held, list)),
-        Place::Heap(held) => more(index, row, held, list),
+        Storage::Nowhere => Storage::Inline(row),
+        Storage::Inline(held) => Storage::Heap(two(index, row, held, list)),
+        Storage::Heap(held) => more(index, row, held, list),
     }
 }
 
@@ -148,30 +148,30 @@ fn more<A: Allocator + Copy>(
     row: Row<A>,
     held: Vec<Row<A>, A>,
     list: Vec<Row<A>, A>,
-) -> Place<A>
+) -> Storage<A>
     requires index { index ≤ length held.items }
     requires empty { list.items ≡ [] }
     requires room { 0 < length held.items → length held.items < vec_capacity list }
-    ensures { placed_rows result ≡ insert held.items index row }
+    ensures { stored_rows result ≡ insert held.items index row }
 {
     if held.is_empty() {
-        return Place::Inline(row);
+        return Storage::Inline(row);
     }
     let mut rows = with_room(held, list);
     put(&mut rows, index, row);
-    Place::Heap(rows)
+    Storage::Heap(rows)
 }
 
 // The row at an index of a place, and the place of the others.
-fn without_row<A: Allocator + Copy>(place: Place<A>, index: usize) -> (Row<A>, Place<A>)
-    requires { index < length (placed_rows place) }
-    ensures value { result.0 ≡ get_or (placed_rows place) index result.0 }
-    ensures left { placed_rows result.1 ≡ remove (placed_rows place) index }
+fn without_row<A: Allocator + Copy>(place: Storage<A>, index: usize) -> (Row<A>, Storage<A>)
+    requires { index < length (stored_rows place) }
+    ensures value { result.0 ≡ get_or (stored_rows place) index result.0 }
+    ensures left { stored_rows result.1 ≡ remove (stored_rows place) index }
 {
     match place {
-        Place::Nowhere => unreachable!(),
-        Place::Inline(row) => (row, Place::Nowhere),
-        Place::Heap(mut rows) => {
+        Storage::Nowhere => unreachable!(),
+        Storage::Inline(row) => (row, Storage::Nowhere),
+        Storage::Heap(mut rows) => {
             let row = rows.remove(index);
             (row, settled(rows))
         }
@@ -179,14 +179,14 @@ fn without_row<A: Allocator + Copy>(place: Place<A>, index: usize) -> (Row<A>, P
 }
 
 // The place of rows that lie in a list: a single one lies there no more.
-fn settled<A: Allocator + Copy>(mut rows: Vec<Row<A>, A>) -> Place<A>
-    ensures { placed_rows result ≡ rows.items }
+fn settled<A: Allocator + Copy>(mut rows: Vec<Row<A>, A>) -> Storage<A>
+    ensures { stored_rows result ≡ rows.items }
 {
     if rows.len() > 1 {
-        return Place::Heap(rows);
+        return Storage::Heap(rows);
     }
     match rows.pop() {
-        Some(row) => Place::Inline(row),
-        None => Place::Nowhere,
+        Some(row) => Storage::Inline(row),
+        None => Storage::Nowhere,
     }
 }

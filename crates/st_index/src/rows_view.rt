@@ -16,7 +16,7 @@ pub enum RowsView<'a, A: Allocator = Global> {
     Many(&'a [Row<A>]),
 }
 
-/// The index of the row of this name, or the index where it would stand.
+// The index of the row of this name, or the index where it would stand.
 fn find_name<A: Allocator + Copy>(rows: &[Row<A>], id: &str, label: &str) -> Result<usize, usize>
     ensures bound { IsSearchInRange result (length rows.now) }
     ensures place { IsBinarySearchResult (λ (r : Row A). name_cmp (name_of r) (record { id = id.now; label = label.now })) rows.now result }
@@ -28,10 +28,11 @@ fn find_name<A: Allocator + Copy>(rows: &[Row<A>], id: &str, label: &str) -> Res
     )
 }
 
-/// The index of the row if it has this name, or the index beside it where a row of this name would stand.
+// The index of the row if it has this name, or the index beside it where a row of this name would stand.
 fn find_beside<A: Allocator + Copy>(row: &Row<A>, id: &str, label: &str) -> Result<usize, usize>
     ensures bound { IsSearchInRange result 1 }
-    ensures place { IsBinarySearchResult (λ (r : Row A). name_cmp (name_of r) (record { id = id.now; label = label.now })) (row.now ∷ []) result }
+    ensures place { IsBinarySearchResult (λ (r : Row A). name_cmp (name_of r) (record { id = id.now; label = label.now }))
+        (row.now ∷ []) result }
 {
     match row.cmp_name(id, label) {
         Ordering::Less => Err(1),
@@ -76,10 +77,11 @@ impl<'a, A: Allocator + Copy> RowsView<'a, A> {
         }
     }
 
-    /// The index of the row of this name, or the index where it would stand.
+    // The index of the row of this name, or the index where it would stand.
     pub(crate) fn find(self, id: &str, label: &str) -> Result<usize, usize>
         ensures bound { IsSearchInRange result (length (viewed self.entry)) }
-        ensures place { IsBinarySearchResult (λ (r : Row A). name_cmp (name_of r) (record { id = id.now; label = label.now })) (viewed self.entry) result }
+        ensures place { IsBinarySearchResult (λ (r : Row A). name_cmp (name_of r) (record { id = id.now; label = label.now }))
+            (viewed self.entry) result }
     {
         match self {
             RowsView::One(row) => find_beside(row, id, label),

@@ -8,9 +8,9 @@ use Rattle.std.specs.List.{All}
 use Rattle.std.specs.List.Sorted.{IsPartitionedBy, IsPartitionPoint}
 use Rattle.st_key.specs.declared.period.Period.{Period}
 use Rattle.st_box.specs.declared.query.Query.{Query}
-use Rattle.st_index.specs.Rows.{EntryValue, IsEntry, Rises, place_of, rows_of}
+use Rattle.st_index.specs.Rows.{EntryValue, IsEntry, Rises, rank_of, rows_of}
 use Rattle.st_scan.specs.Rows.{has_row}
-use Rattle.st_scan.specs.Walks.{SkipsTo}
+use Rattle.st_scan.specs.inner.Steps.{SkipsTo}
 use Rattle.st_scan.proofs.Filters.{filter_none}
 
 pub all_left : {X : Type 0} (P : X → Type 0) (xs ys : List X) → All P (xs ++ ys) → All P xs
@@ -51,12 +51,12 @@ module _ {A : Type 0} (period : Period) where
   entries_below lo hi (e ∷ es) h = All-cons (λ f. f.at < hi) e es (omega (arith, rises_le (e.at + 1) hi es h.2)) (entries_below (e.at + 1) hi es h.2)
 
   -- what holds of the entries' places holds of their rows'
-  pub rows_all : (P : ℕ → Type 0) (es : List (EntryValue A)) → All (IsEntry period) es → All (λ e. P e.at) es → All (λ row. P (place_of period row)) (rows_of es)
+  pub rows_all : (P : ℕ → Type 0) (es : List (EntryValue A)) → All (IsEntry period) es → All (λ e. P e.at) es → All (λ row. P (rank_of period row)) (rows_of es)
   rows_all P [] k h = All-nil _
   rows_all P (e ∷ es) k h =
       let entry : IsEntry period e = All-head (IsEntry period) e es k in
       let here : P e.at = All-head (λ f. P f.at) e es h in
-      All-append (λ row. P (place_of period row)) e.rows (rows_of es)
+      All-append (λ row. P (rank_of period row)) e.rows (rows_of es)
       (λ j d l. subst P (sym (entry.placed j d l)) here)
       (rows_all P es (All-tail (IsEntry period) e es k) (All-tail (λ f. P f.at) e es h))
 

@@ -12,7 +12,8 @@ use Rattle.std.specs.List.{All}
 use Rattle.st_box.specs.declared.query.Query.{Query}
 use Rattle.st_plan.specs.PlanOf.{numbers}
 use Rattle.st_index.specs.declared.row.Row.{Row}
-use Rattle.st_scan.specs.Grids.{AreCounts, field_of, grid_of}
+use Rattle.st_scan.specs.Grids.{field_of, grid_of}
+use Rattle.st_scan.specs.inner.Counts.{AreCounts}
 use Rattle.st_scan.specs.Rows.{has_row}
 use Rattle.st_scan.proofs.Visible.{filter_le, keep, omit}
 
@@ -78,22 +79,22 @@ module _ {A : Type 0} (q : Query) (nx ny : ℕ) (p : Row A → Bool) where
 
   pub count_put : (counts : List ℕ) (left all : List (Row A)) (row : Row A) → Counting counts (row ∷ left) all → p row ≡ true → field_of q nx ny row.point < length counts
       → Counting (set counts (field_of q nx ny row.point) (get_or counts (field_of q nx ny row.point) 0 + 1)) left all
-  count_put counts left all row c seen l = record {
+  count_put counts left all row c shown l = record {
     is = λ field.
         let f = field_of q nx ny row.point in
         let put = put_at counts f l field in
         let in_k : Row A → Bool = λ r. nat_eq (field_of q nx ny r.point) field in
-        let more : count_by in_k (filter p (row ∷ left)) ≡ bit (nat_eq f field) + count_by in_k (filter p left) = ap (count_by in_k) (keep p row left seen) ∙ count_first in_k row (filter p left) in
+        let more : count_by in_k (filter p (row ∷ left)) ≡ bit (nat_eq f field) + count_by in_k (filter p left) = ap (count_by in_k) (keep p row left shown) ∙ count_first in_k row (filter p left) in
         let old = c.is field in
         omega (arith, put, more, old);
     inside = All-tail (λ r. IsTrue (has_row q r)) row left c.inside;
   }
 
   pub count_fits : (counts : List ℕ) (left all : List (Row A)) (row : Row A) → Counting counts (row ∷ left) all → p row ≡ true → length all < 2 ^ 64 → get_or counts (field_of q nx ny row.point) 0 + 1 < 2 ^ 64
-  count_fits counts left all row c seen few =
+  count_fits counts left all row c shown few =
       let f = field_of q nx ny row.point in
       let in_f : Row A → Bool = λ r. nat_eq (field_of q nx ny r.point) f in
-      let more : count_by in_f (filter p (row ∷ left)) ≡ bit (nat_eq f f) + count_by in_f (filter p left) = ap (count_by in_f) (keep p row left seen) ∙ count_first in_f row (filter p left) in
+      let more : count_by in_f (filter p (row ∷ left)) ≡ bit (nat_eq f f) + count_by in_f (filter p left) = ap (count_by in_f) (keep p row left shown) ∙ count_first in_f row (filter p left) in
       let one : bit (nat_eq f f) ≡ 1 = ap bit (eq-eqb f f refl) in
       let le = count_by-le-length in_f (filter p all) in
       let short = filter_le p all in

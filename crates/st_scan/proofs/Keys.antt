@@ -3,7 +3,7 @@ use Rattle.std.proofs.Math.Bool.{true≢false}
 use Rattle.std.proofs.lemmas.Bool.{cases_lt}
 use Rattle.std.specs.Prelude.{IfSome, IfNone, Option, Some, None}
 use Rattle.st_bigmin.specs.First.{IsAtOrAfter}
-use Rattle.st_scan.specs.Walks.{place_at}
+use Rattle.st_scan.specs.inner.Steps.{rank_or_end}
 use Rattle.std.proofs.Common.{inl, inr, Bool, false, ◌≡◌, ◌↔◌, ℕ, ◌/◌, ◌%◌, ◌<◌, ◌≤◌, refl, sym, ◌∙◌, subst, arith, IsTrue}
 use Rattle.st_key.specs.declared.key.Key.{Key}
 use Rattle.st_key.specs.declared.period.Period.{Period}
@@ -16,19 +16,19 @@ use Rattle.st_key.proofs.PointLemmas.{before_by_rank, one_point, same_rank}
 use Rattle.st_box.specs.declared.query.Query.{Query}
 use Rattle.st_box.specs.Query.{HasKey, is_inside}
 use Rattle.st_index.specs.declared.row.Row.{Row}
-use Rattle.st_index.specs.Rows.{key_end, place_of}
+use Rattle.st_index.specs.Rows.{key_end, rank_of}
 use Rattle.st_scan.specs.Rows.{has_row}
 
 pub record RowKey {A : Type 0} (period : Period) (row : Row A) : Type 0 where
   pub key : Key
   pub is : IsKeyOf period row.point key
-  pub by_rank : rank key ≡ place_of period row
+  pub by_rank : rank key ≡ rank_of period row
 
 bin_bound : (a b : ℕ) → a < b → b ≤ 229376 → a < 229376
 bin_bound a b h k = omega (arith, h, k)
 
 pub row_key : {A : Type 0} (period : Period) (row : Row A) → RowKey period row
-unfolding place_of
+unfolding rank_of
 row_key period row =
     let w = lengths period in
     let p = row.point in
@@ -45,14 +45,14 @@ row_key period row =
 
 module _ {A : Type 0} (period : Period) (q : Query) where
   -- a row is inside where its key is that of a point inside
-  pub by_key : (k : Key) (row : Row A) → place_of period row ≡ rank k → HasKey q period k → IsTrue (has_row q row)
+  pub by_key : (k : Key) (row : Row A) → rank_of period row ≡ rank k → HasKey q period k → IsTrue (has_row q row)
   by_key k row placed has =
       let r = row_key period row in
       let same = same_rank r.key k (r.by_rank ∙ placed) in
       let point = one_point period row.point has.point k (subst (IsKeyOf period row.point) same r.is) has.key in
       subst (λ p. IsTrue (is_inside q p)) (sym point) has.inside
 
-  pub has_by_row : (k : Key) (row : Row A) → place_of period row ≡ rank k → IsTrue (has_row q row) → HasKey q period k
+  pub has_by_row : (k : Key) (row : Row A) → rank_of period row ≡ rank k → IsTrue (has_row q row) → HasKey q period k
   has_by_row k row placed inside =
       let r = row_key period row in
       let same = same_rank r.key k (r.by_rank ∙ placed) in
@@ -85,6 +85,6 @@ from_rank k l le =
     elim (cases_lt l.bin k.bin) [ inl b ↦ inl b | inr g ↦ inr (omega (arith, k.address_in_range), omega (arith, k.address_in_range)) ]
 
 -- the place of the key after one
-pub after_place : (period : Period) (o : Option Key) (n : ℕ) → IfSome o (λ k. rank k ≡ n) → IfNone o (n ≡ key_end period) → place_at period o ≡ n
+pub after_place : (period : Period) (o : Option Key) (n : ℕ) → IfSome o (λ k. rank k ≡ n) → IfNone o (n ≡ key_end period) → rank_or_end period o ≡ n
 after_place period None n some none = sym none
 after_place period (Some k) n some none = some

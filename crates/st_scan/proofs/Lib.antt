@@ -9,4 +9,4 @@ pub mod Positions
 pub mod Fields
 pub mod Past
 pub mod Filling
-pub mod Counts
+pub mod Counting

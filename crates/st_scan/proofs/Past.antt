@@ -19,11 +19,12 @@ use Rattle.st_box.specs.declared.query.Query.{Query}
 use Rattle.st_box.specs.Query.{is_inside}
 use Rattle.st_index.specs.declared.row.Row.{Row}
 use Rattle.st_index.specs.Order.{scan_key}
-use Rattle.st_index.specs.Rows.{place_of}
+use Rattle.st_index.specs.Rows.{rank_of}
 use Rattle.st_text.specs.Texts.{Text, comes_before}
-use Rattle.st_scan.specs.Pages.{IsStart, is_past, is_shown, place_key, seen_after}
+use Rattle.st_scan.specs.Pages.{is_past, place_key, visible_after}
+use Rattle.st_scan.specs.inner.Starts.{IsStart, is_shown}
 use Rattle.st_scan.specs.Rows.{has_row_from}
-use Rattle.st_scan.specs.Seen.{is_seen, is_visible}
+use Rattle.st_scan.specs.Visible.{is_visible_inside, is_visible}
 use Rattle.st_scan.proofs.Filters.{filter_same, not_true}
 use Rattle.st_scan.proofs.Keys.{row_key}
 use Rattle.st_scan.proofs.Steps.{from_high, from_low}
@@ -74,43 +75,43 @@ module _ (w : Period) (p r : Point) (k l : Key) (at : IsKeyOf w p k) (own : IsKe
       ap (λ t. slice_cmp nat_cmp (digits_of w t) (digits_of w r)) e ∙ tied_itself nat_list_cmp_total (digits_of w r)
 
 module _ {A B : Type 0} (w : Period) (place : Place B) (row : Row A) (k : Key) (at : IsKeyOf w place.point k) where
-  pub past_before : rank k < place_of w row → comes_before (place_key w place) (scan_key w row) ≡ true
+  pub past_before : rank k < rank_of w row → comes_before (place_key w place) (scan_key w row) ≡ true
   past_before h =
       let r = row_key w row in
       less_then _ _ (digits_less w place.point row.point k r.key at r.is (subst (λ n. rank k < n) (sym r.by_rank) h))
 
-  pub past_after : place_of w row < rank k → comes_before (place_key w place) (scan_key w row) ≡ false
+  pub past_after : rank_of w row < rank k → comes_before (place_key w place) (scan_key w row) ≡ false
   past_after h =
       let r = row_key w row in
       let less = digits_less w row.point place.point r.key k r.is at (subst (λ n. n < rank k) (sym r.by_rank) h) in
       greater_then _ _ (nat_list_cmp_total.antisymm (digits_of w place.point) (digits_of w row.point) ∙ ap ordering_reverse less)
 
-  pub past_same : rank k ≡ place_of w row → comes_before (place_key w place) (scan_key w row) ≡ is_lt (ordering_then (slice_cmp nat_cmp place.id row.id) (slice_cmp nat_cmp place.label row.label))
+  pub past_same : rank k ≡ rank_of w row → comes_before (place_key w place) (scan_key w row) ≡ is_lt (ordering_then (slice_cmp nat_cmp place.id row.id) (slice_cmp nat_cmp place.label row.label))
   past_same h =
       let r = row_key w row in
       equal_then _ _ _ (digits_same w place.point row.point k r.key at r.is (h ∙ sym r.by_rank))
 
 module _ {A B : Type 0} (w : Period) (q : Query) (auths : List Text) (after : Option (Place B)) where
-  early : (k : Key) → IsStart w after k → (row : Row A) → place_of w row < rank k → is_past w after row ≡ false
+  early : (k : Key) → IsStart w after k → (row : Row A) → rank_of w row < rank k → is_past w after row ≡ false
   early k start row low = elim after as (λ o. IsStart w o k → is_past w o row ≡ false) [
     | None ↦ λ s. absurd (omega (arith, s, low))
     | Some place ↦ λ s. past_after w place row k s low
   ] start
 
-  one_row : (k : Key) → IsStart w after k → (row : Row A) → (has_row_from w q (rank k) row && is_shown w after auths row) ≡ (is_seen q auths row && is_past w after row)
-  one_row k start row = elim (cases_lt (place_of w row) (rank k)) [
+  one_row : (k : Key) → IsStart w after k → (row : Row A) → (has_row_from w q (rank k) row && is_shown w after auths row) ≡ (is_visible_inside q auths row && is_past w after row)
+  one_row k start row = elim (cases_lt (rank_of w row) (rank k)) [
     | inl low ↦
         let out = early k start row low in
         ap (λ b. b && is_shown w after auths row) (not_true (has_row_from w q (rank k) row) (from_low w q (rank k) row low))
-        ∙ sym (ap (λ b. is_seen q auths row && b) out ∙ and_false (is_seen q auths row))
+        ∙ sym (ap (λ b. is_visible_inside q auths row && b) out ∙ and_false (is_visible_inside q auths row))
     | inr high ↦
         ap (λ b. b && is_shown w after auths row) (from_high w q (rank k) row high)
         ∙ swap_tests (is_inside q row.point) (is_past w after row) (is_visible auths row)
   ]
 
   -- the rows shown are those that a walk from the place's key meets, of the rows that are seen
-  pub shown_after : (k : Key) → IsStart w after k → (content : List (Row A)) → filter (is_shown w after auths) (filter (has_row_from w q (rank k)) content) ≡ seen_after w q auths after content
+  pub shown_after : (k : Key) → IsStart w after k → (content : List (Row A)) → filter (is_shown w after auths) (filter (has_row_from w q (rank k)) content) ≡ visible_after w q auths after content
   shown_after k start content =
       filter_twice (is_shown w after auths) (has_row_from w q (rank k)) content
       ∙ filter_same _ _ content (λ i d l. one_row k start (get_or content i d))
-      ∙ sym (filter_twice (is_past w after) (is_seen q auths) content)
+      ∙ sym (filter_twice (is_past w after) (is_visible_inside q auths) content)

@@ -2,7 +2,8 @@
 use Rattle.std.proofs.Common.{◌≡◌, ◌↔◌, ℕ, suc, zero, ◌+◌, ◌<◌, ◌≤◌, ◌⊎◌, List, [], ◌∷◌, length, get_or, inl, inr, refl, sym, ap, ◌∙◌, subst, arith}
 use Rattle.std.specs.List.{Contains}
 use Rattle.st_index.specs.Index.{Follow, Region}
-use Rattle.st_scan.specs.Regions.{Count, IsIn}
+use Rattle.st_scan.specs.Regions.{Count}
+use Rattle.st_scan.specs.inner.Steps.{IsIn}
 
 module _ {X : Type 0} where
   at_in : (xs : List X) (k : ℕ) (x : X) → k < length xs → get_or xs k x ≡ x → IsIn x xs

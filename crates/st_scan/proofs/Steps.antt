@@ -11,10 +11,11 @@ use Rattle.st_box.specs.declared.query.Query.{Query}
 use Rattle.st_box.specs.Query.{HasKey, is_inside}
 use Rattle.st_index.specs.declared.row.Row.{Row}
 use Rattle.st_index.specs.Index.{Follow, Region}
-use Rattle.st_index.specs.Rows.{EntryValue, IsEntry, Rises, key_end, place_of, rows_of}
+use Rattle.st_index.specs.Rows.{EntryValue, IsEntry, Rises, key_end, rank_of, rows_of}
 use Rattle.st_scan.specs.Regions.{Count, Meets}
 use Rattle.st_scan.specs.Rows.{has_row, has_row_from}
-use Rattle.st_scan.specs.Walks.{IsAt, IsNextEntry, MeetsBefore, MeetsUpTo, Opens, left_at}
+use Rattle.st_scan.specs.Walks.{MeetsUpTo}
+use Rattle.st_scan.specs.inner.Steps.{IsAt, IsNextEntry, MeetsBefore, Opens, left_at}
 use Rattle.st_scan.proofs.Filters.{filter_all, filter_none, filter_same}
 use Rattle.st_scan.proofs.Keys.{row_has, row_key}
 use Rattle.st_scan.proofs.Entries.{all_left, all_right, entries_below, entries_from, keyed, rises_right, rows-append, rows_all, rows_around}
@@ -26,26 +27,26 @@ from_parts false c h = absurd (true≢false (sym h))
 
 module _ {A : Type 0} (period : Period) (q : Query) where
   -- a row inside the query from a place on has such a key
-  from_row : (start : ℕ) (row : Row A) → IsTrue (has_row_from period q start row) → (start ≤ place_of period row) × IsTrue (has_row q row)
+  from_row : (start : ℕ) (row : Row A) → IsTrue (has_row_from period q start row) → (start ≤ rank_of period row) × IsTrue (has_row q row)
   from_row start row h =
-      let p = from_parts (nat_le start (place_of period row)) (is_inside q row.point) h in (leb-true start (place_of period row) p.0, p.1)
+      let p = from_parts (nat_le start (rank_of period row)) (is_inside q row.point) h in (leb-true start (rank_of period row) p.0, p.1)
 
-  pub from_low : (start : ℕ) (row : Row A) → place_of period row < start → IsTrue (has_row_from period q start row) → ⊥
+  pub from_low : (start : ℕ) (row : Row A) → rank_of period row < start → IsTrue (has_row_from period q start row) → ⊥
   from_low start row low h = let p = from_row start row h in absurd (omega (arith, p.0, low))
 
-  pub from_high : (start : ℕ) (row : Row A) → start ≤ place_of period row → has_row_from period q start row ≡ has_row q row
-  from_high start row high = ap (λ b. b && is_inside q row.point) (le-leb start (place_of period row) high)
+  pub from_high : (start : ℕ) (row : Row A) → start ≤ rank_of period row → has_row_from period q start row ≡ has_row q row
+  from_high start row high = ap (λ b. b && is_inside q row.point) (le-leb start (rank_of period row) high)
 
   module _ (content : List (Row A)) (regions : List Region) (start next : ℕ) (entries : List (EntryValue A)) (o : Opens period q content regions start entries next) where
     rising : Rises period o.region.first (o.region.last + 1) entries
     rising = rises_right period o.region.first (o.region.last + 1) o.skipped entries o.leaf.rising
 
     -- a row of the region is in its bounds
-    in_region : All (λ row. (o.region.first ≤ place_of period row) × (place_of period row < o.region.last + 1)) (rows_of entries)
+    in_region : All (λ row. (o.region.first ≤ rank_of period row) × (rank_of period row < o.region.last + 1)) (rows_of entries)
     in_region = rows_all period (λ n. (o.region.first ≤ n) × (n < o.region.last + 1)) entries (keyed period _ _ entries rising)
         (λ k d l. (entries_from period _ _ entries rising k d l, entries_below period _ _ entries rising k d l))
 
-    at_start : (row : Row A) → IsTrue (has_row_from period q start row) → rank o.key ≤ place_of period row
+    at_start : (row : Row A) → IsTrue (has_row_from period q start row) → rank o.key ≤ rank_of period row
     at_start row h =
         let p = from_row start row h in
         let r = row_key period row in
@@ -132,7 +133,7 @@ module _ {A : Type 0} (period : Period) (q : Query) where
         counted = at.counted;
         whole = at.whole;
         here = λ r there.
-            let P : Row A → Type 0 = λ row. (r.first ≤ place_of period row) ↔ (r.last < next) in
+            let P : Row A → Type 0 = λ row. (r.first ≤ rank_of period row) ↔ (r.last < next) in
             let all = subst (All P) (ap rows_of n.is ∙ rows_around n.passed n.entry rest) (at.here r there) in
             subst (λ xs. All P (xs ++ rows_of rest)) (sym n.rows_are) (all_right P (rows_of n.passed) (n.entry.rows ++ rows_of rest) all);
         to_end = at.to_end;
@@ -160,16 +161,16 @@ module _ {A : Type 0} (period : Period) (q : Query) where
     started = at.started;
     counted = at.counted;
     whole = at.whole;
-    here = λ r there. All-tail (λ (s : Row A). (r.first ≤ place_of period s) ↔ (r.last < next)) row (rest ++ rows_of entries) (at.here r there);
+    here = λ r there. All-tail (λ (s : Row A). (r.first ≤ rank_of period s) ↔ (r.last < next)) row (rest ++ rows_of entries) (at.here r there);
     to_end = at.to_end;
   }
 
   pub give_opened : (regions : List Region) (start : ℕ) (row : Row A) (rest : List (Row A)) (entries : List (EntryValue A)) (next opened : ℕ) → IsAt period q regions start (row ∷ rest) entries next opened
-      → Count (MeetsUpTo period q start (place_of period row)) regions opened
+      → Count (MeetsUpTo period q start (rank_of period row)) regions opened
   give_opened regions start row rest entries next opened at =
-      count_iff (MeetsBefore period q start next) (MeetsUpTo period q start (place_of period row)) regions opened
+      count_iff (MeetsBefore period q start next) (MeetsUpTo period q start (rank_of period row)) regions opened
       (λ r there.
-      let iff = All-head (λ (s : Row A). (r.first ≤ place_of period s) ↔ (r.last < next)) row (rest ++ rows_of entries) (at.here r there) in
+      let iff = All-head (λ (s : Row A). (r.first ≤ rank_of period s) ↔ (r.last < next)) row (rest ++ rows_of entries) (at.here r there) in
       (λ m. (iff.1 m.0, m.1), λ m. (iff.0 m.0, m.1)))
       at.counted
 

@@ -1,5 +1,5 @@
 -- Grids of a scan.
-use Rattle.std.specs.Prelude.{ℕ, ◌+◌, ◌-◌, ◌*◌, ◌/◌, ◌≡◌, List, map, count_by, nat_eq, slice_index}
+use Rattle.std.specs.Prelude.{ℕ, ◌+◌, ◌-◌, ◌*◌, ◌/◌, List, map, count_by, nat_eq}
 use Rattle.st_key.specs.declared.point.Point.{Point}
 use Rattle.st_box.specs.declared.query.Query.{Query}
 use Rattle.st_plan.specs.PlanOf.{numbers}
@@ -19,7 +19,3 @@ field_of q nx ny p = line_of q ny p * nx + column_of q nx p
 -- for each field the number of the rows in it
 abbrev pub grid_of : {A : Type 0} → Query → ℕ → ℕ → List (Row A) → List ℕ
 grid_of q nx ny rows = map (λ field. count_by (λ row. nat_eq (field_of q nx ny row.point) field) rows) (numbers 0 (nx * ny))
-
--- at each field the number of the rows in it
-abbrev pub AreCounts : {A : Type 0} → Query → ℕ → ℕ → List (Row A) → List ℕ → Type 0
-AreCounts q nx ny rows counts = (field : ℕ) → slice_index counts field ≡ count_by (λ row. nat_eq (field_of q nx ny row.point) field) rows

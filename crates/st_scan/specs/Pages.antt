@@ -1,15 +1,13 @@
 -- Pages of a scan.
-use Rattle.std.specs.Prelude.{ℕ, ◌≡◌, List, [], ◌∷◌, length, take, filter, Bool, true, ◌&&◌, nat_lt, Option, Some, None}
+use Rattle.std.specs.Prelude.{ℕ, ◌≡◌, List, [], ◌∷◌, length, take, filter, Bool, true, nat_lt, Option, Some, None}
 use Rattle.st_text.specs.Texts.{Text, comes_before}
-use Rattle.st_key.specs.declared.key.Key.{Key}
 use Rattle.st_key.specs.declared.period.Period.{Period}
 use Rattle.st_key.specs.declared.place.Place.{Place}
-use Rattle.st_key.specs.Key.{IsKeyOf, rank}
 use Rattle.st_key.specs.Order.{digits_of}
 use Rattle.st_box.specs.declared.query.Query.{Query}
 use Rattle.st_index.specs.declared.row.Row.{Row}
 use Rattle.st_index.specs.Order.{scan_key}
-use Rattle.st_scan.specs.Seen.{is_visible, seen}
+use Rattle.st_scan.specs.Visible.{visible_rows}
 
 -- a place stands in a scan where a row of its point, its id and its label would
 abbrev pub place_key : {A : Type 0} → Period → Place A → List Text
@@ -20,20 +18,11 @@ abbrev pub is_past : {A B : Type 0} → Period → Option (Place B) → Row A �
 is_past period None row = true
 is_past period (Some place) row = comes_before (place_key period place) (scan_key period row)
 
--- and is visible
-abbrev pub is_shown : {A B : Type 0} → Period → Option (Place B) → List Text → Row A → Bool
-is_shown period after auths row = is_past period after row && is_visible auths row
-
 -- the seen rows that come after a place
-abbrev pub seen_after : {A B : Type 0} → Period → Query → List Text → Option (Place B) → List (Row A) → List (Row A)
-seen_after period q auths after content = filter (is_past period after) (seen q auths content)
+abbrev pub visible_after : {A B : Type 0} → Period → Query → List Text → Option (Place B) → List (Row A) → List (Row A)
+visible_after period q auths after content = filter (is_past period after) (visible_rows q auths content)
 
 -- the first rows of a list, and whether more follow
 pub record IsPage {X : Type 0} (limit : ℕ) (all rows : List X) (more : Bool) : Type 0 where
   pub first : rows ≡ take limit all
   pub follow : more ≡ nat_lt limit (length all)
-
--- the key at which the rows after a place begin
-abbrev pub IsStart : {B : Type 0} → Period → Option (Place B) → Key → Type 0
-IsStart period None k = rank k ≡ 0
-IsStart period (Some place) k = IsKeyOf period place.point k

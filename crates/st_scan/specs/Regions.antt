@@ -19,7 +19,3 @@ pub record Meets (period : Period) (q : Query) (start : ℕ) (r : Region) : Type
 abbrev pub Count : {X : Type 0} → (X → Type 0) → List X → ℕ → Type 0
 Count P [] n = n ≡ 0
 Count P (x ∷ xs) n = (P x × ((m : ℕ) × (n ≡ m + 1) × Count P xs m)) ⊎ ((P x → ⊥) × Count P xs n)
-
-abbrev pub IsIn : {X : Type 0} → X → List X → Type 0
-IsIn x [] = ⊥
-IsIn x (y ∷ ys) = (x ≡ y) ⊎ IsIn x ys

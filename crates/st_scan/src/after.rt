@@ -6,14 +6,15 @@ ghost use Rattle.st_key.specs.Key.{rank};
 ghost use Rattle.st_index.specs.Order.{scan_key};
 ghost use Rattle.st_index.specs.Rows.{key_end};
 ghost use Rattle.st_text.specs.Texts.{comes_before};
-ghost use Rattle.st_scan.specs.Pages.{IsStart, is_past, place_key};
+ghost use Rattle.st_scan.specs.Pages.{is_past, place_key};
+ghost use Rattle.st_scan.specs.inner.Starts.{IsStart};
 
 use st_index::Row;
 use st_key::{Key, Period, Place};
 use std::alloc::Allocator;
 use std::cmp::Ordering;
 
-/// The order of a place's texts and those of a row: by the id's bytes, then by the label's.
+// The order of a place's texts and those of a row: by the id's bytes, then by the label's.
 fn cmp_names<A: Allocator + Copy, B: Allocator + Copy>(place: &Place<B>, row: &Row<A>) -> Ordering
     ensures { result ≡ ordering_then (slice_cmp nat_cmp place.now.id row.now.id) (slice_cmp nat_cmp place.now.label row.now.label) }
 {
@@ -23,7 +24,7 @@ fn cmp_names<A: Allocator + Copy, B: Allocator + Copy>(place: &Place<B>, row: &R
     }
 }
 
-/// Whether a row comes after a place.
+// Whether a row comes after a place.
 fn is_after<A: Allocator + Copy, B: Allocator + Copy>(
     place: &Place<B>,
     row: &Row<A>,
@@ -42,7 +43,7 @@ fn is_after<A: Allocator + Copy, B: Allocator + Copy>(
     cmp_names(place, row).is_lt()
 }
 
-/// Whether a row comes after a place, if there is one.
+// Whether a row comes after a place, if there is one.
 pub(crate) fn is_past<A: Allocator + Copy, B: Allocator + Copy>(
     after: Option<&Place<B>>,
     row: &Row<A>,
@@ -56,7 +57,7 @@ pub(crate) fn is_past<A: Allocator + Copy, B: Allocator + Copy>(
     }
 }
 
-/// The key at which the rows after a place begin.
+// The key at which the rows after a place begin.
 pub(crate) fn start_of<B: Allocator + Copy>(after: Option<&Place<B>>, period: Period) -> Key
     ensures start { IsStart period (option_copied after.entry) result }
     ensures in_period { rank result ≤ key_end period }

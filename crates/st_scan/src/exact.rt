@@ -3,7 +3,7 @@ ghost use Rattle.std.specs.Prelude.{◌≡◌, IsTrue};
 ghost use Rattle.std.specs.List.{list_any};
 ghost use Rattle.st_key.specs.declared.key.Key.{Key};
 ghost use Rattle.st_plan.specs.QueryPlan.{is_exact as has_plan};
-ghost use Rattle.st_scan.specs.Walks.{has_exact};
+ghost use Rattle.st_scan.specs.inner.Steps.{has_exact};
 
 use crate::part_ranges::PartRanges;
 use arrayvec::ArrayVec;
@@ -11,7 +11,7 @@ use st_key::Key;
 use st_plan::Plan;
 use std::alloc::Allocator;
 
-/// The ranges of each part of a plan.
+// The ranges of each part of a plan.
 pub(crate) fn ranges_of<A: Allocator + Copy>(plan: &Plan<A>) -> ArrayVec<PartRanges<'_>, 3>
     ensures { (k : Key) → IsTrue (list_any (has_exact k) result.items) → IsTrue (has_plan plan.now k) }
 {
@@ -29,7 +29,7 @@ pub(crate) fn ranges_of<A: Allocator + Copy>(plan: &Plan<A>) -> ArrayVec<PartRan
     parts
 }
 
-/// Whether one of the parts has the key in an exact range.
+// Whether one of the parts has the key in an exact range.
 pub(crate) fn is_exact(parts: &[PartRanges], key: Key) -> bool
     ensures { result ≡ list_any (has_exact key) parts.now }
 {

@@ -2,22 +2,22 @@
 #![tactic(auto)]
 
 mod after;
-mod cells;
+mod counts;
 mod exact;
 mod fault;
+mod grids;
 mod own_plan;
-mod page_rows;
 mod pages;
+mod paging;
 mod part_ranges;
 mod position;
-mod prepare;
 mod step;
-mod tally;
+mod verdicts;
 mod walk;
 
-pub use cells::{MAX_SHARES, grid};
+pub use counts::count;
 pub use fault::ScanFault;
-pub use page_rows::Page;
-pub use pages::{MAX_ROWS, page};
-pub use tally::count;
+pub use grids::{MAX_SHARES, grid};
+pub use pages::Page;
+pub use paging::{MAX_ROWS, page};
 pub use walk::Walk;

@@ -2,7 +2,8 @@
 ghost use Rattle.std.specs.Prelude.{◌≡◌, IfSome, IsTrue};
 ghost use Rattle.std.specs.List.{list_any};
 ghost use Rattle.st_box.specs.Query.{HasKey};
-ghost use Rattle.st_scan.specs.Walks.{IsExactFor, IsOwnExact};
+ghost use Rattle.st_scan.specs.Walks.{IsExactFor};
+ghost use Rattle.st_scan.specs.inner.Steps.{IsOwnExact};
 
 use st_box::Query;
 use st_key::{Key, Period};
@@ -16,7 +17,7 @@ const FEW: u64 = 256;
 // The most ranges of each part of a plan.
 const BUDGET: u32 = 16;
 
-/// The plan that a walk makes for itself, once it goes on so long that this is worth its time.
+// The plan that a walk makes for itself, once it goes on so long that this is worth its time.
 #[derive(Drop)]
 pub(crate) enum OwnPlan<A: Allocator> {
     /// It may be made of memory from here.

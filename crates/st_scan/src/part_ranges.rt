@@ -6,7 +6,7 @@ ghost use Rattle.st_plan.specs.Range.{is_exact_in};
 use st_key::Key;
 use st_plan::Range;
 
-/// Bins that follow each other, and the ranges of addresses that hold a query in each of them.
+// Bins that follow each other, and the ranges of addresses that hold a query in each of them.
 #[derive(Clone, Copy)]
 pub(crate) struct PartRanges<'p> {
     pub bin_lo: u32,
@@ -15,7 +15,7 @@ pub(crate) struct PartRanges<'p> {
 }
 
 impl<'p> Default for PartRanges<'p> {
-    /// The first bin without a range.
+    // The first bin without a range.
     fn default() -> PartRanges<'p> {
         PartRanges {
             bin_lo: 0,
@@ -26,7 +26,7 @@ impl<'p> Default for PartRanges<'p> {
 }
 
 impl<'p> PartRanges<'p> {
-    /// Whether an exact range holds the address.
+    // Whether an exact range holds the address.
     fn has_exact(self, address: u64) -> bool
         ensures { result ≡ list_any (is_exact_in address) self.entry.ranges.now }
     {
@@ -40,7 +40,8 @@ impl<'p> PartRanges<'p> {
 
     /// Whether the key is in a bin of the part, and there in an exact range.
     pub fn is_exact(self, key: Key) -> bool
-        ensures { result ≡ (nat_le self.entry.bin_lo key.bin && nat_le key.bin self.entry.bin_hi && list_any (is_exact_in key.address) self.entry.ranges.now) }
+        ensures { result ≡ (nat_le self.entry.bin_lo key.bin && nat_le key.bin self.entry.bin_hi && list_any
+            (is_exact_in key.address) self.entry.ranges.now) }
     {
         self.bin_lo <= key.bin() && key.bin() <= self.bin_hi && self.has_exact(key.address())
     }

@@ -4,7 +4,7 @@ use st_index::{Entry, RowsView};
 use st_key::Key;
 use std::alloc::Allocator;
 
-/// Where a walk stands: in an entry, in a region, and among the regions.
+// Where a walk stands: in an entry, in a region, and among the regions.
 #[derive_where(Clone, Copy)]
 pub(crate) struct Position<'a, A: Allocator> {
     /// The key from which the walk began.

@@ -9,7 +9,8 @@ ghost use Rattle.st_index.specs.Index.{Follow};
 ghost use Rattle.st_index.specs.RowViews.{viewed};
 ghost use Rattle.st_index.specs.Rows.{IsEntry, Rises, key_end, rows_of};
 ghost use Rattle.st_scan.specs.Rows.{has_row};
-ghost use Rattle.st_scan.specs.Walks.{AreExact, IsNextEntry, IsOver, IsOwnExact, IsPosition, Opens, SkipsTo, Steps, left_of, place_at};
+ghost use Rattle.st_scan.specs.inner.Steps.{AreExact, IsNextEntry, IsOver, IsOwnExact, IsPosition, Opens, SkipsTo, Steps, left_of};
+ghost use Rattle.st_scan.specs.inner.Steps.{rank_or_end};
 
 use crate::exact::is_exact;
 use crate::own_plan::OwnPlan;
@@ -21,21 +22,21 @@ use st_index::{Entry, RowIndex, RowsView, order};
 use st_key::{Key, Period};
 use std::alloc::Allocator;
 
-/// The rows of an entry.
-pub(crate) fn rows_in<A: Allocator + Copy>(entry: &Entry<A>) -> RowsView<'_, A>
+// The rows of an entry.
+pub(crate) fn rows_of_entry<A: Allocator + Copy>(entry: &Entry<A>) -> RowsView<'_, A>
     ensures { viewed result ≡ entry.now.rows }
 {
     entry.rows()
 }
 
-/// The key of an entry.
+// The key of an entry.
 pub(crate) fn key_of<A: Allocator + Copy>(entry: &Entry<A>) -> Key
     ensures { rank result ≡ entry.now.at }
 {
     entry.key
 }
 
-/// Whether the key is that of a point inside the query. A key of an exact range is not tested.
+// Whether the key is that of a point inside the query. A key of an exact range is not tested.
 fn has_key<A: Allocator + Copy>(
     test: &KeyTest,
     parts: &[PartRanges],
@@ -49,7 +50,7 @@ fn has_key<A: Allocator + Copy>(
     is_exact(parts, key) || own.is_exact(key) || test.has_key(key)
 }
 
-/// The rows of the first entry that is inside the query, and the entries after it.
+// The rows of the first entry that is inside the query, and the entries after it.
 pub(crate) fn next_entry<'a, A: Allocator + Copy>(
     test: &KeyTest,
     parts: &[PartRanges],
@@ -66,13 +67,13 @@ pub(crate) fn next_entry<'a, A: Allocator + Copy>(
     while let Some((entry, rest)) = ahead.split_first() {
         ahead = rest;
         if has_key(test, parts, own, key_of(entry)) {
-            return Some((rows_in(entry), rest));
+            return Some((rows_of_entry(entry), rest));
         }
     }
     None
 }
 
-/// The entries that remain after those before a key.
+// The entries that remain after those before a key.
 fn skip_to<A: Allocator + Copy>(entries: &[Entry<A>], from: Key) -> &[Entry<A>]
     ensures { (period : Period) (lo hi : ℕ) → Rises period lo hi entries.now → SkipsTo (rank from) entries.now result.now }
 {
@@ -84,7 +85,7 @@ fn skip_to<A: Allocator + Copy>(entries: &[Entry<A>], from: Key) -> &[Entry<A>]
     &entries[before..]
 }
 
-/// Those of the entries of a region, which begins at its first key, that do not come before a key.
+// Those of the entries of a region, which begins at its first key, that do not come before a key.
 fn entries_from<A: Allocator + Copy>(entries: &[Entry<A>], first: Key, from: Key) -> &[Entry<A>]
     ensures { (period : Period) (hi : ℕ) → Rises period (rank first) hi entries.now → SkipsTo (rank from) entries.now result.now }
 {
@@ -95,7 +96,7 @@ fn entries_from<A: Allocator + Copy>(entries: &[Entry<A>], first: Key, from: Key
     }
 }
 
-/// The entries of the first region from a key on that meets the query, and the first key after it.
+// The entries of the first region from a key on that meets the query, and the first key after it.
 fn open_next<'a, I: RowIndex>(
     index: &'a I,
     query: &Query,
@@ -103,7 +104,8 @@ fn open_next<'a, I: RowIndex>(
     from: Key,
 ) -> Option<(&'a [Entry<I::Alloc>], Option<Key>)>
     requires { period ≡ I.period_of index.now }
-    ensures some { IfSome result (λ opened. Opens period query.now (I.content index.now) (I.regions index.now) (rank from) opened.0.now (place_at period opened.1)) }
+    ensures some { IfSome result (λ opened. Opens period query.now (I.content index.now) (I.regions index.now) (rank from) opened.0.now
+        (rank_or_end period opened.1)) }
     ensures none { IfNone result ((k : Key) → HasKey query.now period k → rank k < rank from) }
 {
     let Some(key) = first_from(query, from, period) else {
@@ -114,7 +116,7 @@ fn open_next<'a, I: RowIndex>(
     Some((entries, leaf.last.after(period)))
 }
 
-/// The position in the next region that meets the query.
+// The position in the next region that meets the query.
 pub(crate) fn enter_region<'a, I: RowIndex>(
     index: &'a I,
     query: &Query,
@@ -144,7 +146,7 @@ pub(crate) fn enter_region<'a, I: RowIndex>(
     })
 }
 
-/// Goes on to the next rows of the query, where those of the last entry are all given. There are no rows where none is left.
+// Goes on to the next rows of the query, where those of the last entry are all given. There are no rows where none is left.
 pub(crate) fn forward<'a, I: RowIndex>(
     index: &'a I,
     test: &KeyTest,
@@ -160,7 +162,8 @@ pub(crate) fn forward<'a, I: RowIndex>(
     requires follow { Follow 0 (key_end test.now.period) (I.regions index.now) }
     ensures at { IsPosition test.now.period test.now.query (I.regions index.now) at.new }
     ensures start { at.new.start ≡ at.old.start }
-    ensures left { left_of test.now.period test.now.query (I.content index.now) at.new ≡ left_of test.now.period test.now.query (I.content index.now) at.old }
+    ensures left { left_of test.now.period test.now.query (I.content index.now) at.new
+        ≡ left_of test.now.period test.now.query (I.content index.now) at.old }
     ensures over { viewed at.new.rows ≡ [] → IsOver test.now.period test.now.query (I.content index.now) (I.regions index.now) at.new }
 {
     'regions: while at.rows.is_empty() {

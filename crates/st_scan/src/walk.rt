@@ -1,10 +1,11 @@
 //! Walks over the rows of a query.
 ghost use Rattle.std.specs.Prelude.{◌≡◌, ◌<◌, ◌≤◌, ◌^◌, ◌∷◌, [], filter, length, IfSome, IfNone};
 ghost use Rattle.st_key.specs.Key.{rank};
-ghost use Rattle.st_index.specs.Rows.{key_end, place_of};
+ghost use Rattle.st_index.specs.Rows.{key_end, rank_of};
 ghost use Rattle.st_scan.specs.Regions.{Count, Meets};
 ghost use Rattle.st_scan.specs.Rows.{has_row, has_row_from};
-ghost use Rattle.st_scan.specs.Walks.{AreExact, IsExactFor, IsOwnExact, MeetsUpTo};
+ghost use Rattle.st_scan.specs.Walks.{IsExactFor, MeetsUpTo};
+ghost use Rattle.st_scan.specs.inner.Steps.{AreExact, IsOwnExact};
 
 use crate::exact::ranges_of;
 use crate::own_plan::OwnPlan;
@@ -35,7 +36,7 @@ impl<'a, 'p, I: RowIndex> Model for Walk<'a, 'p, I> {
     ghost Value = { WalkValue I.Alloc };
 
     ghost use Rattle.st_key.specs.Key.{rank};
-    ghost use Rattle.st_scan.specs.Walks.{IsWalk, left_of};
+    ghost use Rattle.st_scan.specs.inner.Steps.{IsWalk, left_of};
 
     ghost view = { λ w. record {
       period = w.test.period;
@@ -65,8 +66,8 @@ impl<'a, 'p, I: RowIndex> Walk<'a, 'p, I> {
         Walk::begin(index, query, ranges_of(plan), OwnPlan::Never, Key::FIRST)
     }
 
-    /// A walk from the first row whose key does not come before this one. It makes a plan of its own once
-    /// it has opened many regions, if one is of use and there is memory for it.
+    // A walk from the first row whose key does not come before this one. It makes a plan of its own once
+    // it has opened many regions, if one is of use and there is memory for it.
     pub(crate) fn with_own_plan(alloc: I::Alloc, index: &'a I, query: &Query, from: Key) -> Self
         requires in_period { rank from ≤ key_end (I.period_of index.now) }
         ensures left { result.left ≡ filter (has_row_from (I.period_of index.now) query.now (rank from)) (I.content index.now) }
@@ -75,7 +76,7 @@ impl<'a, 'p, I: RowIndex> Walk<'a, 'p, I> {
         Walk::begin(index, query, ArrayVec::new(), OwnPlan::Due(alloc), from)
     }
 
-    /// A walk by exact ranges of a plan that was given, or of one of its own.
+    // A walk by exact ranges of a plan that was given, or of one of its own.
     fn begin(
         index: &'a I,
         query: &Query,
@@ -115,7 +116,7 @@ impl<'a, 'p, I: RowIndex> Walk<'a, 'p, I> {
         ensures none { IfNone result (self.old.left ≡ []) }
         ensures end { IfNone result (self.new.left ≡ []) }
         ensures opened { IfSome result
-            (λ row. Count (MeetsUpTo self.old.period self.old.query self.old.start (place_of self.old.period row.now)) self.old.regions
+            (λ row. Count (MeetsUpTo self.old.period self.old.query self.old.start (rank_of self.old.period row.now)) self.old.regions
             self.new.opened) }
         ensures opened_all { IfNone result (Count (Meets self.old.period self.old.query self.old.start) self.old.regions self.new.opened) }
         ensures start { self.new.start ≡ self.old.start }

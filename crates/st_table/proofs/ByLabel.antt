@@ -18,9 +18,10 @@ use Rattle.st_text.proofs.Same.{same-eq, same-refl}
 use Rattle.st_text.proofs.Sorted.{one_before}
 use Rattle.st_index.specs.declared.row.Row.{Row}
 use Rattle.st_index.specs.Rows.{Climbs, Name}
-use Rattle.st_table.specs.Labels.{AreAt, AreLabelsOf, rows_under}
-use Rattle.st_table.specs.Names.{IsTied, same_text}
-use Rattle.st_table.specs.Table.{IsAt, IsFound, is_named, rows_by_label, rows_named}
+use Rattle.st_table.specs.inner.Labels.{AreAt, AreLabelsOf, rows_under}
+use Rattle.st_table.specs.inner.Names.{IsTied, same_text}
+use Rattle.st_table.specs.Table.{is_named, rows_by_label, rows_with_name}
+use Rattle.st_table.specs.inner.Found.{IsAt, IsFound}
 use Rattle.st_table.specs.declared.row_name.RowName.{RowName}
 use Rattle.st_table.proofs.Labelling.{C}
 use Rattle.st_table.proofs.Naming.{One, cut, one}
@@ -148,7 +149,7 @@ module _ {A : Type 0} (period : Period) (id : Text) (test : Row A → Bool) (row
   name l = record { id = id; label = l }
 
   abbrev under : Text → List (Row A)
-  under l = filter test (rows_named (name l) rows)
+  under l = filter test (rows_with_name (name l) rows)
 
   abbrev label : Row A → Text
   label r = r.label
@@ -275,16 +276,16 @@ module _ {A : Type 0} (period : Period) (id : Text) (test : Row A → Bool) (row
 
 module _ {A : Type 0} (id : Text) (test : Row A → Bool) (rows : List (Row A)) where
   pub show_next : (all done : List (Row A)) (left next : List (Text × Key)) (e : Text × Key) (row : Row A) → done ++ rows_under id test rows left ≡ all → left ≡ e ∷ next
-      → rows_named (record { id = id; label = e.0 }) rows ≡ row ∷ [] → test row ≡ true → (done ++ row ∷ []) ++ rows_under id test rows next ≡ all
-  show_next all done left next e row h is only seen =
-      let shown : filter test (rows_named (record { id = id; label = e.0 }) rows) ≡ row ∷ [] = ap (filter test) only ∙ ap (λ b. cond b (row ∷ []) []) seen in
+      → rows_with_name (record { id = id; label = e.0 }) rows ≡ row ∷ [] → test row ≡ true → (done ++ row ∷ []) ++ rows_under id test rows next ≡ all
+  show_next all done left next e row h is only passes =
+      let shown : filter test (rows_with_name (record { id = id; label = e.0 }) rows) ≡ row ∷ [] = ap (filter test) only ∙ ap (λ b. cond b (row ∷ []) []) passes in
       append_assoc done (row ∷ []) (rows_under id test rows next) ∙ ap (λ xs. done ++ (xs ++ rows_under id test rows next)) (sym shown)
       ∙ ap (λ ls. done ++ rows_under id test rows ls) (sym is) ∙ h
 
   pub hide_next : (all done : List (Row A)) (left next : List (Text × Key)) (e : Text × Key) (row : Row A) → done ++ rows_under id test rows left ≡ all → left ≡ e ∷ next
-      → rows_named (record { id = id; label = e.0 }) rows ≡ row ∷ [] → test row ≡ false → done ++ rows_under id test rows next ≡ all
+      → rows_with_name (record { id = id; label = e.0 }) rows ≡ row ∷ [] → test row ≡ false → done ++ rows_under id test rows next ≡ all
   hide_next all done left next e row h is only hidden_so =
-      let hidden : filter test (rows_named (record { id = id; label = e.0 }) rows) ≡ [] = ap (filter test) only ∙ ap (λ b. cond b (row ∷ []) []) hidden_so in
+      let hidden : filter test (rows_with_name (record { id = id; label = e.0 }) rows) ≡ [] = ap (filter test) only ∙ ap (λ b. cond b (row ∷ []) []) hidden_so in
       ap (λ xs. done ++ (xs ++ rows_under id test rows next)) (sym hidden) ∙ ap (λ ls. done ++ rows_under id test rows ls) (sym is) ∙ h
 
   pub map_push : {Y : Type 0} (f : Y → Row A) (ys : List Y) (y : Y) → map f (ys ++ y ∷ []) ≡ map f ys ++ f y ∷ []

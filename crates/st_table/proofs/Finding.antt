@@ -5,11 +5,12 @@ use Rattle.std.proofs.lemmas.List.Elements.{All-nil, All-cons, All-contains, All
 use Rattle.st_key.specs.declared.period.Period.{Period}
 use Rattle.st_index.specs.declared.row.Row.{Row}
 use Rattle.st_index.specs.Index.{IsAbsent, IsLeafAt, Region}
-use Rattle.st_index.specs.Rows.{EntryValue, Name, name_of, place_of, rows_of}
+use Rattle.st_index.specs.Rows.{EntryValue, Name, name_of, rank_of, rows_of}
 use Rattle.st_index.proofs.Climbing.{all_left, all_right}
 use Rattle.st_index.proofs.Sorting.{middle}
 use Rattle.st_index.proofs.Taking.{absent_high, absent_join, absent_low, rows_at}
-use Rattle.st_table.specs.Table.{IsAt, is_named, rows_named}
+use Rattle.st_table.specs.Table.{is_named, rows_with_name}
+use Rattle.st_table.specs.inner.Found.{IsAt}
 use Rattle.st_table.proofs.Replacing.{bears, holds}
 
 -- an element of an entry's rows is one of the entries'
@@ -60,14 +61,14 @@ module _ {A : Type 0} (period : Period) (k : ℕ) (name : Name) (content : List 
   pub never_absent : IsAbsent period k name (rows_of entries) → ⊥
   never_absent absent =
       let h = holds period k name content at in
-      let P : Row A → Type 0 = λ r. place_of period r ≡ k → name_of r ≡ name → ⊥ in
+      let P : Row A → Type 0 = λ r. rank_of period r ≡ k → name_of r ≡ name → ⊥ in
       let early = absent_low period k name leaf.before (λ j d l. let p = leaf.earlier j d l in let f = leaf.from in omega (arith, p, f)) in
       let late = absent_high period k name leaf.after (λ j d l. let p = leaf.later j d l in let t = leaf.to in omega (arith, p, t)) in
       let all = absent_join period k name leaf.before (rows_of entries ++ leaf.after) early (absent_join period k name (rows_of entries) leaf.after absent late) in
       middle period h.front h.row h.back P (subst (All P) (sym leaf.parts ∙ h.is) all) h.placed h.named
 
   -- and what bears the name there is that row
-  pub is_row : (row : Row A) → Contains (rows_of entries) row → name_of row ≡ name → rows_named name content ≡ row ∷ []
+  pub is_row : (row : Row A) → Contains (rows_of entries) row → name_of row ≡ name → rows_with_name name content ≡ row ∷ []
   is_row row held named_so =
       let P : Row A → Type 0 = λ r. is_named name.id name.label r ≡ true → r ≡ at.row in
       let all = subst (All P) leaf.parts (only_one (is_named name.id name.label) content at.row at.only) in

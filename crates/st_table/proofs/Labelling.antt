@@ -20,8 +20,8 @@ use Rattle.std.specs.declared.ops.Bound.TheVariants.{Included, Unbounded}
 use Rattle.st_key.specs.declared.key.Key.{Key}
 use Rattle.st_text.specs.Texts.{Text}
 use Rattle.st_index.specs.Rows.{Climbs}
-use Rattle.st_table.specs.Labels.{AreLabelsOf, after, labels_in, with_label}
-use Rattle.st_table.specs.Names.{is_short, joined, key_at, same_text, text_of}
+use Rattle.st_table.specs.inner.Labels.{AreLabelsOf, after, labels_in, with_label}
+use Rattle.st_table.specs.inner.Names.{is_short, joined, key_at, same_text, text_of}
 use Rattle.st_table.specs.declared.row_name.RowName.{RowName}
 use Rattle.st_table.proofs.Tying.{bytes_same}
 

@@ -21,8 +21,9 @@ use Rattle.st_index.specs.declared.row.Row.{Row}
 use Rattle.st_index.specs.Order.{scan_key}
 use Rattle.st_index.specs.Rows.{name_of}
 use Rattle.st_scan.specs.Rows.{has_row}
-use Rattle.st_table.specs.Names.{IsTied, key_at}
-use Rattle.st_table.specs.Table.{HasEachOnce, IsFound, is_named, rows_named, with_row, without}
+use Rattle.st_table.specs.inner.Names.{IsTied, key_at}
+use Rattle.st_table.specs.Table.{HasEachOnce, is_named, rows_with_name, with_row, without_named}
+use Rattle.st_table.specs.inner.Found.{IsFound}
 use Rattle.st_table.specs.declared.row_name.RowName.{RowName}
 use Rattle.st_table.proofs.Naming.{none_fails}
 use Rattle.st_table.proofs.Replacing.{bears}
@@ -53,7 +54,7 @@ module _ {A : Type 0} where
   pub tied_once : (period : Period) (entries : List (RowName A × Key)) (rows : List (Row A)) → IsTied period entries rows → HasEachOnce rows
   tied_once period entries rows tied name = at (key_at entries name) (tied name)
     where
-      at : (o : Option Key) → IsFound period o name rows → length (rows_named name rows) ≤ 1
+      at : (o : Option Key) → IsFound period o name rows → length (rows_with_name name rows) ≤ 1
       at None h = subst (λ xs. length xs ≤ 1) (sym h) (omega arith)
       at (Some key) h = subst (λ xs. length xs ≤ 1) (sym h.only) (omega arith)
 
@@ -105,12 +106,12 @@ module _ {A : Type 0} (period : Period) where
   nil_after [] = refl
   nil_after (x ∷ xs) = ap (λ ys. x ∷ ys) (nil_after xs)
 
-  ahead : (row : Row A) (done next : List (Row A)) → HasEachOnce (done ++ row ∷ next) → rows_named (name_of row) done ≡ []
+  ahead : (row : Row A) (done next : List (Row A)) → HasEachOnce (done ++ row ∷ next) → rows_with_name (name_of row) done ≡ []
   ahead row done next once =
       let f : Row A → Bool = is_named row.id row.label in
       let yes = bears (name_of row) row refl in
       let first : filter f (row ∷ next) ≡ row ∷ filter f next = simp yes in
-      let is : rows_named (name_of row) (done ++ row ∷ next) ≡ filter f done ++ row ∷ filter f next =
+      let is : rows_with_name (name_of row) (done ++ row ∷ next) ≡ filter f done ++ row ∷ filter f next =
       filter_append f done (row ∷ next) ∙ ap (λ xs. filter f done ++ xs) first in
       empty (filter f done) (filter f next) (subst (λ xs. length xs ≤ 1) is (once (name_of row)))
     where
@@ -126,8 +127,8 @@ module _ {A : Type 0} (period : Period) where
       let parts : all ≡ done ++ row ∷ next = puts.parts ∙ ap (λ xs. done ++ xs) left_is in
       let none : filter (is_named row.id row.label) done ≡ [] = ahead row done next (subst HasEachOnce parts once) in
       let none_sorted : filter (is_named row.id row.label) (in_order S done) ≡ [] = filter_in_order S (is_named row.id row.label) done ∙ ap (in_order S) none in
-      let rest : without row.id row.label rows ≡ in_order S done =
-      ap (without row.id row.label) puts.is ∙ none_fails (is_named row.id row.label) (in_order S done) none_sorted in
+      let rest : without_named row.id row.label rows ≡ in_order S done =
+      ap (without_named row.id row.label) puts.is ∙ none_fails (is_named row.id row.label) (in_order S done) none_sorted in
       record {
         done = done ++ row ∷ [];
         parts = parts ∙ sym (append_assoc done (row ∷ []) next);

@@ -11,11 +11,12 @@ use Rattle.st_text.proofs.Same.{same-eq, same-refl}
 use Rattle.st_index.specs.declared.row.Row.{Row}
 use Rattle.st_index.specs.Index.{Adds, Swaps, Holds, IsAbsent}
 use Rattle.st_index.specs.Order.{InScanOrder, scan_key}
-use Rattle.st_index.specs.Rows.{Name, key_end, name_of, place_of}
+use Rattle.st_index.specs.Rows.{Name, key_end, name_of, rank_of}
 use Rattle.st_index.proofs.Scanning.{scan_apart}
-use Rattle.st_table.specs.Table.{IsAt, is_named, rows_named, with_row, without}
+use Rattle.st_table.specs.Table.{is_named, rows_with_name, with_row, without_named}
+use Rattle.st_table.specs.inner.Found.{IsAt}
 use Rattle.st_table.proofs.Naming.{Passing, both_fail, cut_fails, none_fails, one}
-use Rattle.st_index.proofs.Sorting.{all_without, middle, place_below, placed, scan_filter}
+use Rattle.st_index.proofs.Sorting.{all_without, middle, rank_below, placed, scan_filter}
 
 module _ {A : Type 0} where
   -- a row that bears the name is named so
@@ -39,18 +40,18 @@ module _ {A : Type 0} where
       simp (p, q)
 
   -- no row of the name, so none of its place and name
-  pub none_absent : (period : Period) (place : ℕ) (name : Name) (rows : List (Row A)) → rows_named name rows ≡ [] → IsAbsent period place name rows
+  pub none_absent : (period : Period) (place : ℕ) (name : Name) (rows : List (Row A)) → rows_with_name name rows ≡ [] → IsAbsent period place name rows
   none_absent period place name [] h = λ k d l p n. absurd (omega (arith, l))
   none_absent period place name (r ∷ rs) h = at (is_named name.id name.label r) refl (none_absent period place name rs)
     where
       cons_nil : (x : Row A) (ys : List (Row A)) → x ∷ ys ≡ [] → ⊥
       cons_nil x ys p = cc
 
-      at : (b : Bool) → is_named name.id name.label r ≡ b → (rows_named name rs ≡ [] → IsAbsent period place name rs) → IsAbsent period place name (r ∷ rs)
-      at true e ih = let t : r ∷ rows_named name rs ≡ [] = simp e at h in absurd (cons_nil r (rows_named name rs) t)
+      at : (b : Bool) → is_named name.id name.label r ≡ b → (rows_with_name name rs ≡ [] → IsAbsent period place name rs) → IsAbsent period place name (r ∷ rs)
+      at true e ih = let t : r ∷ rows_with_name name rs ≡ [] = simp e at h in absurd (cons_nil r (rows_with_name name rs) t)
       at false e ih =
-          let t : rows_named name rs ≡ [] = simp e at h in
-          All-cons (λ (s : Row A). place_of period s ≡ place → name_of s ≡ name → ⊥) r rs
+          let t : rows_with_name name rs ≡ [] = simp e at h in
+          All-cons (λ (s : Row A). rank_of period s ≡ place → name_of s ≡ name → ⊥) r rs
           (λ p n. differ (sym e ∙ bears name r n)) (ih t)
         where
           differ : false ≡ true → ⊥
@@ -88,7 +89,7 @@ filter_drop p (f ∷ fs) x back e = at (p f) refl (filter_drop p fs x back e)
 
 module _ {A : Type 0} (period : Period) where
   abbrev stands : ℕ → Row A → Bool
-  stands k r = eqb (place_of period r) k
+  stands k r = eqb (rank_of period r) k
 
   abbrev f : Name → Row A → Bool
   f name = is_named name.id name.label
@@ -96,9 +97,9 @@ module _ {A : Type 0} (period : Period) where
   -- the row of the name stands elsewhere
   pub elsewhere : (k place : ℕ) (name : Name) (rows : List (Row A)) → IsAt period k name rows → (place ≡ k → ⊥) → IsAbsent period place name rows
   elsewhere k place name rows h ne =
-      let yes : stands k h.row ≡ true = eq-eqb (place_of period h.row) k h.placed in
+      let yes : stands k h.row ≡ true = eq-eqb (rank_of period h.row) k h.placed in
       let all = passing_all (f name) (stands k) rows (subst (Passing (stands k)) (sym h.only) (yes, tt)) in
-      λ i d l p n. ne (sym p ∙ eqb-true (place_of period (get_or rows i d)) k (all i d l (bears name (get_or rows i d) n)))
+      λ i d l p n. ne (sym p ∙ eqb-true (rank_of period (get_or rows i d)) k (all i d l (bears name (get_or rows i d) n)))
 
   pub holds : (k : ℕ) (name : Name) (rows : List (Row A)) → IsAt period k name rows → Holds period k name rows
   holds k name rows h =
@@ -106,57 +107,57 @@ module _ {A : Type 0} (period : Period) where
       record { row = h.row; front = o.front; back = o.back; is = o.is; placed = h.placed; named = named name h.row o.passes }
 
   pub reached : (k : ℕ) (name : Name) (rows : List (Row A)) → IsAt period k name rows → k < key_end period
-  reached k name rows h = subst (λ n. n < key_end period) h.placed (place_below period h.row)
+  reached k name rows h = subst (λ n. n < key_end period) h.placed (rank_below period h.row)
 
   -- a row that is held is still there when another was put in
   pub not_absent : (k : ℕ) (name : Name) (row : Row A) (old mid : List (Row A)) → IsAt period k name old → Adds row old mid → IsAbsent period k name mid → ⊥
   not_absent k name row old mid h adds absent =
-      let P : Row A → Type 0 = λ r. place_of period r ≡ k → name_of r ≡ name → ⊥ in
+      let P : Row A → Type 0 = λ r. rank_of period r ≡ k → name_of r ≡ name → ⊥ in
       let all = all_without period adds.front row adds.back P (subst (All P) adds.new_is absent) in
       let at = holds k name old h in
       middle period at.front at.row at.back P (subst (All P) (sym adds.old_is ∙ at.is) all) at.placed at.named
 
-  pub put_new : (row : Row A) (old new : List (Row A)) → Adds row old new → InScanOrder period new → rows_named (name_of row) old ≡ []
+  pub put_new : (row : Row A) (old new : List (Row A)) → Adds row old new → InScanOrder period new → rows_with_name (name_of row) old ≡ []
       → new ≡ with_row period row old
   put_new row old new adds sorted none =
-      let rest : without row.id row.label old ≡ adds.front ++ adds.back = none_fails (f (name_of row)) old none ∙ adds.old_is in
+      let rest : without_named row.id row.label old ≡ adds.front ++ adds.back = none_fails (f (name_of row)) old none ∙ adds.old_is in
       adds.new_is ∙ placed period adds.front row adds.back (subst (InScanOrder period) adds.new_is sorted)
       ∙ ap (λ xs. in_order (scan_key period) (row ∷ xs)) (sym rest)
 
   pub put_same : (k : ℕ) (row out : Row A) (old new : List (Row A)) → Swaps out row old new → InScanOrder period new → IsAt period k (name_of row) old → name_of out ≡ name_of row
       → new ≡ with_row period row old
   put_same k row out old new swaps sorted at same_name =
-      let only = subst (λ xs. rows_named (name_of row) xs ≡ at.row ∷ []) swaps.old_is at.only in
-      let rest : without row.id row.label old ≡ swaps.front ++ swaps.back =
-      ap (without row.id row.label) swaps.old_is ∙ cut_fails (f (name_of row)) swaps.front out swaps.back at.row (bears (name_of row) out same_name) only in
+      let only = subst (λ xs. rows_with_name (name_of row) xs ≡ at.row ∷ []) swaps.old_is at.only in
+      let rest : without_named row.id row.label old ≡ swaps.front ++ swaps.back =
+      ap (without_named row.id row.label) swaps.old_is ∙ cut_fails (f (name_of row)) swaps.front out swaps.back at.row (bears (name_of row) out same_name) only in
       swaps.new_is ∙ placed period swaps.front row swaps.back (subst (InScanOrder period) swaps.new_is sorted)
       ∙ ap (λ xs. in_order (scan_key period) (row ∷ xs)) (sym rest)
 
-  stays : (k : ℕ) (name : Name) (r : Row A) → (place_of period r ≡ k → name_of r ≡ name → ⊥) → not (f name r && stands k r) ≡ true
+  stays : (k : ℕ) (name : Name) (r : Row A) → (rank_of period r ≡ k → name_of r ≡ name → ⊥) → not (f name r && stands k r) ≡ true
   stays k name r never = at (f name r) refl (stands k r) refl
     where
       at : (a : Bool) → f name r ≡ a → (b : Bool) → stands k r ≡ b → not (f name r && stands k r) ≡ true
-      at true e true g = absurd (never (eqb-true (place_of period r) k g) (named name r e))
+      at true e true g = absurd (never (eqb-true (rank_of period r) k g) (named name r e))
       at true e false g = simp (e, g)
       at false e b g = simp e
 
   pub put_moved : (k : ℕ) (row out : Row A) (old mid new : List (Row A)) → Adds row old mid → InScanOrder period mid → IsAt period k (name_of row) old
-      → Adds out new mid → place_of period out ≡ k → name_of out ≡ name_of row → (place_of period row ≡ k → ⊥) → new ≡ with_row period row old
+      → Adds out new mid → rank_of period out ≡ k → name_of out ≡ name_of row → (rank_of period row ≡ k → ⊥) → new ≡ with_row period row old
   put_moved k row out old mid new adds sorted at gone is_at same_name ne =
       let name : Name = name_of row in
       let p : Row A → Bool = λ r. not (f name r && stands k r) in
       let apart = scan_apart period gone.front out gone.back (subst (InScanOrder period) gone.new_is sorted) in
       let others : All (λ r. p r ≡ true) (gone.front ++ gone.back) = λ i d l. stays k name (get_or (gone.front ++ gone.back) i d) (λ q n. apart i d l (q ∙ sym is_at) (n ∙ sym same_name)) in
       let out_named = bears name out same_name in
-      let out_there = eq-eqb (place_of period out) k is_at in
+      let out_there = eq-eqb (rank_of period out) k is_at in
       let dropped : p out ≡ false = simp (out_named, out_there) in
       let left : filter p mid ≡ new = ap (filter p) gone.new_is ∙ filter_drop p gone.front out gone.back dropped ∙ filter_all p (gone.front ++ gone.back) others ∙ sym gone.old_is in
       let kept : p row ≡ true = stays k name row (λ q n. ne q) in
       let yes : filter p (row ∷ adds.back) ≡ row ∷ filter p adds.back = simp kept in
       let around : filter p mid ≡ filter p adds.front ++ row ∷ filter p adds.back =
       ap (filter p) adds.new_is ∙ filter_append p adds.front (row ∷ adds.back) ∙ ap (λ xs. filter p adds.front ++ xs) yes in
-      let there : stands k at.row ≡ true = eq-eqb (place_of period at.row) k at.placed in
-      let rest : filter p adds.front ++ filter p adds.back ≡ without row.id row.label old =
+      let there : stands k at.row ≡ true = eq-eqb (rank_of period at.row) k at.placed in
+      let rest : filter p adds.front ++ filter p adds.back ≡ without_named row.id row.label old =
       sym (filter_append p adds.front adds.back) ∙ ap (filter p) (sym adds.old_is)
       ∙ both_fail (f name) (stands k) old (subst (Passing (stands k)) (sym at.only) (there, tt)) in
       sym left ∙ around ∙ placed period (filter p adds.front) row (filter p adds.back) (subst (InScanOrder period) around (scan_filter period p mid sorted))
@@ -164,11 +165,11 @@ module _ {A : Type 0} (period : Period) where
 
   -- a row put in, and what stood under its name taken out of another place
   pub put_away : (p : Period) (k : ℕ) (name : Name) (row : Row A) (old mid new : List (Row A)) (o : Option (Row A)) → p ≡ period → name ≡ name_of row
-      → Adds row old mid → InScanOrder p mid → IsAt period k (name_of row) old → (place_of period row ≡ k → ⊥)
-      → IfSome o (λ out. Adds out new mid) → IfSome o (λ out. place_of p out ≡ k) → IfSome o (λ out. name_of out ≡ name) → IfNone o (IsAbsent p k name mid)
+      → Adds row old mid → InScanOrder p mid → IsAt period k (name_of row) old → (rank_of period row ≡ k → ⊥)
+      → IfSome o (λ out. Adds out new mid) → IfSome o (λ out. rank_of p out ≡ k) → IfSome o (λ out. name_of out ≡ name) → IfNone o (IsAbsent p k name mid)
       → new ≡ with_row period row old
   put_away p k name row old mid new (Some out) same_period same_name adds sorted at ne gone is_at is_named absent =
       put_moved k row out old mid new adds (subst (λ q. InScanOrder q mid) same_period sorted) at gone
-      (ap (λ q. place_of q out) (sym same_period) ∙ is_at) (is_named ∙ same_name) ne
+      (ap (λ q. rank_of q out) (sym same_period) ∙ is_at) (is_named ∙ same_name) ne
   put_away p k name row old mid new None same_period same_name adds sorted at ne gone is_at is_named absent =
       absurd (not_absent k (name_of row) row old mid at adds (subst (λ q. IsAbsent q k (name_of row) mid) same_period (subst (λ n. IsAbsent p k n mid) same_name absent)))

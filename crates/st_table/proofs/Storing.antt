@@ -9,7 +9,7 @@ use Rattle.st_index.specs.declared.row.Row.{Row}
 use Rattle.st_index.specs.Order.{InScanOrder, scan_key}
 use Rattle.st_table.specs.Rows.{Held, full_name, is_held, put_row, without_row, without_table}
 use Rattle.st_index.specs.Rows.{name_of}
-use Rattle.st_table.specs.Table.{HasEachOnce, is_named, rows_named, with_row, without}
+use Rattle.st_table.specs.Table.{HasEachOnce, is_named, rows_with_name, with_row, without_named}
 use Rattle.st_index.proofs.Sorting.{in_order_already, scan_filter}
 use Rattle.st_text.proofs.Resorting.{Apart, filter_in_order, in_order_anywhere}
 use Rattle.st_table.proofs.Replacing.{bears}
@@ -46,13 +46,13 @@ none_ahead f front back h = first (filter f front) (filter f back) (sym (filter_
 
 -- no two rows of one name
 module _ {A : Type 0} where
-  pub once_head : (r : Row A) (rs : List (Row A)) → HasEachOnce (r ∷ rs) → rows_named (name_of r) rs ≡ []
-  once_head r rs once = none (rows_named (name_of r) rs) (subst (λ xs. length xs ≤ 1) first (once (name_of r)))
+  pub once_head : (r : Row A) (rs : List (Row A)) → HasEachOnce (r ∷ rs) → rows_with_name (name_of r) rs ≡ []
+  once_head r rs once = none (rows_with_name (name_of r) rs) (subst (λ xs. length xs ≤ 1) first (once (name_of r)))
     where
       yes : is_named r.id r.label r ≡ true
       yes = bears (name_of r) r refl
 
-      first : rows_named (name_of r) (r ∷ rs) ≡ r ∷ rows_named (name_of r) rs
+      first : rows_with_name (name_of r) (r ∷ rs) ≡ r ∷ rows_with_name (name_of r) rs
       first = simp yes
 
       none : (xs : List (Row A)) → length (r ∷ xs) ≤ 1 → xs ≡ []
@@ -62,13 +62,13 @@ module _ {A : Type 0} where
   pub once_tail : (r : Row A) (rs : List (Row A)) → HasEachOnce (r ∷ rs) → HasEachOnce rs
   once_tail r rs once name = at (is_named name.id name.label r) refl
     where
-      at : (b : Bool) → is_named name.id name.label r ≡ b → length (rows_named name rs) ≤ 1
+      at : (b : Bool) → is_named name.id name.label r ≡ b → length (rows_with_name name rs) ≤ 1
       at true e =
-          let first : rows_named name (r ∷ rs) ≡ r ∷ rows_named name rs = simp e in
-          let h : length (r ∷ rows_named name rs) ≤ 1 = subst (λ xs. length xs ≤ 1) first (once name) in
+          let first : rows_with_name name (r ∷ rs) ≡ r ∷ rows_with_name name rs = simp e in
+          let h : length (r ∷ rows_with_name name rs) ≤ 1 = subst (λ xs. length xs ≤ 1) first (once name) in
           omega (arith, h)
       at false e =
-          let first : rows_named name (r ∷ rs) ≡ rows_named name rs = simp e in
+          let first : rows_with_name name (r ∷ rs) ≡ rows_with_name name rs = simp e in
           subst (λ xs. length xs ≤ 1) first (once name)
 
 module _ {A : Type 0} (table : Text) where
@@ -95,27 +95,27 @@ module _ {A : Type 0} (table : Text) where
   keeps id label [] e = refl
   keeps id label (h ∷ hs) e = let a = e.0 in let ih = keeps id label hs e.1 in simp (a, ih)
 
-  drops : (id label : Text) (rows : List (Row A)) → without_row table id label (map held rows) ≡ map held (without id label rows)
+  drops : (id label : Text) (rows : List (Row A)) → without_row table id label (map held rows) ≡ map held (without_named id label rows)
   drops id label [] = refl
   drops id label (r ∷ rs) = at (is_named id label r) refl (drops id label rs)
     where
-      at : (b : Bool) → is_named id label r ≡ b → without_row table id label (map held rs) ≡ map held (without id label rs)
-          → without_row table id label (map held (r ∷ rs)) ≡ map held (without id label (r ∷ rs))
+      at : (b : Bool) → is_named id label r ≡ b → without_row table id label (map held rs) ≡ map held (without_named id label rs)
+          → without_row table id label (map held (r ∷ rs)) ≡ map held (without_named id label (r ∷ rs))
       at true e ih = let t = same-refl table in simp (t, e, ih)
       at false e ih = let t = same-refl table in simp (t, e, ih)
 
   around : (id label : Text) (front back : List (Held A)) (rows : List (Row A)) → Elsewhere front → Elsewhere back
-      → without_row table id label (front ++ (map held rows ++ back)) ≡ front ++ (map held (without id label rows) ++ back)
+      → without_row table id label (front ++ (map held rows ++ back)) ≡ front ++ (map held (without_named id label rows) ++ back)
   around id label front back rows f b =
       let q : Held A → Bool = λ h. not (is_held table id label h) in
-      let inner : filter q (map held rows ++ back) ≡ map held (without id label rows) ++ back =
-      filter_append q (map held rows) back ∙ ap (λ xs. xs ++ filter q back) (drops id label rows) ∙ ap (λ xs. map held (without id label rows) ++ xs) (keeps id label back b) in
+      let inner : filter q (map held rows ++ back) ≡ map held (without_named id label rows) ++ back =
+      filter_append q (map held rows) back ∙ ap (λ xs. xs ++ filter q back) (drops id label rows) ∙ ap (λ xs. map held (without_named id label rows) ++ xs) (keeps id label back b) in
       filter_append q front (map held rows ++ back) ∙ ap (λ xs. xs ++ filter q (map held rows ++ back)) (keeps id label front f) ∙ ap (λ xs. front ++ xs) inner
 
   pub table_put : (period : Period) (row : Row A) (rows : List (Row A)) (front back : List (Held A)) → InScanOrder period rows → Elsewhere front → Elsewhere back
       → in_order full_name (front ++ (map held (with_row period row rows) ++ back)) ≡ put_row (held row) (in_order full_name (front ++ (map held rows ++ back)))
   table_put period row rows front back sorted f b =
-      let left = without row.id row.label rows in
+      let left = without_named row.id row.label rows in
       let S = scan_key {A = A} period in
       let tidy : in_order S left ≡ left = in_order_already period left (scan_filter period (λ r. not (is_named row.id row.label r)) rows sorted) in
       let s = split S row left in
@@ -135,7 +135,7 @@ module _ {A : Type 0} (table : Text) where
       ∙ put_anywhere_is (held row) (front ++ (map held rows ++ back)) fronts backs others
 
   pub table_delete : (id label : Text) (rows : List (Row A)) (front back : List (Held A)) → Elsewhere front → Elsewhere back
-      → in_order full_name (front ++ (map held (without id label rows) ++ back)) ≡ without_row table id label (in_order full_name (front ++ (map held rows ++ back)))
+      → in_order full_name (front ++ (map held (without_named id label rows) ++ back)) ≡ without_row table id label (in_order full_name (front ++ (map held rows ++ back)))
   table_delete id label rows front back f b =
       ap (in_order full_name) (sym (around id label front back rows f b))
       ∙ sym (filter_in_order full_name (λ (h : Held A). not (is_held table id label h)) (front ++ (map held rows ++ back)))

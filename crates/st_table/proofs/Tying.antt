@@ -14,9 +14,10 @@ use Rattle.st_text.specs.Texts.{Text, comes_before, put_in_order, in_order}
 use Rattle.st_index.specs.declared.row.Row.{Row}
 use Rattle.st_index.specs.Index.{Adds, IsAbsent}
 use Rattle.st_index.specs.Order.{InScanOrder, scan_key}
-use Rattle.st_index.specs.Rows.{Name, name_of, place_of}
-use Rattle.st_table.specs.Names.{AreShort, IsTied, is_short, joined, key_at, same_text}
-use Rattle.st_table.specs.Table.{IsAt, IsFound, is_named, rows_named, with_row, without}
+use Rattle.st_index.specs.Rows.{Name, name_of, rank_of}
+use Rattle.st_table.specs.inner.Names.{AreShort, IsTied, is_short, joined, key_at, same_text}
+use Rattle.st_table.specs.Table.{is_named, rows_with_name, with_row, without_named}
+use Rattle.st_table.specs.inner.Found.{IsAt, IsFound}
 use Rattle.st_table.specs.declared.row_name.RowName.{RowName}
 use Rattle.st_table.proofs.Naming.{cut_fails}
 use Rattle.st_table.proofs.Replacing.{bears, holds, named}
@@ -157,25 +158,25 @@ module _ {A : Type 0} (period : Period) where
       at true e = absurd (clash (sym ne ∙ name_self one other (sym (named one r e) ∙ named other r h)))
       at false e = e
 
-  other_found : (o : Option Key) (name : Name) (old new : List (Row A)) → rows_named name new ≡ rows_named name old → IsFound period o name old → IsFound period o name new
+  other_found : (o : Option Key) (name : Name) (old new : List (Row A)) → rows_with_name name new ≡ rows_with_name name old → IsFound period o name old → IsFound period o name new
   other_found None name old new e h = e ∙ h
   other_found (Some key) name old new e h = record { row = h.row; only = e ∙ h.only; placed = h.placed }
 
-  sorted_without : (name : Name) (old : List (Row A)) → InScanOrder period old → in_order (scan_key period) (without name.id name.label old) ≡ without name.id name.label old
-  sorted_without name old sorted = in_order_already period (without name.id name.label old) (scan_filter period (λ row. not (is_named name.id name.label row)) old sorted)
+  sorted_without : (name : Name) (old : List (Row A)) → InScanOrder period old → in_order (scan_key period) (without_named name.id name.label old) ≡ without_named name.id name.label old
+  sorted_without name old sorted = in_order_already period (without_named name.id name.label old) (scan_filter period (λ row. not (is_named name.id name.label row)) old sorted)
 
-  with_itself : (row : Row A) (old : List (Row A)) → InScanOrder period old → rows_named (name_of row) (with_row period row old) ≡ row ∷ []
+  with_itself : (row : Row A) (old : List (Row A)) → InScanOrder period old → rows_with_name (name_of row) (with_row period row old) ≡ row ∷ []
   with_itself row old sorted =
       let f : Row A → Bool = is_named row.id row.label in
       ap (λ xs. filter f (put_in_order (scan_key period) row xs)) (sorted_without (name_of row) old sorted)
-      ∙ put_alone f (scan_key period) row (without row.id row.label old) (bears (name_of row) row refl) (none_left f old)
+      ∙ put_alone f (scan_key period) row (without_named row.id row.label old) (bears (name_of row) row refl) (none_left f old)
 
   with_others : (name : Name) (row : Row A) (old : List (Row A)) → InScanOrder period old → same_text (joined (name_of row)) (joined name) ≡ false
-      → rows_named name (with_row period row old) ≡ rows_named name old
+      → rows_with_name name (with_row period row old) ≡ rows_with_name name old
   with_others name row old sorted ne =
       let g : Row A → Bool = is_named name.id name.label in
       ap (λ xs. filter g (put_in_order (scan_key period) row xs)) (sorted_without (name_of row) old sorted)
-      ∙ put_passed g (scan_key period) row (without row.id row.label old) (differs (g row) refl)
+      ∙ put_passed g (scan_key period) row (without_named row.id row.label old) (differs (g row) refl)
       ∙ others_left (is_named row.id row.label) g (apart (name_of row) name ne) old
     where
       clash : false ≡ true → ⊥
@@ -186,7 +187,7 @@ module _ {A : Type 0} (period : Period) where
       differs false e = e
 
   pub tied_put : (entries more : List (RowName A × Key)) (key : Key) (row : Row A) (old new : List (Row A)) → InScanOrder period old
-      → rank key ≡ place_of period row → new ≡ with_row period row old
+      → rank key ≡ rank_of period row → new ≡ with_row period row old
       → ((name : Name) → key_at more name ≡ cond (same_text (joined (name_of row)) (joined name)) (Some key) (key_at entries name))
       → IsTied period entries old → IsTied period more new
   tied_put entries more key row old new sorted at_key is updates tied name = at (same_text (joined (name_of row)) (joined name)) refl
@@ -196,15 +197,15 @@ module _ {A : Type 0} (period : Period) where
           let own : name ≡ name_of row = sym (name_same (name_of row) name e) in
           let found : key_at more name ≡ Some key = updates name ∙ ap (λ b. cond b (Some key) (key_at entries name)) e in
           let whole : IsAt period (rank key) (name_of row) new =
-          record { row = row; only = ap (rows_named (name_of row)) is ∙ with_itself row old sorted; placed = sym at_key } in
+          record { row = row; only = ap (rows_with_name (name_of row)) is ∙ with_itself row old sorted; placed = sym at_key } in
           subst (λ o. IsFound period o name new) (sym found) (subst (λ n. IsAt period (rank key) n new) (sym own) whole)
       at false e =
           let found : key_at more name ≡ key_at entries name = updates name ∙ ap (λ b. cond b (Some key) (key_at entries name)) e in
           subst (λ o. IsFound period o name new) (sym found)
-          (other_found (key_at entries name) name old new (ap (rows_named name) is ∙ with_others name row old sorted e) (tied name))
+          (other_found (key_at entries name) name old new (ap (rows_with_name name) is ∙ with_others name row old sorted e) (tied name))
 
   pub tied_delete : (entries fewer : List (RowName A × Key)) (gone : Name) (old new : List (Row A))
-      → new ≡ without gone.id gone.label old
+      → new ≡ without_named gone.id gone.label old
       → ((name : Name) → key_at fewer name ≡ cond (same_text (joined gone) (joined name)) None (key_at entries name))
       → IsTied period entries old → IsTied period fewer new
   tied_delete entries fewer gone old new is updates tied name = at (same_text (joined gone) (joined name)) refl
@@ -213,8 +214,8 @@ module _ {A : Type 0} (period : Period) where
       at true e =
           let own : gone ≡ name = name_same gone name e in
           let found : key_at fewer name ≡ None = updates name ∙ ap (λ b. cond b None (key_at entries name)) e in
-          let none : rows_named gone new ≡ [] = ap (rows_named gone) is ∙ none_left (is_named gone.id gone.label) old in
-          subst (λ o. IsFound period o name new) (sym found) (subst (λ n. rows_named n new ≡ []) own none)
+          let none : rows_with_name gone new ≡ [] = ap (rows_with_name gone) is ∙ none_left (is_named gone.id gone.label) old in
+          subst (λ o. IsFound period o name new) (sym found) (subst (λ n. rows_with_name n new ≡ []) own none)
       at false e =
           let found : key_at fewer name ≡ key_at entries name = updates name ∙ ap (λ b. cond b None (key_at entries name)) e in
           let g : Row A → Bool = is_named name.id name.label in
@@ -224,11 +225,11 @@ module _ {A : Type 0} (period : Period) where
 
   -- the row of a name is taken out
   pub taken : (k : ℕ) (name : Name) (old new : List (Row A)) (o : Option (Row A)) → IsAt period k name old → IfSome o (λ out. Adds out new old)
-      → IfSome o (λ out. name_of out ≡ name) → IfNone o (IsAbsent period k name old) → new ≡ without name.id name.label old
+      → IfSome o (λ out. name_of out ≡ name) → IfNone o (IsAbsent period k name old) → new ≡ without_named name.id name.label old
   taken k name old new (Some out) at gone is_named_so absent =
-      let only = subst (λ xs. rows_named name xs ≡ at.row ∷ []) gone.new_is at.only in
-      gone.old_is ∙ sym (ap (without name.id name.label) gone.new_is ∙ cut_fails (is_named name.id name.label) gone.front out gone.back at.row (bears name out is_named_so) only)
+      let only = subst (λ xs. rows_with_name name xs ≡ at.row ∷ []) gone.new_is at.only in
+      gone.old_is ∙ sym (ap (without_named name.id name.label) gone.new_is ∙ cut_fails (is_named name.id name.label) gone.front out gone.back at.row (bears name out is_named_so) only)
   taken k name old new None at gone is_named_so absent =
       let h = holds period k name old at in
-      let P : Row A → Type 0 = λ r. place_of period r ≡ k → name_of r ≡ name → ⊥ in
+      let P : Row A → Type 0 = λ r. rank_of period r ≡ k → name_of r ≡ name → ⊥ in
       absurd (middle period h.front h.row h.back P (subst (IsAbsent period k name) h.is absent) h.placed h.named)

@@ -12,8 +12,8 @@ abbrev pub is_held : {A : Type 0} → (table id label : Text) → Held A → Boo
 is_held table id label held = same held.table table && same held.row.id id && same held.row.label label
 
 -- the rows of a table
-abbrev pub rows_of : {A : Type 0} → Text → List (Held A) → List (Row A)
-rows_of table rows = map (λ held. held.row) (filter (λ held. same held.table table) rows)
+abbrev pub rows_in_table : {A : Type 0} → Text → List (Held A) → List (Row A)
+rows_in_table table rows = map (λ held. held.row) (filter (λ held. same held.table table) rows)
 
 abbrev pub without_row : {A : Type 0} → (table id label : Text) → List (Held A) → List (Held A)
 without_row table id label rows = filter (λ held. not (is_held table id label held)) rows

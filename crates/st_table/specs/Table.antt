@@ -1,12 +1,10 @@
 -- What a table is seen as, and what changes make of it.
-use Rattle.std.specs.Prelude.{◌≡◌, ℕ, ◌≤◌, length, List, [], ◌∷◌, Bool, ◌&&◌, not, filter, Option, Some, None}
+use Rattle.std.specs.Prelude.{◌≤◌, length, List, [], ◌∷◌, Bool, ◌&&◌, not, filter}
 use Rattle.st_text.specs.Texts.{Text, same, in_order}
-use Rattle.st_key.specs.declared.key.Key.{Key}
 use Rattle.st_key.specs.declared.period.Period.{Period}
-use Rattle.st_key.specs.Key.{rank}
 use Rattle.st_index.specs.declared.row.Row.{Row}
 use Rattle.st_index.specs.Order.{scan_key}
-use Rattle.st_index.specs.Rows.{Name, place_of}
+use Rattle.st_index.specs.Rows.{Name}
 
 -- a table's period, and its rows in scan order
 pub record TableValue (A : Type 0) : Type 0 where
@@ -18,16 +16,16 @@ abbrev pub is_named : {A : Type 0} → (id label : Text) → Row A → Bool
 is_named id label row = same row.id id && same row.label label
 
 -- the rows without the one of this id and this label text
-abbrev pub without : {A : Type 0} → (id label : Text) → List (Row A) → List (Row A)
-without id label rows = filter (λ row. not (is_named id label row)) rows
+abbrev pub without_named : {A : Type 0} → (id label : Text) → List (Row A) → List (Row A)
+without_named id label rows = filter (λ row. not (is_named id label row)) rows
 
 -- the rows with this one in place of the one of its name, in scan order
 abbrev pub with_row : {A : Type 0} → Period → Row A → List (Row A) → List (Row A)
-with_row period row rows = in_order (scan_key period) (row ∷ without row.id row.label rows)
+with_row period row rows = in_order (scan_key period) (row ∷ without_named row.id row.label rows)
 
 -- the rows of this name
-abbrev pub rows_named : {A : Type 0} → Name → List (Row A) → List (Row A)
-rows_named name rows = filter (is_named name.id name.label) rows
+abbrev pub rows_with_name : {A : Type 0} → Name → List (Row A) → List (Row A)
+rows_with_name name rows = filter (is_named name.id name.label) rows
 
 -- of a table's rows those of an id that pass a test, by the bytes of their labels
 abbrev pub rows_by_label : {A : Type 0} → (id : Text) → (Row A → Bool) → List (Row A) → List (Row A)
@@ -35,15 +33,4 @@ rows_by_label id test rows = in_order (λ row. row.label ∷ []) (filter (λ row
 
 -- no two rows have the same id and label text
 abbrev pub HasEachOnce : {A : Type 0} → List (Row A) → Type 0
-HasEachOnce rows = (name : Name) → length (rows_named name rows) ≤ 1
-
--- one row has the name, and its key is this one by rank
-pub record IsAt {A : Type 0} (period : Period) (place : ℕ) (name : Name) (rows : List (Row A)) : Type 0 where
-  pub row : Row A
-  pub only : rows_named name rows ≡ row ∷ []
-  pub placed : place_of period row ≡ place
-
--- what is found under a name is the key of its one row, or nothing where no row has it
-abbrev pub IsFound : {A : Type 0} → Period → Option Key → Name → List (Row A) → Type 0
-IsFound period None name rows = rows_named name rows ≡ []
-IsFound period (Some key) name rows = IsAt period (rank key) name rows
+HasEachOnce rows = (name : Name) → length (rows_with_name name rows) ≤ 1

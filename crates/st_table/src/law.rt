@@ -4,14 +4,15 @@ ghost use Rattle.st_text.specs.Texts.{Text, same, in_order};
 ghost use Rattle.st_index.specs.declared.row.Row.{Row};
 ghost use Rattle.st_index.specs.Order.{InScanOrder, scan_key};
 ghost use Rattle.st_key.specs.declared.period.Period.{Period};
-ghost use Rattle.st_table.specs.Rows.{Held, all_held, full_name, put_row, rows_of, without_row, without_table};
-ghost use Rattle.st_table.specs.Table.{HasEachOnce, rows_by_label, with_row, without};
+ghost use Rattle.st_table.specs.Rows.{Held, all_held, full_name, put_row, rows_in_table, without_row, without_table};
+ghost use Rattle.st_table.specs.Table.{HasEachOnce, rows_by_label, with_row, without_named};
 
 use std::alloc::Allocator;
 
 /// A test of rows commutes with sorting them.
 pub fn filters_commute<A: Allocator>()
-    ensures { (test : Held A → Bool) (rows : List (Held A)) → filter test (in_order full_name rows) ≡ in_order full_name (filter test rows) }
+    ensures { (test : Held A → Bool) (rows : List (Held A))
+        → filter test (in_order full_name rows) ≡ in_order full_name (filter test rows) }
 {}
 
 /// However the rows are listed, putting one among those of other names is the put of the sorted.
@@ -24,14 +25,14 @@ pub fn put_anywhere<A: Allocator>()
 pub fn reads_are_scans<A: Allocator>()
     ensures { (period : Period) (table : Text) (test : Row A → Bool) (all : List (Held A)) (rows : List (Row A))
         → filter (λ held. same held.table table) all ≡ all_held table rows → InScanOrder period rows
-        → in_order (scan_key period) (filter test (rows_of table (in_order full_name all))) ≡ filter test rows }
+        → in_order (scan_key period) (filter test (rows_in_table table (in_order full_name all))) ≡ filter test rows }
 {}
 
 /// The rows of an id that pass a test, by their labels, are the same of the rows of all tables as of the table's content.
 pub fn reads_are_gets<A: Allocator>()
     ensures { (table id : Text) (test : Row A → Bool) (all : List (Held A)) (rows : List (Row A))
         → filter (λ held. same held.table table) all ≡ all_held table rows → HasEachOnce rows
-        → rows_by_label id test (rows_of table (in_order full_name all)) ≡ rows_by_label id test rows }
+        → rows_by_label id test (rows_in_table table (in_order full_name all)) ≡ rows_by_label id test rows }
 {}
 
 /// A put into one table's content is the put into the rows of all tables.
@@ -46,7 +47,7 @@ pub fn table_put<A: Allocator>()
 pub fn table_delete<A: Allocator>()
     ensures { (table id label : Text) (rows : List (Row A)) (front back : List (Held A))
         → filter (λ held. same held.table table) front ≡ [] → filter (λ held. same held.table table) back ≡ []
-        → in_order full_name (front ++ (all_held table (without id label rows) ++ back))
+        → in_order full_name (front ++ (all_held table (without_named id label rows) ++ back))
         ≡ without_row table id label (in_order full_name (front ++ (all_held table rows ++ back))) }
 {}
 
@@ -61,5 +62,6 @@ pub fn table_drop<A: Allocator>()
 pub fn table_rebuild<A: Allocator>()
     ensures { (table : Text) (period : Period) (rows : List (Row A)) (front back : List (Held A)) → HasEachOnce rows
         → filter (λ held. same held.table table) front ≡ []
-        → in_order full_name (front ++ (all_held table (in_order (scan_key period) rows) ++ back)) ≡ in_order full_name (front ++ (all_held table rows ++ back)) }
+        → in_order full_name (front ++ (all_held table (in_order (scan_key period) rows) ++ back))
+        ≡ in_order full_name (front ++ (all_held table rows ++ back)) }
 {}

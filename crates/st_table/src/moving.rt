@@ -1,6 +1,6 @@
 //! Moving rows into another index.
 ghost use Rattle.std.specs.Prelude.{◌≡◌, true, [], OnOk};
-ghost use Rattle.st_key.specs.declared.point.Point.{Point as Place};
+ghost use Rattle.st_key.specs.declared.point.Point.{Point as PointValue};
 ghost use Rattle.st_box.specs.Query.{is_inside};
 ghost use Rattle.st_text.specs.Texts.{in_order};
 ghost use Rattle.st_index.specs.Order.{scan_key};
@@ -14,9 +14,9 @@ use st_plan::plan;
 use st_scan::Walk;
 use std::alloc::AllocError;
 
-/// The query that has each point.
+// The query that has each point.
 fn everywhere() -> Query
-    ensures { (point : Place) → is_inside result point ≡ true }
+    ensures { (point : PointValue) → is_inside result point ≡ true }
 {
     let side = Point::SIDE - 1;
     match Query::new(0, side, 0, side, 0, Point::END - 1) {
@@ -25,7 +25,7 @@ fn everywhere() -> Query
     }
 }
 
-/// Puts the rows that a walk still gives into a table of no rows.
+// Puts the rows that a walk still gives into a table of no rows.
 fn put_all<I: RowIndex>(table: &mut Table<I>, walk: &mut Walk<'_, '_, I>) -> Result<(), AllocError>
     requires empty { table.old.rows ≡ [] }
     requires once { HasEachOnce walk.old.left }
@@ -37,7 +37,7 @@ fn put_all<I: RowIndex>(table: &mut Table<I>, walk: &mut Walk<'_, '_, I>) -> Res
     Ok(())
 }
 
-/// Puts copies of an index's rows into a table of no rows.
+// Puts copies of an index's rows into a table of no rows.
 pub(crate) fn copy_rows<I: RowIndex>(
     alloc: I::Alloc,
     index: &I,

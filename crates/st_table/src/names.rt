@@ -1,9 +1,9 @@
 //! The keys of a table's rows, by the names of the rows.
 ghost use Rattle.std.specs.Prelude.{◌≡◌, [], ◌∷◌, true, cond, Option, Some, None, IfOk, IfSome, IfNone, OnOk, OnErr};
-ghost use Rattle.st_key.specs.declared.key.Key.{Key as Place};
+ghost use Rattle.st_key.specs.declared.key.Key.{Key as KeyValue};
 ghost use Rattle.st_index.specs.Rows.{Name};
-ghost use Rattle.st_table.specs.Labels.{AreLabelsOf};
-ghost use Rattle.st_table.specs.Names.{joined, is_short, key_at, same_text};
+ghost use Rattle.st_table.specs.inner.Labels.{AreLabelsOf};
+ghost use Rattle.st_table.specs.inner.Names.{joined, is_short, key_at, same_text};
 
 use crate::row_name::{Joined, RowName, join};
 use st_key::Key;
@@ -22,11 +22,11 @@ pub struct KeysByName<A: Allocator> {
 
 impl<A: Allocator> Model for KeysByName<A> {
     ghost use Rattle.std.specs.Prelude.{List};
-    ghost use Rattle.st_key.specs.declared.key.Key.{Key as Place};
+    ghost use Rattle.st_key.specs.declared.key.Key.{Key as KeyValue};
     ghost use Rattle.st_table.specs.declared.row_name.RowName.{RowName as Joined};
-    ghost use Rattle.st_table.specs.Names.{IsRoom, AreShort};
+    ghost use Rattle.st_table.specs.inner.Names.{IsRoom, AreShort};
 
-    ghost Value = { List (Joined A × Place) };
+    ghost Value = { List (Joined A × KeyValue) };
 
     ghost view = { λ m. m.keys.entries };
 
@@ -34,7 +34,7 @@ impl<A: Allocator> Model for KeysByName<A> {
 }
 
 impl<A: Allocator + Copy> KeysByName<A> {
-    /// The map of no name, or an error where there is no memory for its room.
+    /// The map of no name, or an error if memory runs out.
     pub fn new(alloc: A) -> Result<KeysByName<A>, AllocError>
         ensures { IfOk result (λ map. map ≡ []) }
     {
@@ -45,7 +45,7 @@ impl<A: Allocator + Copy> KeysByName<A> {
         })
     }
 
-    /// Puts a key under a name, and gives the one that was there. On a want of memory nothing is changed.
+    /// Puts a key under a name, and gives the one that was there. If memory runs out, nothing is changed.
     pub fn put(&mut self, id: &str, label: &str, key: Key) -> Result<Option<Key>, AllocError>
         requires { is_short (record { id = id.now; label = label.now }) ≡ true }
         ensures old { IfOk result (λ old. old ≡ key_at self.old (record { id = id.now; label = label.now })) }
@@ -106,11 +106,11 @@ pub struct Labels<'a, A: Allocator> {
 
 impl<'a, A: Allocator> Model for Labels<'a, A> {
     ghost use Rattle.std.specs.Prelude.{List};
-    ghost use Rattle.st_key.specs.declared.key.Key.{Key as Place};
+    ghost use Rattle.st_key.specs.declared.key.Key.{Key as KeyValue};
     ghost use Rattle.st_text.specs.Texts.{Text};
-    ghost use Rattle.st_table.specs.Labels.{labels_in};
+    ghost use Rattle.st_table.specs.inner.Labels.{labels_in};
 
-    ghost Value = { List (Text × Place) };
+    ghost Value = { List (Text × KeyValue) };
 
     ghost view = { λ s. labels_in s.beginning.bytes s.names };
 }

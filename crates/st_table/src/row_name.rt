@@ -1,10 +1,9 @@
 //! Names of rows, as a table's map keeps them.
-ghost use Rattle.std.specs.Prelude.{◌≡◌, is_some, IfSome, IfOk, Some, refl};
+ghost use Rattle.std.specs.Prelude.{◌≡◌, is_some, IfSome, IfOk, Some, refl, nat_eq};
 ghost use Rattle.std.specs.Cmp.{on_equiv, on_per, on_po, on_total, partial_equiv_from_equiv};
 ghost use Rattle.std.specs.Cmp.Lexicographic.{pointwise, slice_cmp, nat_list_eq_equiv, nat_list_cmp_total, texts_po, texts_ties};
 ghost use Rattle.std.specs.Ordering.{nat_cmp};
-ghost use Rattle.std.specs.Prelude.{nat_eq};
-ghost use Rattle.st_table.specs.Names.{joined, text_of, is_short, IsRoom};
+ghost use Rattle.st_table.specs.inner.Names.{joined, text_of, is_short, IsRoom};
 
 use arrayvec::ArrayString;
 use st_text::ShortText;
@@ -19,11 +18,11 @@ const MAX_LABEL: usize = 256;
 // The most bytes of a joined name.
 const MAX_JOINED: usize = 1 + MAX_ID + MAX_LABEL;
 
-/// A joined name, which lies in the value itself.
+// A joined name, which lies in the value itself.
 pub(crate) type Joined = ArrayString<MAX_JOINED>;
 
-/// The name as one text: the number of the id's bytes, the id, and the label's text. `None` where a text is longer than that of any
-/// row.
+// The name as one text: the number of the id's bytes, the id, and the label's text. `None` where a text is longer than that of any
+// row.
 pub(crate) fn join(id: &str, label: &str) -> Option<Joined>
     ensures fits { is_some result ≡ is_short (record { id = id.now; label = label.now }) }
     ensures value { IfSome result (λ text. text.bytes ≡ joined (record { id = id.now; label = label.now })) }
@@ -38,7 +37,7 @@ pub(crate) fn join(id: &str, label: &str) -> Option<Joined>
     Some(text)
 }
 
-/// A joined name in the map: a short one lies in the value itself. `Room` holds each name in turn that is looked up.
+// A joined name in the map: a short one lies in the value itself. `Room` holds each name in turn that is looked up.
 #[derive(Drop)]
 pub(crate) enum RowName<A: Allocator> {
     Short(ShortText),
@@ -47,7 +46,7 @@ pub(crate) enum RowName<A: Allocator> {
 }
 
 impl<A: Allocator + Copy> RowName<A> {
-    /// The name with this joined text, or an error where it is long and there is no memory for it.
+    /// The name with this joined text, or an error if it is long and memory runs out.
     pub fn new(alloc: A, text: &str) -> Result<RowName<A>, AllocError>
         ensures { IfOk result (λ name. text_of name ≡ text.now) }
     {
@@ -57,7 +56,7 @@ impl<A: Allocator + Copy> RowName<A> {
         }
     }
 
-    /// Room for any joined name, or an error where there is no memory for it.
+    /// Room for any joined name, or an error if memory runs out.
     pub fn room(alloc: A) -> Result<RowName<A>, AllocError>
         ensures { IfOk result IsRoom }
     {

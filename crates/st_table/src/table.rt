@@ -5,10 +5,11 @@ ghost use Rattle.st_text.specs.Texts.{in_order};
 ghost use Rattle.st_index.specs.Order.{InScanOrder, scan_key};
 ghost use Rattle.st_index.specs.Rows.{name_of};
 ghost use Rattle.st_scan.specs.Grids.{grid_of};
-ghost use Rattle.st_scan.specs.Pages.{IsPage, seen_after};
-ghost use Rattle.st_scan.specs.Seen.{is_visible, seen};
+ghost use Rattle.st_scan.specs.Pages.{IsPage, visible_after};
+ghost use Rattle.st_scan.specs.Visible.{is_visible, visible_rows};
 ghost use Rattle.st_scan.specs.declared.fault.ScanFault.TheVariants.{BadGrid, BadLimit};
-ghost use Rattle.st_table.specs.Table.{HasEachOnce, IsFound, rows_by_label, with_row, without};
+ghost use Rattle.st_table.specs.Table.{HasEachOnce, rows_by_label, with_row, without_named};
+ghost use Rattle.st_table.specs.inner.Found.{IsFound};
 
 use crate::lookup::rows_under;
 use crate::moving::copy_rows;
@@ -31,7 +32,7 @@ pub struct Table<I: RowIndex> {
 
 impl<I: RowIndex> Model for Table<I> {
     ghost use Rattle.st_table.specs.Table.{TableValue};
-    ghost use Rattle.st_table.specs.Names.{IsTied};
+    ghost use Rattle.st_table.specs.inner.Names.{IsTied};
 
     ghost Value = { TableValue I.Alloc };
 
@@ -71,7 +72,7 @@ fn put_at<I: RowIndex>(
 }
 
 impl<I: RowIndex + Drop> Table<I> {
-    /// A table over an index of no rows, or an error where there is no memory for its map of names.
+    /// A table over an index of no rows, or an error if memory runs out.
     pub fn new(alloc: I::Alloc, index: I) -> Result<Table<I>, AllocError>
         requires { I.content index ≡ [] }
         ensures { IfOk result (λ table. table ≡ record { period = I.period_of index; rows = [] }) }
@@ -82,10 +83,11 @@ impl<I: RowIndex + Drop> Table<I> {
         })
     }
 
-    /// Moves the rows into an index of no rows, whose period becomes the table's. On a want of memory nothing is changed.
+    /// Moves the rows into an index of no rows, whose period becomes the table's. If memory runs out, nothing is changed.
     pub fn rebuild(&mut self, index: I) -> Result<(), AllocError>
         requires { I.content index ≡ [] }
-        ensures ok { OnOk result (self.new ≡ record { period = I.period_of index; rows = in_order (scan_key (I.period_of index)) self.old.rows }) }
+        ensures ok { OnOk result (self.new
+            ≡ record { period = I.period_of index; rows = in_order (scan_key (I.period_of index)) self.old.rows }) }
         ensures err { OnErr result (self.new ≡ self.old) }
     {
         let alloc = self.keys.alloc();
@@ -106,7 +108,7 @@ impl<I: RowIndex> Table<I> {
         self.index.period()
     }
 
-    /// Puts a copy of a row in place of the row of its id and its label's text, wherever that one stands. On a want of memory nothing
+    /// Puts a copy of a row in place of the row of its id and its label's text, wherever that one stands. If memory runs out, nothing
     /// is changed.
     pub fn put(&mut self, row: &Row<I::Alloc>) -> Result<(), AllocError>
         ensures ok { OnOk result (self.new ≡ record self.old { rows = with_row self.old.period row.now self.old.rows }) }
@@ -122,7 +124,7 @@ impl<I: RowIndex> Table<I> {
 
     /// Takes out the row of this id and this label's text, if there is one. It takes no memory.
     pub fn delete(&mut self, id: &str, label: &str)
-        ensures { self.new ≡ record self.old { rows = without id.now label.now self.old.rows } }
+        ensures { self.new ≡ record self.old { rows = without_named id.now label.now self.old.rows } }
     {
         let Some(key) = self.keys.take(id, label) else {
             return;
@@ -130,8 +132,7 @@ impl<I: RowIndex> Table<I> {
         let _ = self.index.remove(key, id, label);
     }
 
-    /// The rows of an id whose labels the authorizations satisfy, by the bytes of their labels. An error where there is no memory for
-    /// their list.
+    /// The rows of an id whose labels the authorizations satisfy, by the bytes of their labels. An error if memory runs out.
     pub fn get<B: Allocator>(
         &self,
         id: &str,
@@ -149,7 +150,7 @@ impl<I: RowIndex> Table<I> {
 
     /// How many rows are inside the query and have a label that the authorizations satisfy.
     pub fn count<B: Allocator>(&self, query: &Query, auths: &Auths<B>) -> u64
-        ensures { result ≡ length (seen query.now auths.now self.now.rows) }
+        ensures { result ≡ length (visible_rows query.now auths.now self.now.rows) }
     {
         st_scan::count(self.keys.alloc(), &self.index, query, auths)
     }
@@ -165,7 +166,7 @@ impl<I: RowIndex> Table<I> {
         limit: usize,
     ) -> Result<Page<'_, I::Alloc>, ScanFault>
         ensures page { IfOk result
-            (λ page. IsPage limit (seen_after self.now.period query.now auths.now (option_copied after.entry) self.now.rows)
+            (λ page. IsPage limit (visible_after self.now.period query.now auths.now (option_copied after.entry) self.now.rows)
             (map (λ row. row.now) page.rows.items) page.more) }
         ensures limit { IsOk result → (1 ≤ limit) × (limit ≤ 1000) }
         ensures bad_limit { IfErr result (λ fault. fault ≡ BadLimit ↔ ((limit ≡ 0) ⊎ (1000 < limit))) }
@@ -183,7 +184,7 @@ impl<I: RowIndex> Table<I> {
         columns: usize,
         lines: usize,
     ) -> Result<Vec<u64, I::Alloc>, ScanFault>
-        ensures grid { IfOk result (λ grid. grid.items ≡ grid_of query.now columns lines (seen query.now auths.now self.now.rows)) }
+        ensures grid { IfOk result (λ grid. grid.items ≡ grid_of query.now columns lines (visible_rows query.now auths.now self.now.rows)) }
         ensures columns { IsOk result → (1 ≤ columns) × (columns ≤ 32) }
         ensures lines { IsOk result → (1 ≤ lines) × (lines ≤ 32) }
         ensures bad_grid { IfErr result (λ fault. fault ≡ BadGrid ↔ ((columns ≡ 0) ⊎ (32 < columns) ⊎ (lines ≡ 0) ⊎ (32 < lines))) }

@@ -4,9 +4,10 @@ use Rattle.std.proofs.lemmas.List.Elements.{All-cons, All-weaker}
 use Rattle.std.specs.List.{All}
 use Rattle.st_ubtree.specs.declared.node.Kids.{Kids}
 use Rattle.st_ubtree.specs.declared.node.Kids.TheVariants.{Page, Inner}
-use Rattle.st_ubtree.specs.Nodes.{IsNode, pages_under, width_of, widths_under}
-use Rattle.st_ubtree.specs.Pages.{PageValue, IsFilled, IsWide, pages_of}
-use Rattle.st_ubtree.specs.Trading.{AreFilled}
+use Rattle.st_ubtree.specs.inner.Nodes.{IsNode, pages_under, width_of, widths_under}
+use Rattle.st_ubtree.specs.Pages.{PageValue, IsFilled, IsWide}
+use Rattle.st_ubtree.specs.inner.Kids.{pages_of}
+use Rattle.st_ubtree.specs.Pages.{AreFilled}
 use Rattle.st_ubtree.proofs.Settling.{kids_wide}
 use Rattle.st_ubtree.proofs.Splitting.{page}
 

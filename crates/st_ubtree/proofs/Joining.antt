@@ -6,9 +6,11 @@ use Rattle.std.specs.List.{All}
 use Rattle.st_index.specs.Rows.{EntryValue, Rises, rows_of}
 use Rattle.st_index.proofs.Climbing.{all_left}
 use Rattle.st_index.proofs.Rising.{rises_around, rises_bounds, rises_join}
-use Rattle.st_ubtree.specs.Nodes.{IsInner, inner_node, page_node}
-use Rattle.st_ubtree.specs.Pages.{PageValue, NodeValue, HeadAt, IsKid, Spans, pages_of, rows_in}
-use Rattle.st_ubtree.specs.Shrinking.{IsNodeOf, IsPageOf, IsKidBeside, Joins, KidsJoin, PagesJoin, Reshapes, pages_beside}
+use Rattle.st_ubtree.specs.inner.Nodes.{IsInnerNode, inner_node}
+use Rattle.st_ubtree.specs.Pages.{page_node}
+use Rattle.st_ubtree.specs.Pages.{PageValue, NodeValue, rows_of_pages}
+use Rattle.st_ubtree.specs.inner.Kids.{HeadAt, IsKid, Spans, pages_of}
+use Rattle.st_ubtree.specs.inner.Shrinking.{IsNodeOf, IsPageOf, IsKidBeside, Joins, KidsJoin, PagesJoin, Reshapes, pages_beside}
 use Rattle.st_ubtree.proofs.Inside.{rows_three}
 use Rattle.st_ubtree.proofs.Settling.{kids_start, kids_wide}
 use Rattle.st_ubtree.proofs.Spanning.{pages-append, spans_cut, spans_join}
@@ -23,18 +25,18 @@ held_both v w one two is other both = omega (arith, v.ok.0, w.ok.0, is, other, b
 
 module _ {A : Type 0} where
   pub reshapes_same : (old new : List (PageValue A)) → new ≡ old → Reshapes old new
-  reshapes_same old new e = record { rows = ap rows_in e; spans = λ period lo hi h. subst (Spans period lo hi) (sym e) h }
+  reshapes_same old new e = record { rows = ap rows_of_pages e; spans = λ period lo hi h. subst (Spans period lo hi) (sym e) h }
 
   pub reshapes_inside : (front old new back : List (PageValue A)) → Reshapes old new → Reshapes (front ++ (old ++ back)) (front ++ (new ++ back))
   reshapes_inside front old new back r = record {
-    rows = rows_three front new back ∙ ap (λ t. rows_in front ++ (t ++ rows_in back)) r.rows ∙ sym (rows_three front old back);
+    rows = rows_three front new back ∙ ap (λ t. rows_of_pages front ++ (t ++ rows_of_pages back)) r.rows ∙ sym (rows_three front old back);
     spans = λ period lo hi h.
         let c = spans_cut period lo hi front (old ++ back) h in
         let d = spans_cut period c.at hi old back c.high in
         spans_join period lo c.at hi front (new ++ back) c.low (spans_join period c.at d.at hi new back (r.spans period c.at d.at d.low) d.high);
   }
 
-  two_pages : (first second : ℕ) (es fs : List (EntryValue A)) → rows_in (page first es ∷ page second fs ∷ []) ≡ rows_of (es ++ fs)
+  two_pages : (first second : ℕ) (es fs : List (EntryValue A)) → rows_of_pages (page first es ∷ page second fs ∷ []) ≡ rows_of (es ++ fs)
   two_pages first second es fs = ap rows_of (ap (λ t. es ++ t) (append-nil fs))
 
   pages_shape : (old right new : List (EntryValue A)) (r : Option (NodeValue A)) → PagesJoin old right new r → (first second : ℕ) → Reshapes (page first old ∷ page second right ∷ []) (page first new ∷ pages_beside r)
@@ -57,7 +59,7 @@ module _ {A : Type 0} where
       let rest_is = j.beside.1.2 in
       let beside = j.beside.1.3 in
       record {
-        rows = ap (λ ps. rows_in (page first new ∷ ps)) beside ∙ two_pages first e.at new j.rest ∙ ap rows_of j.kept ∙ sym (two_pages first second old right);
+        rows = ap (λ ps. rows_of_pages (page first new ∷ ps)) beside ∙ two_pages first e.at new j.rest ∙ ap rows_of j.kept ∙ sym (two_pages first second old right);
         spans = λ period lo hi h.
             let mid = h.1.0 in
             let last = h.1.3.1.0 in
@@ -114,7 +116,7 @@ module _ {A : Type 0} where
             (ap (λ ps. pages_of new ++ ps) (kids_beside height j.rest r j.beside) ∙ sym (pages-append new j.rest) ∙ ap pages_of j.kept ∙ pages-append old right ∙ ap (λ ps. pages_of old ++ ps) (sym is));
       }
 
-  pub both_kids : (first second height other : ℕ) (old right : List (NodeValue A)) (room more : ℕ) → other ≡ height → (a : IsInner first height old room) → IsInner second other right more → All (IsKid a.below) (old ++ right)
+  pub both_kids : (first second height other : ℕ) (old right : List (NodeValue A)) (room more : ℕ) → other ≡ height → (a : IsInnerNode first height old room) → IsInnerNode second other right more → All (IsKid a.below) (old ++ right)
   both_kids first second height other old right room more e a b =
       let h = a.higher in
       let k = b.higher in

@@ -4,25 +4,28 @@ use Rattle.std.proofs.lemmas.List.Elements.{All-head, All-tail}
 use Rattle.std.specs.List.{All, Contains}
 use Rattle.st_key.specs.declared.period.Period.{Period}
 use Rattle.st_index.specs.declared.row.Row.{Row}
-use Rattle.st_index.specs.Rows.{EntryValue, Name, Rises, key_end, name_of, place_of, rows_of}
+use Rattle.st_index.specs.Rows.{EntryValue, Name, Rises, key_end, name_of, rank_of, rows_of}
 use Rattle.st_index.specs.Index.{Follow, IsAbsent, IsLawful, IsLeafAt, Region, region}
 use Rattle.st_index.proofs.Listing.{adds_length, swaps_length}
-use Rattle.st_ubtree.specs.Shrinking.{DropsFrom}
+use Rattle.st_ubtree.specs.inner.Shrinking.{DropsFrom}
 use Rattle.st_index.proofs.Rising.{rises_join}
 use Rattle.st_index.proofs.Scanning.{scan_rises}
-use Rattle.st_ubtree.specs.Growing.{IsLeafIn}
-use Rattle.st_ubtree.specs.Pages.{GrowsBy, PageValue, NodeValue, IsFilled, Spans, entries_in, rows_in}
-use Rattle.st_ubtree.specs.Trading.{AreFilled, TradesIn}
-use Rattle.st_ubtree.specs.Trees.{IsTree, regions_of}
+use Rattle.st_ubtree.specs.inner.Growing.{IsLeafIn}
+use Rattle.st_ubtree.specs.Pages.{PageValue, NodeValue, IsFilled, entries_of_pages, rows_of_pages}
+use Rattle.st_ubtree.specs.inner.Kids.{GrowsBy, Spans}
+use Rattle.st_ubtree.specs.inner.Trading.{TradesIn}
+use Rattle.st_ubtree.specs.Pages.{AreFilled}
+use Rattle.st_ubtree.specs.Trees.{regions_of}
+use Rattle.st_ubtree.specs.inner.Tree.{IsTree}
 use Rattle.st_ubtree.proofs.Inside.{rows_join, rows_three}
 use Rattle.st_ubtree.proofs.Shrinking.{page_rows_below, page_rows_from}
 use Rattle.st_ubtree.proofs.Spanning.{spans_bounds}
 use Rattle.st_ubtree.proofs.Splitting.{one_rows, page}
 
 module _ {A : Type 0} (period : Period) where
-  pub spans_rise : (lo hi : ℕ) (ps : List (PageValue A)) → Spans period lo hi ps → Rises period lo hi (entries_in ps)
+  pub spans_rise : (lo hi : ℕ) (ps : List (PageValue A)) → Spans period lo hi ps → Rises period lo hi (entries_of_pages ps)
   spans_rise lo hi [] h = omega (arith, h)
-  spans_rise lo hi (p ∷ ps) h = rises_join period lo h.1.0 hi p.entries (entries_in ps) h.1.2 (spans_rise h.1.0 hi ps h.1.3)
+  spans_rise lo hi (p ∷ ps) h = rises_join period lo h.1.0 hi p.entries (entries_of_pages ps) h.1.2 (spans_rise h.1.0 hi ps h.1.3)
 
   pub spans_follow : (lo hi : ℕ) (ps : List (PageValue A)) → Spans period lo hi ps → Follow lo hi (regions_of hi ps)
   spans_follow lo hi [] h = h
@@ -46,13 +49,13 @@ module _ {A : Type 0} (period : Period) where
           let c = ap length is in
           omega (arith, a, b, c)
 
-  pages_rows : (lo hi : ℕ) (ps : List (PageValue A)) → Spans period lo hi ps → All IsFilled ps → length ps ≤ length (rows_in ps)
+  pages_rows : (lo hi : ℕ) (ps : List (PageValue A)) → Spans period lo hi ps → All IsFilled ps → length ps ≤ length (rows_of_pages ps)
   pages_rows lo hi [] h f = omega arith
   pages_rows lo hi (p ∷ ps) h f =
       let a = pages_rows h.1.0 hi ps h.1.3 (All-tail IsFilled p ps f) in
       let b = entries_rows lo h.1.0 p.entries h.1.2 in
       let c = (All-head IsFilled p ps f).not_less in
-      let d = ap length (rows_join (p ∷ []) ps ∙ ap (λ t. t ++ rows_in ps) (one_rows p.first p.entries)) ∙ length-append (rows_of p.entries) (rows_in ps) in
+      let d = ap length (rows_join (p ∷ []) ps ∙ ap (λ t. t ++ rows_of_pages ps) (one_rows p.first p.entries)) ∙ length-append (rows_of p.entries) (rows_of_pages ps) in
       omega (arith, a, b, c, d)
 
 regions_length : {A : Type 0} (hi : ℕ) (ps : List (PageValue A)) → length (regions_of hi ps) ≡ length ps
@@ -61,7 +64,7 @@ regions_length hi (p ∷ []) = refl
 regions_length hi (p ∷ q ∷ ps) = ap suc (regions_length hi (q ∷ ps))
 
 module _ {A : Type 0} (period : Period) where
-  few_regions : (hi : ℕ) (ps : List (PageValue A)) → Spans period 0 hi ps → AreFilled ps → length (rows_in ps) < 2 ^ 64 → length (regions_of hi ps) < 2 ^ 64
+  few_regions : (hi : ℕ) (ps : List (PageValue A)) → Spans period 0 hi ps → AreFilled ps → length (rows_of_pages ps) < 2 ^ 64 → length (regions_of hi ps) < 2 ^ 64
   few_regions hi [] s f n = omega arith
   few_regions hi (p ∷ []) s f n = omega arith
   few_regions hi (p ∷ q ∷ ps) s f n =
@@ -69,15 +72,15 @@ module _ {A : Type 0} (period : Period) where
       let b = regions_length hi (p ∷ q ∷ ps) in
       omega (arith, a, b, n)
 
-  pub lawful_pages : (ps : List (PageValue A)) → Spans period 0 (key_end period) ps → AreFilled ps → length (rows_in ps) < 2 ^ 64 → IsLawful period (rows_in ps) (regions_of (key_end period) ps)
+  pub lawful_pages : (ps : List (PageValue A)) → Spans period 0 (key_end period) ps → AreFilled ps → length (rows_of_pages ps) < 2 ^ 64 → IsLawful period (rows_of_pages ps) (regions_of (key_end period) ps)
   lawful_pages ps s f n = record {
-    in_order = scan_rises period 0 (key_end period) (entries_in ps) (spans_rise period 0 (key_end period) ps s);
+    in_order = scan_rises period 0 (key_end period) (entries_of_pages ps) (spans_rise period 0 (key_end period) ps s);
     count = n;
     follow = spans_follow period 0 (key_end period) ps s;
     regions_count = few_regions (key_end period) ps s f n;
   }
 
-  pub lawful_tree : (root : NodeValue A) (len : ℕ) → IsTree period root len → IsLawful period (rows_in root.pages) (regions_of (key_end period) root.pages)
+  pub lawful_tree : (root : NodeValue A) (len : ℕ) → IsTree period root len → IsLawful period (rows_of_pages root.pages) (regions_of (key_end period) root.pages)
   lawful_tree root len t = let a = t.counted in let b = t.most in lawful_pages root.pages t.spans t.filled (omega (arith, a, b))
 
   -- the region of a page among others
@@ -91,7 +94,7 @@ module _ {A : Type 0} (period : Period) where
   regions_longer hi xs p ys = let a = regions_length hi (xs ++ p ∷ ys) in let b = length-append xs (p ∷ ys) in omega (arith, a, b)
 
   module _ (key end first last : ℕ) (pages : List (PageValue A)) (entries : List (EntryValue A)) (h : IsLeafIn key pages end first last entries) (s : Spans period 0 (key_end period) pages) (e : end + 1 ≡ key_end period) (below : key < key_end period) where
-    pub leaf_at_key : IsLeafAt period key (rows_in pages) (region first last) entries
+    pub leaf_at_key : IsLeafAt period key (rows_of_pages pages) (region first last) entries
     leaf_at_key =
         let hi = key_end period in
         let low = page_rows_below period 0 first h.before (h.low period 0 hi s) in
@@ -101,9 +104,9 @@ module _ {A : Type 0} (period : Period) where
           from = h.from period 0 hi s (omega arith);
           to = h.to period 0 hi s e below;
           within = omega (arith, b);
-          before = rows_in h.before;
-          after = rows_in h.after;
-          parts = ap rows_in h.is ∙ rows_three h.before (page first entries ∷ []) h.after ∙ ap (λ t. rows_in h.before ++ (t ++ rows_in h.after)) (one_rows first entries);
+          before = rows_of_pages h.before;
+          after = rows_of_pages h.after;
+          parts = ap rows_of_pages h.is ∙ rows_three h.before (page first entries ∷ []) h.after ∙ ap (λ t. rows_of_pages h.before ++ (t ++ rows_of_pages h.after)) (one_rows first entries);
           earlier = low;
           later = λ k d l. let a = high k d l in omega (arith, a);
           rising = (h.inside period 0 hi s e).1;
@@ -117,27 +120,27 @@ module _ {A : Type 0} (period : Period) where
         (length h.before, regions_longer hi h.before (page first entries) h.after, region_at 0 hi h.before (page first entries) h.after last (region first last) l (h.high period 0 hi s e))
 
   -- no row stands past the last page
-  pub absent_past : (key hi : ℕ) (name : Name) (ps : List (PageValue A)) → Spans period 0 hi ps → hi ≤ key → IsAbsent period key name (rows_in ps)
+  pub absent_past : (key hi : ℕ) (name : Name) (ps : List (PageValue A)) → Spans period 0 hi ps → hi ≤ key → IsAbsent period key name (rows_of_pages ps)
   absent_past key hi name ps s past = λ k d l at named. let low = page_rows_below period 0 hi ps s k d l in omega (arith, low, at, past)
 
   -- a tree that changes
 
   module _ (key : ℕ) (row : Row A) (old new : NodeValue A) (len : ℕ) (t : IsTree period old len) (wide : 1 ≤ new.height → 2 ≤ new.width) (filled : AreFilled new.pages) where
-    pub tree_grows : GrowsBy key row old.pages new.pages → key ≡ place_of period row → key < key_end period → IsAbsent period key (name_of row) (rows_in old.pages) → length (rows_in old.pages) + 1 < 2 ^ 64 → IsTree period new (len + 1)
+    pub tree_grows : GrowsBy key row old.pages new.pages → key ≡ rank_of period row → key < key_end period → IsAbsent period key (name_of row) (rows_of_pages old.pages) → length (rows_of_pages old.pages) + 1 < 2 ^ 64 → IsTree period new (len + 1)
     tree_grows g at below absent count =
-        let more = adds_length row (rows_in old.pages) (rows_in new.pages) g.adds in
+        let more = adds_length row (rows_of_pages old.pages) (rows_of_pages new.pages) g.adds in
         let n = t.counted in
         record { spans = g.spans period 0 (key_end period) at t.spans (omega arith) below absent; filled = filled; wide = wide; counted = omega (arith, more, n); most = omega (arith, n, count) }
 
     pub tree_shrinks : DropsFrom key row old.pages new.pages → IsTree period new (len - 1)
     tree_shrinks d =
-        let less = adds_length row (rows_in new.pages) (rows_in old.pages) d.adds in
+        let less = adds_length row (rows_of_pages new.pages) (rows_of_pages old.pages) d.adds in
         let n = t.counted in
         let m = t.most in
         record { spans = d.spans period 0 (key_end period) t.spans; filled = filled; wide = wide; counted = omega (arith, less, n); most = omega (arith, m) }
 
-    pub tree_trades : (out : Row A) → TradesIn key out row old.pages new.pages → key ≡ place_of period row → IsTree period new len
+    pub tree_trades : (out : Row A) → TradesIn key out row old.pages new.pages → key ≡ rank_of period row → IsTree period new len
     tree_trades out d at =
-        let same = swaps_length out row (rows_in old.pages) (rows_in new.pages) d.swaps in
+        let same = swaps_length out row (rows_of_pages old.pages) (rows_of_pages new.pages) d.swaps in
         let n = t.counted in
         record { spans = d.spans period 0 (key_end period) at t.spans; filled = filled; wide = wide; counted = omega (arith, same, n); most = t.most }

@@ -4,8 +4,9 @@ use Rattle.std.proofs.lemmas.List.{drop_all}
 use Rattle.std.specs.List.{All}
 use Rattle.std.specs.List.Sorted.{IsPartitionedBy, IsPartitionPoint}
 use Rattle.st_index.specs.Rows.{EntryValue, Rises}
-use Rattle.st_ubtree.specs.Pages.{NodeValue, Spans, IsKid, pages_of}
-use Rattle.st_ubtree.specs.Growing.{IsLeafIn}
+use Rattle.st_ubtree.specs.Pages.{NodeValue}
+use Rattle.st_ubtree.specs.inner.Kids.{Spans, IsKid, pages_of}
+use Rattle.st_ubtree.specs.inner.Growing.{IsLeafIn}
 use Rattle.st_ubtree.proofs.Spanning.{Found, found_kid, pages_split, spans_join}
 use Rattle.st_key.specs.declared.period.Period.{Period}
 

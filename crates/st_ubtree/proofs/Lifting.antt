@@ -9,9 +9,10 @@ use Rattle.st_index.specs.declared.row.Row.{Row}
 use Rattle.st_index.specs.Rows.{EntryValue}
 use Rattle.st_index.proofs.Climbing.{all_left, all_right}
 use Rattle.st_index.proofs.Putting.{split_read}
-use Rattle.st_ubtree.specs.Pages.{NodeValue, GrowsBy, HeadAt, IsKid, entries_in, pages_of}
-use Rattle.st_ubtree.specs.Growing.{Grows, IsRoomFor, Settles}
-use Rattle.st_ubtree.specs.Nodes.{IsInner, inner_node}
+use Rattle.st_ubtree.specs.Pages.{NodeValue, entries_of_pages}
+use Rattle.st_ubtree.specs.inner.Kids.{GrowsBy, HeadAt, IsKid, pages_of}
+use Rattle.st_ubtree.specs.inner.Growing.{Grows, IsRoomFor, Settles}
+use Rattle.st_ubtree.specs.inner.Nodes.{IsInnerNode, inner_node}
 use Rattle.st_ubtree.proofs.Spanning.{entries-append, pages-append, pages_split}
 use Rattle.st_ubtree.proofs.Inside.{kid_grows}
 use Rattle.st_ubtree.proofs.Settling.{kids_start, kids_wide}
@@ -58,15 +59,15 @@ module _ {A : Type 0} where
     pub that_kid : IsKid below kid
     that_kid = subst (IsKid below) (sym read) (each i kid l)
 
-  pub room_for_kid : (key : ℕ) (items : List (Row A)) (capacity : ℕ) (kids : List (NodeValue A)) (i : ℕ) (kid : NodeValue A) → i < length kids → kid ≡ get_or kids i kid → IsRoomFor key items capacity (entries_in (pages_of kids)) → IsRoomFor key items capacity (entries_in kid.pages)
+  pub room_for_kid : (key : ℕ) (items : List (Row A)) (capacity : ℕ) (kids : List (NodeValue A)) (i : ℕ) (kid : NodeValue A) → i < length kids → kid ≡ get_or kids i kid → IsRoomFor key items capacity (entries_of_pages (pages_of kids)) → IsRoomFor key items capacity (entries_of_pages kid.pages)
   room_for_kid key items capacity kids i kid l read h =
       let P : EntryValue A → Type 0 = λ e. e.at ≡ key → 0 < length e.rows → length e.rows < capacity in
       let front = pages_of (take i kids) in
       let back = pages_of (drop (suc i) kids) in
-      let is = ap entries_in (pages_split kids i kid l read) ∙ entries-append front (kid.pages ++ back) ∙ ap (λ es. entries_in front ++ es) (entries-append kid.pages back) in
+      let is = ap entries_of_pages (pages_split kids i kid l read) ∙ entries-append front (kid.pages ++ back) ∙ ap (λ es. entries_of_pages front ++ es) (entries-append kid.pages back) in
       record {
         empty = h.empty;
-        enough = all_left P (entries_in kid.pages) (entries_in back) (all_right P (entries_in front) (entries_in kid.pages ++ entries_in back) (subst (All P) is h.enough));
+        enough = all_left P (entries_of_pages kid.pages) (entries_of_pages back) (all_right P (entries_of_pages front) (entries_of_pages kid.pages ++ entries_of_pages back) (subst (All P) is h.enough));
       }
 
   pub alone : (below : ℕ) (v : NodeValue A) → IsKid below v → All (IsKid below) (v ∷ [])
@@ -153,7 +154,7 @@ module _ {A : Type 0} where
   settled_split height all new None P t f = tt
   settled_split height all new (Some w) P t f = f t.4
 
-  pub settled_inner : (below first height : ℕ) (all new : List (NodeValue A)) (capacity : ℕ) (r : Option (NodeValue A)) → height ≡ below + 1 → All (IsKid below) all → HeadAt first all → 1 ≤ length all → 33 ≤ capacity → Settles height all new r → IsInner first height new capacity
+  pub settled_inner : (below first height : ℕ) (all new : List (NodeValue A)) (capacity : ℕ) (r : Option (NodeValue A)) → height ≡ below + 1 → All (IsKid below) all → HeadAt first all → 1 ≤ length all → 33 ≤ capacity → Settles height all new r → IsInnerNode first height new capacity
   settled_inner below first height all new capacity None h each head some room t = record {
     below = below;
     higher = h;

@@ -8,10 +8,11 @@ use Rattle.std.specs.List.Sorted.{IsPartitionedBy, IsPartitionPoint}
 use Rattle.st_key.specs.declared.period.Period.{Period}
 use Rattle.st_index.specs.Rows.{EntryValue, Rises}
 use Rattle.st_index.proofs.Rising.{rises_bounds, rises_all}
-use Rattle.st_ubtree.specs.Growing.{AreAround, DoRise}
-use Rattle.st_ubtree.specs.Pages.{PageValue, NodeValue, IsKid, Spans, entries_in, pages_of}
-use Rattle.st_ubtree.specs.Nodes.{page_node}
-use Rattle.st_ubtree.specs.Splits.{chains_of, chains_over, has_key, made_nodes, splits, splits_in, splits_page, splits_with}
+use Rattle.st_ubtree.specs.inner.Growing.{AreAround, DoRise}
+use Rattle.st_ubtree.specs.Pages.{PageValue, NodeValue, entries_of_pages}
+use Rattle.st_ubtree.specs.inner.Kids.{IsKid, Spans, pages_of}
+use Rattle.st_ubtree.specs.Pages.{page_node}
+use Rattle.st_ubtree.specs.inner.Splits.{chains_of, chains_over, has_key, made_nodes, splits, splits_in, splits_page, splits_with}
 use Rattle.st_ubtree.proofs.Settling.{chains_length}
 use Rattle.st_index.proofs.Climbing.{all_left, all_right}
 use Rattle.st_index.proofs.Putting.{split_read}
@@ -125,19 +126,19 @@ module _ {A : Type 0} where
   rises_below period lo hi [] h = λ k d l. absurd (omega (arith, l))
   rises_below period lo hi (e ∷ es) h = let b = rises_bounds period (e.at + 1) hi es h.2 in All-cons (λ (f : EntryValue A). f.at < hi) e es (omega (arith, b)) (rises_below period (e.at + 1) hi es h.2)
 
-  pub entries_below : (period : Period) (lo hi : ℕ) (ps : List (PageValue A)) → Spans period lo hi ps → All (λ (e : EntryValue A). e.at < hi) (entries_in ps)
+  pub entries_below : (period : Period) (lo hi : ℕ) (ps : List (PageValue A)) → Spans period lo hi ps → All (λ (e : EntryValue A). e.at < hi) (entries_of_pages ps)
   entries_below period lo hi [] h = λ k d l. absurd (omega (arith, l))
   entries_below period lo hi (p ∷ ps) h =
       let b = spans_bounds period h.1.0 hi ps h.1.3 in
       let low = rises_below period lo h.1.0 p.entries h.1.2 in
-      All-append (λ (e : EntryValue A). e.at < hi) p.entries (entries_in ps) (λ k d l. let a = low k d l in omega (arith, a, b)) (entries_below period h.1.0 hi ps h.1.3)
+      All-append (λ (e : EntryValue A). e.at < hi) p.entries (entries_of_pages ps) (λ k d l. let a = low k d l in omega (arith, a, b)) (entries_below period h.1.0 hi ps h.1.3)
 
-  pub entries_from : (period : Period) (lo hi : ℕ) (ps : List (PageValue A)) → Spans period lo hi ps → All (λ (e : EntryValue A). lo ≤ e.at) (entries_in ps)
+  pub entries_from : (period : Period) (lo hi : ℕ) (ps : List (PageValue A)) → Spans period lo hi ps → All (λ (e : EntryValue A). lo ≤ e.at) (entries_of_pages ps)
   entries_from period lo hi [] h = λ k d l. absurd (omega (arith, l))
   entries_from period lo hi (p ∷ ps) h =
       let wide = h.1.1 in
       let rest = entries_from period h.1.0 hi ps h.1.3 in
-      All-append (λ (e : EntryValue A). lo ≤ e.at) p.entries (entries_in ps) (rises_all period lo h.1.0 p.entries h.1.2) (λ k d l. let a = rest k d l in omega (arith, a, wide))
+      All-append (λ (e : EntryValue A). lo ≤ e.at) p.entries (entries_of_pages ps) (rises_all period lo h.1.0 p.entries h.1.2) (λ k d l. let a = rest k d l in omega (arith, a, wide))
 
   -- a node over the child that a search finds
 
@@ -162,7 +163,7 @@ module _ {A : Type 0} where
         ∙ mid_splits o.period key o.lo there.a there.b o.hi (pages_of front) kid.pages (pages_of back) (chains_over w front) (map (splits_with w kid.height) kid.chains) (chains_over w back) there.low there.mid there.high (there.from o.from) (there.to o.to) (chains_length w below front (all_left (IsKid below) front (kid ∷ back) all)) same
         ∙ lift_splits w kid.height key kid.pages kid.chains kid_is.starts.1
 
-    pub kid_rows : (r : ℕ) → All (λ (e : EntryValue A). e.at ≡ key → length e.rows ≡ r) (entries_in kid.pages) → All (λ (e : EntryValue A). e.at ≡ key → length e.rows ≡ r) (entries_in (pages_of kids))
+    pub kid_rows : (r : ℕ) → All (λ (e : EntryValue A). e.at ≡ key → length e.rows ≡ r) (entries_of_pages kid.pages) → All (λ (e : EntryValue A). e.at ≡ key → length e.rows ≡ r) (entries_of_pages (pages_of kids))
     kid_rows r h =
         let P : EntryValue A → Type 0 = λ e. e.at ≡ key → length e.rows ≡ r in
         let front = pages_of (take i kids) in
@@ -171,19 +172,19 @@ module _ {A : Type 0} where
         let to = there.to o.to in
         let low = entries_below o.period o.lo there.a front there.low in
         let high = entries_from o.period there.b o.hi back there.high in
-        let split = ap entries_in (pages_split kids i kid l read) ∙ entries-append front (kid.pages ++ back) ∙ ap (λ es. entries_in front ++ es) (entries-append kid.pages back) in
+        let split = ap entries_of_pages (pages_split kids i kid l read) ∙ entries-append front (kid.pages ++ back) ∙ ap (λ es. entries_of_pages front ++ es) (entries-append kid.pages back) in
         subst (All P) (sym split)
-        (All-append P (entries_in front) (entries_in kid.pages ++ entries_in back) (λ k d m e. let a = low k d m in absurd (omega (arith, a, e, from)))
-        (All-append P (entries_in kid.pages) (entries_in back) h (λ k d m e. let a = high k d m in absurd (omega (arith, a, e, to)))))
+        (All-append P (entries_of_pages front) (entries_of_pages kid.pages ++ entries_of_pages back) (λ k d m e. let a = low k d m in absurd (omega (arith, a, e, from)))
+        (All-append P (entries_of_pages kid.pages) (entries_of_pages back) h (λ k d m e. let a = high k d m in absurd (omega (arith, a, e, to)))))
 
     -- a key that has no entry under a node has none under the child
-    pub kid_none : All (λ (e : EntryValue A). e.at ≡ key → ⊥) (entries_in (pages_of kids)) → All (λ (e : EntryValue A). e.at ≡ key → ⊥) (entries_in kid.pages)
+    pub kid_none : All (λ (e : EntryValue A). e.at ≡ key → ⊥) (entries_of_pages (pages_of kids)) → All (λ (e : EntryValue A). e.at ≡ key → ⊥) (entries_of_pages kid.pages)
     kid_none h =
         let P : EntryValue A → Type 0 = λ e. e.at ≡ key → ⊥ in
         let front = pages_of (take i kids) in
         let back = pages_of (drop (suc i) kids) in
-        let split = ap entries_in (pages_split kids i kid l read) ∙ entries-append front (kid.pages ++ back) ∙ ap (λ es. entries_in front ++ es) (entries-append kid.pages back) in
-        all_left P (entries_in kid.pages) (entries_in back) (all_right P (entries_in front) (entries_in kid.pages ++ entries_in back) (subst (All P) split h))
+        let split = ap entries_of_pages (pages_split kids i kid l read) ∙ entries-append front (kid.pages ++ back) ∙ ap (λ es. entries_of_pages front ++ es) (entries-append kid.pages back) in
+        all_left P (entries_of_pages kid.pages) (entries_of_pages back) (all_right P (entries_of_pages front) (entries_of_pages kid.pages ++ entries_of_pages back) (subst (All P) split h))
 
 pub with_full : (width height split : ℕ) → 32 ≤ width → split ≡ height + 1 → splits_with width height split ≡ split + 1
 with_full width height split l e = ap (λ b. if b then split else if eqb split (height + 1) then split + 1 else split) (le-ltb width 32 l) ∙ ap (λ b. if b then split + 1 else split) (eq-eqb split (height + 1) e)

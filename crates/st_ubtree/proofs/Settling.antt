@@ -4,9 +4,10 @@ use Rattle.std.proofs.lemmas.List.{length-map}
 use Rattle.std.proofs.lemmas.List.Elements.{All-append, All-cons, All-head, All-tail}
 use Rattle.std.specs.List.{All}
 use Rattle.st_index.proofs.Climbing.{all_left, all_right}
-use Rattle.st_ubtree.specs.Pages.{PageValue, NodeValue, AreWide, IsFilled, IsKid, IsWide, Starts, StartsAt, HeadAt, pages_of, widths_of}
-use Rattle.st_ubtree.specs.Splits.{chains_of, chains_over, splits_with}
-use Rattle.st_ubtree.specs.Growing.{AreBlank}
+use Rattle.st_ubtree.specs.Pages.{PageValue, NodeValue, IsFilled, IsWide}
+use Rattle.st_ubtree.specs.inner.Kids.{AreWide, IsKid, Starts, StartsAt, HeadAt, pages_of, widths_of}
+use Rattle.st_ubtree.specs.inner.Splits.{chains_of, chains_over, splits_with}
+use Rattle.st_ubtree.specs.inner.Growing.{AreBlank}
 
 pub blank_last : {A B : Type 0} → (vs : List (Vec B A)) (v : Vec B A) → AreBlank (vs ++ v ∷ []) → AreBlank vs × ((v.items ≡ []) × (33 ≤ vec_capacity v))
 blank_last {A} {B} vs v h =

@@ -7,14 +7,16 @@ use Rattle.std.specs.Prelude.{IfSome, IfNone}
 use Rattle.std.specs.List.Sorted.{IsPartitionedBy, IsPartitionPoint}
 use Rattle.st_key.specs.declared.period.Period.{Period}
 use Rattle.st_index.specs.declared.row.Row.{Row}
-use Rattle.st_index.specs.Rows.{EntryValue, Name, Rises, name_of, place_of, rows_of}
+use Rattle.st_index.specs.Rows.{EntryValue, Name, Rises, name_of, rank_of, rows_of}
 use Rattle.st_index.specs.Index.{Adds, IsAbsent}
 use Rattle.st_index.proofs.Climbing.{all_left, all_right}
 use Rattle.st_index.proofs.Putting.{adds_inside, split_read}
 use Rattle.st_index.proofs.Taking.{absent_high, absent_join, absent_low, rows_below, rows_from}
-use Rattle.st_ubtree.specs.Nodes.{IsInner, inner_node, page_node}
-use Rattle.st_ubtree.specs.Pages.{PageValue, NodeValue, HeadAt, IsKid, Spans, pages_of, rows_in}
-use Rattle.st_ubtree.specs.Shrinking.{AreWorn, DropsFrom, HasNone, IsWorn, Mends, Reshapes, Shrinks}
+use Rattle.st_ubtree.specs.inner.Nodes.{IsInnerNode, inner_node}
+use Rattle.st_ubtree.specs.Pages.{page_node}
+use Rattle.st_ubtree.specs.Pages.{PageValue, NodeValue, rows_of_pages}
+use Rattle.st_ubtree.specs.inner.Kids.{HeadAt, IsKid, Spans, pages_of}
+use Rattle.st_ubtree.specs.inner.Shrinking.{AreWorn, DropsFrom, HasNone, IsWorn, Mends, Reshapes, Shrinks}
 use Rattle.st_ubtree.proofs.Inside.{rows_join, rows_three}
 use Rattle.st_ubtree.proofs.Lifting.{head_same, that_kid}
 use Rattle.st_ubtree.proofs.Settling.{kids_start, kids_wide}
@@ -22,24 +24,24 @@ use Rattle.st_ubtree.proofs.Spanning.{found_kid, pages-append, pages_split, span
 use Rattle.st_ubtree.proofs.Splitting.{wide_page, one_rows, page}
 
 module _ {A : Type 0} (period : Period) where
-  pub page_rows_below : (lo hi : ℕ) (ps : List (PageValue A)) → Spans period lo hi ps → All (λ r. place_of period r < hi) (rows_in ps)
+  pub page_rows_below : (lo hi : ℕ) (ps : List (PageValue A)) → Spans period lo hi ps → All (λ r. rank_of period r < hi) (rows_of_pages ps)
   page_rows_below lo hi [] h = λ k d l. absurd (omega (arith, l))
   page_rows_below lo hi (p ∷ ps) h =
       let b = spans_bounds period h.1.0 hi ps h.1.3 in
       let low = rows_below period lo h.1.0 p.entries h.1.2 in
-      subst (All (λ r. place_of period r < hi)) (sym (rows_join (p ∷ []) ps ∙ ap (λ t. t ++ rows_in ps) (one_rows p.first p.entries)))
-      (All-append (λ r. place_of period r < hi) (rows_of p.entries) (rows_in ps) (λ k d l. let a = low k d l in omega (arith, a, b)) (page_rows_below h.1.0 hi ps h.1.3))
+      subst (All (λ r. rank_of period r < hi)) (sym (rows_join (p ∷ []) ps ∙ ap (λ t. t ++ rows_of_pages ps) (one_rows p.first p.entries)))
+      (All-append (λ r. rank_of period r < hi) (rows_of p.entries) (rows_of_pages ps) (λ k d l. let a = low k d l in omega (arith, a, b)) (page_rows_below h.1.0 hi ps h.1.3))
 
-  pub page_rows_from : (lo hi : ℕ) (ps : List (PageValue A)) → Spans period lo hi ps → All (λ r. lo ≤ place_of period r) (rows_in ps)
+  pub page_rows_from : (lo hi : ℕ) (ps : List (PageValue A)) → Spans period lo hi ps → All (λ r. lo ≤ rank_of period r) (rows_of_pages ps)
   page_rows_from lo hi [] h = λ k d l. absurd (omega (arith, l))
   page_rows_from lo hi (p ∷ ps) h =
       let wide = h.1.1 in
       let rest = page_rows_from h.1.0 hi ps h.1.3 in
-      subst (All (λ r. lo ≤ place_of period r)) (sym (rows_join (p ∷ []) ps ∙ ap (λ t. t ++ rows_in ps) (one_rows p.first p.entries)))
-      (All-append (λ r. lo ≤ place_of period r) (rows_of p.entries) (rows_in ps) (rows_from period lo h.1.0 p.entries h.1.2) (λ k d l. let a = rest k d l in omega (arith, a, wide)))
+      subst (All (λ r. lo ≤ rank_of period r)) (sym (rows_join (p ∷ []) ps ∙ ap (λ t. t ++ rows_of_pages ps) (one_rows p.first p.entries)))
+      (All-append (λ r. lo ≤ rank_of period r) (rows_of p.entries) (rows_of_pages ps) (rows_from period lo h.1.0 p.entries h.1.2) (λ k d l. let a = rest k d l in omega (arith, a, wide)))
 
 module _ {A : Type 0} where
-  pub shrinks_page : (key : ℕ) (row : Row A) (first height : ℕ) (old new : List (EntryValue A)) → Adds row (rows_of new) (rows_of old) → ((period : Period) (lo hi : ℕ) → Rises period lo hi old → place_of period row ≡ key) → ((period : Period) (lo hi : ℕ) → Rises period lo hi old → Rises period lo hi new) → length new ≤ length old → length old ≤ length new + 1 → length old ≤ 32 → Shrinks key row (page_node first height old) (page_node first height new)
+  pub shrinks_page : (key : ℕ) (row : Row A) (first height : ℕ) (old new : List (EntryValue A)) → Adds row (rows_of new) (rows_of old) → ((period : Period) (lo hi : ℕ) → Rises period lo hi old → rank_of period row ≡ key) → ((period : Period) (lo hi : ℕ) → Rises period lo hi old → Rises period lo hi new) → length new ≤ length old → length old ≤ length new + 1 → length old ≤ 32 → Shrinks key row (page_node first height old) (page_node first height new)
   shrinks_page key row first height old new adds placed rising shorter most fits = record {
     first = refl;
     height = refl;
@@ -48,7 +50,7 @@ module _ {A : Type 0} where
     at_most_one = most;
     filled = λ h. wide_page first new h (omega (arith, shorter, fits));
     by = record {
-      adds = subst (λ t. Adds row t (rows_in (page first old ∷ []))) (sym (one_rows first new)) (subst (λ t. Adds row (rows_of new) t) (sym (one_rows first old)) adds);
+      adds = subst (λ t. Adds row t (rows_of_pages (page first old ∷ []))) (sym (one_rows first new)) (subst (λ t. Adds row (rows_of new) t) (sym (one_rows first old)) adds);
       spans = λ period lo hi h. (h.0, (h.1.0, h.1.1, rising period lo h.1.0 h.1.2, h.1.3));
       placed = λ period lo hi h. placed period lo h.1.0 h.1.2;
     };
@@ -57,7 +59,7 @@ module _ {A : Type 0} where
   pub none_in_page : (key : ℕ) (name : Name) (first : ℕ) (es : List (EntryValue A)) → ((period : Period) (lo hi : ℕ) → Rises period lo hi es → IsAbsent period key name (rows_of es)) → HasNone key name (page first es ∷ [])
   none_in_page key name first es absent period lo hi h a b = subst (IsAbsent period key name) (sym (one_rows first es)) (absent period lo h.1.0 h.1.2)
 
-  pub page_taken : (key : ℕ) (name : Name) (first height : ℕ) (old new : List (EntryValue A)) (r : Option (Row A)) → IfSome r (λ row. Adds row (rows_of new) (rows_of old) × (name_of row ≡ name)) → IfSome r (λ row. (period : Period) (lo hi : ℕ) → Rises period lo hi old → place_of period row ≡ key) → ((period : Period) (lo hi : ℕ) → Rises period lo hi old → Rises period lo hi new) → length new ≤ length old → length old ≤ length new + 1 → length old ≤ 32 → IfSome r (λ row. Shrinks key row (page_node first height old) (page_node first height new))
+  pub page_taken : (key : ℕ) (name : Name) (first height : ℕ) (old new : List (EntryValue A)) (r : Option (Row A)) → IfSome r (λ row. Adds row (rows_of new) (rows_of old) × (name_of row ≡ name)) → IfSome r (λ row. (period : Period) (lo hi : ℕ) → Rises period lo hi old → rank_of period row ≡ key) → ((period : Period) (lo hi : ℕ) → Rises period lo hi old → Rises period lo hi new) → length new ≤ length old → length old ≤ length new + 1 → length old ≤ 32 → IfSome r (λ row. Shrinks key row (page_node first height old) (page_node first height new))
   page_taken key name first height old new None some placed rising shorter most fits = tt
   page_taken key name first height old new (Some row) some placed rising shorter most fits = shrinks_page key row first height old new some.0 placed rising shorter most fits
 
@@ -75,7 +77,7 @@ module _ {A : Type 0} where
 
   pub drops_reshape : (key : ℕ) (row : Row A) (old mid new : List (PageValue A)) → DropsFrom key row old mid → Reshapes mid new → DropsFrom key row old new
   drops_reshape key row old mid new d r = record {
-    adds = subst (λ t. Adds row t (rows_in old)) (sym r.rows) d.adds;
+    adds = subst (λ t. Adds row t (rows_of_pages old)) (sym r.rows) d.adds;
     spans = λ period lo hi h. r.spans period lo hi (d.spans period lo hi h);
     placed = d.placed;
   }
@@ -89,10 +91,10 @@ module _ {A : Type 0} where
         let inside = none period f.a f.b f.mid (f.from a) (f.to b) in
         let from = f.from a in
         let to = f.to b in
-        let low = absent_low period key name (rows_in front) (λ k d m. let p = page_rows_below period lo f.a front f.low k d m in omega (arith, p, from)) in
-        let high = absent_high period key name (rows_in back) (λ k d m. let p = page_rows_from period f.b hi back f.high k d m in omega (arith, p, to)) in
-        subst (IsAbsent period key name) (sym (ap rows_in (pages_split kids i kid l read) ∙ rows_three front kid.pages back))
-        (absent_join period key name (rows_in front) (rows_in kid.pages ++ rows_in back) low (absent_join period key name (rows_in kid.pages) (rows_in back) inside high))
+        let low = absent_low period key name (rows_of_pages front) (λ k d m. let p = page_rows_below period lo f.a front f.low k d m in omega (arith, p, from)) in
+        let high = absent_high period key name (rows_of_pages back) (λ k d m. let p = page_rows_from period f.b hi back f.high k d m in omega (arith, p, to)) in
+        subst (IsAbsent period key name) (sym (ap rows_of_pages (pages_split kids i kid l read) ∙ rows_three front kid.pages back))
+        (absent_join period key name (rows_of_pages front) (rows_of_pages kid.pages ++ rows_of_pages back) low (absent_join period key name (rows_of_pages kid.pages) (rows_of_pages back) inside high))
 
     module _ (row : Row A) (v : NodeValue A) (g : Shrinks key row kid v) where
       pub worn_there : IsWorn below v
@@ -127,9 +129,9 @@ module _ {A : Type 0} where
           let was = pages_split kids i kid l read in
           let now : pages_of (set kids i v) ≡ front ++ (v.pages ++ back) = ap pages_of (set_split kids i v l) ∙ pages-append (take i kids) (v ∷ drop (suc i) kids) in
           subst (λ ps. DropsFrom key row ps (pages_of (set kids i v))) (sym was) (subst (DropsFrom key row (front ++ (kid.pages ++ back))) (sym now) (record {
-            adds = subst (λ t. Adds row t (rows_in (front ++ (kid.pages ++ back)))) (sym (rows_three front v.pages back))
-                (subst (λ t. Adds row (rows_in front ++ (rows_in v.pages ++ rows_in back)) t) (sym (rows_three front kid.pages back))
-                (adds_inside row (rows_in front) (rows_in v.pages) (rows_in kid.pages) (rows_in back) g.by.adds));
+            adds = subst (λ t. Adds row t (rows_of_pages (front ++ (kid.pages ++ back)))) (sym (rows_three front v.pages back))
+                (subst (λ t. Adds row (rows_of_pages front ++ (rows_of_pages v.pages ++ rows_of_pages back)) t) (sym (rows_three front kid.pages back))
+                (adds_inside row (rows_of_pages front) (rows_of_pages v.pages) (rows_of_pages kid.pages) (rows_of_pages back) g.by.adds));
             spans = λ period lo hi h.
                 let c = spans_cut period lo hi front (kid.pages ++ back) h in
                 let d = spans_cut period c.at hi kid.pages back c.high in
@@ -154,7 +156,7 @@ module _ {A : Type 0} where
         by = drops_reshape key row (pages_of kids) (pages_of (set kids i v)) (pages_of new) drops_there m.by;
       }
 
-      pub shrunk_inner : (first height capacity : ℕ) (new : List (NodeValue A)) → height ≡ below + 1 → HeadAt first kids → 2 ≤ length kids → length kids ≤ 32 → 33 ≤ capacity → Mends below (set kids i v) new → IsInner first height new capacity
+      pub shrunk_inner : (first height capacity : ℕ) (new : List (NodeValue A)) → height ≡ below + 1 → HeadAt first kids → 2 ≤ length kids → length kids ≤ 32 → 33 ≤ capacity → Mends below (set kids i v) new → IsInnerNode first height new capacity
       shrunk_inner first height capacity new h head two fits room m = record {
         below = below;
         higher = h;

@@ -6,7 +6,8 @@ use Rattle.std.proofs.lemmas.List.{get_or-drop, length-drop}
 use Rattle.std.specs.List.{All, AllWithin}
 use Rattle.std.specs.List.Sorted.{IsPartitionedBy, IsPartitionPoint}
 use Rattle.st_index.proofs.Putting.{split_read}
-use Rattle.st_ubtree.specs.Pages.{PageValue, NodeValue, Spans, IsKid, StartsAt, pages_of, entries_in}
+use Rattle.st_ubtree.specs.Pages.{PageValue, NodeValue, entries_of_pages}
+use Rattle.st_ubtree.specs.inner.Kids.{Spans, IsKid, StartsAt, pages_of}
 use Rattle.st_key.specs.declared.period.Period.{Period}
 
 not_is : (b : Bool) → not b ≡ true → b ≡ false
@@ -31,9 +32,9 @@ module _ {A : Type 0} where
   pages-append [] ys = refl
   pages-append (x ∷ xs) ys = ap (λ ps. x.pages ++ ps) (pages-append xs ys) ∙ sym (append_assoc x.pages (pages_of xs) (pages_of ys))
 
-  pub entries-append : (xs ys : List (PageValue A)) → entries_in (xs ++ ys) ≡ entries_in xs ++ entries_in ys
+  pub entries-append : (xs ys : List (PageValue A)) → entries_of_pages (xs ++ ys) ≡ entries_of_pages xs ++ entries_of_pages ys
   entries-append [] ys = refl
-  entries-append (x ∷ xs) ys = ap (λ es. x.entries ++ es) (entries-append xs ys) ∙ sym (append_assoc x.entries (entries_in xs) (entries_in ys))
+  entries-append (x ∷ xs) ys = ap (λ es. x.entries ++ es) (entries-append xs ys) ∙ sym (append_assoc x.entries (entries_of_pages xs) (entries_of_pages ys))
 
   pub pages_split : (kids : List (NodeValue A)) (i : ℕ) (kid : NodeValue A) → i < length kids → kid ≡ get_or kids i kid → pages_of kids ≡ pages_of (take i kids) ++ (kid.pages ++ pages_of (drop (suc i) kids))
   pages_split kids i kid l read = ap pages_of (split_read kids i kid l read) ∙ pages-append (take i kids) (kid ∷ drop (suc i) kids)

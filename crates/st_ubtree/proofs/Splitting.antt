@@ -2,13 +2,14 @@
 use Rattle.std.proofs.Common.{◌≡◌, ℕ, ◌+◌, ◌<◌, ◌≤◌, List, [], ◌∷◌, ◌++◌, length, get_or, take, drop, refl, sym, ap, subst, ◌∙◌, suc, arith, drop-cons, take-append-drop, length-take-le, Option, Some, None, Vec, vec_len}
 use Rattle.std.proofs.lemmas.List.{append-nil, length-drop}
 use Rattle.std.proofs.lemmas.List.Elements.{All-head, All-cons}
-use Rattle.st_index.specs.Rows.{name_of, EntryValue, Rises, place_of, rows_of}
+use Rattle.st_index.specs.Rows.{name_of, EntryValue, Rises, rank_of, rows_of}
 use Rattle.st_index.specs.Index.{Adds, IsAbsent}
 use Rattle.st_index.proofs.Putting.{split_read}
 use Rattle.st_index.proofs.Rising.{rises_bounds, rises_around}
-use Rattle.st_ubtree.specs.Pages.{PageValue, NodeValue, Spans, GrowsBy, AreWide, IsFilled, IsKid, rows_in}
-use Rattle.st_ubtree.specs.Growing.{PageGrows, Grows}
-use Rattle.st_ubtree.specs.Nodes.{page_node}
+use Rattle.st_ubtree.specs.Pages.{PageValue, NodeValue, IsFilled, rows_of_pages}
+use Rattle.st_ubtree.specs.inner.Kids.{Spans, GrowsBy, AreWide, IsKid}
+use Rattle.st_ubtree.specs.inner.Growing.{PageGrows, Grows}
+use Rattle.st_ubtree.specs.Pages.{page_node}
 use Rattle.st_key.specs.declared.period.Period.{Period}
 use Rattle.st_index.specs.declared.row.Row.{Row}
 
@@ -20,10 +21,10 @@ module _ {A : Type 0} where
   abbrev pub page : ℕ → List (EntryValue A) → PageValue A
   page first entries = record { first = first; entries = entries }
 
-  pub one_rows : (first : ℕ) (es : List (EntryValue A)) → rows_in (page first es ∷ []) ≡ rows_of es
+  pub one_rows : (first : ℕ) (es : List (EntryValue A)) → rows_of_pages (page first es ∷ []) ≡ rows_of es
   one_rows first es = ap rows_of (append-nil es)
 
-  pub two_rows : (first second n : ℕ) (es : List (EntryValue A)) → rows_in (page first (take n es) ∷ page second (drop n es) ∷ []) ≡ rows_of es
+  pub two_rows : (first second n : ℕ) (es : List (EntryValue A)) → rows_of_pages (page first (take n es) ∷ page second (drop n es) ∷ []) ≡ rows_of es
   two_rows first second n es = ap rows_of (ap (λ t. take n es ++ t) (append-nil (drop n es)) ∙ take-append-drop n es)
 
 module _ {A : Type 0} (period : Period) where
@@ -41,10 +42,10 @@ module _ {A : Type 0} (period : Period) where
       (refl, (e.at, low, a.front, (refl, (hi, omega (arith, b), high, refl))))
 
 module _ {A : Type 0} where
-  module _ (key : ℕ) (row : Row A) (old new : List (EntryValue A)) (added : Adds row (rows_of old) (rows_of new)) (rising : (period : Period) (lo hi : ℕ) → key ≡ place_of period row → Rises period lo hi old → lo ≤ key → key < hi → IsAbsent period key (name_of row) (rows_of old) → Rises period lo hi new) where
+  module _ (key : ℕ) (row : Row A) (old new : List (EntryValue A)) (added : Adds row (rows_of old) (rows_of new)) (rising : (period : Period) (lo hi : ℕ) → key ≡ rank_of period row → Rises period lo hi old → lo ≤ key → key < hi → IsAbsent period key (name_of row) (rows_of old) → Rises period lo hi new) where
     pub page_grows : (first : ℕ) → GrowsBy key row (page first old ∷ []) (page first new ∷ [])
     page_grows first = record {
-      adds = subst (λ t. Adds row t (rows_in (page first new ∷ []))) (sym (one_rows first old)) (subst (λ t. Adds row (rows_of old) t) (sym (one_rows first new)) added);
+      adds = subst (λ t. Adds row t (rows_of_pages (page first new ∷ []))) (sym (one_rows first old)) (subst (λ t. Adds row (rows_of old) t) (sym (one_rows first new)) added);
       spans = λ period lo hi at s a b absent.
           let mid = s.1.0 in
           (s.0, (mid, s.1.1, rising period lo mid at s.1.2 a (let e = s.1.3 in omega (arith, b, e)) (subst (IsAbsent period key (name_of row)) (one_rows first old) absent), s.1.3));
@@ -52,7 +53,7 @@ module _ {A : Type 0} where
 
     pub page_splits : (first n : ℕ) (e : EntryValue A) → 0 < n → n < length new → e ≡ get_or new n e → GrowsBy key row (page first old ∷ []) (page first (take n new) ∷ page e.at (drop n new) ∷ [])
     page_splits first n e p l read = record {
-      adds = subst (λ t. Adds row t (rows_in (page first (take n new) ∷ page e.at (drop n new) ∷ []))) (sym (one_rows first old)) (subst (λ t. Adds row (rows_of old) t) (sym (two_rows first e.at n new)) added);
+      adds = subst (λ t. Adds row t (rows_of_pages (page first (take n new) ∷ page e.at (drop n new) ∷ []))) (sym (one_rows first old)) (subst (λ t. Adds row (rows_of old) t) (sym (two_rows first e.at n new)) added);
       spans = λ period lo hi at s a b absent.
           let mid = s.1.0 in
           let r = rising period lo hi at (subst (λ m. Rises period lo m old) s.1.3 s.1.2) a b (subst (IsAbsent period key (name_of row)) (one_rows first old) absent) in
@@ -79,7 +80,7 @@ module _ {A : Type 0} where
     by = h.3 first;
   }
 
-  module _ (key : ℕ) (row : Row A) (old new : List (EntryValue A)) (added : Adds row (rows_of old) (rows_of new)) (rising : (period : Period) (lo hi : ℕ) → key ≡ place_of period row → Rises period lo hi old → lo ≤ key → key < hi → IsAbsent period key (name_of row) (rows_of old) → Rises period lo hi new) where
+  module _ (key : ℕ) (row : Row A) (old new : List (EntryValue A)) (added : Adds row (rows_of old) (rows_of new)) (rising : (period : Period) (lo hi : ℕ) → key ≡ rank_of period row → Rises period lo hi old → lo ≤ key → key < hi → IsAbsent period key (name_of row) (rows_of old) → Rises period lo hi new) where
     pub page_cut : (e : EntryValue A) → length new ≡ 33 → e ≡ get_or new 16 e → PageGrows key row old (take 16 new) (Some (page_node e.at 0 (drop 16 new)))
     page_cut e all read =
         let low : length (take 16 new) ≡ 16 = length-take-le 16 new (omega (arith, all)) in

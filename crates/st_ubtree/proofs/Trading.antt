@@ -7,12 +7,14 @@ use Rattle.std.specs.Prelude.{IfOk, OnErr}
 use Rattle.std.specs.List.Sorted.{IsPartitionedBy, IsPartitionPoint}
 use Rattle.st_key.specs.declared.period.Period.{Period}
 use Rattle.st_index.specs.declared.row.Row.{Row}
-use Rattle.st_index.specs.Rows.{EntryValue, Name, Rises, name_of, place_of, rows_of}
+use Rattle.st_index.specs.Rows.{EntryValue, Name, Rises, name_of, rank_of, rows_of}
 use Rattle.st_index.specs.Index.{IsAbsent, Swaps}
-use Rattle.st_ubtree.specs.Nodes.{IsInner, inner_node, page_node}
-use Rattle.st_ubtree.specs.Pages.{NodeValue, HeadAt, IsFilled, IsKid, pages_of, rows_in}
-use Rattle.st_ubtree.specs.Shrinking.{HasNone}
-use Rattle.st_ubtree.specs.Trading.{Keeps, TradesIn}
+use Rattle.st_ubtree.specs.inner.Nodes.{IsInnerNode, inner_node}
+use Rattle.st_ubtree.specs.Pages.{page_node}
+use Rattle.st_ubtree.specs.Pages.{NodeValue, IsFilled, rows_of_pages}
+use Rattle.st_ubtree.specs.inner.Kids.{HeadAt, IsKid, pages_of}
+use Rattle.st_ubtree.specs.inner.Shrinking.{HasNone}
+use Rattle.st_ubtree.specs.inner.Trading.{Keeps, TradesIn}
 use Rattle.st_ubtree.proofs.Inside.{rows_three}
 use Rattle.st_ubtree.proofs.Lifting.{alone, each_with, head_same, that_kid}
 use Rattle.st_ubtree.proofs.Settling.{kids_start, kids_wide}
@@ -21,9 +23,9 @@ use Rattle.st_ubtree.proofs.Spanning.{pages-append, pages_split, spans_cut, span
 use Rattle.st_ubtree.proofs.Splitting.{wider_page, one_rows, page}
 
 module _ {A : Type 0} where
-  pub page_trades : (key : ℕ) (row : Row A) (first : ℕ) (old new : List (EntryValue A)) (r : Result (Row A) (Row A)) → IfOk r (λ out. Swaps out row (rows_of old) (rows_of new) × (name_of out ≡ name_of row)) → IfOk r (λ out. (period : Period) (lo hi : ℕ) → Rises period lo hi old → place_of period out ≡ key) → ((period : Period) (lo hi : ℕ) → key ≡ place_of period row → Rises period lo hi old → Rises period lo hi new) → IfOk r (λ out. TradesIn key out row (page first old ∷ []) (page first new ∷ []))
+  pub page_trades : (key : ℕ) (row : Row A) (first : ℕ) (old new : List (EntryValue A)) (r : Result (Row A) (Row A)) → IfOk r (λ out. Swaps out row (rows_of old) (rows_of new) × (name_of out ≡ name_of row)) → IfOk r (λ out. (period : Period) (lo hi : ℕ) → Rises period lo hi old → rank_of period out ≡ key) → ((period : Period) (lo hi : ℕ) → key ≡ rank_of period row → Rises period lo hi old → Rises period lo hi new) → IfOk r (λ out. TradesIn key out row (page first old ∷ []) (page first new ∷ []))
   page_trades key row first old new (Ok out) ok placed rising = record {
-    swaps = subst (λ t. Swaps out row t (rows_in (page first new ∷ []))) (sym (one_rows first old)) (subst (λ t. Swaps out row (rows_of old) t) (sym (one_rows first new)) ok.0);
+    swaps = subst (λ t. Swaps out row t (rows_of_pages (page first new ∷ []))) (sym (one_rows first old)) (subst (λ t. Swaps out row (rows_of old) t) (sym (one_rows first new)) ok.0);
     spans = λ period lo hi at h. (h.0, (h.1.0, h.1.1, rising period lo h.1.0 at h.1.2, h.1.3));
     placed = λ period lo hi h. placed period lo h.1.0 h.1.2;
   }
@@ -63,9 +65,9 @@ module _ {A : Type 0} where
         let was = pages_split kids i kid l read in
         let now : pages_of (set kids i v) ≡ front ++ (v.pages ++ back) = ap pages_of (set_split kids i v l) ∙ pages-append (take i kids) (v ∷ drop (suc i) kids) in
         subst (λ ps. TradesIn key out row ps (pages_of (set kids i v))) (sym was) (subst (TradesIn key out row (front ++ (kid.pages ++ back))) (sym now) (record {
-          swaps = subst (λ t. Swaps out row t (rows_in (front ++ (v.pages ++ back)))) (sym (rows_three front kid.pages back))
-              (subst (λ t. Swaps out row (rows_in front ++ (rows_in kid.pages ++ rows_in back)) t) (sym (rows_three front v.pages back))
-              (swaps_inside out row (rows_in front) (rows_in kid.pages) (rows_in v.pages) (rows_in back) g.swaps));
+          swaps = subst (λ t. Swaps out row t (rows_of_pages (front ++ (v.pages ++ back)))) (sym (rows_three front kid.pages back))
+              (subst (λ t. Swaps out row (rows_of_pages front ++ (rows_of_pages kid.pages ++ rows_of_pages back)) t) (sym (rows_three front v.pages back))
+              (swaps_inside out row (rows_of_pages front) (rows_of_pages kid.pages) (rows_of_pages v.pages) (rows_of_pages back) g.swaps));
           spans = λ period lo hi at h.
               let c = spans_cut period lo hi front (kid.pages ++ back) h in
               let d = spans_cut period c.at hi kid.pages back c.high in
@@ -107,7 +109,7 @@ module _ {A : Type 0} where
       filled = λ h. kids_wide below (set kids i v) (kept_all k);
     }
 
-    pub kept_inner : (first height capacity : ℕ) → height ≡ below + 1 → HeadAt first kids → 1 ≤ length kids → length kids ≤ 32 → 33 ≤ capacity → Keeps kid v → IsInner first height (set kids i v) capacity
+    pub kept_inner : (first height capacity : ℕ) → height ≡ below + 1 → HeadAt first kids → 1 ≤ length kids → length kids ≤ 32 → 33 ≤ capacity → Keeps kid v → IsInnerNode first height (set kids i v) capacity
     kept_inner first height capacity h head some fits room k = record {
       below = below;
       higher = h;

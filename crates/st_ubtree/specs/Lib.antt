@@ -1,9 +1,4 @@
 pub mod Pages
-pub mod Splits
-pub mod Nodes
-pub mod Falls
-pub mod Growing
-pub mod Shrinking
-pub mod Trading
 pub mod Trees
 pub mod Ranges
+pub mod inner

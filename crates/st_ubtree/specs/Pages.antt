@@ -1,10 +1,8 @@
--- Pages, and how they follow each other.
-use Rattle.std.specs.Prelude.{◌≡◌, ℕ, ◌<◌, ◌≤◌, List, [], ◌∷◌, length}
+-- Pages and nodes as clauses see them, and how many keys and children they have.
+use Rattle.std.specs.Prelude.{ℕ, ◌≤◌, List, [], ◌∷◌, length}
 use Rattle.std.specs.List.{All, flat_map}
-use Rattle.st_key.specs.declared.period.Period.{Period}
 use Rattle.st_index.specs.declared.row.Row.{Row}
-use Rattle.st_index.specs.Rows.{EntryValue, Rises, name_of, place_of, rows_of}
-use Rattle.st_index.specs.Index.{Adds, IsAbsent}
+use Rattle.st_index.specs.Rows.{EntryValue, rows_of}
 
 -- a page: the first key of its region, and its entries
 pub record PageValue (A : Type 0) : Type 0 where
@@ -22,25 +20,11 @@ pub record NodeValue (A : Type 0) : Type 0 where
   pub pages : List (PageValue A)
   pub chains : List ℕ
 
--- the pages' regions follow each other from lo to just below hi, and each page's entries rise inside its own
-abbrev pub Spans : {A : Type 0} → Period → ℕ → ℕ → List (PageValue A) → Type 0
-Spans period lo hi [] = lo ≡ hi
-Spans period lo hi (p ∷ ps) = (p.first ≡ lo) × ((mid : ℕ) × (lo < mid) × Rises period lo mid p.entries × Spans period mid hi ps)
+abbrev pub entries_of_pages : {A : Type 0} → List (PageValue A) → List (EntryValue A)
+entries_of_pages {A} = flat_map (λ (p : PageValue A). p.entries)
 
-abbrev pub entries_in : {A : Type 0} → List (PageValue A) → List (EntryValue A)
-entries_in {A} = flat_map (λ (p : PageValue A). p.entries)
-
-abbrev pub rows_in : {A : Type 0} → List (PageValue A) → List (Row A)
-rows_in ps = rows_of (entries_in ps)
-
--- there is a page, and this is its first key
-abbrev pub StartsAt : {A : Type 0} → ℕ → List (PageValue A) → Type 0
-StartsAt first [] = ⊥
-StartsAt first (p ∷ ps) = p.first ≡ first
-
--- the pages start at this key, and there is a number for each
-abbrev pub Starts : {A : Type 0} → ℕ → List (PageValue A) → List ℕ → Type 0
-Starts first pages chains = StartsAt first pages × (length chains ≡ length pages)
+abbrev pub rows_of_pages : {A : Type 0} → List (PageValue A) → List (Row A)
+rows_of_pages ps = rows_of (entries_of_pages ps)
 
 -- a page beside others has 16 to 32 keys
 pub record IsFilled {A : Type 0} (p : PageValue A) : Type 0 where
@@ -52,31 +36,18 @@ pub record IsWide (width : ℕ) : Type 0 where
   pub not_less : 16 ≤ width
   pub not_more : width ≤ 32
 
--- each page and each node under a node has 16 to 32 entries or children
-pub record AreWide {A : Type 0} (pages : List (PageValue A)) (widths : List ℕ) : Type 0 where
-  pub keys : All IsFilled pages
-  pub nodes : All IsWide widths
+-- a page holds at most 32 keys, and at least 16 unless it is the only one
+pub record AreFilled {A : Type 0} (pages : List (PageValue A)) : Type 0 where
+  pub not_more : All (λ (p : PageValue A). length p.entries ≤ 32) pages
+  pub not_less : 2 ≤ length pages → All IsFilled pages
 
--- a node under another one has 16 to 32 entries or children, and so has each page and each node under it
-pub record IsKid {A : Type 0} (height : ℕ) (v : NodeValue A) : Type 0 where
-  pub same_height : v.height ≡ height
-  pub not_less : 16 ≤ v.width
-  pub not_more : v.width ≤ 32
-  pub starts : Starts v.first v.pages v.chains
-  pub filled : AreWide v.pages v.widths
-
-abbrev pub pages_of : {A : Type 0} → List (NodeValue A) → List (PageValue A)
-pages_of {A} = flat_map (λ (v : NodeValue A). v.pages)
-
--- how many entries or children each of these nodes has, and each node under them
-abbrev pub widths_of : {A : Type 0} → List (NodeValue A) → List ℕ
-widths_of {A} = flat_map (λ (v : NodeValue A). v.width ∷ v.widths)
-
-abbrev pub HeadAt : {A : Type 0} → ℕ → List (NodeValue A) → Type 0
-HeadAt first [] = ⊥
-HeadAt first (v ∷ vs) = v.first ≡ first
-
--- new pages hold one row more, between the same bounds
-pub record GrowsBy {A : Type 0} (key : ℕ) (row : Row A) (old new : List (PageValue A)) : Type 0 where
-  pub adds : Adds row (rows_in old) (rows_in new)
-  pub spans : (period : Period) (lo hi : ℕ) → key ≡ place_of period row → Spans period lo hi old → lo ≤ key → key < hi → IsAbsent period key (name_of row) (rows_in old) → Spans period lo hi new
+-- a page alone, as clauses see it
+abbrev pub page_node : {A : Type 0} → ℕ → ℕ → List (EntryValue A) → NodeValue A
+page_node first height es = record {
+  first = first;
+  height = height;
+  width = length es;
+  widths = [];
+  pages = record { first = first; entries = es } ∷ [];
+  chains = 1 ∷ [];
+}

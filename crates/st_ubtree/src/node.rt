@@ -3,12 +3,12 @@ ghost use Rattle.std.specs.Prelude.{◌≡◌, ◌+◌, ◌<◌, ◌≤◌, ◌+
 ghost use Rattle.std.specs.List.{All};
 ghost use Rattle.st_key.specs.Key.{rank};
 ghost use Rattle.st_index.specs.Rows.{EntryValue, name_of};
-ghost use Rattle.st_ubtree.specs.Pages.{GrowsBy, IsKid, IsWide, NodeValue, entries_in};
-ghost use Rattle.st_ubtree.specs.Trading.{AreFilled, Keeps, TradesIn};
-ghost use Rattle.st_ubtree.specs.Shrinking.{HasNone, IsWorn, Joins, Shrinks};
-ghost use Rattle.st_ubtree.specs.Growing.{AreAround, AreBlank, Grows, IsBlankPage, IsLeafIn, IsRoomFor};
-ghost use Rattle.st_ubtree.specs.Nodes.{page_node};
-ghost use Rattle.st_ubtree.specs.Splits.{made_nodes, split_nodes, splits};
+ghost use Rattle.st_ubtree.specs.Pages.{IsWide, NodeValue, entries_of_pages, AreFilled, page_node};
+ghost use Rattle.st_ubtree.specs.inner.Kids.{GrowsBy, IsKid};
+ghost use Rattle.st_ubtree.specs.inner.Trading.{Keeps, TradesIn};
+ghost use Rattle.st_ubtree.specs.inner.Shrinking.{HasNone, IsWorn, Joins, Shrinks};
+ghost use Rattle.st_ubtree.specs.inner.Growing.{AreAround, AreBlank, Grows, IsBlankPage, IsLeafIn, IsRoomFor};
+ghost use Rattle.st_ubtree.specs.inner.Splits.{made_nodes, split_nodes, splits};
 
 mod child;
 mod grow;
@@ -42,13 +42,13 @@ enum Kids<A: Allocator = Global> {
 }
 
 impl<A: Allocator> Model for Node<A> {
-    ghost use Rattle.std.specs.Prelude.{◌≡◌, ℕ};
+    ghost use Rattle.std.specs.Prelude.{◌≡◌};
     ghost use Rattle.st_key.specs.Key.{rank};
     ghost use Rattle.st_ubtree.specs.Pages.{NodeValue};
 
     ghost Value = { NodeValue A };
 
-    ghost use Rattle.st_ubtree.specs.Nodes.{node_value, IsNode};
+    ghost use Rattle.st_ubtree.specs.inner.Nodes.{node_value, IsNode};
 
     ghost view = { λ n. node_value (rank n.first) n.height n.kids };
 
@@ -56,7 +56,7 @@ impl<A: Allocator> Model for Node<A> {
 
     ghost size = { λ v. v.height };
 
-    ghost use Rattle.st_ubtree.specs.Falls.{node-falls};
+    ghost use Rattle.st_ubtree.specs.inner.Falls.{node-falls};
 
     ghost size_decreases = { λ a h. node-falls A.Allocator (rank a.first) a.height a.kids h };
 }
@@ -109,8 +109,8 @@ impl<A: Allocator + Copy> Node<A> {
     /// What a new row of the key takes.
     pub fn needs(&self, key: Key) -> Needs
         requires { AreAround (rank key) self.now.pages }
-        ensures rows { All (λ (e : EntryValue A). e.at ≡ rank key → length e.rows ≡ result.rows) (entries_in self.now.pages) }
-        ensures no_rows { All (λ (e : EntryValue A). e.at ≡ rank key → ⊥) (entries_in self.now.pages) → result.rows ≡ 0 }
+        ensures rows { All (λ (e : EntryValue A). e.at ≡ rank key → length e.rows ≡ result.rows) (entries_of_pages self.now.pages) }
+        ensures no_rows { All (λ (e : EntryValue A). e.at ≡ rank key → ⊥) (entries_of_pages self.now.pages) → result.rows ≡ 0 }
         ensures in_range { result.rows + 1 < 2 ^ 64 }
         ensures splits { splits self.now (rank key) ≡ split_nodes result.inners }
     {
@@ -137,7 +137,7 @@ impl<A: Allocator + Copy> Node<A> {
         page: Option<Vec<Entry<A>, A>>,
         inners: &mut Vec<Vec<Node<A>, A>, A>,
     ) -> Option<Node<A>>
-        requires rows { IsRoomFor (rank key) rows.items (vec_capacity rows) (entries_in self.old.pages) }
+        requires rows { IsRoomFor (rank key) rows.items (vec_capacity rows) (entries_of_pages self.old.pages) }
         requires around { AreAround (rank key) self.old.pages }
         requires page { 1 ≤ splits self.old (rank key) → IsBlankPage page }
         requires blank { AreBlank inners.old.items }
@@ -163,7 +163,7 @@ impl<A: Allocator + Copy> Node<A> {
         }
     }
 
-    /// How many entries or children the node has.
+    // How many entries or children the node has.
     fn width(&self) -> usize
         ensures { result ≡ self.now.width }
     {
@@ -173,7 +173,7 @@ impl<A: Allocator + Copy> Node<A> {
         }
     }
 
-    /// Takes over entries or children of the node beside it. What is left of that one is handed back.
+    // Takes over entries or children of the node beside it. What is left of that one is handed back.
     fn join(&mut self, right: Node<A>) -> Option<Node<A>>
         requires worn { IsWorn self.old.height self.old }
         requires right { IsWorn self.old.height right }
@@ -234,7 +234,7 @@ impl<A: Allocator + Copy> Node<A> {
         page: Option<Vec<Entry<A>, A>>,
         mut inners: Vec<Vec<Node<A>, A>, A>,
     )
-        requires rows { IsRoomFor (rank key) rows.items (vec_capacity rows) (entries_in self.old.pages) }
+        requires rows { IsRoomFor (rank key) rows.items (vec_capacity rows) (entries_of_pages self.old.pages) }
         requires around { AreAround (rank key) self.old.pages }
         requires page { 1 ≤ splits self.old (rank key) → IsBlankPage page }
         requires blank { AreBlank inners.items }

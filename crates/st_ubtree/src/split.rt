@@ -3,7 +3,7 @@ ghost use Rattle.std.specs.Prelude.{◌≡◌, ◌+◌, ◌-◌, ◌≤◌, ◌+
 
 use std::alloc::Allocator;
 
-/// Moves what stands from an index on into another list, which has room for it.
+// Moves what stands from an index on into another list, which has room for it.
 pub(crate) fn split_at<T: Drop, A: Allocator>(
     from: &mut Vec<T, A>,
     at: usize,
@@ -29,8 +29,8 @@ pub(crate) fn split_at<T: Drop, A: Allocator>(
     to
 }
 
-/// Evens two lists that stand side by side. Where they have at most 32 items together, all go into the
-/// left one; else one item goes over, so that both have 16 to 32. Says whether the right one has items.
+// Evens two lists that stand side by side. Where they have at most 32 items together, all go into the
+// left one; else one item goes over, so that both have 16 to 32. Says whether the right one has items.
 pub(crate) fn share<T: Drop, A: Allocator>(left: &mut Vec<T, A>, right: &mut Vec<T, A>) -> bool
     requires left { (15 ≤ vec_len left.old) × (vec_len left.old ≤ 32) }
     requires right { (15 ≤ vec_len right.old) × (vec_len right.old ≤ 32) }

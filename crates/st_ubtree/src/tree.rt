@@ -1,14 +1,12 @@
 //! The tree.
-ghost use Rattle.std.specs.Prelude.{◌≡◌, ◌+◌, ◌<◌, ◌≤◌, ◌++◌, [], length, map, vec_len, IfOk, None};
+ghost use Rattle.std.specs.Prelude.{◌≡◌, ◌+◌, ◌<◌, ◌≤◌, [], length, map, IfOk, None};
 ghost use Rattle.std.specs.List.{All};
-ghost use Rattle.st_key.specs.Key.{rank};
 ghost use Rattle.st_index.specs.Rows.{key_end};
-ghost use Rattle.st_ubtree.specs.Growing.{AreAround, AreBlank, IsBlankPage, IsRoomFor};
-ghost use Rattle.st_ubtree.specs.Nodes.{page_node};
-ghost use Rattle.st_ubtree.specs.Pages.{GrowsBy, IsWide, entries_in, rows_in};
-ghost use Rattle.st_ubtree.specs.Splits.{made_nodes, split_nodes};
-ghost use Rattle.st_ubtree.specs.Trees.{HasTreeRoom, regions_of};
-ghost use Rattle.st_ubtree.specs.Trading.{AreFilled};
+ghost use Rattle.st_ubtree.specs.inner.Growing.{AreBlank, IsBlankPage};
+ghost use Rattle.st_ubtree.specs.Pages.{page_node, IsWide, rows_of_pages, AreFilled};
+ghost use Rattle.st_ubtree.specs.inner.Splits.{made_nodes, split_nodes};
+ghost use Rattle.st_ubtree.specs.Trees.{regions_of};
+ghost use Rattle.st_ubtree.specs.inner.Tree.{HasTreeRoom};
 ghost use Rattle.st_ubtree.specs.Ranges.{region_in};
 
 use crate::node::Node;
@@ -27,7 +25,8 @@ pub struct UbTree<A: Allocator = Global> {
 }
 
 impl<A: Allocator> Model for UbTree<A> {
-    ghost use Rattle.st_ubtree.specs.Trees.{IsTree, TreeValue};
+    ghost use Rattle.st_ubtree.specs.Trees.{TreeValue};
+    ghost use Rattle.st_ubtree.specs.inner.Tree.{IsTree};
 
     ghost Value = { TreeValue A };
 
@@ -51,7 +50,7 @@ pub struct UbSpare<A: Allocator = Global> {
     inners: Vec<Vec<Node<A>, A>, A>,
 }
 
-/// A page, where one is split.
+// A page, where one is split.
 fn blank_page<A: Allocator + Copy>(
     alloc: A,
     inners: Option<u64>,
@@ -65,7 +64,7 @@ fn blank_page<A: Allocator + Copy>(
     }
 }
 
-/// How many nodes are made where the page is split and so many nodes above it, under a root of a height.
+// How many nodes are made where the page is split and so many nodes above it, under a root of a height.
 fn count_made(inners: Option<u64>, height: u64) -> Result<u64, AllocError>
     ensures { IfOk result (λ count. count ≡ made_nodes height (split_nodes inners)) }
 {
@@ -76,7 +75,7 @@ fn count_made(inners: Option<u64>, height: u64) -> Result<u64, AllocError>
     }
 }
 
-/// So many empty lists of children.
+// So many empty lists of children.
 fn blank_nodes<A: Allocator + Copy>(
     alloc: A,
     count: u64,
@@ -132,7 +131,7 @@ impl<A: Allocator + Copy> UbTree<A> {
 
     /// How many rows the tree holds.
     pub fn len(&self) -> u64
-        ensures { result ≡ length (rows_in self.now.root.pages) }
+        ensures { result ≡ length (rows_of_pages self.now.root.pages) }
     {
         self.len // counted as rows come and go
     }
@@ -147,7 +146,7 @@ impl<A: Allocator + Copy> RowIndex for UbTree<A> {
 
     ghost period_of = { λ t. t.period };
 
-    ghost content = { λ t. rows_in t.root.pages };
+    ghost content = { λ t. rows_of_pages t.root.pages };
 
     ghost regions = { λ t. regions_of (key_end t.period) t.root.pages };
 

@@ -1,5 +1,5 @@
 //! Rows put into any index, and taken out.
-ghost use Rattle.st_index.specs.Rows.{name_of, place_of};
+ghost use Rattle.st_index.specs.Rows.{name_of, rank_of};
 ghost use Rattle.st_index.specs.Index.{IsAbsent};
 
 use crate::tabling::row_of;
@@ -9,7 +9,8 @@ use std::alloc::{AllocError, Allocator};
 
 // Puts in a row that is not held.
 fn put_new<I: RowIndex>(index: &mut I, row: I::Row) -> Result<(), AllocError>
-    requires { IsAbsent (I.period_of index.old) (place_of (I.period_of index.old) (I.Row.value row)) (name_of (I.Row.value row)) (I.content index.old) }
+    requires { IsAbsent (I.period_of index.old) (rank_of (I.period_of index.old) (I.Row.value row)) (name_of (I.Row.value row))
+        (I.content index.old) }
 {
     let spare = index.prepare(row.as_row())?;
     index.insert(row, spare);

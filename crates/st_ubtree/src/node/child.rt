@@ -3,14 +3,14 @@ ghost use Rattle.std.specs.Prelude.{◌≡◌, ◌≤◌, length, ltb, not, true
 ghost use Rattle.std.specs.List.Sorted.{IsPartitionPoint, IsPartitionedBy};
 ghost use Rattle.st_key.specs.Key.{rank};
 ghost use Rattle.st_ubtree.specs.Pages.{NodeValue};
-ghost use Rattle.st_ubtree.specs.Growing.{IsChosen};
+ghost use Rattle.st_ubtree.specs.inner.Growing.{IsChosen};
 
 use super::Node;
 use st_index::order;
 use st_key::Key;
 use std::alloc::Allocator;
 
-/// How many children begin at or before the key.
+// How many children begin at or before the key.
 pub(super) fn count_up_to<A: Allocator + Copy>(kids: &[Node<A>], key: Key) -> usize
     ensures bound { result ≤ length kids.now }
     ensures place { IsPartitionedBy (λ (v : NodeValue A). not (ltb (rank key) v.first)) kids.now
@@ -24,7 +24,7 @@ pub(super) fn count_up_to<A: Allocator + Copy>(kids: &[Node<A>], key: Key) -> us
     )
 }
 
-/// Where the child stands that a search for the key goes on in: the last that begins at or before it, or else the first.
+// Where the child stands that a search for the key goes on in: the last that begins at or before it, or else the first.
 pub(super) fn child_for<A: Allocator + Copy>(kids: &[Node<A>], key: Key) -> usize
     requires { 1 ≤ length kids.now }
     ensures { IsChosen (rank key) kids.now result }

@@ -1,8 +1,8 @@
 //! Pages and nodes that a new row makes too full.
 ghost use Rattle.std.specs.Prelude.{◌≡◌, ◌+◌, ◌<◌, ◌≤◌, IfSome, length, vec_len, vec_capacity};
 ghost use Rattle.st_key.specs.Key.{rank};
-ghost use Rattle.st_ubtree.specs.Growing.{AreBlank, AreKids, DoRise, IsBlankPage, IsRoomFor, PageGrows, Settles};
-ghost use Rattle.st_ubtree.specs.Splits.{splits_page};
+ghost use Rattle.st_ubtree.specs.inner.Growing.{AreBlank, AreKids, DoRise, IsBlankPage, IsRoomFor, PageGrows, Settles};
+ghost use Rattle.st_ubtree.specs.inner.Splits.{splits_page};
 
 use super::{Kids, Node};
 use crate::split::split_at;
@@ -10,7 +10,7 @@ use st_index::{Entry, Row, entries};
 use st_key::Key;
 use std::alloc::Allocator;
 
-/// Puts a row into a page's entries. Of 33 entries the upper 17 are handed back as a page of their own.
+// Puts a row into a page's entries. Of 33 entries the upper 17 are handed back as a page of their own.
 pub(super) fn put_in_page<A: Allocator + Copy>(
     entries: &mut Vec<Entry<A>, A>,
     key: Key,
@@ -38,7 +38,7 @@ pub(super) fn put_in_page<A: Allocator + Copy>(
     Some(Node::page(first, upper))
 }
 
-/// Of 33 children the upper 17 are handed back under a node of their own.
+// Of 33 children the upper 17 are handed back under a node of their own.
 pub(super) fn settle<A: Allocator + Copy>(
     kids: &mut Vec<Node<A>, A>,
     height: u64,

@@ -1,14 +1,14 @@
 //! Pages and nodes that are evened with those beside them.
 ghost use Rattle.std.specs.Prelude.{◌+◌, ◌≤◌, ◌++◌, ℕ, length, vec_len, vec_capacity};
-ghost use Rattle.st_ubtree.specs.Shrinking.{AreWorn, KidsJoin, Mends, PagesJoin};
-ghost use Rattle.st_ubtree.specs.Growing.{AreKids};
+ghost use Rattle.st_ubtree.specs.inner.Shrinking.{AreWorn, KidsJoin, Mends, PagesJoin};
+ghost use Rattle.st_ubtree.specs.inner.Growing.{AreKids};
 
 use super::{Kids, Node};
 use crate::split::share;
 use st_index::Entry;
 use std::alloc::Allocator;
 
-/// Evens the entries of two pages. What does not go into the first one is handed back as a page.
+// Evens the entries of two pages. What does not go into the first one is handed back as a page.
 pub(super) fn join_pages<A: Allocator + Copy>(
     left: &mut Vec<Entry<A>, A>,
     mut right: Vec<Entry<A>, A>,
@@ -29,7 +29,7 @@ pub(super) fn join_pages<A: Allocator + Copy>(
     Some(Node::page(first, right))
 }
 
-/// Evens the children of two nodes. Those that do not go into the first one are handed back under a node.
+// Evens the children of two nodes. Those that do not go into the first one are handed back under a node.
 pub(super) fn join_kids<A: Allocator + Copy>(
     left: &mut Vec<Node<A>, A>,
     mut right: Vec<Node<A>, A>,
@@ -56,7 +56,7 @@ pub(super) fn join_kids<A: Allocator + Copy>(
     })
 }
 
-/// Evens a child that may have 15 entries or children with the one beside it.
+// Evens a child that may have 15 entries or children with the one beside it.
 pub(super) fn mend<A: Allocator + Copy>(kids: &mut Vec<Node<A>, A>, at: usize)
     requires worn { (below : ℕ) × AreWorn below at kids.old.items }
     requires two { 2 ≤ length kids.old.items }

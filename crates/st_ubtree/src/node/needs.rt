@@ -3,8 +3,8 @@ ghost use Rattle.std.specs.Prelude.{◌≡◌, ◌+◌, ◌-◌, ◌<◌, ◌≤
 ghost use Rattle.std.specs.List.{All};
 ghost use Rattle.st_key.specs.Key.{rank};
 ghost use Rattle.st_index.specs.Rows.{EntryValue};
-ghost use Rattle.st_ubtree.specs.Growing.{DoRise};
-ghost use Rattle.st_ubtree.specs.Splits.{split_nodes, splits_page, splits_with};
+ghost use Rattle.st_ubtree.specs.inner.Growing.{DoRise};
+ghost use Rattle.st_ubtree.specs.inner.Splits.{split_nodes, splits_page, splits_with};
 
 use st_index::{Entry, entries};
 use st_key::Key;
@@ -18,7 +18,7 @@ pub struct Needs {
     pub inners: Option<u64>,
 }
 
-/// What a new row of the key takes in a page.
+// What a new row of the key takes in a page.
 pub(super) fn page_needs<A: Allocator + Copy>(entries: &[Entry<A>], key: Key) -> Needs
     requires { DoRise entries.now }
     ensures rows { All (λ (e : EntryValue A). e.at ≡ rank key → length e.rows ≡ result.rows) entries.now }
@@ -41,8 +41,8 @@ pub(super) fn page_needs<A: Allocator + Copy>(entries: &[Entry<A>], key: Key) ->
     }
 }
 
-/// How many nodes above a page are split, up to a node of this height over so many children, from how many
-/// are up to the child.
+// How many nodes above a page are split, up to a node of this height over so many children, from how many
+// are up to the child.
 pub(super) fn count_node(inners: Option<u64>, height: u64, width: usize) -> Option<u64>
     requires { 1 ≤ height }
     ensures { split_nodes result ≡ splits_with width (height - 1) (split_nodes inners) }

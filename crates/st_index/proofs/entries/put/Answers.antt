@@ -1,5 +1,5 @@
 use Rattle.std.proofs.Common.{◌≡◌, ◌<◌, length, subst, sym, ap, ◌∙◌}
-use Rattle.st_index.specs.Rows.{EntryValue, name_of, rows_of, place_of}
+use Rattle.st_index.specs.Rows.{EntryValue, name_of, rows_of, rank_of}
 use Rattle.std.specs.Prelude.{vec_capacity}
 use Rattle.st_key.specs.Key.{rank}
 use Rattle.st_index.specs.Index.{IsAbsent}
@@ -24,7 +24,7 @@ returns-in-Ok-clause-added g c =
 pub returns-in-Ok-clause-rising : goal.returns-in-Ok-clause-rising
 returns-in-Ok-clause-rising g c = λ period lo hi key h a b absent.
     let same = rw c.deref.ensures.value at (c.in-Ok.ensures.place c.index_mut-entry.result.now) in
-    let at : c.index_mut-entry.result.now.at ≡ place_of period c.args.row = ap (λ (e : EntryValue g.row.A.Denot). e.at) c.index_mut-entry.ensures.value ∙ nat_equal _ _ same ∙ key in
+    let at : c.index_mut-entry.result.now.at ≡ rank_of period c.args.row = ap (λ (e : EntryValue g.row.A.Denot). e.at) c.index_mut-entry.ensures.value ∙ nat_equal _ _ same ∙ key in
     held_rising period c.args.row c.args.entries.now.items c.in-Ok.i c.index_mut-entry.result.now c.put.new.self
     (rw c.deref.ensures.value at c.in-Ok.ensures.bound) c.index_mut-entry.ensures.value c.put.ensures.added
     c.put.ensures.at at (c.put.ensures.named period) lo hi h (subst (λ n. IsAbsent period n (name_of c.args.row) (rows_of c.args.entries.now.items)) key absent)

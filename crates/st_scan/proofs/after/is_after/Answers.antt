@@ -1,7 +1,7 @@
 use Rattle.std.proofs.Common.{◌≡◌, ◌<◌, sym, ap, subst, ◌∙◌, arith}
 use Rattle.std.specs.Ordering.{is_lt}
 use Rattle.st_key.specs.Key.{rank}
-use Rattle.st_index.specs.Rows.{place_of}
+use Rattle.st_index.specs.Rows.{rank_of}
 use Rattle.st_scan.proofs.Keys.{not_before, rank_before}
 use Rattle.st_scan.proofs.Past.{past_after, past_before, past_same}
 use Rattle.st_scan.proofs.after.is_after.Goals as goal
@@ -24,5 +24,5 @@ returns g c =
     let l = c.key-key.result in
     let a = not_before k l _ c.is_before.ensures c.if-is_before.false in
     let b = not_before l k _ c.is_before-2.ensures c.if-is_before-2.false in
-    let same : rank k ≡ place_of c.args.period c.args.row.now = omega (arith, a, b, c.key-key.ensures.value) in
+    let same : rank k ≡ rank_of c.args.period c.args.row.now = omega (arith, a, b, c.key-key.ensures.value) in
     c.is_lt.ensures ∙ ap is_lt c.cmp_names.ensures ∙ sym (past_same c.args.period c.args.place.now c.args.row.now k c.of-at.ensures.key same)

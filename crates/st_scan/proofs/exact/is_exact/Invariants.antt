@@ -1,6 +1,6 @@
 use Rattle.std.proofs.Common.{◌≡◌, drop}
 use Rattle.std.specs.List.{list_any}
-use Rattle.st_scan.specs.Walks.{has_exact}
+use Rattle.st_scan.specs.inner.Steps.{has_exact}
 use Rattle.st_scan.proofs.exact.is_exact.Given as goal
 
 -- a part has the key in an exact range if one of those that are left has

@@ -1,7 +1,7 @@
 use Rattle.std.proofs.Common.{◌≡◌, ◌∷◌, ◌++◌, ◌<◌, ◌&&◌, [], inl, inr, length, get_or, nat_le, true, subst, arith}
 use Rattle.std.specs.List.{list_any}
 use Rattle.st_plan.specs.Range.{is_exact_in}
-use Rattle.st_scan.specs.Walks.{has_exact}
+use Rattle.st_scan.specs.inner.Steps.{has_exact}
 use Rattle.st_scan.proofs.ExactRanges.{any_at, any_last}
 use Rattle.st_scan.proofs.exact.ranges_of.Goals as goal
 

@@ -1,6 +1,6 @@
 use Rattle.std.proofs.Common.{◌≡◌, ◌-◌}
 use Rattle.st_index.specs.Rows.{key_end}
-use Rattle.st_scan.specs.Walks.{IsPosition, left_of, place_at}
+use Rattle.st_scan.specs.inner.Steps.{IsPosition, left_of, rank_or_end}
 use Rattle.st_scan.proofs.step.forward.Given as goal
 
 abbrev pub invariant-regions : goal.invariant-regions
@@ -11,4 +11,4 @@ invariant-regions g l = record {
 }
 
 abbrev pub decreases-regions : goal.decreases-regions
-decreases-regions g l = key_end l.test.period - place_at l.test.period l.at.next
+decreases-regions g l = key_end l.test.period - rank_or_end l.test.period l.at.next

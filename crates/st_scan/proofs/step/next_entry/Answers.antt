@@ -19,10 +19,10 @@ returns-then-has_key-clause-some g c =
       passed = p.passed;
       entry = c.in-Some.entry.now;
       is = p.is;
-      rows_are = c.rows_in.ensures;
+      rows_are = c.rows_of_entry.ensures;
       outside = p.outside;
       inside = λ k d l. by_key w q _ _ (entry.placed k d l ∙ sym c.key_of.ensures) has;
-      some = λ e. entry.held (sym c.rows_in.ensures ∙ e);
+      some = λ e. entry.held (sym c.rows_of_entry.ensures ∙ e);
     }
 
 pub loop-entry-preserved : goal.loop-entry-preserved

@@ -1,8 +1,8 @@
 use Rattle.std.proofs.Common.{◌++◌, map, sym, ap, ◌∙◌}
 use Rattle.st_key.specs.declared.key.Key.{Key}
 use Rattle.st_text.specs.Texts.{Text}
-use Rattle.st_scan.specs.Seen.{is_visible}
-use Rattle.st_table.specs.Labels.{rows_under}
+use Rattle.st_scan.specs.Visible.{is_visible}
+use Rattle.st_table.specs.inner.Labels.{rows_under}
 use Rattle.st_table.proofs.ByLabel.{at_first, at_rest, hide_next, map_push, show_next}
 use Rattle.st_table.proofs.lookup.rows_under.Goals as goal
 

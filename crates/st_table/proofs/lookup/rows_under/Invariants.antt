@@ -1,6 +1,6 @@
 use Rattle.std.proofs.Common.{◌≡◌, ◌++◌, length, map}
-use Rattle.st_scan.specs.Seen.{is_visible}
-use Rattle.st_table.specs.Labels.{AreAt, rows_under}
+use Rattle.st_scan.specs.Visible.{is_visible}
+use Rattle.st_table.specs.inner.Labels.{AreAt, rows_under}
 use Rattle.st_table.proofs.lookup.rows_under.Given as goal
 
 abbrev pub invariant-labels : goal.invariant-labels

@@ -1,5 +1,5 @@
 use Rattle.std.proofs.Common.{◌≡◌, length}
-use Rattle.st_ubtree.specs.Growing.{AreBlank}
+use Rattle.st_ubtree.specs.inner.Growing.{AreBlank}
 use Rattle.st_ubtree.proofs.tree.blank_nodes.Given as goal
 
 abbrev pub invariant-loop : goal.invariant-loop

@@ -1,6 +1,6 @@
 use Rattle.std.proofs.Common.{List, map, ap, ◌∙◌}
 use Rattle.st_index.specs.declared.row.Row.{Row}
-use Rattle.st_scan.specs.Seen.{is_seen}
+use Rattle.st_scan.specs.Visible.{is_visible_inside}
 use Rattle.st_policy.specs.declared.reply.Reply.{Reply}
 use Rattle.st_core.proofs.Pages.{paged}
 use Rattle.st_core.proofs.store.Store.page.Goals as goal
@@ -11,4 +11,4 @@ returns g c =
     let page = rw (c.get.ensures.value, c.as_ref.ensures.value) at c.in-Ok.ensures.page in
     ap (λ (rows : List (Row g.row.A.Denot)). Reply.Page rows c.in-Ok.page.more) copied
     ∙ paged c.args.self.now c.args.table.now c.args.query.now c.args.auths.now c.args.limit c.args.after.now c.table.result.now.period c.table.result.now.rows _ c.in-Ok.page.more
-    c.table.ensures.period (c.table.ensures.scans (is_seen c.args.query.now c.args.auths.now)) page
+    c.table.ensures.period (c.table.ensures.scans (is_visible_inside c.args.query.now c.args.auths.now)) page

@@ -1,7 +1,7 @@
 use Rattle.std.proofs.Common.{◌≡◌, List, Some, ◌∙◌, sym, ap, subst, filter}
 use Rattle.st_text.specs.Texts.{in_order}
 use Rattle.st_index.specs.Order.{scan_key}
-use Rattle.st_table.specs.Rows.{rows_of}
+use Rattle.st_table.specs.Rows.{rows_in_table}
 use Rattle.st_table.specs.Table.{TableValue, rows_by_label}
 use Rattle.st_core.specs.Tables.{TablesValue, heading_named}
 use Rattle.st_core.specs.declared.tables.Shelf.{Shelf}
@@ -28,8 +28,8 @@ returns-clause-scans g c =
     let value = c.deref.ensures.value in
     let s : Stands name ts i t = stands name ts i t (rw value at c.position-place.ensures.alone) (rw value at c.position-place.ensures.inside) (rw value at c.position-place.ensures.found) c.index.ensures in
     λ test.
-    subst (λ (w : TableValue g.row.A.Denot). in_order (scan_key w.period) (filter test (rows_of name c.args.self.now.rows)) ≡ filter test w.rows) (sym c.table.ensures.value)
-    (subst (λ (v : TablesValue g.row.A.Denot). in_order (scan_key t.table.period) (filter test (rows_of name v.rows)) ≡ filter test t.table.rows) c.self.view_is
+    subst (λ (w : TableValue g.row.A.Denot). in_order (scan_key w.period) (filter test (rows_in_table name c.args.self.now.rows)) ≡ filter test w.rows) (sym c.table.ensures.value)
+    (subst (λ (v : TablesValue g.row.A.Denot). in_order (scan_key t.table.period) (filter test (rows_in_table name v.rows)) ≡ filter test t.table.rows) c.self.view_is
     (scans_are name ts i t s c.table.ensures.in_order test))
 
 pub returns-clause-gets : goal.returns-clause-gets
@@ -41,6 +41,6 @@ returns-clause-gets g c =
     let value = c.deref.ensures.value in
     let s : Stands name ts i t = stands name ts i t (rw value at c.position-place.ensures.alone) (rw value at c.position-place.ensures.inside) (rw value at c.position-place.ensures.found) c.index.ensures in
     λ id test.
-    subst (λ (w : TableValue g.row.A.Denot). rows_by_label id test (rows_of name c.args.self.now.rows) ≡ rows_by_label id test w.rows) (sym c.table.ensures.value)
-    (subst (λ (v : TablesValue g.row.A.Denot). rows_by_label id test (rows_of name v.rows) ≡ rows_by_label id test t.table.rows) c.self.view_is
+    subst (λ (w : TableValue g.row.A.Denot). rows_by_label id test (rows_in_table name c.args.self.now.rows) ≡ rows_by_label id test w.rows) (sym c.table.ensures.value)
+    (subst (λ (v : TablesValue g.row.A.Denot). rows_by_label id test (rows_in_table name v.rows) ≡ rows_by_label id test t.table.rows) c.self.view_is
     (gets_are name ts i t s c.table.ensures.each_once id test))

@@ -1,5 +1,5 @@
 use Rattle.std.proofs.Common.{◌<◌, ◌^◌, ◌∙◌, sym, arith}
-use Rattle.st_index.specs.Rows.{key_end, name_of, place_of, rows_of}
+use Rattle.st_index.specs.Rows.{key_end, name_of, rank_of, rows_of}
 use Rattle.st_index.specs.Index.{Holds}
 use Rattle.st_index.proofs.Listing.{lawful, swaps_length}
 use Rattle.st_index.proofs.Taking.{absent_held}
@@ -9,7 +9,7 @@ pub unreachable-requires : goal.unreachable-requires
 unreachable-requires g c =
     let p = c.self.inside.period in
     let absent = c.in_default.ensures.absent p 0 (key_end p) c.self.invariant.0 in
-    let held : Holds p (place_of p c.args.row) (name_of c.args.row) (rows_of c.self.inside.entries.items) = rw (← c.self.view_is) at c.requires in
+    let held : Holds p (rank_of p c.args.row) (name_of c.args.row) (rows_of c.self.inside.entries.items) = rw (← c.self.view_is) at c.requires in
     absent_held p _ _ _ held (rw c.key-key.ensures.value at absent)
 
 pub returns-clause-placed : goal.returns-clause-placed

@@ -1,5 +1,5 @@
 use Rattle.std.proofs.Common.{sym, subst, ◌∙◌}
-use Rattle.st_scan.specs.Walks.{IsOwnExact}
+use Rattle.st_scan.specs.inner.Steps.{IsOwnExact}
 use Rattle.st_scan.proofs.own_plan.OwnPlan.is_exact.Goals as goal
 
 pub returns-in-Made : goal.returns-in-Made

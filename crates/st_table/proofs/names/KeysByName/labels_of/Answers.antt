@@ -1,6 +1,6 @@
 use Rattle.std.proofs.Common.{◌≡◌, [], sym, ap, ◌∙◌, false}
 use Rattle.std.specs.Prelude.{is_some}
-use Rattle.st_table.specs.Names.{is_short, text_of}
+use Rattle.st_table.specs.inner.Names.{is_short, text_of}
 use Rattle.st_table.proofs.Labelling.{labels_from, long_id, no_labels}
 use Rattle.st_table.proofs.names.KeysByName.labels_of.Goals as goal
 

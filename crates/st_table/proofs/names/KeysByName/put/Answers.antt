@@ -1,6 +1,6 @@
 use Rattle.std.proofs.Common.{◌≡◌, cond, Some, subst, ◌∙◌}
 use Rattle.st_index.specs.Rows.{Name}
-use Rattle.st_table.specs.Names.{joined, key_at, same_text, text_of}
+use Rattle.st_table.specs.inner.Names.{joined, key_at, same_text, text_of}
 use Rattle.st_table.specs.declared.row_name.RowName.{RowName}
 use Rattle.st_table.proofs.Tying.{short_put}
 use Rattle.st_table.proofs.names.KeysByName.put.Goals as goal

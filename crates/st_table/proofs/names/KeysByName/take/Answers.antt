@@ -1,7 +1,7 @@
 use Rattle.std.proofs.Common.{◌≡◌, cond, None, subst, sym, ◌∙◌, ap, false}
 use Rattle.std.specs.Prelude.{is_some}
 use Rattle.st_index.specs.Rows.{Name}
-use Rattle.st_table.specs.Names.{joined, is_short, key_at, same_text, text_of}
+use Rattle.st_table.specs.inner.Names.{joined, is_short, key_at, same_text, text_of}
 use Rattle.st_table.specs.declared.row_name.RowName.{RowName}
 use Rattle.st_table.proofs.Tying.{long_take, short_take}
 use Rattle.st_table.proofs.names.KeysByName.take.Goals as goal

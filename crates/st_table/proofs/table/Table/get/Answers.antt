@@ -1,5 +1,5 @@
 use Rattle.std.proofs.Common.{[], map, ap, ◌∙◌}
-use Rattle.st_scan.specs.Seen.{is_visible}
+use Rattle.st_scan.specs.Visible.{is_visible}
 use Rattle.st_table.proofs.ByLabel.{are_at, got_is}
 use Rattle.st_table.proofs.table.Table.get.Goals as goal
 

@@ -1,8 +1,8 @@
 use Rattle.std.proofs.Common.{◌≡◌, cond, Some, sym, ap, ◌∙◌, subst}
 use Rattle.st_index.specs.Order.{InScanOrder}
 use Rattle.st_index.specs.declared.row.Row.{Row}
-use Rattle.st_index.specs.Rows.{Name, name_of, place_of}
-use Rattle.st_table.specs.Names.{IsTied, joined, key_at, same_text}
+use Rattle.st_index.specs.Rows.{Name, name_of, rank_of}
+use Rattle.st_table.specs.inner.Names.{IsTied, joined, key_at, same_text}
 use Rattle.st_table.proofs.Tying.{tied_put}
 use Rattle.st_table.proofs.table.Table.put.Goals as goal
 
@@ -19,6 +19,6 @@ invariant_of-self-2 g c =
     subst (λ p. IsTied p more new) (sym c.put_at.ensures.period)
     (tied_put period c.self.inside.keys more c.key-key.result row rows new
     (subst (λ p. InScanOrder p rows) c.period.ensures.value (subst (λ p. InScanOrder p rows) (sym c.period.ensures.value) c.period.ensures.lawful.in_order))
-    (c.key-key.ensures.value ∙ ap (λ p. place_of p row) c.period.ensures.value) c.put_at.ensures.rows
+    (c.key-key.ensures.value ∙ ap (λ p. rank_of p row) c.period.ensures.value) c.put_at.ensures.rows
     (subst (λ (own : Name). (other : Name) → key_at more other ≡ cond (same_text (joined own) (joined other)) (Some c.key-key.result) (key_at c.self.inside.keys other)) name c.in_ok-before.ensures.updates)
     c.self.invariant)

@@ -1,14 +1,16 @@
 use Rattle.std.proofs.Common.{rules, ◌≡◌, ◌+◌, ◌≤◌, [], length, vec_len, vec_capacity, ◌∷◌, ◌++◌}
 use Rattle.std.specs.List.{All}
 use Rattle.st_key.specs.Key.{rank}
-use Rattle.st_ubtree.specs.Pages.{NodeValue, HeadAt, IsKid, entries_in, pages_of}
+use Rattle.st_ubtree.specs.Pages.{NodeValue, entries_of_pages}
+use Rattle.st_ubtree.specs.inner.Kids.{HeadAt, IsKid, pages_of}
 use Rattle.std.proofs.Common.{subst, sym, ap, ◌∙◌, take, drop, suc, arith, length-set}
 use Rattle.std.proofs.lemmas.List.{append-nil, set_split}
 use Rattle.st_ubtree.proofs.Lifting.{alone, both, each_with, grows_alone, grows_settled, head_same, inserted, kid_splits, kid_stays, length-inserted, room_for_kid, settled_inner, that_kid}
-use Rattle.st_ubtree.specs.Nodes.{IsNode, IsInner, IsPage, inner_node, node_value, page_node, pages_under}
+use Rattle.st_ubtree.specs.inner.Nodes.{IsNode, IsInnerNode, IsPageNode, inner_node, node_value, pages_under}
+use Rattle.st_ubtree.specs.Pages.{page_node}
 use Rattle.st_ubtree.proofs.Splitting.{page, page_fits, page_node_grows}
-use Rattle.st_ubtree.specs.Growing.{AreAround, IsChosen, IsRoomFor}
-use Rattle.st_ubtree.specs.Splits.{chains_of, splits, splits_in, splits_page}
+use Rattle.st_ubtree.specs.inner.Growing.{AreAround, IsChosen, IsRoomFor}
+use Rattle.st_ubtree.specs.inner.Splits.{chains_of, splits, splits_in, splits_page}
 use Rattle.st_ubtree.proofs.Needing.{fewer_split, kid_around, kid_splits_by, left_below, left_over, lower_kid, one_left, page_around, some_split, splits_alone, whole_split, with_full, with_not_less}
 use Rattle.st_ubtree.proofs.Settling.{held_at}
 use Rattle.st_ubtree.proofs.Lifting.{settled_split}
@@ -16,12 +18,12 @@ use Rattle.st_ubtree.proofs.node.Node.+insert.Goals as goal
 
 pub invariant_of-self : goal.invariant_of-self
 invariant_of-self g t c =
-    let good : IsPage c.self.inside.height (length c.in-Page.entries.items) (vec_capacity c.in-Page.entries) = subst (IsNode (rank c.self.inside.first) c.self.inside.height) c.in-Page.is c.self.invariant in
+    let good : IsPageNode c.self.inside.height (length c.in-Page.entries.items) (vec_capacity c.in-Page.entries) = subst (IsNode (rank c.self.inside.first) c.self.inside.height) c.in-Page.is c.self.invariant in
     record { lowest = good.lowest; not_more = page_fits (rank c.args.key) c.args.row _ _ _ c.put_in_page.ensures.grows; room = c.put_in_page.ensures.room }
 
 pub returns-in-Page-clause-grows : goal.returns-in-Page-clause-grows
 returns-in-Page-clause-grows g t c =
-    let good : IsPage c.self.inside.height (length c.in-Page.entries.items) (vec_capacity c.in-Page.entries) = subst (IsNode (rank c.self.inside.first) c.self.inside.height) c.in-Page.is c.self.invariant in
+    let good : IsPageNode c.self.inside.height (length c.in-Page.entries.items) (vec_capacity c.in-Page.entries) = subst (IsNode (rank c.self.inside.first) c.self.inside.height) c.in-Page.is c.self.invariant in
     let old : page_node (rank c.self.inside.first) c.self.inside.height c.in-Page.entries.items ≡ c.args.self.now =
     ap (node_value (rank c.self.inside.first) c.self.inside.height) (sym c.in-Page.is) ∙ c.self.view_is in
     rw (← old) (page_node_grows (rank c.args.key) c.args.row (rank c.self.inside.first) c.self.inside.height c.in-Page.entries.items c.put_in_page.new.entries.items c.put_in_page.result good.lowest c.put_in_page.ensures.grows)
@@ -29,7 +31,7 @@ returns-in-Page-clause-grows g t c =
 pub insert-requires : goal.insert-requires
 insert-requires g t c κs within =
     let kids = c.in-Inner.kids.items in
-    let good : IsInner (rank c.self.inside.first) c.self.inside.height kids (vec_capacity c.in-Inner.kids) = subst (IsNode (rank c.self.inside.first) c.self.inside.height) c.in-Inner.is c.self.invariant in
+    let good : IsInnerNode (rank c.self.inside.first) c.self.inside.height kids (vec_capacity c.in-Inner.kids) = subst (IsNode (rank c.self.inside.first) c.self.inside.height) c.in-Inner.is c.self.invariant in
     let i = c.child_for-at.result in
     let chosen : IsChosen (rank c.args.key) kids i = rw c.deref.ensures.value at c.child_for-at.ensures in
     let l = chosen.within in
@@ -51,7 +53,7 @@ insert-requires g t c κs within =
 pub invariant_of-self-in_err-right-in-Inner : goal.invariant_of-self-in_err-right-in-Inner
 invariant_of-self-in_err-right-in-Inner g t c =
     let kids = c.in-Inner.kids.items in
-    let good : IsInner (rank c.self.inside.first) c.self.inside.height kids (vec_capacity c.in-Inner.kids) = subst (IsNode (rank c.self.inside.first) c.self.inside.height) c.in-Inner.is c.self.invariant in
+    let good : IsInnerNode (rank c.self.inside.first) c.self.inside.height kids (vec_capacity c.in-Inner.kids) = subst (IsNode (rank c.self.inside.first) c.self.inside.height) c.in-Inner.is c.self.invariant in
     let i = c.child_for-at.result in
     let chosen : IsChosen (rank c.args.key) kids i = rw c.deref.ensures.value at c.child_for-at.ensures in
     let l = chosen.within in
@@ -73,7 +75,7 @@ invariant_of-self-in_err-right-in-Inner g t c =
 pub returns-in_err-right-in-Inner-clause-grows : goal.returns-in_err-right-in-Inner-clause-grows
 returns-in_err-right-in-Inner-clause-grows g t c =
     let kids = c.in-Inner.kids.items in
-    let good : IsInner (rank c.self.inside.first) c.self.inside.height kids (vec_capacity c.in-Inner.kids) = subst (IsNode (rank c.self.inside.first) c.self.inside.height) c.in-Inner.is c.self.invariant in
+    let good : IsInnerNode (rank c.self.inside.first) c.self.inside.height kids (vec_capacity c.in-Inner.kids) = subst (IsNode (rank c.self.inside.first) c.self.inside.height) c.in-Inner.is c.self.invariant in
     let i = c.child_for-at.result in
     let chosen : IsChosen (rank c.args.key) kids i = rw c.deref.ensures.value at c.child_for-at.ensures in
     let l = chosen.within in
@@ -86,7 +88,7 @@ returns-in_err-right-in-Inner-clause-grows g t c =
 pub returns-in_err-right-in-Inner-clause-left : goal.returns-in_err-right-in-Inner-clause-left
 returns-in_err-right-in-Inner-clause-left g t c =
     let kids = c.in-Inner.kids.items in
-    let good : IsInner (rank c.self.inside.first) c.self.inside.height kids (vec_capacity c.in-Inner.kids) = subst (IsNode (rank c.self.inside.first) c.self.inside.height) c.in-Inner.is c.self.invariant in
+    let good : IsInnerNode (rank c.self.inside.first) c.self.inside.height kids (vec_capacity c.in-Inner.kids) = subst (IsNode (rank c.self.inside.first) c.self.inside.height) c.in-Inner.is c.self.invariant in
     let i = c.child_for-at.result in
     let chosen : IsChosen (rank c.args.key) kids i = rw c.deref.ensures.value at c.child_for-at.ensures in
     let l = chosen.within in
@@ -99,7 +101,7 @@ returns-in_err-right-in-Inner-clause-left g t c =
 pub settle-requires-clause-kids : goal.settle-requires-clause-kids
 settle-requires-clause-kids g t c =
     let kids = c.in-Inner.kids.items in
-    let good : IsInner (rank c.self.inside.first) c.self.inside.height kids (vec_capacity c.in-Inner.kids) = subst (IsNode (rank c.self.inside.first) c.self.inside.height) c.in-Inner.is c.self.invariant in
+    let good : IsInnerNode (rank c.self.inside.first) c.self.inside.height kids (vec_capacity c.in-Inner.kids) = subst (IsNode (rank c.self.inside.first) c.self.inside.height) c.in-Inner.is c.self.invariant in
     let i = c.child_for-at.result in
     let chosen : IsChosen (rank c.args.key) kids i = rw c.deref.ensures.value at c.child_for-at.ensures in
     let l = chosen.within in
@@ -115,7 +117,7 @@ settle-requires-clause-kids g t c =
 pub settle-requires-clause-enough : goal.settle-requires-clause-enough
 settle-requires-clause-enough g t c =
     let kids = c.in-Inner.kids.items in
-    let good : IsInner (rank c.self.inside.first) c.self.inside.height kids (vec_capacity c.in-Inner.kids) = subst (IsNode (rank c.self.inside.first) c.self.inside.height) c.in-Inner.is c.self.invariant in
+    let good : IsInnerNode (rank c.self.inside.first) c.self.inside.height kids (vec_capacity c.in-Inner.kids) = subst (IsNode (rank c.self.inside.first) c.self.inside.height) c.in-Inner.is c.self.invariant in
     let i = c.child_for-at.result in
     let chosen : IsChosen (rank c.args.key) kids i = rw c.deref.ensures.value at c.child_for-at.ensures in
     let l = chosen.within in
@@ -136,7 +138,7 @@ settle-requires-clause-enough g t c =
 pub invariant_of-self-2 : goal.invariant_of-self-2
 invariant_of-self-2 g t c =
     let kids = c.in-Inner.kids.items in
-    let good : IsInner (rank c.self.inside.first) c.self.inside.height kids (vec_capacity c.in-Inner.kids) = subst (IsNode (rank c.self.inside.first) c.self.inside.height) c.in-Inner.is c.self.invariant in
+    let good : IsInnerNode (rank c.self.inside.first) c.self.inside.height kids (vec_capacity c.in-Inner.kids) = subst (IsNode (rank c.self.inside.first) c.self.inside.height) c.in-Inner.is c.self.invariant in
     let i = c.child_for-at.result in
     let chosen : IsChosen (rank c.args.key) kids i = rw c.deref.ensures.value at c.child_for-at.ensures in
     let l = chosen.within in
@@ -156,7 +158,7 @@ invariant_of-self-2 g t c =
 pub returns-clause-grows : goal.returns-clause-grows
 returns-clause-grows g t c =
     let kids = c.in-Inner.kids.items in
-    let good : IsInner (rank c.self.inside.first) c.self.inside.height kids (vec_capacity c.in-Inner.kids) = subst (IsNode (rank c.self.inside.first) c.self.inside.height) c.in-Inner.is c.self.invariant in
+    let good : IsInnerNode (rank c.self.inside.first) c.self.inside.height kids (vec_capacity c.in-Inner.kids) = subst (IsNode (rank c.self.inside.first) c.self.inside.height) c.in-Inner.is c.self.invariant in
     let i = c.child_for-at.result in
     let chosen : IsChosen (rank c.args.key) kids i = rw c.deref.ensures.value at c.child_for-at.ensures in
     let l = chosen.within in
@@ -172,7 +174,7 @@ returns-clause-grows g t c =
 pub returns-clause-left : goal.returns-clause-left
 returns-clause-left g t c =
     let kids = c.in-Inner.kids.items in
-    let good : IsInner (rank c.self.inside.first) c.self.inside.height kids (vec_capacity c.in-Inner.kids) = subst (IsNode (rank c.self.inside.first) c.self.inside.height) c.in-Inner.is c.self.invariant in
+    let good : IsInnerNode (rank c.self.inside.first) c.self.inside.height kids (vec_capacity c.in-Inner.kids) = subst (IsNode (rank c.self.inside.first) c.self.inside.height) c.in-Inner.is c.self.invariant in
     let i = c.child_for-at.result in
     let chosen : IsChosen (rank c.args.key) kids i = rw c.deref.ensures.value at c.child_for-at.ensures in
     let l = chosen.within in
@@ -194,7 +196,7 @@ put_in_page-requires-clause-page g t c =
 
 pub returns-in-Page-clause-split : goal.returns-in-Page-clause-split
 returns-in-Page-clause-split g t c =
-    let good : IsPage c.self.inside.height (length c.in-Page.entries.items) (vec_capacity c.in-Page.entries) = subst (IsNode (rank c.self.inside.first) c.self.inside.height) c.in-Page.is c.self.invariant in
+    let good : IsPageNode c.self.inside.height (length c.in-Page.entries.items) (vec_capacity c.in-Page.entries) = subst (IsNode (rank c.self.inside.first) c.self.inside.height) c.in-Page.is c.self.invariant in
     let same : splits c.args.self.now (rank c.args.key) ≡ splits_page c.in-Page.entries.items 1 (rank c.args.key) = ap (λ (v : NodeValue g.row.A.Denot). splits v (rank c.args.key)) (sym c.self.view_is) ∙ ap (λ k. splits (node_value (rank c.self.inside.first) c.self.inside.height k) (rank c.args.key)) c.in-Page.is ∙ splits_alone (rank c.args.key) (rank c.self.inside.first) c.self.inside.height c.in-Page.entries.items in
     let tall : c.args.self.now.height ≡ 0 = ap (λ (v : NodeValue g.row.A.Denot). v.height) (sym c.self.view_is) ∙ good.lowest in
     rw (same, tall) c.put_in_page.ensures.split
@@ -202,7 +204,7 @@ returns-in-Page-clause-split g t c =
 pub returns-clause-split : goal.returns-clause-split
 returns-clause-split g t c =
     let kids = c.in-Inner.kids.items in
-    let good : IsInner (rank c.self.inside.first) c.self.inside.height kids (vec_capacity c.in-Inner.kids) = subst (IsNode (rank c.self.inside.first) c.self.inside.height) c.in-Inner.is c.self.invariant in
+    let good : IsInnerNode (rank c.self.inside.first) c.self.inside.height kids (vec_capacity c.in-Inner.kids) = subst (IsNode (rank c.self.inside.first) c.self.inside.height) c.in-Inner.is c.self.invariant in
     let i = c.child_for-at.result in
     let chosen : IsChosen (rank c.args.key) kids i = rw c.deref.ensures.value at c.child_for-at.ensures in
     let l = chosen.within in
@@ -225,22 +227,22 @@ returns-clause-split g t c =
 pub put_in_page-requires-clause-rows : goal.put_in_page-requires-clause-rows
 put_in_page-requires-clause-rows g t c =
     let pages : c.args.self.now.pages ≡ page (rank c.self.inside.first) c.in-Page.entries.items ∷ [] = ap (λ (v : NodeValue g.row.A.Denot). v.pages) (sym c.self.view_is) ∙ ap (pages_under (rank c.self.inside.first)) c.in-Page.is in
-    subst (IsRoomFor (rank c.args.key) c.args.rows.items (vec_capacity c.args.rows)) (ap entries_in pages ∙ append-nil c.in-Page.entries.items) c.requires.rows
+    subst (IsRoomFor (rank c.args.key) c.args.rows.items (vec_capacity c.args.rows)) (ap entries_of_pages pages ∙ append-nil c.in-Page.entries.items) c.requires.rows
 
 pub put_in_page-requires-clause-not_more : goal.put_in_page-requires-clause-not_more
 put_in_page-requires-clause-not_more g t c =
-    let good : IsPage c.self.inside.height (length c.in-Page.entries.items) (vec_capacity c.in-Page.entries) = subst (IsNode (rank c.self.inside.first) c.self.inside.height) c.in-Page.is c.self.invariant in
+    let good : IsPageNode c.self.inside.height (length c.in-Page.entries.items) (vec_capacity c.in-Page.entries) = subst (IsNode (rank c.self.inside.first) c.self.inside.height) c.in-Page.is c.self.invariant in
     good.not_more
 
 pub put_in_page-requires-clause-room : goal.put_in_page-requires-clause-room
 put_in_page-requires-clause-room g t c =
-    let good : IsPage c.self.inside.height (length c.in-Page.entries.items) (vec_capacity c.in-Page.entries) = subst (IsNode (rank c.self.inside.first) c.self.inside.height) c.in-Page.is c.self.invariant in
+    let good : IsPageNode c.self.inside.height (length c.in-Page.entries.items) (vec_capacity c.in-Page.entries) = subst (IsNode (rank c.self.inside.first) c.self.inside.height) c.in-Page.is c.self.invariant in
     good.room
 
 pub child_for-at-requires : goal.child_for-at-requires
 child_for-at-requires g t c =
     let kids = c.in-Inner.kids.items in
-    let good : IsInner (rank c.self.inside.first) c.self.inside.height kids (vec_capacity c.in-Inner.kids) = subst (IsNode (rank c.self.inside.first) c.self.inside.height) c.in-Inner.is c.self.invariant in
+    let good : IsInnerNode (rank c.self.inside.first) c.self.inside.height kids (vec_capacity c.in-Inner.kids) = subst (IsNode (rank c.self.inside.first) c.self.inside.height) c.in-Inner.is c.self.invariant in
     subst (λ ks. 1 ≤ length ks) (sym c.deref.ensures.value) good.not_less
 
 pub index_mut-kid-requires : goal.index_mut-kid-requires
@@ -262,7 +264,7 @@ insert-requires-in-Inner g t c =
 pub unreachable-requires : goal.unreachable-requires
 unreachable-requires g t c =
     let kids = c.in-Inner.kids.items in
-    let good : IsInner (rank c.self.inside.first) c.self.inside.height kids (vec_capacity c.in-Inner.kids) = subst (IsNode (rank c.self.inside.first) c.self.inside.height) c.in-Inner.is c.self.invariant in
+    let good : IsInnerNode (rank c.self.inside.first) c.self.inside.height kids (vec_capacity c.in-Inner.kids) = subst (IsNode (rank c.self.inside.first) c.self.inside.height) c.in-Inner.is c.self.invariant in
     let full : vec_capacity c.in-Inner.kids ≤ vec_len c.in-Inner.kids = c.in_default.ensures.full in
     let room = good.room in
     let fits = good.not_more in
@@ -271,7 +273,7 @@ unreachable-requires g t c =
 pub settle-requires-clause-not_more : goal.settle-requires-clause-not_more
 settle-requires-clause-not_more g t c =
     let kids = c.in-Inner.kids.items in
-    let good : IsInner (rank c.self.inside.first) c.self.inside.height kids (vec_capacity c.in-Inner.kids) = subst (IsNode (rank c.self.inside.first) c.self.inside.height) c.in-Inner.is c.self.invariant in
+    let good : IsInnerNode (rank c.self.inside.first) c.self.inside.height kids (vec_capacity c.in-Inner.kids) = subst (IsNode (rank c.self.inside.first) c.self.inside.height) c.in-Inner.is c.self.invariant in
     let i = c.child_for-at.result in
     let chosen : IsChosen (rank c.args.key) kids i = rw c.deref.ensures.value at c.child_for-at.ensures in
     let l = chosen.within in

@@ -1,8 +1,9 @@
 use Rattle.std.proofs.Common.{◌≡◌, ℕ, ◌+◌, ◌-◌, ◌<◌, max, [], ◌∷◌, length, subst, sym, ap, ◌∙◌, get_or, arith, suc, vec_capacity}
 use Rattle.st_key.specs.declared.period.Period.{Period}
 use Rattle.st_key.specs.Key.{rank}
-use Rattle.st_ubtree.specs.Pages.{NodeValue, pages_of}
-use Rattle.st_ubtree.specs.Nodes.{IsNode, IsInner, pages_under}
+use Rattle.st_ubtree.specs.Pages.{NodeValue}
+use Rattle.st_ubtree.specs.inner.Kids.{pages_of}
+use Rattle.st_ubtree.specs.inner.Nodes.{IsNode, IsInnerNode, pages_under}
 use Rattle.st_ubtree.proofs.Settling.{held_at}
 use Rattle.st_ubtree.proofs.Spanning.{Found}
 use Rattle.st_ubtree.proofs.Leaves.{leaf_page, leaf_kid, ends_next, ends_last}
@@ -17,7 +18,7 @@ returns-in-Page g t c =
 pub returns-after-after-len : goal.returns-after-after-len
 returns-after-after-len g t c =
     let kids = c.in-Inner.kids.items in
-    let good : IsInner (rank c.self.inside.first) c.self.inside.height kids (vec_capacity c.in-Inner.kids) = subst (IsNode (rank c.self.inside.first) c.self.inside.height) c.in-Inner.is c.self.invariant in
+    let good : IsInnerNode (rank c.self.inside.first) c.self.inside.height kids (vec_capacity c.in-Inner.kids) = subst (IsNode (rank c.self.inside.first) c.self.inside.height) c.in-Inner.is c.self.invariant in
     let pages : c.args.self.now.pages ≡ pages_of kids = ap (λ (v : NodeValue g.row.A.Denot). v.pages) (sym c.self.view_is) ∙ ap (pages_under (rank c.self.inside.first)) c.in-Inner.is in
     let n = c.count_up_to.result in
     let i = c.max-after.result - 1 in
@@ -43,7 +44,7 @@ returns-after-after-len g t c =
 pub index-kid-requires : goal.index-kid-requires
 index-kid-requires g t c =
     let kids = c.in-Inner.kids.items in
-    let good : IsInner (rank c.self.inside.first) c.self.inside.height kids (vec_capacity c.in-Inner.kids) = subst (IsNode (rank c.self.inside.first) c.self.inside.height) c.in-Inner.is c.self.invariant in
+    let good : IsInnerNode (rank c.self.inside.first) c.self.inside.height kids (vec_capacity c.in-Inner.kids) = subst (IsNode (rank c.self.inside.first) c.self.inside.height) c.in-Inner.is c.self.invariant in
     let n = c.count_up_to.result in
     let i = c.max-after.result - 1 in
     let m : c.max-after.result ≡ max n 1 = c.max-after.ensures in

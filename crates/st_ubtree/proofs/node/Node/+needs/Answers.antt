@@ -3,10 +3,11 @@ use Rattle.std.proofs.lemmas.List.Elements.{All-append, All-nil}
 use Rattle.st_key.specs.Key.{rank}
 use Rattle.st_index.specs.Rows.{EntryValue}
 use Rattle.st_index.proofs.Climbing.{all_left}
-use Rattle.st_ubtree.specs.Growing.{AreAround, DoRise, IsChosen}
-use Rattle.st_ubtree.specs.Nodes.{IsNode, IsInner, node_value, pages_under}
-use Rattle.st_ubtree.specs.Pages.{NodeValue, pages_of}
-use Rattle.st_ubtree.specs.Splits.{chains_of, split_nodes, splits, splits_in, splits_page, splits_with}
+use Rattle.st_ubtree.specs.inner.Growing.{AreAround, DoRise, IsChosen}
+use Rattle.st_ubtree.specs.inner.Nodes.{IsNode, IsInnerNode, node_value, pages_under}
+use Rattle.st_ubtree.specs.Pages.{NodeValue}
+use Rattle.st_ubtree.specs.inner.Kids.{pages_of}
+use Rattle.st_ubtree.specs.inner.Splits.{chains_of, split_nodes, splits, splits_in, splits_page, splits_with}
 use Rattle.st_ubtree.proofs.Lifting.{that_kid}
 use Rattle.st_ubtree.proofs.Needing.{kid_around, kid_none, kid_rows, kid_splits_by, lower_kid, page_around, splits_alone}
 use Rattle.st_ubtree.proofs.Settling.{held_at}
@@ -16,7 +17,7 @@ use Rattle.st_ubtree.proofs.node.Node.+needs.Goals as goal
 pub needs-needs-requires : goal.needs-needs-requires
 needs-needs-requires g t c κs within =
     let kids = c.in-Inner.kids.items in
-    let good : IsInner (rank c.self.inside.first) c.self.inside.height kids (vec_capacity c.in-Inner.kids) = subst (IsNode (rank c.self.inside.first) c.self.inside.height) c.in-Inner.is c.self.invariant in
+    let good : IsInnerNode (rank c.self.inside.first) c.self.inside.height kids (vec_capacity c.in-Inner.kids) = subst (IsNode (rank c.self.inside.first) c.self.inside.height) c.in-Inner.is c.self.invariant in
     let i = c.child_for-at.result in
     let chosen : IsChosen (rank c.args.key) kids i = rw c.deref-in-Inner.ensures.value at c.child_for-at.ensures in
     let l = chosen.within in
@@ -31,7 +32,7 @@ needs-needs-requires g t c κs within =
 
 pub count_node-requires : goal.count_node-requires
 count_node-requires g t c =
-    let good : IsInner (rank c.self.inside.first) c.self.inside.height c.in-Inner.kids.items (vec_capacity c.in-Inner.kids) = subst (IsNode (rank c.self.inside.first) c.self.inside.height) c.in-Inner.is c.self.invariant in
+    let good : IsInnerNode (rank c.self.inside.first) c.self.inside.height c.in-Inner.kids.items (vec_capacity c.in-Inner.kids) = subst (IsNode (rank c.self.inside.first) c.self.inside.height) c.in-Inner.is c.self.invariant in
     let higher = good.higher in
     omega (arith, higher)
 
@@ -49,7 +50,7 @@ returns-in-Page-clause-no_rows g t c = λ none.
 pub returns-in-Inner-clause-rows : goal.returns-in-Inner-clause-rows
 returns-in-Inner-clause-rows g t c =
     let kids = c.in-Inner.kids.items in
-    let good : IsInner (rank c.self.inside.first) c.self.inside.height kids (vec_capacity c.in-Inner.kids) = subst (IsNode (rank c.self.inside.first) c.self.inside.height) c.in-Inner.is c.self.invariant in
+    let good : IsInnerNode (rank c.self.inside.first) c.self.inside.height kids (vec_capacity c.in-Inner.kids) = subst (IsNode (rank c.self.inside.first) c.self.inside.height) c.in-Inner.is c.self.invariant in
     let i = c.child_for-at.result in
     let chosen : IsChosen (rank c.args.key) kids i = rw c.deref-in-Inner.ensures.value at c.child_for-at.ensures in
     let l = chosen.within in
@@ -61,7 +62,7 @@ returns-in-Inner-clause-rows g t c =
 pub returns-in-Inner-clause-no_rows : goal.returns-in-Inner-clause-no_rows
 returns-in-Inner-clause-no_rows g t c = λ none.
     let kids = c.in-Inner.kids.items in
-    let good : IsInner (rank c.self.inside.first) c.self.inside.height kids (vec_capacity c.in-Inner.kids) = subst (IsNode (rank c.self.inside.first) c.self.inside.height) c.in-Inner.is c.self.invariant in
+    let good : IsInnerNode (rank c.self.inside.first) c.self.inside.height kids (vec_capacity c.in-Inner.kids) = subst (IsNode (rank c.self.inside.first) c.self.inside.height) c.in-Inner.is c.self.invariant in
     let i = c.child_for-at.result in
     let chosen : IsChosen (rank c.args.key) kids i = rw c.deref-in-Inner.ensures.value at c.child_for-at.ensures in
     let l = chosen.within in
@@ -73,7 +74,7 @@ returns-in-Inner-clause-no_rows g t c = λ none.
 pub returns-in-Inner-clause-splits : goal.returns-in-Inner-clause-splits
 returns-in-Inner-clause-splits g t c =
     let kids = c.in-Inner.kids.items in
-    let good : IsInner (rank c.self.inside.first) c.self.inside.height kids (vec_capacity c.in-Inner.kids) = subst (IsNode (rank c.self.inside.first) c.self.inside.height) c.in-Inner.is c.self.invariant in
+    let good : IsInnerNode (rank c.self.inside.first) c.self.inside.height kids (vec_capacity c.in-Inner.kids) = subst (IsNode (rank c.self.inside.first) c.self.inside.height) c.in-Inner.is c.self.invariant in
     let i = c.child_for-at.result in
     let chosen : IsChosen (rank c.args.key) kids i = rw c.deref-in-Inner.ensures.value at c.child_for-at.ensures in
     let l = chosen.within in
@@ -99,7 +100,7 @@ returns-in-Page-clause-rows g t c =
 pub child_for-at-requires : goal.child_for-at-requires
 child_for-at-requires g t c =
     let kids = c.in-Inner.kids.items in
-    let good : IsInner (rank c.self.inside.first) c.self.inside.height kids (vec_capacity c.in-Inner.kids) = subst (IsNode (rank c.self.inside.first) c.self.inside.height) c.in-Inner.is c.self.invariant in
+    let good : IsInnerNode (rank c.self.inside.first) c.self.inside.height kids (vec_capacity c.in-Inner.kids) = subst (IsNode (rank c.self.inside.first) c.self.inside.height) c.in-Inner.is c.self.invariant in
     subst (λ ks. 1 ≤ length ks) (sym c.deref-in-Inner.ensures.value) good.not_less
 
 pub index-kid-requires : goal.index-kid-requires

@@ -1,8 +1,10 @@
 use Rattle.std.proofs.Common.{◌≡◌, ◌≤◌, ◌∷◌, [], length, subst, sym, ap, ◌∙◌, arith, rules, length-set, vec_capacity}
 use Rattle.st_key.specs.Key.{rank}
-use Rattle.st_ubtree.specs.Growing.{IsChosen}
-use Rattle.st_ubtree.specs.Pages.{NodeValue, pages_of}
-use Rattle.st_ubtree.specs.Nodes.{IsNode, IsInner, IsPage, inner_node, node_value, page_node, width_of, pages_under}
+use Rattle.st_ubtree.specs.inner.Growing.{IsChosen}
+use Rattle.st_ubtree.specs.Pages.{NodeValue}
+use Rattle.st_ubtree.specs.inner.Kids.{pages_of}
+use Rattle.st_ubtree.specs.inner.Nodes.{IsNode, IsInnerNode, IsPageNode, inner_node, node_value, width_of, pages_under}
+use Rattle.st_ubtree.specs.Pages.{page_node}
 use Rattle.st_ubtree.proofs.Lifting.{set_read, that_kid}
 use Rattle.st_ubtree.proofs.Needing.{lower_kid}
 use Rattle.st_ubtree.proofs.Shrinking.{are_worn, none_in_kids, page_kept, page_named, page_taken, page_without, shrinks_inner, shrunk_inner}
@@ -14,7 +16,7 @@ use Rattle.st_ubtree.proofs.node.Node.+remove.Goals.{in-Page, in-Inner+in_ok-row
 pub returns-in_err-row-in-Inner-clause-absent : goal.returns-in_err-row-in-Inner-clause-absent
 returns-in_err-row-in-Inner-clause-absent g t c =
     let kids = c.in-Inner.kids.items in
-    let good : IsInner (rank c.self.inside.first) c.self.inside.height kids (vec_capacity c.in-Inner.kids) = subst (IsNode (rank c.self.inside.first) c.self.inside.height) c.in-Inner.is c.self.invariant in
+    let good : IsInnerNode (rank c.self.inside.first) c.self.inside.height kids (vec_capacity c.in-Inner.kids) = subst (IsNode (rank c.self.inside.first) c.self.inside.height) c.in-Inner.is c.self.invariant in
     let i = c.child_for-at.result in
     let chosen : IsChosen (rank c.args.key) kids i = rw c.deref.ensures.value at c.child_for-at.ensures in
     let l = chosen.within in
@@ -26,7 +28,7 @@ returns-in_err-row-in-Inner-clause-absent g t c =
 pub mend-requires-clause-worn : goal.mend-requires-clause-worn
 mend-requires-clause-worn g t c =
     let kids = c.in-Inner.kids.items in
-    let good : IsInner (rank c.self.inside.first) c.self.inside.height kids (vec_capacity c.in-Inner.kids) = subst (IsNode (rank c.self.inside.first) c.self.inside.height) c.in-Inner.is c.self.invariant in
+    let good : IsInnerNode (rank c.self.inside.first) c.self.inside.height kids (vec_capacity c.in-Inner.kids) = subst (IsNode (rank c.self.inside.first) c.self.inside.height) c.in-Inner.is c.self.invariant in
     let i = c.child_for-at.result in
     let chosen : IsChosen (rank c.args.key) kids i = rw c.deref.ensures.value at c.child_for-at.ensures in
     let l = chosen.within in
@@ -40,7 +42,7 @@ pub invariant_of-self-2 : goal.invariant_of-self-2
 invariant_of-self-2 g t c =
     elim c.match-self.branch [
       | in-Page w ↦
-          let good : IsPage c.self.inside.height (length w.in-Page.entries.items) (vec_capacity w.in-Page.entries) = subst (IsNode (rank c.self.inside.first) c.self.inside.height) w.in-Page.is c.self.invariant in
+          let good : IsPageNode c.self.inside.height (length w.in-Page.entries.items) (vec_capacity w.in-Page.entries) = subst (IsNode (rank c.self.inside.first) c.self.inside.height) w.in-Page.is c.self.invariant in
           let was = w.in-Page.entries.ok.0 in
           let now = w.take.new.entries.ok.0 in
           let shorter = w.take.ensures.shorter in
@@ -49,7 +51,7 @@ invariant_of-self-2 g t c =
           rw w.self-inside-is (record { lowest = good.lowest; not_more = omega (arith, was, now, shorter, fits); room = omega (arith, room, w.take.ensures.capacity) })
       | in-Inner+in_ok-row-in-Inner w ↦
           let kids = w.in-Inner.kids.items in
-          let good : IsInner (rank c.self.inside.first) c.self.inside.height kids (vec_capacity w.in-Inner.kids) = subst (IsNode (rank c.self.inside.first) c.self.inside.height) w.in-Inner.is c.self.invariant in
+          let good : IsInnerNode (rank c.self.inside.first) c.self.inside.height kids (vec_capacity w.in-Inner.kids) = subst (IsNode (rank c.self.inside.first) c.self.inside.height) w.in-Inner.is c.self.invariant in
           let i = w.child_for-at.result in
           let chosen : IsChosen (rank c.args.key) kids i = rw w.deref.ensures.value at w.child_for-at.ensures in
           let l = chosen.within in
@@ -69,7 +71,7 @@ pub returns-clause-some : goal.returns-clause-some
 returns-clause-some g t c =
     elim c.match-self.branch [
       | in-Page w ↦
-          let good : IsPage c.self.inside.height (length w.in-Page.entries.items) (vec_capacity w.in-Page.entries) = subst (IsNode (rank c.self.inside.first) c.self.inside.height) w.in-Page.is c.self.invariant in
+          let good : IsPageNode c.self.inside.height (length w.in-Page.entries.items) (vec_capacity w.in-Page.entries) = subst (IsNode (rank c.self.inside.first) c.self.inside.height) w.in-Page.is c.self.invariant in
           let es = w.in-Page.entries.items in
           let was = w.in-Page.entries.ok.0 in
           let now = w.take.new.entries.ok.0 in
@@ -80,7 +82,7 @@ returns-clause-some g t c =
           rw (← old, w.self-inside-is, w.result-is) (page_taken (rank c.args.key) (record { id = c.args.id.now; label = c.args.label.now }) (rank c.self.inside.first) c.self.inside.height es w.take.new.entries.items w.take.result w.take.ensures.some w.take.ensures.placed w.take.ensures.rising (omega (arith, was, now, shorter)) (omega (arith, was, now, most)) good.not_more)
       | in-Inner+in_ok-row-in-Inner w ↦
           let kids = w.in-Inner.kids.items in
-          let good : IsInner (rank c.self.inside.first) c.self.inside.height kids (vec_capacity w.in-Inner.kids) = subst (IsNode (rank c.self.inside.first) c.self.inside.height) w.in-Inner.is c.self.invariant in
+          let good : IsInnerNode (rank c.self.inside.first) c.self.inside.height kids (vec_capacity w.in-Inner.kids) = subst (IsNode (rank c.self.inside.first) c.self.inside.height) w.in-Inner.is c.self.invariant in
           let i = w.child_for-at.result in
           let chosen : IsChosen (rank c.args.key) kids i = rw w.deref.ensures.value at w.child_for-at.ensures in
           let l = chosen.within in
@@ -124,7 +126,7 @@ returns-clause-none g t c =
 pub child_for-at-requires : goal.child_for-at-requires
 child_for-at-requires g t c =
     let kids = c.in-Inner.kids.items in
-    let good : IsInner (rank c.self.inside.first) c.self.inside.height kids (vec_capacity c.in-Inner.kids) = subst (IsNode (rank c.self.inside.first) c.self.inside.height) c.in-Inner.is c.self.invariant in
+    let good : IsInnerNode (rank c.self.inside.first) c.self.inside.height kids (vec_capacity c.in-Inner.kids) = subst (IsNode (rank c.self.inside.first) c.self.inside.height) c.in-Inner.is c.self.invariant in
     subst (λ ks. 1 ≤ length ks) (sym c.deref.ensures.value) good.not_less
 
 pub index_mut-kid-requires : goal.index_mut-kid-requires
@@ -137,7 +139,7 @@ index_mut-kid-requires g t c =
 pub remove-requires : goal.remove-requires
 remove-requires g t c κs within =
     let kids = c.in-Inner.kids.items in
-    let good : IsInner (rank c.self.inside.first) c.self.inside.height kids (vec_capacity c.in-Inner.kids) = subst (IsNode (rank c.self.inside.first) c.self.inside.height) c.in-Inner.is c.self.invariant in
+    let good : IsInnerNode (rank c.self.inside.first) c.self.inside.height kids (vec_capacity c.in-Inner.kids) = subst (IsNode (rank c.self.inside.first) c.self.inside.height) c.in-Inner.is c.self.invariant in
     let i = c.child_for-at.result in
     let chosen : IsChosen (rank c.args.key) kids i = rw c.deref.ensures.value at c.child_for-at.ensures in
     let l = chosen.within in
@@ -169,18 +171,18 @@ returns-in_err-row-in-Inner-clause-named g t c = rw c.from_residual.ensures tt
 pub invariant_of-self : goal.invariant_of-self
 invariant_of-self g t c =
     let kids = c.in-Inner.kids.items in
-    let good : IsInner (rank c.self.inside.first) c.self.inside.height kids (vec_capacity c.in-Inner.kids) = subst (IsNode (rank c.self.inside.first) c.self.inside.height) c.in-Inner.is c.self.invariant in
+    let good : IsInnerNode (rank c.self.inside.first) c.self.inside.height kids (vec_capacity c.in-Inner.kids) = subst (IsNode (rank c.self.inside.first) c.self.inside.height) c.in-Inner.is c.self.invariant in
     let i = c.child_for-at.result in
     let chosen : IsChosen (rank c.args.key) kids i = rw c.deref.ensures.value at c.child_for-at.ensures in
     let l = chosen.within in
     let kid = c.index_mut-kid.result.now in
     let read = c.index_mut-kid.ensures.value in
-    subst (λ ks. IsInner (rank c.self.inside.first) c.self.inside.height ks (vec_capacity c.in-Inner.kids)) (sym (set_read kids i kid c.remove.new.self l read c.in_err-row-in-Inner.ensures.none)) good
+    subst (λ ks. IsInnerNode (rank c.self.inside.first) c.self.inside.height ks (vec_capacity c.in-Inner.kids)) (sym (set_read kids i kid c.remove.new.self l read c.in_err-row-in-Inner.ensures.none)) good
 
 pub mend-requires-clause-two : goal.mend-requires-clause-two
 mend-requires-clause-two g t c =
     let kids = c.in-Inner.kids.items in
-    let good : IsInner (rank c.self.inside.first) c.self.inside.height kids (vec_capacity c.in-Inner.kids) = subst (IsNode (rank c.self.inside.first) c.self.inside.height) c.in-Inner.is c.self.invariant in
+    let good : IsInnerNode (rank c.self.inside.first) c.self.inside.height kids (vec_capacity c.in-Inner.kids) = subst (IsNode (rank c.self.inside.first) c.self.inside.height) c.in-Inner.is c.self.invariant in
     let tall : c.args.self.now.height ≡ c.self.inside.height = ap (λ (v : NodeValue g.row.A.Denot). v.height) (sym c.self.view_is) in
     let broad : c.args.self.now.width ≡ length kids = ap (λ (v : NodeValue g.row.A.Denot). v.width) (sym c.self.view_is) ∙ ap width_of c.in-Inner.is in
     let higher = good.higher in
@@ -191,12 +193,12 @@ mend-requires-clause-two g t c =
 pub mend-requires-clause-not_more : goal.mend-requires-clause-not_more
 mend-requires-clause-not_more g t c =
     let kids = c.in-Inner.kids.items in
-    let good : IsInner (rank c.self.inside.first) c.self.inside.height kids (vec_capacity c.in-Inner.kids) = subst (IsNode (rank c.self.inside.first) c.self.inside.height) c.in-Inner.is c.self.invariant in
+    let good : IsInnerNode (rank c.self.inside.first) c.self.inside.height kids (vec_capacity c.in-Inner.kids) = subst (IsNode (rank c.self.inside.first) c.self.inside.height) c.in-Inner.is c.self.invariant in
     let fits = good.not_more in
     omega (arith, fits, length-set kids c.child_for-at.result c.remove.new.self)
 
 pub mend-requires-clause-room : goal.mend-requires-clause-room
 mend-requires-clause-room g t c =
     let kids = c.in-Inner.kids.items in
-    let good : IsInner (rank c.self.inside.first) c.self.inside.height kids (vec_capacity c.in-Inner.kids) = subst (IsNode (rank c.self.inside.first) c.self.inside.height) c.in-Inner.is c.self.invariant in
+    let good : IsInnerNode (rank c.self.inside.first) c.self.inside.height kids (vec_capacity c.in-Inner.kids) = subst (IsNode (rank c.self.inside.first) c.self.inside.height) c.in-Inner.is c.self.invariant in
     good.room

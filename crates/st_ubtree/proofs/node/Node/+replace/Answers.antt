@@ -1,9 +1,11 @@
 use Rattle.std.proofs.Common.{◌≡◌, ◌≤◌, ◌∷◌, [], length, subst, sym, ap, ◌∙◌, arith, vec_capacity}
 use Rattle.st_key.specs.Key.{rank}
 use Rattle.st_index.specs.Rows.{name_of, rows_of}
-use Rattle.st_ubtree.specs.Growing.{IsChosen}
-use Rattle.st_ubtree.specs.Pages.{NodeValue, pages_of}
-use Rattle.st_ubtree.specs.Nodes.{IsNode, IsInner, IsPage, inner_node, node_value, page_node, pages_under}
+use Rattle.st_ubtree.specs.inner.Growing.{IsChosen}
+use Rattle.st_ubtree.specs.Pages.{NodeValue}
+use Rattle.st_ubtree.specs.inner.Kids.{pages_of}
+use Rattle.st_ubtree.specs.inner.Nodes.{IsNode, IsInnerNode, IsPageNode, inner_node, node_value, pages_under}
+use Rattle.st_ubtree.specs.Pages.{page_node}
 use Rattle.st_ubtree.proofs.Settling.{held_at}
 use Rattle.st_ubtree.proofs.Splitting.{page}
 use Rattle.st_ubtree.proofs.Trading.{kept_inner, kid_trades, kids_keep, kids_lack, page_keeps, page_lacks, page_named, page_trades}
@@ -14,7 +16,7 @@ pub invariant_of-self : goal.invariant_of-self
 invariant_of-self g t c =
     elim c.match-self.branch [
       | in-Page w ↦
-          let good : IsPage c.self.inside.height (length w.in-Page.entries.items) (vec_capacity w.in-Page.entries) = subst (IsNode (rank c.self.inside.first) c.self.inside.height) w.in-Page.is c.self.invariant in
+          let good : IsPageNode c.self.inside.height (length w.in-Page.entries.items) (vec_capacity w.in-Page.entries) = subst (IsNode (rank c.self.inside.first) c.self.inside.height) w.in-Page.is c.self.invariant in
           let es = w.in-Page.entries.items in
           let was = w.in-Page.entries.ok.0 in
           let now = w.swap.new.entries.ok.0 in
@@ -24,7 +26,7 @@ invariant_of-self g t c =
           rw w.self-inside-is (record { lowest = good.lowest; not_more = omega (arith, same, fits); room = omega (arith, room, w.swap.ensures.capacity) })
       | in-Inner w ↦
           let kids = w.in-Inner.kids.items in
-          let good : IsInner (rank c.self.inside.first) c.self.inside.height kids (vec_capacity w.in-Inner.kids) = subst (IsNode (rank c.self.inside.first) c.self.inside.height) w.in-Inner.is c.self.invariant in
+          let good : IsInnerNode (rank c.self.inside.first) c.self.inside.height kids (vec_capacity w.in-Inner.kids) = subst (IsNode (rank c.self.inside.first) c.self.inside.height) w.in-Inner.is c.self.invariant in
           let i = w.child_for-at.result in
           let chosen : IsChosen (rank c.args.key) kids i = rw w.deref.ensures.value at w.child_for-at.ensures in
           let l = chosen.within in
@@ -42,7 +44,7 @@ returns-clause-ok g t c =
           rw (pages, w.self-inside-is, w.result-is) (page_trades (rank c.args.key) c.args.row (rank c.self.inside.first) es w.swap.new.entries.items w.swap.result w.swap.ensures.ok w.swap.ensures.placed w.swap.ensures.rising)
       | in-Inner w ↦
           let kids = w.in-Inner.kids.items in
-          let good : IsInner (rank c.self.inside.first) c.self.inside.height kids (vec_capacity w.in-Inner.kids) = subst (IsNode (rank c.self.inside.first) c.self.inside.height) w.in-Inner.is c.self.invariant in
+          let good : IsInnerNode (rank c.self.inside.first) c.self.inside.height kids (vec_capacity w.in-Inner.kids) = subst (IsNode (rank c.self.inside.first) c.self.inside.height) w.in-Inner.is c.self.invariant in
           let i = w.child_for-at.result in
           let chosen : IsChosen (rank c.args.key) kids i = rw w.deref.ensures.value at w.child_for-at.ensures in
           let l = chosen.within in
@@ -72,7 +74,7 @@ returns-clause-keeps g t c =
           rw (← old, w.self-inside-is) (page_keeps (rank c.self.inside.first) c.self.inside.height es w.swap.new.entries.items same)
       | in-Inner w ↦
           let kids = w.in-Inner.kids.items in
-          let good : IsInner (rank c.self.inside.first) c.self.inside.height kids (vec_capacity w.in-Inner.kids) = subst (IsNode (rank c.self.inside.first) c.self.inside.height) w.in-Inner.is c.self.invariant in
+          let good : IsInnerNode (rank c.self.inside.first) c.self.inside.height kids (vec_capacity w.in-Inner.kids) = subst (IsNode (rank c.self.inside.first) c.self.inside.height) w.in-Inner.is c.self.invariant in
           let i = w.child_for-at.result in
           let chosen : IsChosen (rank c.args.key) kids i = rw w.deref.ensures.value at w.child_for-at.ensures in
           let l = chosen.within in
@@ -92,7 +94,7 @@ returns-clause-absent g t c =
           rw (pages, w.result-is) (page_lacks (rank c.args.key) (name_of c.args.row) (rank c.self.inside.first) es w.swap.result w.swap.ensures.absent)
       | in-Inner w ↦
           let kids = w.in-Inner.kids.items in
-          let good : IsInner (rank c.self.inside.first) c.self.inside.height kids (vec_capacity w.in-Inner.kids) = subst (IsNode (rank c.self.inside.first) c.self.inside.height) w.in-Inner.is c.self.invariant in
+          let good : IsInnerNode (rank c.self.inside.first) c.self.inside.height kids (vec_capacity w.in-Inner.kids) = subst (IsNode (rank c.self.inside.first) c.self.inside.height) w.in-Inner.is c.self.invariant in
           let i = w.child_for-at.result in
           let chosen : IsChosen (rank c.args.key) kids i = rw w.deref.ensures.value at w.child_for-at.ensures in
           let l = chosen.within in
@@ -105,7 +107,7 @@ returns-clause-absent g t c =
 pub child_for-at-requires : goal.child_for-at-requires
 child_for-at-requires g t c =
     let kids = c.in-Inner.kids.items in
-    let good : IsInner (rank c.self.inside.first) c.self.inside.height kids (vec_capacity c.in-Inner.kids) = subst (IsNode (rank c.self.inside.first) c.self.inside.height) c.in-Inner.is c.self.invariant in
+    let good : IsInnerNode (rank c.self.inside.first) c.self.inside.height kids (vec_capacity c.in-Inner.kids) = subst (IsNode (rank c.self.inside.first) c.self.inside.height) c.in-Inner.is c.self.invariant in
     subst (λ ks. 1 ≤ length ks) (sym c.deref.ensures.value) good.not_less
 
 pub index_mut-kid-requires : goal.index_mut-kid-requires

@@ -1,8 +1,10 @@
 use Rattle.std.proofs.Common.{◌≡◌, ◌∷◌, [], length, subst, sym, ap, ◌∙◌, arith, vec_capacity}
 use Rattle.st_key.specs.Key.{rank}
-use Rattle.st_ubtree.specs.Pages.{NodeValue, pages_of}
-use Rattle.st_ubtree.specs.Nodes.{IsNode, IsInner, IsPage, inner_node, node_value, page_node, pages_under, width_of}
-use Rattle.st_ubtree.specs.Shrinking.{KidsJoin}
+use Rattle.st_ubtree.specs.Pages.{NodeValue}
+use Rattle.st_ubtree.specs.inner.Kids.{pages_of}
+use Rattle.st_ubtree.specs.inner.Nodes.{IsNode, IsInnerNode, IsPageNode, inner_node, node_value, pages_under, width_of}
+use Rattle.st_ubtree.specs.Pages.{page_node}
+use Rattle.st_ubtree.specs.inner.Shrinking.{KidsJoin}
 use Rattle.st_ubtree.proofs.Joining.{both_kids, join_of_kids, join_of_pages, joined_each, joined_head, held_both, held_worn}
 use Rattle.st_ubtree.proofs.Splitting.{page}
 use Rattle.st_ubtree.proofs.node.Node.join.Goals as goal
@@ -13,8 +15,8 @@ join_kids-requires-clause-kids g c =
     let same : c.right.inside.height ≡ c.self.inside.height = ap (λ (v : NodeValue g.row.A.Denot). v.height) c.right.view_is ∙ c.requires.right.same_height ∙ ap (λ (v : NodeValue g.row.A.Denot). v.height) (sym c.self.view_is) in
     let old = c.in-Inner-Inner.left.items in
     let right = c.in-Inner-Inner.right.items in
-    let good : IsInner (rank c.self.inside.first) c.self.inside.height old (vec_capacity c.in-Inner-Inner.left) = subst (IsNode (rank c.self.inside.first) c.self.inside.height) c.in-Inner-Inner.is-0 c.self.invariant in
-    let other : IsInner (rank c.right.inside.first) c.right.inside.height right (vec_capacity c.in-Inner-Inner.right) = subst (IsNode (rank c.right.inside.first) c.right.inside.height) c.in-Inner-Inner.is-1 c.right.invariant in
+    let good : IsInnerNode (rank c.self.inside.first) c.self.inside.height old (vec_capacity c.in-Inner-Inner.left) = subst (IsNode (rank c.self.inside.first) c.self.inside.height) c.in-Inner-Inner.is-0 c.self.invariant in
+    let other : IsInnerNode (rank c.right.inside.first) c.right.inside.height right (vec_capacity c.in-Inner-Inner.right) = subst (IsNode (rank c.right.inside.first) c.right.inside.height) c.in-Inner-Inner.is-1 c.right.invariant in
     let all = both_kids (rank c.self.inside.first) (rank c.right.inside.first) c.self.inside.height c.right.inside.height old right _ _ same good other in
     record { below = good.below; higher = same ∙ good.higher; each = all }
 
@@ -23,13 +25,13 @@ invariant_of-self g c =
     let same : c.right.inside.height ≡ c.self.inside.height = ap (λ (v : NodeValue g.row.A.Denot). v.height) c.right.view_is ∙ c.requires.right.same_height ∙ ap (λ (v : NodeValue g.row.A.Denot). v.height) (sym c.self.view_is) in
     elim c.match-self.branch [
       | in-Page-Page w ↦
-          let good : IsPage c.self.inside.height (length w.in-Page-Page.left.items) (vec_capacity w.in-Page-Page.left) = subst (IsNode (rank c.self.inside.first) c.self.inside.height) w.in-Page-Page.is-0 c.self.invariant in
+          let good : IsPageNode c.self.inside.height (length w.in-Page-Page.left.items) (vec_capacity w.in-Page-Page.left) = subst (IsNode (rank c.self.inside.first) c.self.inside.height) w.in-Page-Page.is-0 c.self.invariant in
           rw w.self-inside-is (record { lowest = good.lowest; not_more = w.join_pages.ensures.joins.not_more; room = w.join_pages.ensures.room })
       | in-Inner-Inner w ↦
           let old = w.in-Inner-Inner.left.items in
           let right = w.in-Inner-Inner.right.items in
-          let good : IsInner (rank c.self.inside.first) c.self.inside.height old (vec_capacity w.in-Inner-Inner.left) = subst (IsNode (rank c.self.inside.first) c.self.inside.height) w.in-Inner-Inner.is-0 c.self.invariant in
-          let other : IsInner (rank c.right.inside.first) c.right.inside.height right (vec_capacity w.in-Inner-Inner.right) = subst (IsNode (rank c.right.inside.first) c.right.inside.height) w.in-Inner-Inner.is-1 c.right.invariant in
+          let good : IsInnerNode (rank c.self.inside.first) c.self.inside.height old (vec_capacity w.in-Inner-Inner.left) = subst (IsNode (rank c.self.inside.first) c.self.inside.height) w.in-Inner-Inner.is-0 c.self.invariant in
+          let other : IsInnerNode (rank c.right.inside.first) c.right.inside.height right (vec_capacity w.in-Inner-Inner.right) = subst (IsNode (rank c.right.inside.first) c.right.inside.height) w.in-Inner-Inner.is-1 c.right.invariant in
           let all = both_kids (rank c.self.inside.first) (rank c.right.inside.first) c.self.inside.height c.right.inside.height old right _ _ same good other in
           let j = w.join_kids.ensures.joins in
           rw w.self-inside-is (record {
@@ -49,7 +51,7 @@ returns g c =
     record {
       joins = elim c.match-self.branch [
         | in-Page-Page w ↦
-            let good : IsPage c.self.inside.height (length w.in-Page-Page.left.items) (vec_capacity w.in-Page-Page.left) = subst (IsNode (rank c.self.inside.first) c.self.inside.height) w.in-Page-Page.is-0 c.self.invariant in
+            let good : IsPageNode c.self.inside.height (length w.in-Page-Page.left.items) (vec_capacity w.in-Page-Page.left) = subst (IsNode (rank c.self.inside.first) c.self.inside.height) w.in-Page-Page.is-0 c.self.invariant in
             let left = w.in-Page-Page.left.items in
             let right = w.in-Page-Page.right.items in
             let old : page_node (rank c.self.inside.first) c.self.inside.height left ≡ c.args.self.now =
@@ -59,8 +61,8 @@ returns g c =
         | in-Inner-Inner w ↦
             let old = w.in-Inner-Inner.left.items in
             let right = w.in-Inner-Inner.right.items in
-            let good : IsInner (rank c.self.inside.first) c.self.inside.height old (vec_capacity w.in-Inner-Inner.left) = subst (IsNode (rank c.self.inside.first) c.self.inside.height) w.in-Inner-Inner.is-0 c.self.invariant in
-            let other : IsInner (rank c.right.inside.first) c.right.inside.height right (vec_capacity w.in-Inner-Inner.right) = subst (IsNode (rank c.right.inside.first) c.right.inside.height) w.in-Inner-Inner.is-1 c.right.invariant in
+            let good : IsInnerNode (rank c.self.inside.first) c.self.inside.height old (vec_capacity w.in-Inner-Inner.left) = subst (IsNode (rank c.self.inside.first) c.self.inside.height) w.in-Inner-Inner.is-0 c.self.invariant in
+            let other : IsInnerNode (rank c.right.inside.first) c.right.inside.height right (vec_capacity w.in-Inner-Inner.right) = subst (IsNode (rank c.right.inside.first) c.right.inside.height) w.in-Inner-Inner.is-1 c.right.invariant in
             let all = both_kids (rank c.self.inside.first) (rank c.right.inside.first) c.self.inside.height c.right.inside.height old right _ _ same good other in
             let made : inner_node (rank c.self.inside.first) c.self.inside.height old ≡ c.args.self.now =
             ap (node_value (rank c.self.inside.first) c.self.inside.height) (sym w.in-Inner-Inner.is-0) ∙ c.self.view_is in
@@ -88,12 +90,12 @@ join_pages-requires-clause-both g c =
 
 pub join_pages-requires-clause-left_room : goal.join_pages-requires-clause-left_room
 join_pages-requires-clause-left_room g c =
-    let good : IsPage c.self.inside.height (length c.in-Page-Page.left.items) (vec_capacity c.in-Page-Page.left) = subst (IsNode (rank c.self.inside.first) c.self.inside.height) c.in-Page-Page.is-0 c.self.invariant in
+    let good : IsPageNode c.self.inside.height (length c.in-Page-Page.left.items) (vec_capacity c.in-Page-Page.left) = subst (IsNode (rank c.self.inside.first) c.self.inside.height) c.in-Page-Page.is-0 c.self.invariant in
     good.room
 
 pub join_pages-requires-clause-right_room : goal.join_pages-requires-clause-right_room
 join_pages-requires-clause-right_room g c =
-    let good : IsPage c.right.inside.height (length c.in-Page-Page.right.items) (vec_capacity c.in-Page-Page.right) = subst (IsNode (rank c.right.inside.first) c.right.inside.height) c.in-Page-Page.is-1 c.right.invariant in
+    let good : IsPageNode c.right.inside.height (length c.in-Page-Page.right.items) (vec_capacity c.in-Page-Page.right) = subst (IsNode (rank c.right.inside.first) c.right.inside.height) c.in-Page-Page.is-1 c.right.invariant in
     good.room
 
 pub join_kids-requires-clause-left : goal.join_kids-requires-clause-left
@@ -114,10 +116,10 @@ join_kids-requires-clause-both g c =
 
 pub join_kids-requires-clause-left_room : goal.join_kids-requires-clause-left_room
 join_kids-requires-clause-left_room g c =
-    let good : IsInner (rank c.self.inside.first) c.self.inside.height c.in-Inner-Inner.left.items (vec_capacity c.in-Inner-Inner.left) = subst (IsNode (rank c.self.inside.first) c.self.inside.height) c.in-Inner-Inner.is-0 c.self.invariant in
+    let good : IsInnerNode (rank c.self.inside.first) c.self.inside.height c.in-Inner-Inner.left.items (vec_capacity c.in-Inner-Inner.left) = subst (IsNode (rank c.self.inside.first) c.self.inside.height) c.in-Inner-Inner.is-0 c.self.invariant in
     good.room
 
 pub join_kids-requires-clause-right_room : goal.join_kids-requires-clause-right_room
 join_kids-requires-clause-right_room g c =
-    let good : IsInner (rank c.right.inside.first) c.right.inside.height c.in-Inner-Inner.right.items (vec_capacity c.in-Inner-Inner.right) = subst (IsNode (rank c.right.inside.first) c.right.inside.height) c.in-Inner-Inner.is-1 c.right.invariant in
+    let good : IsInnerNode (rank c.right.inside.first) c.right.inside.height c.in-Inner-Inner.right.items (vec_capacity c.in-Inner-Inner.right) = subst (IsNode (rank c.right.inside.first) c.right.inside.height) c.in-Inner-Inner.is-1 c.right.invariant in
     good.room

@@ -1,7 +1,7 @@
 use Rattle.std.proofs.Common.{◌≡◌, ◌+◌, ◌<◌, subst, arith, rules, vec_len}
 use Rattle.st_key.specs.Key.{rank}
-use Rattle.st_ubtree.specs.Growing.{AreBlank}
-use Rattle.st_ubtree.specs.Splits.{splits}
+use Rattle.st_ubtree.specs.inner.Growing.{AreBlank}
+use Rattle.st_ubtree.specs.inner.Splits.{splits}
 use Rattle.st_ubtree.proofs.Needing.{made_full, made_less}
 use Rattle.st_ubtree.proofs.Settling.{blank_last}
 use Rattle.st_ubtree.proofs.node.Node.put.Goals as goal

@@ -1,8 +1,9 @@
 use Rattle.std.proofs.Common.{◌≡◌, ◌≤◌, vec_len, vec_capacity, ◌+◌, ◌∷◌, ◌++◌, [], length, subst, sym, ap, ◌∙◌, arith}
 use Rattle.std.specs.List.{All}
 use Rattle.st_key.specs.Key.{rank}
-use Rattle.st_ubtree.specs.Pages.{NodeValue, HeadAt, IsKid}
-use Rattle.st_ubtree.specs.Nodes.{node_value}
+use Rattle.st_ubtree.specs.Pages.{NodeValue}
+use Rattle.st_ubtree.specs.inner.Kids.{HeadAt, IsKid}
+use Rattle.st_ubtree.specs.inner.Nodes.{node_value}
 use Rattle.st_ubtree.proofs.Lifting.{both}
 use Rattle.st_ubtree.proofs.node.Node.raise.Goals as goal
 

@@ -2,8 +2,8 @@ use Rattle.std.proofs.Common.{◌≡◌, ◌<◌, length, drop, take, subst, sym
 use Rattle.std.proofs.lemmas.List.{length-drop}
 use Rattle.st_key.specs.Key.{rank}
 use Rattle.st_index.specs.Rows.{EntryValue}
-use Rattle.st_ubtree.specs.Nodes.{page_node}
-use Rattle.st_ubtree.specs.Growing.{IsBlankPage, PageGrows}
+use Rattle.st_ubtree.specs.Pages.{page_node}
+use Rattle.st_ubtree.specs.inner.Growing.{IsBlankPage, PageGrows}
 use Rattle.st_ubtree.proofs.Splitting.{held_full, page_cut, page_grows}
 use Rattle.st_ubtree.proofs.Needing.{page_filled, page_overfull}
 use Rattle.st_ubtree.proofs.node.grow.put_in_page.Goals as goal

@@ -2,9 +2,10 @@ use Rattle.std.proofs.Common.{◌≡◌, length, drop, refl, subst, sym, ap, ◌
 use Rattle.std.proofs.lemmas.List.{length-take-le, length-drop}
 use Rattle.std.proofs.lemmas.List.Elements.{All-drop}
 use Rattle.st_key.specs.Key.{rank}
-use Rattle.st_ubtree.specs.Pages.{NodeValue, AreWide, IsKid, HeadAt, Starts, pages_of, widths_of}
-use Rattle.st_ubtree.specs.Splits.{chains_of}
-use Rattle.st_ubtree.specs.Growing.{AreBlank}
+use Rattle.st_ubtree.specs.Pages.{NodeValue}
+use Rattle.st_ubtree.specs.inner.Kids.{AreWide, IsKid, HeadAt, Starts, pages_of, widths_of}
+use Rattle.st_ubtree.specs.inner.Splits.{chains_of}
+use Rattle.st_ubtree.specs.inner.Growing.{AreBlank}
 use Rattle.st_ubtree.proofs.Settling.{blank_last, head_there, kids_start, kids_wide}
 use Rattle.st_ubtree.proofs.node.grow.settle.Goals as goal
 

@@ -2,7 +2,7 @@ use Rattle.std.proofs.Common.{◌+◌, arith}
 use Rattle.st_key.specs.Key.{rank}
 use Rattle.st_index.specs.Rows.{name_of}
 use Rattle.st_index.specs.Index.{IsAbsent}
-use Rattle.st_ubtree.specs.Pages.{rows_in}
+use Rattle.st_ubtree.specs.Pages.{rows_of_pages}
 use Rattle.st_ubtree.proofs.Lawful.{lawful_tree, tree_grows}
 use Rattle.st_ubtree.proofs.Needing.{held_made}
 use Rattle.st_ubtree.proofs.tree.UbTreeRowIndex.insert.Goals as goal
@@ -13,7 +13,7 @@ put-requires-clause-page g c = rw c.key-key.ensures.value ((rw (← c.self.view_
 pub invariant_of-self : goal.invariant_of-self
 invariant_of-self g c =
     let key = c.key-key.ensures.value in
-    let absent : IsAbsent c.self.inside.period (rank c.key-key.result) (name_of c.args.row) (rows_in c.self.inside.root.pages) = rw key (rw (← c.self.view_is) at c.requires.absent) in
+    let absent : IsAbsent c.self.inside.period (rank c.key-key.result) (name_of c.args.row) (rows_of_pages c.self.inside.root.pages) = rw key (rw (← c.self.view_is) at c.requires.absent) in
     tree_grows c.self.inside.period (rank c.key-key.result) c.args.row c.self.inside.root c.put.new.self c.self.inside.len c.self.invariant c.put.ensures.wide c.count_keys.ensures.keys c.put.ensures.grows key c.key-key.ensures.in_period absent (rw (← c.self.view_is) at c.requires.room.count)
 
 pub returns-clause-lawful : goal.returns-clause-lawful

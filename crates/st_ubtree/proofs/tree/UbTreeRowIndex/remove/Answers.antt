@@ -4,8 +4,8 @@ use Rattle.st_key.specs.Key.{rank}
 use Rattle.st_index.specs.Rows.{key_end}
 use Rattle.st_index.specs.Index.{IsAbsent}
 use Rattle.st_index.proofs.Listing.{adds_length}
-use Rattle.st_ubtree.specs.Pages.{rows_in}
-use Rattle.st_ubtree.specs.Shrinking.{DropsFrom}
+use Rattle.st_ubtree.specs.Pages.{rows_of_pages}
+use Rattle.st_ubtree.specs.inner.Shrinking.{DropsFrom}
 use Rattle.st_ubtree.proofs.Lawful.{absent_past, lawful_tree, tree_shrinks}
 use Rattle.st_ubtree.proofs.tree.UbTreeRowIndex.remove.Goals as goal
 
@@ -22,7 +22,7 @@ returns-in_err-row-clause-absent g c =
     let p = c.self.inside.period in
     let key = rank c.args.key in
     let pages = c.self.inside.root.pages in
-    let absent : IsAbsent p key (record { id = c.args.id.now; label = c.args.label.now }) (rows_in pages) =
+    let absent : IsAbsent p key (record { id = c.args.id.now; label = c.args.label.now }) (rows_of_pages pages) =
     elim (cases_lt key (key_end p)) [
       | inl below ↦ c.in_err-row.ensures.absent p 0 (key_end p) c.self.invariant.spans (omega arith) below
       | inr past ↦ absent_past p key (key_end p) (record { id = c.args.id.now; label = c.args.label.now }) pages c.self.invariant.spans past
@@ -36,6 +36,6 @@ invariant_of-self-2 g c =
 
 pub overflow_sub-self : goal.overflow_sub-self
 overflow_sub-self g c =
-    let more = adds_length c.in_ok-row.row (rows_in c.remove.new.self.pages) (rows_in c.self.inside.root.pages) c.in_ok-row.ensures.some.by.adds in
+    let more = adds_length c.in_ok-row.row (rows_of_pages c.remove.new.self.pages) (rows_of_pages c.self.inside.root.pages) c.in_ok-row.ensures.some.by.adds in
     let held = c.self.invariant.counted in
     omega (arith, held, more)

@@ -1,9 +1,9 @@
 use Rattle.std.proofs.Common.{arith}
 use Rattle.st_key.specs.Key.{rank}
-use Rattle.st_index.specs.Rows.{key_end, name_of, place_of}
+use Rattle.st_index.specs.Rows.{key_end, name_of, rank_of}
 use Rattle.st_index.specs.Index.{Holds}
 use Rattle.st_index.proofs.Taking.{absent_held}
-use Rattle.st_ubtree.specs.Pages.{rows_in}
+use Rattle.st_ubtree.specs.Pages.{rows_of_pages}
 use Rattle.st_ubtree.proofs.Lawful.{lawful_tree, tree_trades}
 use Rattle.st_ubtree.proofs.tree.UbTreeRowIndex.replace.Goals as goal
 
@@ -11,7 +11,7 @@ pub unreachable-requires : goal.unreachable-requires
 unreachable-requires g c =
     let p = c.self.inside.period in
     let absent = c.in_default.ensures.absent p 0 (key_end p) c.self.invariant.spans (omega arith) c.key-key.ensures.in_period in
-    let held : Holds p (place_of p c.args.row) (name_of c.args.row) (rows_in c.self.inside.root.pages) = rw (← c.self.view_is) at c.requires in
+    let held : Holds p (rank_of p c.args.row) (name_of c.args.row) (rows_of_pages c.self.inside.root.pages) = rw (← c.self.view_is) at c.requires in
     absent_held p _ _ _ held (rw c.key-key.ensures.value at absent)
 
 pub returns-clause-lawful : goal.returns-clause-lawful

@@ -1,0 +1,3 @@
+-- Representations and their invariants, which no reader has to believe.
+pub mod Lists
+pub mod RowLists

@@ -1,0 +1,9 @@
+-- Invariants of representations and stages of the code, which no reader has to believe.
+pub mod Kids
+pub mod Tree
+pub mod Growing
+pub mod Shrinking
+pub mod Splits
+pub mod Trading
+pub mod Falls
+pub mod Nodes
