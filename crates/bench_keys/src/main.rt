@@ -1,5 +1,5 @@
 //! Times keys, jumps and plans. Without arguments it makes each call once; with a number it makes
-//! each call so often, and prints how long one takes.
+//! each call that many times, and prints how long one takes.
 #![tactic(auto)]
 
 mod rounds;
@@ -8,7 +8,7 @@ use rounds::Rounds;
 use std::time::{Duration, Instant};
 use std::{env, io};
 
-// The number of rounds that is asked for, if one is.
+// The number of rounds asked for, if any.
 fn asked(rt: &HostRuntime) -> io::Result<Option<u32>> {
     let mut words = env::args(rt)?;
     let _program = words.next();
@@ -18,13 +18,13 @@ fn asked(rt: &HostRuntime) -> io::Result<Option<u32>> {
     }
 }
 
-// Prints the nanoseconds of one of so many calls.
+// Prints the nanoseconds of one of `count` calls.
 fn print(rt: &HostRuntime, name: &str, took: Duration, count: u32, sum: u64) -> io::Result<()> {
     let each = took.as_nanos() / u128::from(count.max(1));
     println!(rt; "{name}: {each} ns ({sum})")
 }
 
-// Prints what a call takes.
+// Times each call, and prints how long one takes.
 fn time(rt: &HostRuntime, count: u32) -> io::Result<()> {
     let rounds = Rounds::new(count);
     let start = Instant::now(rt)?;

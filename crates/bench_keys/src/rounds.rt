@@ -14,13 +14,14 @@ const SIDE: u64 = 1 << 21;
 
 const WEEK: u64 = 604_800;
 
-/// How often each call is made. Each method gives a number that rests on every answer.
+/// How often each call is made. Each method returns a number that depends on every answer.
 #[derive(Clone, Copy)]
 pub struct Rounds {
     count: u32,
 }
 
 impl Rounds {
+    /// Rounds of this many calls.
     pub fn new(count: u32) -> Rounds {
         Rounds { count }
     }
@@ -68,7 +69,7 @@ impl Rounds {
         sum
     }
 
-    /// Plans of budget 16 for boxes of so many hundredths of each side, and how many ranges they have.
+    /// Plans of budget 16 for boxes of `percent` hundredths of each side: the number of their ranges.
     pub fn plans(&self, alloc: Global, percent: u64) -> u64
         requires { percent ≤ 50 }
     {

@@ -9,7 +9,8 @@ use Rattle.std.proofs.Math.ListN.{get_or-map}
 use Rattle.st_text.specs.Texts.{Text, same, in_order}
 use Rattle.st_text.proofs.Same.{same-eq, same-refl}
 use Rattle.st_key.specs.declared.period.Period.{Period}
-use Rattle.st_dir.specs.Sorted.{IsAlone, IsPlace, NoneOf, Rises, ComesFirst, NoneBefore}
+use Rattle.st_dir.specs.Sorted.{Rises, ComesFirst}
+use Rattle.st_dir.specs.inner.Places.{IsAlone, IsPlace, NoneOf, NoneBefore}
 use Rattle.st_dir.proofs.Sorted.{changed, found, none_found, none_from_find, put_in, taken_out, back, rises_changed, rises_filter, rises_in}
 use Rattle.st_dir.proofs.Keys.{own_name}
 use Rattle.st_index.specs.declared.row.Row.{Row}

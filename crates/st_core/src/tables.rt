@@ -2,7 +2,8 @@
 ghost use Rattle.std.specs.Prelude.{◌≡◌, ◌≤◌, ◌<◌, ◌∷◌, [], None, true, Bool, codes, filter, is_some, length, slice_index_or, IfOk, OnOk, OnErr};
 ghost use Rattle.st_text.specs.Texts.{Text, same, comes_before, in_order};
 ghost use Rattle.st_key.specs.declared.period.Period.{Period as Length};
-ghost use Rattle.st_dir.specs.Sorted.{Rises, IsPlace, IsAlone};
+ghost use Rattle.st_dir.specs.Sorted.{Rises};
+ghost use Rattle.st_dir.specs.inner.Places.{IsPlace, IsAlone};
 ghost use Rattle.st_index.specs.Order.{InScanOrder, scan_key};
 ghost use Rattle.st_index.specs.declared.row.Row.{Row as Labelled};
 ghost use Rattle.st_table.specs.Rows.{put_row, rows_in_table, without_row};

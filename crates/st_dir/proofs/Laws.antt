@@ -9,7 +9,7 @@ use Rattle.st_dir.specs.Grants.{same_grant, same_scope}
 use Rattle.st_dir.specs.Directory.{Directory}
 use Rattle.st_dir.specs.Listings.{grants_on, granted_on, held_on}
 use Rattle.st_dir.specs.Order.{grant_key}
-use Rattle.st_dir.specs.declared.given.Given.{Given}
+use Rattle.st_dir.specs.declared.grantee.Grantee.{Grantee}
 use Rattle.st_dir.specs.Permissions.{same_permission}
 use Rattle.st_dir.specs.declared.grant.Grant.{Grant}
 use Rattle.st_dir.specs.declared.grant.Scope.{Scope}
@@ -58,8 +58,8 @@ pub mapped_back : {X Y : Type 0} (f : X → Y) (g : Y → X) → ((x : X) → g 
 mapped_back f g is [] = refl
 mapped_back f g is (x ∷ xs) = ap (λ y. y ∷ map g (map f xs)) (is x) ∙ ap (λ ys. x ∷ ys) (mapped_back f g is xs)
 
-abbrev given_of : {A : Type 0} → Directory A → Scope → Text → Given A
+abbrev given_of : {A : Type 0} → Directory A → Scope → Text → Grantee A
 given_of d scope user = record { user = user; permissions = held_on d scope user }
 
-pub named_back : {A : Type 0} (d : Directory A) (scope : Scope) → map (λ (given : Given A). given.user) (grants_on d scope) ≡ granted_on d scope
-named_back {A} d scope = mapped_back (given_of d scope) (λ (given : Given A). given.user) (λ user. refl) (granted_on d scope)
+pub named_back : {A : Type 0} (d : Directory A) (scope : Scope) → map (λ (given : Grantee A). given.user) (grants_on d scope) ≡ granted_on d scope
+named_back {A} d scope = mapped_back (given_of d scope) (λ (given : Grantee A). given.user) (λ user. refl) (granted_on d scope)

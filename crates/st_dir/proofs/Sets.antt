@@ -1,5 +1,5 @@
 -- Sets of texts.
-use Rattle.std.proofs.Common.{◌≡◌, ℕ, zero, suc, ◌<◌, ◌-◌, map, filter, List, [], ◌∷◌, length, Bool, true, false, ◌&&◌, ◌||◌, if◌then◌else◌, refl, sym, ap, subst, ◌∙◌, arith}
+use Rattle.std.proofs.Common.{◌≡◌, ℕ, zero, suc, ◌<◌, map, filter, List, [], ◌∷◌, length, Bool, true, false, ◌&&◌, ◌||◌, if◌then◌else◌, refl, sym, ap, subst, ◌∙◌, arith}
 use Rattle.std.specs.Prelude.{slice_index_or}
 use Rattle.std.specs.List.{list_any}
 use Rattle.st_text.specs.Texts.{Text, same, is_among, comes_before, put_in_order, in_order, each_once, set_of}
@@ -9,7 +9,8 @@ use Rattle.st_auth.proofs.Search.{among_in_order}
 use Rattle.st_dir.specs.Grants.{same_scope}
 use Rattle.st_dir.specs.declared.grant.Grant.{Grant}
 use Rattle.st_dir.specs.declared.grant.Scope.{Scope}
-use Rattle.st_dir.specs.Sorted.{ComesFirst, Rises, name_key, with_name}
+use Rattle.st_dir.specs.Sorted.{ComesFirst, Rises, name_key}
+use Rattle.st_dir.specs.inner.Places.{with_name}
 use Rattle.st_dir.proofs.Sorted.{clash, before_trans, in_order_already, none_from_any, not_itself, other_before, rises_put}
 
 module _ {X : Type 0} (key : X → List Text) (test : X → Bool) where

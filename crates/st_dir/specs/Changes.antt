@@ -1,10 +1,10 @@
--- What changes make of the directory. What is added is put in its place; what is removed is taken out, and all else stays.
+-- How changes change the directory: what is added is put in its place, what is removed is taken out, and all else stays.
 use Rattle.std.specs.Prelude.{ℕ, List, [], ◌∷◌, map, filter, Bool, false, not, if◌then◌else◌}
 use Rattle.std.specs.List.{fold, list_any}
 use Rattle.st_key.specs.declared.period.Period.{Period}
 use Rattle.st_text.specs.Texts.{Text, same, in_order}
 use Rattle.st_dir.specs.Directory.{Directory}
-use Rattle.st_dir.specs.Grants.{same_grant, same_scope}
+use Rattle.st_dir.specs.Grants.{grant_of, same_grant, same_scope}
 use Rattle.st_dir.specs.Order.{user_key, table_key, grant_key}
 use Rattle.st_dir.specs.Permissions.{same_permission, table_permissions, listed}
 use Rattle.st_dir.specs.declared.grant.Grant.{Grant}
@@ -18,16 +18,17 @@ use Rattle.st_dir.specs.declared.user.User.{User}
 
 -- a user without permissions
 abbrev pub user_added : {A : Type 0} → (name : Text) → (digest : List ℕ) → (auths : List Text) → Directory A → Directory A
-user_added name digest auths d = record d { users = in_order user_key (record { name = name; digest = digest; auths = auths; permissions = [] } ∷ d.users) }
+user_added name digest auths d =
+    record d { users = in_order user_key (record { name = name; digest = digest; auths = auths; permissions = [] } ∷ d.users) }
 
--- with the user goes every grant to it
+-- every grant to the user goes too
 abbrev pub user_dropped : {A : Type 0} → (name : Text) → Directory A → Directory A
 user_dropped name d = record d {
   users = filter (λ user. not (same user.name name)) d.users;
   grants = filter (λ g. not (same g.user name)) d.grants;
 }
 
--- the user of this name is changed, and no other
+-- the user of this name is changed, no other
 abbrev pub with_user : {A : Type 0} → (name : Text) → (User A → User A) → List (User A) → List (User A)
 with_user name change users = map (λ user. if same user.name name then change user else user) users
 
@@ -38,28 +39,33 @@ abbrev pub auths_set : {A : Type 0} → (name : Text) → (auths : List Text) �
 auths_set name auths d = record d { users = with_user name (λ user. record user { auths = auths }) d.users }
 
 abbrev pub system_granted : {A : Type 0} → (name : Text) → (p : Permission) → Directory A → Directory A
-system_granted name p d = record d { users = with_user name (λ user. record user { permissions = listed (p ∷ user.permissions) }) d.users }
+system_granted name p d =
+    record d { users = with_user name (λ user. record user { permissions = listed (p ∷ user.permissions) }) d.users }
 
 abbrev pub system_revoked : {A : Type 0} → (name : Text) → (p : Permission) → Directory A → Directory A
 system_revoked name p d =
-    record d { users = with_user name (λ user. record user { permissions = filter (λ q. not (same_permission p q)) user.permissions }) d.users }
+    record d {
+      users = with_user name (λ user. record user { permissions = filter (λ q. not (same_permission p q)) user.permissions }) d.users;
+    }
 
 -- ---- grants on tables and namespaces
 
--- with the grant among them; where it is held already nothing changes
+-- with the grant among them; nothing changes if it is held already
 abbrev pub with_grant : Grant → List Grant → List Grant
 with_grant g grants = if list_any (same_grant g) grants then grants else in_order grant_key (g ∷ grants)
 
 -- with each table permission for the user on the scope
 abbrev pub with_all : (user : Text) → (scope : Scope) → List Grant → List Grant
-with_all user scope grants = fold (λ held p. with_grant (record { user = user; scope = scope; permission = p }) held) grants table_permissions
+with_all user scope grants =
+    fold (λ held p. with_grant (grant_of user scope p) held) grants table_permissions
 
 abbrev pub granted : {A : Type 0} → (user : Text) → (scope : Scope) → (p : Permission) → Directory A → Directory A
-granted user scope p d = record d { grants = with_grant (record { user = user; scope = scope; permission = p }) d.grants }
+granted user scope p d = record d { grants = with_grant (grant_of user scope p) d.grants }
 
 -- revoking what is not held changes nothing
 abbrev pub revoked : {A : Type 0} → (user : Text) → (scope : Scope) → (p : Permission) → Directory A → Directory A
-revoked user scope p d = record d { grants = filter (λ g. not (same_grant (record { user = user; scope = scope; permission = p }) g)) d.grants }
+revoked user scope p d =
+    record d { grants = filter (λ g. not (same_grant (grant_of user scope p) g)) d.grants }
 
 -- ---- tables
 
@@ -70,14 +76,14 @@ table_added table creator period d = record d {
   grants = with_all creator (OnTable table) d.grants;
 }
 
--- with the table goes every grant on it; those on its namespace stay
+-- every grant on the table goes too; those on its namespace stay
 abbrev pub table_dropped : {A : Type 0} → (table : Text) → Directory A → Directory A
 table_dropped table d = record d {
   tables = filter (λ info. not (same info.table table)) d.tables;
   grants = filter (λ g. not (same_scope (OnTable table) g.scope)) d.grants;
 }
 
--- the table of this name is changed, and no other
+-- the table of this name is changed, no other
 abbrev pub with_table : (table : Text) → (TableInfo → TableInfo) → List TableInfo → List TableInfo
 with_table table change tables = map (λ info. if same info.table table then change info else info) tables
 

@@ -1,4 +1,4 @@
--- The users, the tables and the grants, and what they say of a user.
+-- The users, the tables and the grants, and what they allow a user.
 use Rattle.std.specs.Prelude.{ℕ, List, [], ◌∷◌, Bool, false, ◌||◌, Option, is_some, find, codes, option_map}
 use Rattle.std.specs.List.{list_any}
 use Rattle.std.specs.Option.{option_map_or}
@@ -7,7 +7,7 @@ use Rattle.st_key.specs.declared.period.Period.{Period}
 use Rattle.st_text.specs.Texts.{Text, same, is_among}
 use Rattle.st_text.specs.Names.{namespace_of}
 use Rattle.st_dir.specs.Permissions.{same_permission, system_permissions}
-use Rattle.st_dir.specs.Grants.{same_grant, all_on}
+use Rattle.st_dir.specs.Grants.{grant_of, same_grant, all_on}
 use Rattle.st_dir.specs.declared.grant.Grant.{Grant}
 use Rattle.st_dir.specs.declared.grant.Scope.{Scope}
 use Rattle.st_dir.specs.declared.grant.Scope.TheVariants.{OnTable, OnNamespace}
@@ -32,11 +32,11 @@ is_user d name = is_some (user_named d name)
 abbrev pub is_table : {A : Type 0} → Directory A → Text → Bool
 is_table d name = is_some (table_named d name)
 
--- the secret is the user's, whose record keeps its SHA-256 (FIPS 180-4)
+-- the secret is the user's: the directory keeps its SHA-256 (FIPS 180-4)
 abbrev pub has_secret : {A : Type 0} → Directory A → Text → List ℕ → Bool
 has_secret d name secret = option_map_or (λ user. same user.digest (sha256 secret)) (user_named d name) false
 
--- the user's authorizations; none, where there is no such user
+-- the user's authorizations, none if there is no such user
 abbrev pub auths_of : {A : Type 0} → Directory A → Text → List Text
 auths_of d user = option_map_or (λ u. u.auths) (user_named d user) []
 
@@ -48,7 +48,7 @@ has_system d user p = option_map_or (λ u. list_any (same_permission p) u.permis
 
 -- the user has been granted the permission on the scope itself
 abbrev pub is_granted : {A : Type 0} → Directory A → Text → Scope → Permission → Bool
-is_granted d user scope p = list_any (same_grant (record { user = user; scope = scope; permission = p })) d.grants
+is_granted d user scope p = list_any (same_grant (grant_of user scope p)) d.grants
 
 -- a table permission is held by a grant on the table, or on its namespace
 abbrev pub has_table : {A : Type 0} → Directory A → Text → Text → Permission → Bool

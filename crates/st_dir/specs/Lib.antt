@@ -5,5 +5,6 @@ pub mod Order
 pub mod Directory
 pub mod Listings
 pub mod Changes
+pub mod inner
 pub use Rattle.st_text.specs.Texts
 pub use Rattle.st_text.specs.Names

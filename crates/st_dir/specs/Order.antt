@@ -1,5 +1,5 @@
--- The order in which users, tables and grants stand: users and tables by the bytes of their names; grants by what they are
--- on, tables before namespaces, then by their users, then by their permissions in listing order.
+-- The keys by which users, tables and grants are sorted: users and tables by the bytes of their names; grants by what they
+-- are on, tables before namespaces, then by their users, then by their permissions in listing order.
 use Rattle.std.specs.Prelude.{List, [], ◌∷◌}
 use Rattle.st_text.specs.Texts.{Text}
 use Rattle.st_dir.specs.Permissions.{place_of}

@@ -13,7 +13,7 @@ system_permissions =
     Permission.CreateTable ∷ Permission.DropTable ∷ Permission.AlterTable ∷ Permission.CreateUser
     ∷ Permission.DropUser ∷ Permission.AlterUser ∷ Permission.Grant ∷ Permission.System ∷ []
 
--- each permission has a place of its own
+-- each permission has a rank of its own
 abbrev pub place_of : Permission → ℕ
 place_of Permission.Read = 0
 place_of Permission.Write = 1
@@ -33,15 +33,15 @@ same_permission p q = nat_eq (place_of p) (place_of q)
 abbrev pub listed : List Permission → List Permission
 listed permissions = filter (λ p. list_any (same_permission p) permissions) system_permissions
 
--- how requests and replies write it
-abbrev pub name_of : Permission → List ℕ
-name_of Permission.Read = codes "READ"
-name_of Permission.Write = codes "WRITE"
-name_of Permission.AlterTable = codes "ALTER_TABLE"
-name_of Permission.Grant = codes "GRANT"
-name_of Permission.DropTable = codes "DROP_TABLE"
-name_of Permission.CreateTable = codes "CREATE_TABLE"
-name_of Permission.CreateUser = codes "CREATE_USER"
-name_of Permission.DropUser = codes "DROP_USER"
-name_of Permission.AlterUser = codes "ALTER_USER"
-name_of Permission.System = codes "SYSTEM"
+-- its name in requests and replies
+abbrev pub permission_name : Permission → List ℕ
+permission_name Permission.Read = codes "READ"
+permission_name Permission.Write = codes "WRITE"
+permission_name Permission.AlterTable = codes "ALTER_TABLE"
+permission_name Permission.Grant = codes "GRANT"
+permission_name Permission.DropTable = codes "DROP_TABLE"
+permission_name Permission.CreateTable = codes "CREATE_TABLE"
+permission_name Permission.CreateUser = codes "CREATE_USER"
+permission_name Permission.DropUser = codes "DROP_USER"
+permission_name Permission.AlterUser = codes "ALTER_USER"
+permission_name Permission.System = codes "SYSTEM"

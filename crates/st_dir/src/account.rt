@@ -4,8 +4,8 @@ use crate::permission::Permission;
 use st_text::{Items, Words};
 use std::alloc::{Allocator, Global};
 
-/// What a user is shown of itself and of others: the name, the authorizations by their bytes, each
-/// once, and the permissions on the system in listing order.
+/// What is shown of a user: the name, the authorizations in byte order, each once, and the permissions
+/// on the system in listing order.
 #[derive(Drop)]
 pub struct Account<A: Allocator = Global> {
     pub user: Name,

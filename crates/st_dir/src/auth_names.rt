@@ -1,8 +1,8 @@
 //! The names of authorizations, each once.
-ghost use Rattle.std.specs.Prelude.{◌≡◌, ◌<◌, ◌≤◌, ◌∷◌, [], true, false, length, slice_index_or, map, filter, IfOk, OnOk};
-ghost use Rattle.st_text.specs.Texts.{Text, same, comes_before, is_among, set_of};
-ghost use Rattle.st_dir.specs.Grants.{same_scope};
-ghost use Rattle.st_dir.specs.Sorted.{Rises, IsPlace, IsAlone, name_key, with_name};
+ghost use Rattle.std.specs.Prelude.{◌≡◌, ◌<◌, ◌≤◌, true, false, length, slice_index_or, IfOk, OnOk};
+ghost use Rattle.st_text.specs.Texts.{Text, same, comes_before, set_of};
+ghost use Rattle.st_dir.specs.Sorted.{Rises, name_key};
+ghost use Rattle.st_dir.specs.inner.Places.{IsPlace, IsAlone, with_name};
 
 use st_auth::Auths;
 use st_text::{Items, Words};
@@ -29,7 +29,8 @@ fn place_of<A: Allocator>(names: &[Words<A>], text: &str) -> usize
 fn is_at<A: Allocator>(names: &[Words<A>], place: usize, text: &str) -> bool
     ensures inside { result ≡ true → place < length names.now }
     ensures yes_at { result ≡ true → (d : Text) → same text.now (slice_index_or names.now place d) ≡ true }
-    ensures not_at { result ≡ false → (d : Text) → place < length names.now → same text.now (slice_index_or names.now place d) ≡ false }
+    ensures not_at { result ≡ false → (d : Text) → place < length names.now
+        → same text.now (slice_index_or names.now place d) ≡ false }
 {
     place < names.len() && text == names[place].as_str()
 }
@@ -49,7 +50,7 @@ fn put<A: Allocator>(names: &mut Vec<Words<A>, A>, name: Words<A>) -> Result<(),
     Ok(())
 }
 
-/// The names of a set, by their bytes and each once, or an error where there is no memory for them.
+/// The names of a set, in byte order, each once. `AllocError` when out of memory.
 pub fn each_once<A: Allocator + Copy>(
     alloc: A,
     auths: &Auths<A>,
@@ -58,7 +59,7 @@ pub fn each_once<A: Allocator + Copy>(
 {
     let mut names = Vec::new(alloc);
     let order = auths.order();
-    // By their bytes, so that each goes to the end.
+    // In byte order, so that each goes to the end.
     for place in order {
         let name = Words::new(alloc, auths.get(*place))?;
         put(&mut names, name)?;

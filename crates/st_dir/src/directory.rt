@@ -1,16 +1,19 @@
 //! The directory.
-ghost use Rattle.std.specs.Prelude.{◌≡◌, ◌∷◌, [], IfOk, false, codes, option_map};
-ghost use Rattle.st_dir.specs.Permissions.{system_permissions};
-ghost use Rattle.st_dir.specs.Grants.{all_on};
-ghost use Rattle.st_dir.specs.declared.grant.Scope.TheVariants.{OnTable, OnNamespace};
-ghost use Rattle.st_key.specs.declared.period.Period as Period;
+ghost use Rattle.std.specs.Prelude.{◌≡◌, IfOk, option_map};
+ghost use Rattle.st_dir.specs.declared.grant.Scope.TheVariants.{OnNamespace};
 ghost use Rattle.st_dir.specs.Directory.{user_named, table_named, auths_of, has_secret, has_system, has_table, is_user, is_table, is_granted, constraint_of, first_directory};
 
+mod first;
+mod grant_changes;
+mod listings;
+mod table_changes;
+mod user_changes;
+
+use crate::directory::first::{first_grants, first_tables, first_users};
 use crate::grant::Scope;
 use crate::grants::Grants;
 use crate::name::Name;
 use crate::permission::Permission;
-use crate::system_permissions::SystemPermissions;
 use crate::table::TableInfo;
 use crate::table_name::TableName;
 use crate::tables::Tables;
@@ -22,15 +25,15 @@ use st_key::Period;
 use std::alloc::{AllocError, Allocator, Global};
 use std::marker::Model;
 
-/// The users, the tables and the grants, each searched by halves.
+/// The users, the tables and the grants, each in a list sorted by key.
 #[derive(Drop)]
 pub struct Directory<A: Allocator = Global> {
-    pub(crate) alloc: A,
-    pub(crate) users: Users<A>,
-    pub(crate) tables: Tables<A>,
-    pub(crate) grants: Grants<A>,
-    // The authorizations of who is no user.
-    pub(crate) nobody: Auths<A>,
+    alloc: A,
+    users: Users<A>,
+    tables: Tables<A>,
+    grants: Grants<A>,
+    // The authorizations of a name that is not a user: none.
+    nobody: Auths<A>,
 }
 
 impl<A: Allocator> Model for Directory<A> {
@@ -44,71 +47,10 @@ impl<A: Allocator> Model for Directory<A> {
     ghost invariant = { λ d. d.nobody ≡ [] };
 }
 
-// The name of the user that a server begins with.
-fn root() -> Name
-    ensures { result ≡ codes "root" }
-{
-    match Name::new("root") {
-        Ok(name) => name,
-        Err(_) => unreachable!(),
-    }
-}
-
-// The name of the table that a server begins with.
-fn points() -> TableName
-    ensures { result ≡ codes "points" }
-{
-    match TableName::new("points") {
-        Ok(name) => name,
-        Err(_) => unreachable!(),
-    }
-}
-
-// The user root, who has each permission on the system.
-fn first_users<A: Allocator + Copy>(
-    alloc: A,
-    digest: [u8; 32],
-    auths: Auths<A>,
-) -> Result<Users<A>, AllocError>
-    ensures { IfOk result (λ users. users ≡ record { name = codes "root"; digest = digest; auths = auths; permissions = system_permissions } ∷ []) }
-{
-    let mut users = Users::new(alloc);
-    users.add(User {
-        name: root(),
-        digest,
-        auths,
-        permissions: SystemPermissions::all(),
-    })?;
-    Ok(users)
-}
-
-// The table points, with weeks for bins.
-fn first_tables<A: Allocator + Copy>(alloc: A) -> Result<Tables<A>, AllocError>
-    ensures { IfOk result (λ tables. tables ≡ record { table = codes "points"; constraint = false; period = Period.Week } ∷ []) }
-{
-    let mut tables = Tables::new(alloc);
-    tables.add(TableInfo {
-        table: points(),
-        constraint: false,
-        period: Period::Week,
-    })?;
-    Ok(tables)
-}
-
-#[tactic(auto, using(crate::proofs::First::first_in_order))]
-// Each table permission for the user root on the table points.
-fn first_grants<A: Allocator + Copy>(alloc: A) -> Result<Grants<A>, AllocError>
-    ensures { IfOk result (λ grants. grants ≡ all_on (codes "root") (OnTable (codes "points"))) }
-{
-    let mut grants = Grants::new(alloc);
-    grants.add_all(&root(), &Scope::OnTable(points()))?;
-    Ok(grants)
-}
-
 impl<A: Allocator + Copy> Directory<A> {
     /// The directory that a server begins with: the user root with this digest of its secret, these
-    /// authorizations and each permission on the system, and the table points, made by root. An
-    /// error where there is no memory for it.
+    /// authorizations and each permission on the system, and the table points, created by
+    /// root. `AllocError` when out of memory.
     pub fn new(alloc: A, digest: [u8; 32], auths: Auths<A>) -> Result<Directory<A>, AllocError>
         ensures { IfOk result (λ directory. directory ≡ first_directory digest auths) }
     {
@@ -137,8 +79,7 @@ impl<A: Allocator> Directory<A> {
         self.tables.get(name)
     }
 
-    /// Whether there is a user of this name whose secret this is: the record keeps its SHA-256
-    /// (FIPS 180-4).
+    /// Whether this is the secret of a user of this name. The directory keeps its SHA-256 (FIPS 180-4).
     pub fn authenticate(&self, name: &str, secret: &[u8; 32]) -> bool
         ensures { result ≡ has_secret self.now name.now secret.now }
     {
@@ -148,7 +89,7 @@ impl<A: Allocator> Directory<A> {
         }
     }
 
-    /// The authorizations of the user of this name; none, where there is no such user.
+    /// The authorizations of the user of this name, none if there is no such user.
     pub fn auths_of(&self, name: &str) -> &Auths<A>
         ensures { result.now ≡ auths_of self.now name.now }
     {
@@ -158,7 +99,7 @@ impl<A: Allocator> Directory<A> {
         }
     }
 
-    /// Whether the table's visibility constraint is on; `None` where there is no such table.
+    /// Whether the table's visibility constraint is on, or `None` if there is no such table.
     pub fn constraint_of(&self, table: &TableName) -> Option<bool>
         ensures { result ≡ constraint_of self.now table.now }
     {
@@ -192,7 +133,7 @@ impl<A: Allocator> Directory<A> {
         self.table(table.as_str()).is_some()
     }
 
-    /// The length of the table's time bins; `None` where there is no such table.
+    /// The length of the table's time bins, or `None` if there is no such table.
     pub fn period_of(&self, table: &TableName) -> Option<Period>
         ensures { result ≡ option_map (λ info. info.period) (table_named self.now table.now) }
     {

@@ -1,16 +1,21 @@
-//! Why a call is refused.
+//! Faults of the directory.
 ghost use Rattle.std.specs.Prelude.{◌≡◌};
 ghost use Rattle.st_dir.specs.declared.fault.DirectoryFault.TheVariants.{NoMemory};
 
 use std::alloc::AllocError;
 
-/// Why the directory refuses a call. A call that is refused changes nothing.
+/// Why the directory refuses a call. A refused call changes nothing.
 #[derive(Clone, Copy, PartialEq, Eq, Debug)]
 pub enum DirectoryFault {
+    /// There is no such table.
     NoTable,
+    /// There is no such user.
     NoUser,
+    /// There is a table of this name.
     TableExists,
+    /// There is a user of this name.
     UserExists,
+    /// Out of memory.
     NoMemory,
 }
 

@@ -30,9 +30,11 @@ impl Scope {
         }
     }
 
-    // How it stands to another: tables before namespaces, then by the bytes of their names.
+    // Compares it with another: tables before namespaces, then by the bytes of their names.
     pub(crate) fn compare(&self, other: &Scope) -> Ordering
-        ensures { result ≡ slice_cmp (slice_cmp nat_cmp) (scope_kind self.now ∷ scope_name self.now ∷ []) (scope_kind other.now ∷ scope_name other.now ∷ []) }
+        ensures { result
+            ≡ slice_cmp (slice_cmp nat_cmp) (scope_kind self.now ∷ scope_name self.now ∷ [])
+            (scope_kind other.now ∷ scope_name other.now ∷ []) }
     {
         match (self, other) {
             (Scope::OnTable(name), Scope::OnTable(other)) => name.as_str().cmp(other.as_str()),
@@ -65,7 +67,7 @@ pub struct Grant {
 }
 
 impl Grant {
-    ghost use Rattle.st_dir.specs.Grants.{same_grant};
+    ghost use Rattle.st_dir.specs.Grants.{grant_of, same_grant};
 
     // An equal grant.
     pub(crate) fn copy(&self) -> Grant
@@ -80,16 +82,16 @@ impl Grant {
 
     /// Whether it gives the user this permission on this scope.
     pub fn gives(&self, user: &str, scope: &Scope, permission: Permission) -> bool
-        ensures { result ≡ same_grant (record { user = user.now; scope = scope.now; permission = permission }) self.now }
+        ensures { result ≡ same_grant (grant_of user.now scope.now permission) self.now }
     {
         user == self.user.as_str()
             && scope.is_same(&self.scope)
             && permission.is_same(self.permission)
     }
 
-    // Whether it stands before the grant of this permission to this user on this scope.
+    // Whether it is sorted before the grant of this permission to this user on this scope.
     pub(crate) fn stands_before(&self, user: &str, scope: &Scope, permission: Permission) -> bool
-        ensures { result ≡ comes_before (grant_key self.now) (grant_key (record { user = user.now; scope = scope.now; permission = permission })) }
+        ensures { result ≡ comes_before (grant_key self.now) (grant_key (grant_of user.now scope.now permission)) }
     {
         let by_scope = self.scope.compare(scope);
         let by_user = self.user.as_str().cmp(user);

@@ -1,13 +1,14 @@
 //! The grants.
-ghost use Rattle.std.specs.Prelude.{◌≡◌, ◌<◌, ◌≤◌, ◌+◌, ◌∷◌, [], true, false, filter, map, not, length, IfOk, slice_index_or, IsOk, OnOk, OnErr};
+ghost use Rattle.std.specs.Prelude.{◌≡◌, ◌<◌, ◌≤◌, ◌+◌, [], true, false, filter, map, not, length, IfOk, slice_index_or, IsOk, OnOk, OnErr};
 ghost use Rattle.std.specs.List.{list_any, fold};
 ghost use Rattle.std.specs.Vec.{vec_len, vec_capacity};
 ghost use Rattle.st_text.specs.Texts.{same, set_of};
 ghost use Rattle.st_dir.specs.Changes.{with_grant, with_all};
-ghost use Rattle.st_dir.specs.Grants.{same_grant, same_scope};
+ghost use Rattle.st_dir.specs.Grants.{grant_of, same_grant, same_scope};
 ghost use Rattle.st_dir.specs.Order.{grant_key};
 ghost use Rattle.st_dir.specs.Permissions.{table_permissions};
-ghost use Rattle.st_dir.specs.Sorted.{Rises, IsPlace, IsAlone};
+ghost use Rattle.st_dir.specs.Sorted.{Rises};
+ghost use Rattle.st_dir.specs.inner.Places.{IsPlace, IsAlone};
 ghost use Rattle.st_dir.specs.declared.grant.Grant as Declared;
 
 use crate::grant::{Grant, Scope};
@@ -27,7 +28,7 @@ pub(crate) const TABLE_PERMISSIONS: [Permission; 5] = [
     Permission::DropTable,
 ];
 
-/// The grants, by what they are on, by their users and by their permissions.
+/// The grants, sorted by what they are on, by their users and by their permissions.
 #[derive(Drop)]
 pub struct Grants<A: Allocator = Global> {
     grants: Vec<Grant, A>,
@@ -49,9 +50,9 @@ impl<A: Allocator> Model for Grants<A> {
 // The place of a grant among grants in order.
 fn place_of(grants: &[Grant], user: &str, scope: &Scope, permission: Permission) -> usize
     requires { Rises grant_key grants.now }
-    ensures place { IsPlace grant_key (grant_key (record { user = user.now; scope = scope.now; permission = permission })) grants.now result }
+    ensures place { IsPlace grant_key (grant_key (grant_of user.now scope.now permission)) grants.now result }
     ensures inside { result ≤ length grants.now }
-    ensures alone { IsAlone (same_grant (record { user = user.now; scope = scope.now; permission = permission })) grants.now result }
+    ensures alone { IsAlone (same_grant (grant_of user.now scope.now permission)) grants.now result }
 {
     grants.partition_point(|grant| grant.stands_before(user, scope, permission))
 }
@@ -60,9 +61,9 @@ fn place_of(grants: &[Grant], user: &str, scope: &Scope, permission: Permission)
 fn is_at(grants: &[Grant], place: usize, user: &str, scope: &Scope, permission: Permission) -> bool
     ensures inside { result ≡ true → place < length grants.now }
     ensures yes_at { result ≡ true → (d : Declared.Grant)
-        → same_grant (record { user = user.now; scope = scope.now; permission = permission }) (slice_index_or grants.now place d) ≡ true }
+        → same_grant (grant_of user.now scope.now permission) (slice_index_or grants.now place d) ≡ true }
     ensures not_at { result ≡ false → (d : Declared.Grant) → place < length grants.now
-        → same_grant (record { user = user.now; scope = scope.now; permission = permission }) (slice_index_or grants.now place d) ≡ false }
+        → same_grant (grant_of user.now scope.now permission) (slice_index_or grants.now place d) ≡ false }
 {
     place < grants.len() && grants[place].gives(user, scope, permission)
 }
@@ -70,13 +71,13 @@ fn is_at(grants: &[Grant], place: usize, user: &str, scope: &Scope, permission: 
 // Whether there is such a grant, among grants in order.
 fn has(grants: &[Grant], user: &str, scope: &Scope, permission: Permission) -> bool
     requires { Rises grant_key grants.now }
-    ensures { result ≡ list_any (same_grant (record { user = user.now; scope = scope.now; permission = permission })) grants.now }
+    ensures { result ≡ list_any (same_grant (grant_of user.now scope.now permission)) grants.now }
 {
     let place = place_of(grants, user, scope, permission);
     is_at(grants, place, user, scope, permission)
 }
 
-// Puts in a grant, unless it is held. It fails only where there is no room.
+// Puts in a grant, unless it is held. It succeeds if there is room.
 fn put<A: Allocator>(grants: &mut Vec<Grant, A>, grant: Grant) -> Result<(), AllocError>
     requires { Rises grant_key grants.old.items }
     ensures ok { OnOk result (grants.new.items ≡ with_grant grant grants.old.items) }
@@ -105,7 +106,8 @@ fn put_each<A: Allocator>(
 )
     requires sorted { Rises grant_key grants.old.items }
     requires room { vec_len grants.old + length permissions.now ≤ vec_capacity grants.old }
-    ensures items { grants.new.items ≡ fold (λ held p. with_grant (record { user = user.now; scope = scope.now; permission = p }) held) grants.old.items permissions.now }
+    ensures items { grants.new.items
+        ≡ fold (λ held p. with_grant (grant_of user.now scope.now p) held) grants.old.items permissions.now }
     ensures sorted { Rises grant_key grants.new.items }
 {
     for permission in permissions {
@@ -123,13 +125,13 @@ fn put_each<A: Allocator>(
 impl<A: Allocator> Grants<A> {
     /// Whether the user has been granted the permission on the scope itself.
     pub fn has(&self, user: &str, scope: &Scope, permission: Permission) -> bool
-        ensures { result ≡ list_any (same_grant (record { user = user.now; scope = scope.now; permission = permission })) self.now }
+        ensures { result ≡ list_any (same_grant (grant_of user.now scope.now permission)) self.now }
     {
         has(&self.grants, user, scope, permission)
     }
 
-    /// Puts in a grant, unless it is held, or leaves the grants as they were where there is no
-    /// memory.
+    /// Puts in a grant, unless it is held. `AllocError` when out of memory; the grants are then
+    /// unchanged.
     pub fn add(&mut self, grant: Grant) -> Result<(), AllocError>
         ensures ok { OnOk result (self.new ≡ with_grant grant self.old) }
         ensures err { OnErr result (self.new ≡ self.old) }
@@ -137,8 +139,8 @@ impl<A: Allocator> Grants<A> {
         put(&mut self.grants, grant)
     }
 
-    /// Puts in each table permission for the user on the scope, or leaves the grants as they were
-    /// where there is no memory.
+    /// Puts in each table permission for the user on the scope. `AllocError` when out of memory; the
+    /// grants are then unchanged.
     pub fn add_all(&mut self, user: &Name, scope: &Scope) -> Result<(), AllocError>
         ensures ok { OnOk result (self.new ≡ with_all user.now scope.now self.old) }
         ensures err { OnErr result (self.new ≡ self.old) }
@@ -150,7 +152,7 @@ impl<A: Allocator> Grants<A> {
 
     /// Takes out a grant, if it is held.
     pub fn remove(&mut self, user: &str, scope: &Scope, permission: Permission)
-        ensures { self.new ≡ filter (λ g. not (same_grant (record { user = user.now; scope = scope.now; permission = permission }) g)) self.old }
+        ensures { self.new ≡ filter (λ g. not (same_grant (grant_of user.now scope.now permission) g)) self.old }
     {
         let place = place_of(&self.grants, user, scope, permission);
         if is_at(&self.grants, place, user, scope, permission) {
@@ -184,15 +186,14 @@ impl<A: Allocator + Copy> Grants<A> {
     }
 
     /// The users who have been granted something on the scope itself, by the bytes of their names,
-    /// each once, or an error where there is no memory for them.
+    /// each once. `AllocError` when out of memory.
     pub fn users_on(&self, alloc: A, scope: &Scope) -> Result<Items<Name, A>, AllocError>
         ensures { IfOk result (λ names. names ≡ set_of (map (λ g. g.user) (filter (λ g. same_scope scope.now g.scope) self.now))) }
     {
         granted_on(alloc, &self.grants, scope)
     }
 
-    // Those of these table permissions that the user has been granted on the scope itself, or an
-    // error where there is no memory for them.
+    // Those of these table permissions that the user has been granted on the scope itself.
     fn held_of(
         &self,
         alloc: A,
@@ -200,7 +201,7 @@ impl<A: Allocator + Copy> Grants<A> {
         scope: &Scope,
         all: &[Permission; 5],
     ) -> Result<Items<Permission, A>, AllocError>
-        ensures { IfOk result (λ list. list ≡ filter (λ p. list_any (same_grant (record { user = user.now; scope = scope.now; permission = p })) self.now) all.now) }
+        ensures { IfOk result (λ list. list ≡ filter (λ p. list_any (same_grant (grant_of user.now scope.now p)) self.now) all.now) }
     {
         let mut list = Items::new(alloc);
         for permission in all {
@@ -211,20 +212,21 @@ impl<A: Allocator + Copy> Grants<A> {
         Ok(list)
     }
 
-    /// The table permissions that the user has been granted on the scope itself, in listing order, or
-    /// an error where there is no memory for them.
+    /// The table permissions that the user has been granted on the scope itself, in listing order.
+    /// `AllocError` when out of memory.
     pub fn held_on(
         &self,
         alloc: A,
         user: &Name,
         scope: &Scope,
     ) -> Result<Items<Permission, A>, AllocError>
-        ensures { IfOk result (λ list. list ≡ filter (λ p. list_any (same_grant (record { user = user.now; scope = scope.now; permission = p })) self.now) table_permissions) }
+        ensures { IfOk result (λ list. list
+            ≡ filter (λ p. list_any (same_grant (grant_of user.now scope.now p)) self.now) table_permissions) }
     {
         self.held_of(alloc, user, scope, &TABLE_PERMISSIONS)
     }
 
-    /// Equal grants, or an error where there is no memory for them.
+    /// Equal grants. `AllocError` when out of memory.
     pub fn copy(&self, alloc: A) -> Result<Grants<A>, AllocError>
         ensures { IfOk result (λ grants. grants ≡ self.now) }
     {
@@ -234,7 +236,7 @@ impl<A: Allocator + Copy> Grants<A> {
     }
 }
 
-// Equal grants, in order, or an error where there is no memory for them.
+// Equal grants, in order. `AllocError` when out of memory.
 fn copies<A: Allocator + Copy>(alloc: A, grants: &[Grant]) -> Result<Vec<Grant, A>, AllocError>
     ensures { IfOk result (λ copies. copies.items ≡ grants.now) }
 {

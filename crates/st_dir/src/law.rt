@@ -14,20 +14,22 @@ use std::alloc::Allocator;
 
 /// Granting what is held changes nothing.
 pub fn granting_what_is_held<A: Allocator>()
-    ensures { (d : Directory A) (user : Text) (scope : Scope) (p : Permission) → is_granted d user scope p ≡ true → granted user scope p d ≡ d }
+    ensures { (d : Directory A) (user : Text) (scope : Scope) (p : Permission)
+        → is_granted d user scope p ≡ true → granted user scope p d ≡ d }
 {}
 
-/// A user that is made again has none of the grants that the dropped one had.
+/// A dropped user holds no grant, so a user of the same name created later has none of them.
 pub fn dropped_users_hold_nothing<A: Allocator>()
     ensures { (d : Directory A) (user : Text) (scope : Scope) (p : Permission) → is_granted (user_dropped user d) user scope p ≡ false }
 {}
 
-/// A table that is made again has none of the grants of the dropped one.
+/// No grant on a dropped table is left, so a table of the same name created later has none of them.
 pub fn dropped_tables_have_no_grants<A: Allocator>()
-    ensures { (d : Directory A) (table : Text) (user : Text) (p : Permission) → is_granted (table_dropped table d) user (OnTable table) p ≡ false }
+    ensures { (d : Directory A) (table : Text) (user : Text) (p : Permission)
+        → is_granted (table_dropped table d) user (OnTable table) p ≡ false }
 {}
 
-/// The listing of grants names each user once, by the bytes of their names.
+/// The listing of grants names each user once, in byte order.
 pub fn grants_name_each_user_once<A: Allocator>()
     ensures { (d : Directory A) (scope : Scope) → Rises name_key (map (λ given. given.user) (grants_on d scope)) }
 {}

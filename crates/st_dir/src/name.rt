@@ -7,7 +7,7 @@ ghost use Rattle.st_text.specs.Texts.{same};
 use st_text::Text;
 use std::marker::Model;
 
-/// A text is no name.
+/// The text is not a name.
 #[derive(Clone, Copy, PartialEq, Eq, Debug)]
 pub struct BadName;
 
@@ -50,7 +50,7 @@ pub(crate) fn is_text_of_name(text: &str) -> bool
 }
 
 impl Name {
-    /// The name with this text, or `BadName` where the text is none.
+    /// The name with this text, or `BadName` if the text is not one.
     pub fn new(text: &str) -> Result<Name, BadName>
         ensures named { IsOk result ↔ IsTrue (is_name text.now) }
         ensures value { IfOk result (λ name. name ≡ text.now) }

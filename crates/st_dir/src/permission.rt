@@ -19,8 +19,9 @@ pub enum Permission {
 }
 
 impl Permission {
-    ghost use Rattle.st_dir.specs.Permissions.{place_of, name_of, same_permission};
+    ghost use Rattle.st_dir.specs.Permissions.{place_of, permission_name, same_permission};
 
+    // Its rank in the order of grants.
     pub(crate) fn place(self) -> u8
         ensures { result ≡ place_of self }
     {
@@ -45,9 +46,9 @@ impl Permission {
         self.place() == other.place()
     }
 
-    /// The name that requests and replies write it by.
+    /// Its name in requests and replies.
     pub fn name(self) -> &'static str
-        ensures { result.now ≡ name_of self }
+        ensures { result.now ≡ permission_name self }
     {
         match self {
             Permission::Read => "READ",

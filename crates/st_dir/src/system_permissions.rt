@@ -9,7 +9,7 @@ use st_text::Items;
 use std::alloc::{AllocError, Allocator};
 use std::marker::Model;
 
-/// The permissions on the system, in listing order.
+// The permissions on the system, in listing order.
 pub(crate) const SYSTEM_PERMISSIONS: [Permission; 8] = [
     Permission::CreateTable,
     Permission::DropTable,
@@ -49,7 +49,7 @@ pub(crate) fn has_permission(permissions: &[Permission], permission: Permission)
 }
 
 impl SystemPermissions {
-    /// No permission.
+    // No permission.
     pub(crate) fn none() -> SystemPermissions
         ensures { result ≡ [] }
     {
@@ -58,7 +58,7 @@ impl SystemPermissions {
         }
     }
 
-    /// Each permission on the system.
+    // Each permission on the system.
     pub(crate) fn all() -> SystemPermissions
         ensures { result ≡ system_permissions }
     {
@@ -69,7 +69,7 @@ impl SystemPermissions {
         SystemPermissions { permissions }
     }
 
-    /// The permissions.
+    // The permissions.
     pub(crate) fn as_slice(&self) -> &[Permission]
         ensures { result.now ≡ self.now }
     {
@@ -103,14 +103,14 @@ impl SystemPermissions {
         SystemPermissions { permissions }
     }
 
-    /// Those on the system that are among these or are the one given.
+    // Those on the system that are among these or are the one given.
     pub(crate) fn with(&self, permission: Permission) -> SystemPermissions
         ensures { result ≡ listed (permission ∷ self.now) }
     {
         self.among(permission, &SYSTEM_PERMISSIONS)
     }
 
-    /// These without the one given.
+    // These without the one given.
     pub(crate) fn without(&self, permission: Permission) -> SystemPermissions
         ensures { result ≡ filter (λ held. not (same_permission permission held)) self.now }
     {
@@ -123,21 +123,21 @@ impl SystemPermissions {
         SystemPermissions { permissions }
     }
 
-    /// Adds the permission, if it is one on the system.
+    // Adds the permission, if it is one on the system.
     pub(crate) fn add(&mut self, permission: Permission)
         ensures { self.new ≡ listed (permission ∷ self.old) }
     {
         *self = self.with(permission);
     }
 
-    /// Takes the permission out.
+    // Takes the permission out.
     pub(crate) fn remove(&mut self, permission: Permission)
         ensures { self.new ≡ filter (λ held. not (same_permission permission held)) self.old }
     {
         *self = self.without(permission);
     }
 
-    // Those of a list that are among these, or an error where there is no memory for them.
+    // Those of a list that are among these. `AllocError` when out of memory.
     fn held_of<A: Allocator + Copy>(
         &self,
         alloc: A,
@@ -154,7 +154,7 @@ impl SystemPermissions {
         Ok(list)
     }
 
-    /// The permissions as a list, or an error where there is no memory for it.
+    // The permissions as a list. `AllocError` when out of memory.
     pub(crate) fn listed<A: Allocator + Copy>(
         &self,
         alloc: A,
@@ -164,7 +164,7 @@ impl SystemPermissions {
         self.held_of(alloc, &SYSTEM_PERMISSIONS)
     }
 
-    /// An equal set.
+    // An equal set.
     pub(crate) fn copy(&self) -> SystemPermissions
         ensures { result ≡ self.now }
     {

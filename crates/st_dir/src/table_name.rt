@@ -25,9 +25,10 @@ impl Model for TableName {
     ghost invariant = { λ t. IsTrue (is_table_name t.text) };
 }
 
-// What stands before the first dot and behind it, where there is one.
+// The parts before and after the first dot, if there is one.
 fn split_at_dot(text: &str) -> Option<(&str, &str)>
-    ensures some { IfSome result (λ parts. (has_dot text.now ≡ true) × (parts.0.now ≡ before_dot text.now) × (parts.1.now ≡ behind_dot text.now)) }
+    ensures some { IfSome result (λ parts. (has_dot text.now ≡ true)
+        × (parts.0.now ≡ before_dot text.now) × (parts.1.now ≡ behind_dot text.now)) }
     ensures none { IfNone result (has_dot text.now ≡ false) }
 {
     text.split_once('.')
@@ -44,7 +45,7 @@ fn is_text_of_table(text: &str) -> bool
 }
 
 impl TableName {
-    /// The name with this text, or `BadName` where the text is none.
+    /// The name with this text, or `BadName` if the text is not one.
     pub fn new(text: &str) -> Result<TableName, BadName>
         ensures named { IsOk result ↔ IsTrue (is_table_name text.now) }
         ensures value { IfOk result (λ name. name ≡ text.now) }
@@ -89,7 +90,7 @@ impl TableName {
         self.text.is(text)
     }
 
-    /// The table's namespace, where its name has one.
+    /// The table's namespace, if its name has one.
     pub fn namespace(&self) -> Option<Name>
         ensures { result ≡ namespace_of self.now }
     {

@@ -1,9 +1,10 @@
 //! The tables.
-ghost use Rattle.std.specs.Prelude.{◌≡◌, ◌<◌, ◌≤◌, ◌∷◌, [], None, true, false, find, filter, not, is_some, length, option_map, slice_index_or, map, IsTrue, IfSome, IfNone, IfOk, OnOk, OnErr};
+ghost use Rattle.std.specs.Prelude.{◌≡◌, ◌<◌, ◌≤◌, ◌∷◌, [], None, true, false, find, filter, not, length, option_map, slice_index_or, IfSome, IfNone, IfOk, OnOk, OnErr};
 ghost use Rattle.st_text.specs.Texts.{same, comes_before, in_order};
 ghost use Rattle.st_dir.specs.Changes.{with_table};
 ghost use Rattle.st_dir.specs.Order.{table_key};
-ghost use Rattle.st_dir.specs.Sorted.{Rises, IsPlace, IsAlone, NoneOf};
+ghost use Rattle.st_dir.specs.Sorted.{Rises};
+ghost use Rattle.st_dir.specs.inner.Places.{IsPlace, IsAlone, NoneOf};
 ghost use Rattle.st_dir.specs.declared.table.TableInfo as Declared;
 
 use crate::table::TableInfo;
@@ -12,7 +13,7 @@ use st_text::Items;
 use std::alloc::{AllocError, Allocator, Global};
 use std::marker::Model;
 
-/// The tables, by the bytes of their names.
+/// The tables, sorted by the bytes of their names.
 #[derive(Drop)]
 pub struct Tables<A: Allocator = Global> {
     tables: Vec<TableInfo, A>,
@@ -31,14 +32,14 @@ impl<A: Allocator> Model for Tables<A> {
     ghost invariant = { λ u. Rises table_key u.tables.items };
 }
 
-// Whether the table's name comes before this one, by its bytes.
+// Whether the table's name comes before this one, in byte order.
 fn comes_before_name(info: &TableInfo, name: &str) -> bool
     ensures { result ≡ comes_before (table_key info.now) (name.now ∷ []) }
 {
     info.table.as_str() < name
 }
 
-// The place of a name among tables that stand by their names.
+// The place of a name among tables sorted by name.
 fn place_of(tables: &[TableInfo], name: &str) -> usize
     requires { Rises table_key tables.now }
     ensures place { IsPlace table_key (name.now ∷ []) tables.now result }
@@ -52,16 +53,18 @@ fn place_of(tables: &[TableInfo], name: &str) -> usize
 fn is_at(tables: &[TableInfo], place: usize, name: &str) -> bool
     ensures inside { result ≡ true → place < length tables.now }
     ensures yes_at { result ≡ true → (d : Declared.TableInfo) → same (slice_index_or tables.now place d).table name.now ≡ true }
-    ensures not_at { result ≡ false → (d : Declared.TableInfo) → place < length tables.now → same (slice_index_or tables.now place d).table name.now ≡ false }
+    ensures not_at { result ≡ false → (d : Declared.TableInfo) → place < length tables.now
+        → same (slice_index_or tables.now place d).table name.now ≡ false }
 {
     place < tables.len() && tables[place].table.is(name)
 }
 
-// Where the table of this name stands, among tables that stand by their names.
+// The place of the table of this name among tables sorted by name.
 fn position(tables: &[TableInfo], name: &str) -> Option<usize>
     requires { Rises table_key tables.now }
     ensures some { IfSome result (λ place. place < length tables.now) }
-    ensures found { IfSome result (λ place. (d : Declared.TableInfo) → same (slice_index_or tables.now place d).table name.now ≡ true) }
+    ensures found { IfSome result (λ place. (d : Declared.TableInfo)
+        → same (slice_index_or tables.now place d).table name.now ≡ true) }
     ensures alone { IfSome result (λ place. IsAlone (λ info. same info.table name.now) tables.now place) }
     ensures none { IfNone result (NoneOf (λ info. same info.table name.now) tables.now) }
 {
@@ -127,7 +130,7 @@ impl<A: Allocator + Copy> Tables<A> {
         }
     }
 
-    /// Puts in a table whose name is new, or leaves the tables as they were where there is no memory.
+    /// Puts in a table whose name is new. `AllocError` when out of memory; the tables are then unchanged.
     pub fn add(&mut self, info: TableInfo) -> Result<(), AllocError>
         requires { find (λ other. same other.table info.table) self.old ≡ None }
         ensures ok { OnOk result (self.new ≡ in_order table_key (info ∷ self.old)) }
@@ -142,7 +145,7 @@ impl<A: Allocator + Copy> Tables<A> {
     }
 }
 
-// Equal tables, in order, or an error where there is no memory for them.
+// Equal tables, in order. `AllocError` when out of memory.
 fn copies<A: Allocator + Copy>(
     alloc: A,
     tables: &[TableInfo],
@@ -157,7 +160,7 @@ fn copies<A: Allocator + Copy>(
 }
 
 impl<A: Allocator + Copy> Tables<A> {
-    /// The tables as a list, by the bytes of their names, or an error where there is no memory for it.
+    /// The tables as a list, in byte order of their names. `AllocError` when out of memory.
     pub fn list(&self, alloc: A) -> Result<Items<TableInfo, A>, AllocError>
         ensures { IfOk result (λ list. list ≡ in_order table_key self.now) }
     {
@@ -165,7 +168,7 @@ impl<A: Allocator + Copy> Tables<A> {
         Ok(Items::from_vec(copies))
     }
 
-    /// Equal tables, or an error where there is no memory for them.
+    /// Equal tables. `AllocError` when out of memory.
     pub fn copy(&self, alloc: A) -> Result<Tables<A>, AllocError>
         ensures { IfOk result (λ tables. tables ≡ self.now) }
     {

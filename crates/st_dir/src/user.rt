@@ -20,7 +20,7 @@ pub struct User<A: Allocator = Global> {
 }
 
 impl<A: Allocator + Copy> User<A> {
-    // An equal user, or an error where there is no memory for it.
+    // An equal user. `AllocError` when out of memory.
     pub(crate) fn copy(&self) -> Result<User<A>, AllocError>
         ensures { IfOk result (λ user. user ≡ self.now) }
     {
@@ -32,9 +32,10 @@ impl<A: Allocator + Copy> User<A> {
         })
     }
 
-    // What the user is shown of itself and of others.
+    // The account of the user. `AllocError` when out of memory.
     pub(crate) fn account(&self, alloc: A) -> Result<Account<A>, AllocError>
-        ensures { IfOk result (λ account. account ≡ record { user = self.now.name; auths = set_of self.now.auths; permissions = listed self.now.permissions }) }
+        ensures { IfOk result (λ account. account
+            ≡ record { user = self.now.name; auths = set_of self.now.auths; permissions = listed self.now.permissions }) }
     {
         Ok(Account {
             user: self.name.copy(),

@@ -1,8 +1,9 @@
 //! The names of users, each once.
-ghost use Rattle.std.specs.Prelude.{◌≡◌, ◌<◌, ◌≤◌, ◌∷◌, [], true, false, length, slice_index_or, map, filter, if◌then◌else◌, IfOk, OnOk};
-ghost use Rattle.st_text.specs.Texts.{Text, same, comes_before, is_among, set_of};
+ghost use Rattle.std.specs.Prelude.{◌≡◌, ◌<◌, ◌≤◌, true, false, length, slice_index_or, map, filter, if◌then◌else◌, IfOk, OnOk};
+ghost use Rattle.st_text.specs.Texts.{Text, same, comes_before, set_of};
 ghost use Rattle.st_dir.specs.Grants.{same_scope};
-ghost use Rattle.st_dir.specs.Sorted.{Rises, IsPlace, IsAlone, name_key, with_name};
+ghost use Rattle.st_dir.specs.Sorted.{Rises, name_key};
+ghost use Rattle.st_dir.specs.inner.Places.{IsPlace, IsAlone, with_name};
 
 use crate::grant::{Grant, Scope};
 use crate::name::Name;
@@ -30,7 +31,8 @@ fn place_of(names: &[Name], text: &str) -> usize
 fn is_at(names: &[Name], place: usize, text: &str) -> bool
     ensures inside { result ≡ true → place < length names.now }
     ensures yes_at { result ≡ true → (d : Text) → same text.now (slice_index_or names.now place d) ≡ true }
-    ensures not_at { result ≡ false → (d : Text) → place < length names.now → same text.now (slice_index_or names.now place d) ≡ false }
+    ensures not_at { result ≡ false → (d : Text) → place < length names.now
+        → same text.now (slice_index_or names.now place d) ≡ false }
 {
     place < names.len() && text == names[place].as_str()
 }
@@ -57,7 +59,8 @@ fn put_granted<A: Allocator>(
     scope: &Scope,
 ) -> Result<(), AllocError>
     requires { Rises name_key names.old.items }
-    ensures ok { OnOk result (names.new.items ≡ (if same_scope scope.now grant.now.scope then with_name grant.now.user names.old.items else names.old.items)) }
+    ensures ok { OnOk result (names.new.items
+        ≡ (if same_scope scope.now grant.now.scope then with_name grant.now.user names.old.items else names.old.items)) }
 {
     if scope.is_same(&grant.scope) {
         return put(names, grant.user.copy());
@@ -66,7 +69,7 @@ fn put_granted<A: Allocator>(
 }
 
 /// The users who have been granted something on the scope itself, by the bytes of their names and
-/// each once, or an error where there is no memory for them.
+/// each once. `AllocError` when out of memory.
 pub fn granted_on<A: Allocator + Copy>(
     alloc: A,
     grants: &[Grant],

@@ -1,10 +1,11 @@
 //! The users.
-ghost use Rattle.std.specs.Prelude.{◌≡◌, ◌<◌, ◌≤◌, ◌∷◌, [], None, true, false, find, filter, not, is_some, length, option_map, slice_index_or, map, IsTrue, IfSome, IfNone, IfOk, OnOk, OnErr};
+ghost use Rattle.std.specs.Prelude.{◌≡◌, ◌<◌, ◌≤◌, ◌∷◌, [], None, true, false, find, filter, not, length, option_map, slice_index_or, map, IfSome, IfNone, IfOk, OnOk, OnErr};
 ghost use Rattle.st_text.specs.Texts.{same, comes_before, in_order};
 ghost use Rattle.st_dir.specs.Changes.{with_user};
 ghost use Rattle.st_dir.specs.Order.{user_key};
 ghost use Rattle.st_dir.specs.Permissions.{listed, same_permission};
-ghost use Rattle.st_dir.specs.Sorted.{Rises, IsPlace, IsAlone, NoneOf};
+ghost use Rattle.st_dir.specs.Sorted.{Rises};
+ghost use Rattle.st_dir.specs.inner.Places.{IsPlace, IsAlone, NoneOf};
 ghost use Rattle.st_dir.specs.declared.user.User as Declared;
 
 use crate::name::Name;
@@ -15,7 +16,7 @@ use st_text::Items;
 use std::alloc::{AllocError, Allocator, Global};
 use std::marker::Model;
 
-/// The users, by the bytes of their names.
+/// The users, sorted by the bytes of their names.
 #[derive(Drop)]
 pub struct Users<A: Allocator = Global> {
     users: Vec<User<A>, A>,
@@ -34,14 +35,14 @@ impl<A: Allocator> Model for Users<A> {
     ghost invariant = { λ u. Rises user_key u.users.items };
 }
 
-// Whether the user's name comes before this one, by its bytes.
+// Whether the user's name comes before this one, in byte order.
 fn comes_before_name<A: Allocator>(user: &User<A>, name: &str) -> bool
     ensures { result ≡ comes_before (user_key user.now) (name.now ∷ []) }
 {
     user.name.as_str() < name
 }
 
-// The place of a name among users that stand by their names.
+// The place of a name among users sorted by name.
 fn place_of<A: Allocator>(users: &[User<A>], name: &str) -> usize
     requires { Rises user_key users.now }
     ensures place { IsPlace user_key (name.now ∷ []) users.now result }
@@ -55,12 +56,13 @@ fn place_of<A: Allocator>(users: &[User<A>], name: &str) -> usize
 fn is_at<A: Allocator>(users: &[User<A>], place: usize, name: &str) -> bool
     ensures inside { result ≡ true → place < length users.now }
     ensures yes_at { result ≡ true → (d : Declared.User A) → same (slice_index_or users.now place d).name name.now ≡ true }
-    ensures not_at { result ≡ false → (d : Declared.User A) → place < length users.now → same (slice_index_or users.now place d).name name.now ≡ false }
+    ensures not_at { result ≡ false → (d : Declared.User A) → place < length users.now
+        → same (slice_index_or users.now place d).name name.now ≡ false }
 {
     place < users.len() && users[place].name.is(name)
 }
 
-// Where the user of this name stands, among users that stand by their names.
+// The place of the user of this name among users sorted by name.
 fn position<A: Allocator>(users: &[User<A>], name: &str) -> Option<usize>
     requires { Rises user_key users.now }
     ensures some { IfSome result (λ place. place < length users.now) }
@@ -121,7 +123,8 @@ impl<A: Allocator> Users<A> {
 
     /// Gives the user of this name, if there is one, a permission on the system.
     pub fn grant(&mut self, name: &str, permission: Permission)
-        ensures { self.new ≡ with_user name.now (λ user. record user { permissions = listed (permission ∷ user.permissions) }) self.old }
+        ensures { self.new
+            ≡ with_user name.now (λ user. record user { permissions = listed (permission ∷ user.permissions) }) self.old }
     {
         match position(&self.users, name) {
             Some(place) => self.users[place].permissions.add(permission),
@@ -131,7 +134,8 @@ impl<A: Allocator> Users<A> {
 
     /// Takes a permission on the system from the user of this name, if there is one.
     pub fn revoke(&mut self, name: &str, permission: Permission)
-        ensures { self.new ≡ with_user name.now (λ user. record user { permissions = filter (λ held. not (same_permission permission held)) user.permissions }) self.old }
+        ensures { self.new ≡ with_user name.now (λ user.
+            record user { permissions = filter (λ held. not (same_permission permission held)) user.permissions }) self.old }
     {
         match position(&self.users, name) {
             Some(place) => self.users[place].permissions.remove(permission),
@@ -150,7 +154,7 @@ impl<A: Allocator + Copy> Users<A> {
         }
     }
 
-    /// Puts in a user whose name is new, or leaves the users as they were where there is no memory.
+    /// Puts in a user whose name is new. `AllocError` when out of memory; the users are then unchanged.
     pub fn add(&mut self, user: User<A>) -> Result<(), AllocError>
         requires { find (λ other. same other.name user.name) self.old ≡ None }
         ensures ok { OnOk result (self.new ≡ in_order user_key (user ∷ self.old)) }
@@ -164,7 +168,7 @@ impl<A: Allocator + Copy> Users<A> {
     }
 }
 
-// The users' names, in order, or an error where there is no memory for them.
+// The users' names, in order. `AllocError` when out of memory.
 fn names_of<A: Allocator + Copy>(alloc: A, users: &[User<A>]) -> Result<Items<Name, A>, AllocError>
     ensures { IfOk result (λ names. names ≡ map (λ user. user.name) users.now) }
 {
@@ -175,7 +179,7 @@ fn names_of<A: Allocator + Copy>(alloc: A, users: &[User<A>]) -> Result<Items<Na
     Ok(names)
 }
 
-// Equal users, in order, or an error where there is no memory for them.
+// Equal users, in order. `AllocError` when out of memory.
 fn copies<A: Allocator + Copy>(alloc: A, users: &[User<A>]) -> Result<Vec<User<A>, A>, AllocError>
     ensures { IfOk result (λ copies. copies.items ≡ users.now) }
 {
@@ -187,14 +191,14 @@ fn copies<A: Allocator + Copy>(alloc: A, users: &[User<A>]) -> Result<Vec<User<A
 }
 
 impl<A: Allocator + Copy> Users<A> {
-    /// The names, by their bytes, or an error where there is no memory for them.
+    /// The names, in byte order. `AllocError` when out of memory.
     pub fn names(&self, alloc: A) -> Result<Items<Name, A>, AllocError>
         ensures { IfOk result (λ names. names ≡ map (λ user. user.name) (in_order user_key self.now)) }
     {
         names_of(alloc, &self.users)
     }
 
-    /// Equal users, or an error where there is no memory for them.
+    /// Equal users. `AllocError` when out of memory.
     pub fn copy(&self, alloc: A) -> Result<Users<A>, AllocError>
         ensures { IfOk result (λ users. users ≡ self.now) }
     {

@@ -9,7 +9,7 @@ use Rattle.st_key.specs.declared.period.Period.{Period}
 use Rattle.st_key.specs.declared.period.Period.TheVariants.{Day, Week}
 use Rattle.st_key.specs.declared.place.Place.{Place}
 use Rattle.st_text.specs.Texts.{Text, same}
-use Rattle.st_dir.specs.Permissions.{name_of}
+use Rattle.st_dir.specs.Permissions.{permission_name}
 use Rattle.st_dir.specs.declared.permission.Permission.{Permission}
 use Rattle.st_policy.specs.Periods.{period_name}
 use Rattle.st_json.specs.declared.value.Bounds.{Bounds}
@@ -96,7 +96,7 @@ on_in d = option_and_then as_bool (get (codes "on") d)
 
 -- the permission of the list that the text names
 abbrev pub permission_in : List Permission → Data → Option Permission
-permission_in listed d = option_and_then (λ s. find (λ p. same (name_of p) s) listed) (text_in (codes "permission") d)
+permission_in listed d = option_and_then (λ s. find (λ p. same (permission_name p) s) listed) (text_in (codes "permission") d)
 
 abbrev pub period_of : Data → Option Period
 period_of d = option_and_then (λ s. find (λ p. same (period_name p) s) (Day ∷ Week ∷ [])) (as_str d)

@@ -7,7 +7,7 @@ ghost use Rattle.serde_json.specs.Find.{as_str};
 ghost use Rattle.serde_json.specs.View.{view, items_view};
 ghost use Rattle.st_text.specs.Texts.{same};
 ghost use Rattle.st_index.specs.Texts.{IsId, IsNote};
-ghost use Rattle.st_dir.specs.Permissions.{name_of, table_permissions, system_permissions};
+ghost use Rattle.st_dir.specs.Permissions.{permission_name, table_permissions, system_permissions};
 ghost use Rattle.st_policy.specs.declared.refusal.Refusal.TheVariants.{Field as OfField};
 ghost use Rattle.st_json.specs.Fields.{sized, id_in, note_in, digest_in, on_in, permission_in, period_of, period_in, new_period_in, texts_among};
 ghost use Rattle.st_json.specs.Needs.{Has, Tells, shown};
@@ -187,7 +187,7 @@ pub fn on(object: &Value) -> Result<bool, DecodeFault>
 
 // The permission of the list that the text names.
 fn named<'a>(listed: &'a [Permission], text: &str) -> Option<&'a Permission>
-    ensures { option_map (λ p. p.now) result ≡ find (λ p. same (name_of p) text.now) listed.now }
+    ensures { option_map (λ p. p.now) result ≡ find (λ p. same (permission_name p) text.now) listed.now }
 {
     listed.iter().find(|p| p.name() == text)
 }

@@ -5,7 +5,7 @@ use Rattle.serde_json.specs.View.{items_of}
 use Rattle.st_index.specs.declared.row.Row.{Row}
 use Rattle.st_plan.specs.declared.part_plan.PartPlan.{PartPlan}
 use Rattle.st_dir.specs.declared.account.Account.{Account}
-use Rattle.st_dir.specs.declared.given.Given.{Given}
+use Rattle.st_dir.specs.declared.grantee.Grantee.{Grantee}
 use Rattle.st_dir.specs.declared.permission.Permission.{Permission}
 use Rattle.st_policy.specs.declared.denial.Denial.{Denial}
 use Rattle.st_policy.specs.declared.refusal.Refusal.{Refusal}
@@ -56,7 +56,7 @@ listing_in_order name f each xs = both _ _ (all_in_order f each xs) refl
 account_in_order : {A : Type 0} (a : Account A) → in_order (account_data a) ≡ true
 account_in_order a = rw (texts_in_order a.auths, permissions_in_order a.permissions) refl
 
-given_in_order : {A : Type 0} (g : Given A) → in_order (given_data g) ≡ true
+given_in_order : {A : Type 0} (g : Grantee A) → in_order (given_data g) ≡ true
 given_in_order g = rw (permissions_in_order g.permissions) refl
 
 part_in_order : {A : Type 0} (p : PartPlan A) → in_order (part_data p) ≡ true

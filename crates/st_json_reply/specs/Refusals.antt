@@ -2,7 +2,7 @@
 use Rattle.std.specs.Prelude.{ℕ, List, [], ◌∷◌, codes, Some, None}
 use Rattle.serde_json.specs.Data.{Data, number, unsigned, string, object, Members, no_members, member}
 use Rattle.st_text.specs.Texts.{Text}
-use Rattle.st_dir.specs.Permissions.{name_of}
+use Rattle.st_dir.specs.Permissions.{permission_name}
 use Rattle.st_policy.specs.declared.denial.Denial.{Denial}
 use Rattle.st_policy.specs.declared.refusal.Refusal.{Refusal}
 use Rattle.st_policy.specs.Refusals.{field_text}
@@ -44,9 +44,9 @@ nat n = number (unsigned n)
 
 abbrev pub denial_data : Denial → Data
 denial_data Denial.Token = of ((codes "error", string (codes "token")) ∷ [])
-denial_data (Denial.Permission name None) = of ((codes "error", string (codes "permission")) ∷ (codes "permission", string (name_of name)) ∷ [])
-denial_data (Denial.Permission name (Some table)) = of ((codes "error", string (codes "permission")) ∷ (codes "permission", string (name_of name)) ∷ (codes "table", string table) ∷ [])
-denial_data (Denial.NamespacePermission name namespace) = of ((codes "error", string (codes "permission")) ∷ (codes "namespace", string namespace) ∷ (codes "permission", string (name_of name)) ∷ [])
+denial_data (Denial.Permission name None) = of ((codes "error", string (codes "permission")) ∷ (codes "permission", string (permission_name name)) ∷ [])
+denial_data (Denial.Permission name (Some table)) = of ((codes "error", string (codes "permission")) ∷ (codes "permission", string (permission_name name)) ∷ (codes "table", string table) ∷ [])
+denial_data (Denial.NamespacePermission name namespace) = of ((codes "error", string (codes "permission")) ∷ (codes "namespace", string namespace) ∷ (codes "permission", string (permission_name name)) ∷ [])
 denial_data (Denial.Authorization name) = of ((codes "authorization", string name) ∷ (codes "error", string (codes "authorization")) ∷ [])
 denial_data (Denial.Constraint label) = of ((codes "error", string (codes "constraint")) ∷ (codes "label", string label) ∷ [])
 denial_data Denial.OwnSelf = of ((codes "error", string (codes "self")) ∷ [])

@@ -8,9 +8,9 @@ use Rattle.st_key.specs.declared.point.Point.{Point}
 use Rattle.st_index.specs.declared.row.Row.{Row}
 use Rattle.st_plan.specs.declared.part_plan.PartPlan.{PartPlan}
 use Rattle.st_plan.specs.declared.range.Range.{Range}
-use Rattle.st_dir.specs.Permissions.{name_of}
+use Rattle.st_dir.specs.Permissions.{permission_name}
 use Rattle.st_dir.specs.declared.account.Account.{Account}
-use Rattle.st_dir.specs.declared.given.Given.{Given}
+use Rattle.st_dir.specs.declared.grantee.Grantee.{Grantee}
 use Rattle.st_dir.specs.declared.permission.Permission.{Permission}
 use Rattle.st_dir.specs.declared.table.TableInfo.{TableInfo}
 use Rattle.st_policy.specs.Periods.{period_name}
@@ -32,7 +32,7 @@ abbrev pub texts_data : List Text → Data
 texts_data texts = list (map string texts)
 
 abbrev pub permission_data : Permission → Data
-permission_data p = string (name_of p)
+permission_data p = string (permission_name p)
 
 abbrev pub permissions_data : List Permission → Data
 permissions_data permissions = list (map permission_data permissions)
@@ -43,7 +43,7 @@ account_data a = of ((codes "auths", texts_data a.auths) ∷ (codes "permissions
 abbrev pub table_data : TableInfo → Data
 table_data t = of ((codes "constraint", boolean t.constraint) ∷ (codes "period", string (period_name t.period)) ∷ (codes "table", string t.table) ∷ [])
 
-abbrev pub given_data : {A : Type 0} → Given A → Data
+abbrev pub given_data : {A : Type 0} → Grantee A → Data
 given_data g = of ((codes "permissions", permissions_data g.permissions) ∷ (codes "user", string g.user) ∷ [])
 
 abbrev pub entry_data : Entry → Data

@@ -8,7 +8,7 @@ ghost use Rattle.st_json_reply.specs.Replies.{permission_data, account_data, tab
 use crate::member::{write_boolean, write_number, write_text};
 use crate::written::{WriteJson, write_list};
 use json::Writer;
-use st_dir::{Account, Given, Name, Permission, TableInfo};
+use st_dir::{Account, Grantee, Name, Permission, TableInfo};
 use st_key::Period;
 use st_policy::Entry;
 use st_text::Words;
@@ -74,7 +74,7 @@ impl WriteJson for TableInfo {
     }
 }
 
-impl<B: Allocator> WriteJson for Given<B> {
+impl<B: Allocator> WriteJson for Grantee<B> {
     ghost written = { given_data };
 
     fn write_json<A: Allocator>(&self, out: &mut Writer<A>) -> Result<(), AllocError> {

@@ -1,7 +1,7 @@
 //! Replies.
 use crate::entry::Entry;
 use crate::refusal::Refusal;
-use st_dir::{Account, Given, Name, TableInfo};
+use st_dir::{Account, Grantee, Name, TableInfo};
 use st_index::Row;
 use st_label::Label;
 use st_plan::Plan;
@@ -20,7 +20,7 @@ pub enum Reply<A: Allocator = Global> {
     /// The names of the users, by their bytes.
     Users(Items<Name, A>),
     /// Who has been granted what on a table or a namespace, by the bytes of the users' names.
-    Grants(Items<Given<A>, A>),
+    Grants(Items<Grantee<A>, A>),
     /// The normal form of a label.
     Normal { label: Label<A> },
     /// The rows under an id, by the bytes of their labels' texts.

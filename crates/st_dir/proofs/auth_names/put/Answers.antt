@@ -1,6 +1,7 @@
 use Rattle.std.proofs.Common.{◌≡◌, true, false, ◌∷◌, ap, sym, ◌∙◌, if◌then◌else◌}
 use Rattle.st_text.specs.Texts.{same, is_among, in_order}
-use Rattle.st_dir.specs.Sorted.{IsAlone, IsPlace, name_key}
+use Rattle.st_dir.specs.Sorted.{name_key}
+use Rattle.st_dir.specs.inner.Places.{IsAlone, IsPlace}
 use Rattle.st_dir.proofs.Sorted.{any_at, put_in}
 use Rattle.st_dir.proofs.auth_names.put.Goals as goal
 

@@ -3,7 +3,8 @@ use Rattle.std.specs.List.{list_any}
 use Rattle.st_text.specs.Texts.{in_order}
 use Rattle.st_dir.specs.Grants.{same_grant}
 use Rattle.st_dir.specs.Order.{grant_key}
-use Rattle.st_dir.specs.Sorted.{Rises, IsPlace}
+use Rattle.st_dir.specs.Sorted.{Rises}
+use Rattle.st_dir.specs.inner.Places.{IsPlace}
 use Rattle.st_dir.proofs.Keys.{grant_own}
 use Rattle.st_dir.proofs.Sorted.{none_from_any, rises_in, put_in}
 use Rattle.st_dir.proofs.grants.put.Goals as goal

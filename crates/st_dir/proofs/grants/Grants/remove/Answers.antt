@@ -1,7 +1,8 @@
 use Rattle.std.proofs.Common.{not, ap, sym, ◌∙◌, subst, filter}
 use Rattle.st_dir.specs.Grants.{same_grant}
 use Rattle.st_dir.specs.Order.{grant_key}
-use Rattle.st_dir.specs.Sorted.{Rises, NoneOf}
+use Rattle.st_dir.specs.Sorted.{Rises}
+use Rattle.st_dir.specs.inner.Places.{NoneOf}
 use Rattle.st_dir.specs.declared.grant.Grant.{Grant}
 use Rattle.st_dir.proofs.Sorted.{absent, taken_out, none_taken, rises_filter}
 use Rattle.st_dir.proofs.grants.Grants.remove.Goals as goal

@@ -1,5 +1,5 @@
 //! Changes of grants on tables and namespaces.
-ghost use Rattle.std.specs.Prelude.{◌≡◌, true, false, Ok, Err, IfErr, IsOk, OnOk, OnErr};
+ghost use Rattle.std.specs.Prelude.{◌≡◌, true, false, Err, IfErr, IsOk, OnOk, OnErr};
 ghost use Rattle.st_dir.specs.Changes.{granted, revoked};
 ghost use Rattle.st_dir.specs.Directory.{is_user, is_table};
 ghost use Rattle.st_dir.specs.declared.fault.DirectoryFault.TheVariants.{NoUser, NoTable, NoMemory};
@@ -14,7 +14,7 @@ use crate::table_name::TableName;
 use std::alloc::Allocator;
 
 impl<A: Allocator> Directory<A> {
-    // Gives a user that is there a permission on a scope.
+    // Gives the user a permission on a scope.
     fn grant(
         &mut self,
         user: &Name,
@@ -40,7 +40,7 @@ impl<A: Allocator> Directory<A> {
         }
     }
 
-    // Takes a permission on a scope from a user that is there.
+    // Takes a permission on a scope from the user.
     fn revoke(
         &mut self,
         user: &Name,
@@ -60,7 +60,7 @@ impl<A: Allocator> Directory<A> {
     }
 
     /// Gives the user a permission on the table. `NoTable` comes before `NoUser`, and that before
-    /// `NoMemory`; an error leaves the directory as it was.
+    /// `NoMemory`. An error leaves the directory unchanged.
     pub fn grant_table(
         &mut self,
         table: &TableName,
@@ -69,7 +69,8 @@ impl<A: Allocator> Directory<A> {
     ) -> Result<(), DirectoryFault>
         ensures no_table { is_table self.old table.now ≡ false → result ≡ Err NoTable }
         ensures no_user { is_table self.old table.now ≡ true → is_user self.old user.now ≡ false → result ≡ Err NoUser }
-        ensures fault { is_table self.old table.now ≡ true → is_user self.old user.now ≡ true → IfErr result (λ fault. fault ≡ NoMemory) }
+        ensures fault { is_table self.old table.now ≡ true → is_user self.old user.now ≡ true
+            → IfErr result (λ fault. fault ≡ NoMemory) }
         ensures ok { OnOk result (self.new ≡ granted user.now (OnTable table.now) permission self.old) }
         ensures err { OnErr result (self.new ≡ self.old) }
     {
@@ -80,7 +81,7 @@ impl<A: Allocator> Directory<A> {
     }
 
     /// Takes a permission on the table itself from the user; grants on its namespace stay. `NoTable`
-    /// comes before `NoUser`; an error leaves the directory as it was.
+    /// comes before `NoUser`. An error leaves the directory unchanged.
     pub fn revoke_table(
         &mut self,
         table: &TableName,
@@ -100,7 +101,7 @@ impl<A: Allocator> Directory<A> {
     }
 
     /// Gives the user a permission on each table of the namespace, also on those made later. `NoUser`
-    /// comes before `NoMemory`; an error leaves the directory as it was.
+    /// comes before `NoMemory`. An error leaves the directory unchanged.
     pub fn grant_namespace(
         &mut self,
         namespace: &Name,
@@ -115,7 +116,7 @@ impl<A: Allocator> Directory<A> {
         self.grant(user, Scope::OnNamespace(namespace.copy()), permission)
     }
 
-    /// Takes a permission on the namespace from the user; grants on its tables stay. `NoUser` where
+    /// Takes a permission on the namespace from the user; grants on its tables stay. `NoUser` if
     /// there is no such user.
     pub fn revoke_namespace(
         &mut self,

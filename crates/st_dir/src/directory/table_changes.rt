@@ -1,5 +1,5 @@
 //! Changes of tables.
-ghost use Rattle.std.specs.Prelude.{◌≡◌, true, false, Ok, Err, IfErr, IsOk, OnOk, OnErr};
+ghost use Rattle.std.specs.Prelude.{◌≡◌, true, false, Err, IfErr, IsOk, OnOk, OnErr};
 ghost use Rattle.st_dir.specs.Changes.{table_added, table_dropped, constraint_set, period_set};
 ghost use Rattle.st_dir.specs.Directory.{is_user, is_table};
 ghost use Rattle.st_dir.specs.declared.fault.DirectoryFault.TheVariants.{NoUser, NoTable, TableExists, NoMemory};
@@ -14,9 +14,9 @@ use st_key::Period;
 use std::alloc::Allocator;
 
 impl<A: Allocator + Copy> Directory<A> {
-    /// Makes a table without a constraint, on which its creator has each table permission. `NoUser`,
-    /// where the creator is none, comes before `TableExists`, and that before `NoMemory`; an error
-    /// leaves the directory as it was.
+    /// Creates a table without a constraint, on which its creator has each table permission. `NoUser`,
+    /// if the creator is not a user, comes before `TableExists`, and that before `NoMemory`. An error
+    /// leaves the directory unchanged.
     pub fn create_table(
         &mut self,
         table: &TableName,
@@ -25,7 +25,8 @@ impl<A: Allocator + Copy> Directory<A> {
     ) -> Result<(), DirectoryFault>
         ensures no_user { is_user self.old creator.now ≡ false → result ≡ Err NoUser }
         ensures exists { is_user self.old creator.now ≡ true → is_table self.old table.now ≡ true → result ≡ Err TableExists }
-        ensures fault { is_user self.old creator.now ≡ true → is_table self.old table.now ≡ false → IfErr result (λ fault. fault ≡ NoMemory) }
+        ensures fault { is_user self.old creator.now ≡ true → is_table self.old table.now ≡ false
+            → IfErr result (λ fault. fault ≡ NoMemory) }
         ensures ok { OnOk result (self.new ≡ table_added table.now creator.now period self.old) }
         ensures err { OnErr result (self.new ≡ self.old) }
     {
@@ -55,8 +56,8 @@ impl<A: Allocator + Copy> Directory<A> {
 }
 
 impl<A: Allocator> Directory<A> {
-    /// Removes a table and every grant on it; `NoTable` where there is none. Grants on its namespace
-    /// stay. A table that is made again has none of the old grants.
+    /// Removes a table and every grant on it; `NoTable` if there is none. Grants on its namespace
+    /// stay. A table of the same name created later has none of the old grants.
     pub fn drop_table(&mut self, table: &TableName) -> Result<(), DirectoryFault>
         ensures no_table { is_table self.old table.now ≡ false → result ≡ Err NoTable }
         ensures there { is_table self.old table.now ≡ true → IsOk result }
@@ -71,7 +72,7 @@ impl<A: Allocator> Directory<A> {
         Ok(())
     }
 
-    /// Turns the table's visibility constraint on or off; `NoTable` where there is none.
+    /// Turns the table's visibility constraint on or off; `NoTable` if there is none.
     pub fn set_constraint(&mut self, table: &TableName, on: bool) -> Result<(), DirectoryFault>
         ensures no_table { is_table self.old table.now ≡ false → result ≡ Err NoTable }
         ensures there { is_table self.old table.now ≡ true → IsOk result }
@@ -85,7 +86,7 @@ impl<A: Allocator> Directory<A> {
         Ok(())
     }
 
-    /// Gives the table another length of time bins; `NoTable` where there is none.
+    /// Gives the table another length of time bins; `NoTable` if there is none.
     pub fn set_period(&mut self, table: &TableName, period: Period) -> Result<(), DirectoryFault>
         ensures no_table { is_table self.old table.now ≡ false → result ≡ Err NoTable }
         ensures there { is_table self.old table.now ≡ true → IsOk result }

@@ -1,6 +1,6 @@
 use Rattle.std.proofs.Common.{◌≡◌, map, take}
 use Rattle.st_dir.specs.Listings.{held_on}
-use Rattle.st_dir.proofs.directory.Directory.given_to.Given as goal
+use Rattle.st_dir.proofs.directory.Directory.grantees.Given as goal
 
 -- those that have come are there
 abbrev pub invariant-loop-name : goal.invariant-loop-name

@@ -1,4 +1,4 @@
-//! What the directory lists.
+//! Listings of the directory.
 ghost use Rattle.std.specs.Prelude.{◌≡◌, false, true, map, Err, IfOk, IfErr};
 ghost use Rattle.st_dir.specs.Directory.{is_table};
 ghost use Rattle.st_dir.specs.Listings.{who, users_of, tables_of, held_on, grants_on};
@@ -8,8 +8,8 @@ ghost use Rattle.st_dir.specs.declared.grant.Scope.TheVariants.{OnTable, OnNames
 use crate::account::Account;
 use crate::directory::Directory;
 use crate::fault::DirectoryFault;
-use crate::given::Given;
 use crate::grant::Scope;
+use crate::grantee::Grantee;
 use crate::name::Name;
 use crate::table::TableInfo;
 use crate::table_name::TableName;
@@ -18,8 +18,7 @@ use st_text::Items;
 use std::alloc::{AllocError, Allocator};
 
 impl<A: Allocator + Copy> Directory<A> {
-    /// The account of the user of this name, where there is one. An error where there is no memory
-    /// for it.
+    /// The account of the user of this name, if there is one. `AllocError` when out of memory.
     pub fn who(&self, name: &str) -> Result<Option<Account<A>>, AllocError>
         ensures { IfOk result (λ account. account ≡ who self.now name.now) }
     {
@@ -29,14 +28,14 @@ impl<A: Allocator + Copy> Directory<A> {
         }
     }
 
-    /// The names of the users, by their bytes. An error where there is no memory for them.
+    /// The names of the users, in byte order. `AllocError` when out of memory.
     pub fn users(&self) -> Result<Items<Name, A>, AllocError>
         ensures { IfOk result (λ names. names ≡ users_of self.now) }
     {
         self.users.names(self.alloc)
     }
 
-    /// The tables, by the bytes of their names. An error where there is no memory for them.
+    /// The tables, in byte order of their names. `AllocError` when out of memory.
     pub fn tables(&self) -> Result<Items<TableInfo, A>, AllocError>
         ensures { IfOk result (λ tables. tables ≡ tables_of self.now) }
     {
@@ -44,12 +43,13 @@ impl<A: Allocator + Copy> Directory<A> {
     }
 
     // These users, each with what it has been granted on the scope itself.
-    fn given_to(&self, names: &[Name], scope: &Scope) -> Result<Items<Given<A>, A>, AllocError>
-        ensures { IfOk result (λ given. given ≡ map (λ user. record { user = user; permissions = held_on self.now scope.now user }) names.now) }
+    fn grantees(&self, names: &[Name], scope: &Scope) -> Result<Items<Grantee<A>, A>, AllocError>
+        ensures { IfOk result (λ given. given
+            ≡ map (λ user. record { user = user; permissions = held_on self.now scope.now user }) names.now) }
     {
         let mut given = Items::new(self.alloc);
         for name in names {
-            given.push(Given {
+            given.push(Grantee {
                 user: name.copy(),
                 permissions: self.grants.held_on(self.alloc, name, scope)?,
             })?;
@@ -58,16 +58,16 @@ impl<A: Allocator + Copy> Directory<A> {
     }
 
     // The users who have been granted something on the scope itself, each with what it has.
-    fn grants_on(&self, scope: &Scope) -> Result<Items<Given<A>, A>, AllocError>
+    fn grants_on(&self, scope: &Scope) -> Result<Items<Grantee<A>, A>, AllocError>
         ensures { IfOk result (λ given. given ≡ grants_on self.now scope.now) }
     {
         let names = self.grants.users_on(self.alloc, scope)?;
-        self.given_to(names.as_slice(), scope)
+        self.grantees(names.as_slice(), scope)
     }
 
-    /// The users who have been granted something on the table itself, by the bytes of their names,
+    /// The users who have been granted something on the table itself, in byte order,
     /// each with its permissions in listing order. `NoTable` comes before `NoMemory`.
-    pub fn grants(&self, table: &TableName) -> Result<Items<Given<A>, A>, DirectoryFault>
+    pub fn grants(&self, table: &TableName) -> Result<Items<Grantee<A>, A>, DirectoryFault>
         ensures no_table { is_table self.now table.now ≡ false → result ≡ Err NoTable }
         ensures fault { is_table self.now table.now ≡ true → IfErr result (λ fault. fault ≡ NoMemory) }
         ensures ok { IfOk result (λ given. given ≡ grants_on self.now (OnTable table.now)) }
@@ -81,15 +81,15 @@ impl<A: Allocator + Copy> Directory<A> {
         }
     }
 
-    /// The users who have been granted something on the namespace itself, by the bytes of their
-    /// names, each with its permissions in listing order. An error where there is no memory for them.
-    pub fn namespace_grants(&self, namespace: &Name) -> Result<Items<Given<A>, A>, AllocError>
+    /// The users who have been granted something on the namespace itself, in byte
+    /// order, each with its permissions in listing order. `AllocError` when out of memory.
+    pub fn namespace_grants(&self, namespace: &Name) -> Result<Items<Grantee<A>, A>, AllocError>
         ensures { IfOk result (λ given. given ≡ grants_on self.now (OnNamespace namespace.now)) }
     {
         self.grants_on(&Scope::OnNamespace(namespace.copy()))
     }
 
-    /// An equal directory, or an error where there is no memory for it.
+    /// An equal directory. `AllocError` when out of memory.
     pub fn copy(&self) -> Result<Directory<A>, AllocError>
         ensures { IfOk result (λ directory. directory ≡ self.now) }
     {

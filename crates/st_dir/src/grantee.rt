@@ -1,4 +1,4 @@
-//! What a user has been given.
+//! Users with what they have been granted.
 use crate::name::Name;
 use crate::permission::Permission;
 use st_text::Items;
@@ -7,7 +7,7 @@ use std::alloc::{Allocator, Global};
 /// A user and the table permissions that it has been granted on a table or a namespace, in listing
 /// order.
 #[derive(Drop)]
-pub struct Given<A: Allocator = Global> {
+pub struct Grantee<A: Allocator = Global> {
     pub user: Name,
     pub permissions: Items<Permission, A>,
 }

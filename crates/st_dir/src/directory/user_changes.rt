@@ -1,5 +1,5 @@
 //! Changes of users.
-ghost use Rattle.std.specs.Prelude.{◌≡◌, [], true, false, Ok, Err, IfErr, IsOk, OnOk, OnErr};
+ghost use Rattle.std.specs.Prelude.{◌≡◌, [], true, false, Err, IfErr, IsOk, OnOk, OnErr};
 ghost use Rattle.st_dir.specs.Changes.{user_added, user_dropped, digest_set, auths_set, system_granted, system_revoked};
 ghost use Rattle.st_dir.specs.Directory.{is_user};
 ghost use Rattle.st_dir.specs.declared.fault.DirectoryFault.TheVariants.{NoUser, UserExists, NoMemory};
@@ -26,8 +26,8 @@ fn new_user<A: Allocator>(name: &Name, digest: [u8; 32], auths: Auths<A>) -> Use
 }
 
 impl<A: Allocator + Copy> Directory<A> {
-    /// Makes a user without permissions. `UserExists` comes before `NoMemory`; an error leaves the
-    /// directory as it was.
+    /// Creates a user without permissions. `UserExists` comes before `NoMemory`. An error leaves the
+    /// directory unchanged.
     pub fn create_user(
         &mut self,
         user: &Name,
@@ -51,8 +51,8 @@ impl<A: Allocator + Copy> Directory<A> {
 }
 
 impl<A: Allocator> Directory<A> {
-    /// Removes a user and every grant to it; `NoUser` where there is none. A user that is made again
-    /// has none of the old grants.
+    /// Removes a user and every grant to it; `NoUser` if there is none. A user of the same name created
+    /// later has none of the old grants.
     pub fn drop_user(&mut self, user: &Name) -> Result<(), DirectoryFault>
         ensures no_user { is_user self.old user.now ≡ false → result ≡ Err NoUser }
         ensures there { is_user self.old user.now ≡ true → IsOk result }
@@ -67,7 +67,7 @@ impl<A: Allocator> Directory<A> {
         Ok(())
     }
 
-    /// Gives the user another token by its digest; `NoUser` where there is none.
+    /// Gives the user another token by its digest; `NoUser` if there is none.
     pub fn set_token(&mut self, user: &Name, digest: [u8; 32]) -> Result<(), DirectoryFault>
         ensures no_user { is_user self.old user.now ≡ false → result ≡ Err NoUser }
         ensures there { is_user self.old user.now ≡ true → IsOk result }
@@ -81,7 +81,7 @@ impl<A: Allocator> Directory<A> {
         Ok(())
     }
 
-    /// Gives the user these authorizations in place of its own; `NoUser` where there is none.
+    /// Gives the user these authorizations in place of its own; `NoUser` if there is none.
     pub fn set_auths(&mut self, user: &Name, auths: Auths<A>) -> Result<(), DirectoryFault>
         ensures no_user { is_user self.old user.now ≡ false → result ≡ Err NoUser }
         ensures there { is_user self.old user.now ≡ true → IsOk result }
@@ -95,7 +95,7 @@ impl<A: Allocator> Directory<A> {
         Ok(())
     }
 
-    /// Gives the user a permission on the system; `NoUser` where there is none.
+    /// Gives the user a permission on the system; `NoUser` if there is none.
     pub fn grant_system(
         &mut self,
         user: &Name,
@@ -113,7 +113,7 @@ impl<A: Allocator> Directory<A> {
         Ok(())
     }
 
-    /// Takes a permission on the system from the user; `NoUser` where there is none.
+    /// Takes a permission on the system from the user; `NoUser` if there is none.
     pub fn revoke_system(
         &mut self,
         user: &Name,
