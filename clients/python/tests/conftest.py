@@ -3,6 +3,7 @@
 from __future__ import annotations
 
 import itertools
+import os
 from collections.abc import Callable, Iterator
 from pathlib import Path
 
@@ -35,7 +36,7 @@ def root(url: str) -> Iterator[Client]:
 @pytest.fixture
 def table(root: Client) -> Table:
     """A new table."""
-    name = f"test.t{next(_numbers)}"
+    name = f"test.t{os.getpid()}_{next(_numbers)}"
     root.tables.create(name, "day")
     return root.table(name)
 

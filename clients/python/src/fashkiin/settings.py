@@ -51,7 +51,7 @@ def read_settings(flags: Mapping[str, str | None], environment: Mapping[str, str
     named = flags.get("config") or environment.get("FASHKIIN_CONFIG")
     home = Path(environment.get("XDG_CONFIG_HOME") or "~/.config").expanduser()
     config = Path(named).expanduser() if named else home / "fashkiin" / "config.toml"
-    values: dict[str, Any] = _read_file(config, required=named is not None)
+    values: dict[str, Any] = _read_file(config, required=bool(named))
     for name in NAMES:
         variable = "FASHKIIN_" + name.upper().replace("-", "_")
         given = flags.get(name) or environment.get(variable)

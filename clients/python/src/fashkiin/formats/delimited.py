@@ -11,7 +11,7 @@ from dataclasses import dataclass
 from typing import Any, TextIO
 
 from fashkiin.cells import time_text
-from fashkiin.errors import FashkiinError, RowError
+from fashkiin.errors import FashkiinError, Plain, RowError
 from fashkiin.formats.fields import DEFAULTS, LABEL_WANTED, Found, Names, Source, degrees, read_time
 from fashkiin.rows import Row, to_json
 
@@ -108,7 +108,7 @@ def _rows(records: Any, columns: _Columns, names: Names) -> Iterator[Found]:
             fields = next(records, None)
         except csv.Error as error:
             number += 1
-            yield line, RowError("row", str(error), "a row of CSV")
+            yield line, RowError("row", Plain(error), "a row of CSV")
             continue
         if fields is None:
             return
@@ -124,7 +124,7 @@ def _row(fields: list[str], columns: _Columns, names: Names, number: int) -> Row
     header = columns.header
     if len(fields) != len(header):
         missing = f", {header[len(fields)]} is missing" if len(fields) < len(header) else ""
-        raise RowError("row", f"{len(fields)} columns{missing}", f"{len(header)} as in the header")
+        raise RowError("row", Plain(f"{len(fields)} columns{missing}"), f"{len(header)} as in the header")
     if not "".join(fields).isascii():
         _check_utf8(fields, header)
     label = "" if columns.label is None else fields[columns.label]

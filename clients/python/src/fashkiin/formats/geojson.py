@@ -7,7 +7,7 @@ from collections.abc import Iterable, Iterator
 from typing import Any, TextIO
 
 from fashkiin.cells import time_text
-from fashkiin.errors import FashkiinError, RowError
+from fashkiin.errors import FashkiinError, Plain, RowError
 from fashkiin.formats.fields import Found, Names, Source, degrees, make_row
 from fashkiin.rows import Row, to_json
 
@@ -33,9 +33,9 @@ def _read_line(text: bytes, names: Names, number: int) -> Row | RowError:
     except UnicodeDecodeError as error:
         return RowError("row", text[max(0, error.start - 10) : error.start + 10], "UTF-8")
     except json.JSONDecodeError as error:
-        return RowError("row", f"{error.msg} at column {error.colno}", "a whole GeoJSON Feature in a line")
+        return RowError("row", Plain(f"{error.msg} at column {error.colno}"), "a whole GeoJSON Feature in a line")
     except RecursionError:
-        return RowError("row", "too many brackets", "a GeoJSON Feature in a line")
+        return RowError("row", Plain("too many brackets"), "a GeoJSON Feature in a line")
     except RowError as error:
         return error
 
