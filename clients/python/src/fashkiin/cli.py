@@ -27,6 +27,7 @@ from fashkiin.commands import (
     features,
     labels,
     load,
+    map,
     read,
     tokens,
     whoami,
@@ -45,6 +46,7 @@ COMMANDS: tuple[Command, ...] = (
     labels.COMMAND,
     whoami.COMMAND,
     tokens.COMMAND,
+    map.COMMAND,
     features.COMMAND,
     export.COMMAND,
 )
