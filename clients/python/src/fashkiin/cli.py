@@ -1,10 +1,5 @@
-"""`fashkiin`, the command.
-
-Exit status: 0 done; 1 done, but rows were rejected; 2 arguments or settings of no use; 3 bad input; 4 the server refused;
-5 the server is not there, or its reply was cut off; 130 interrupted; 141 standard output was closed.
-"""
-
 # PYTHON_ARGCOMPLETE_OK
+"""`fashkiin`, the command."""
 
 from __future__ import annotations
 
@@ -15,14 +10,17 @@ from collections.abc import Sequence
 
 from fashkiin.commands import (
     BAD_INPUT,
+    DONE,
     INTERRUPTED,
     NO_SERVER,
     OUTPUT_CLOSED,
     REFUSED,
+    REJECTED,
     USAGE,
     Command,
     Session,
     admin,
+    common_options,
     export,
     features,
     labels,
@@ -51,17 +49,25 @@ COMMANDS: tuple[Command, ...] = (
     export.COMMAND,
 )
 
+EXIT_STATUSES = {
+    DONE: "done",
+    REJECTED: "done, but rows were rejected; or get found no row",
+    USAGE: "arguments, settings, a token file or a file that cannot be used",
+    BAD_INPUT: "bad input: a row, or a file of rows; what was wanted is said in a line",
+    REFUSED: "the server refused",
+    NO_SERVER: "the server is not there, its reply was cut off, or it was none",
+    INTERRUPTED: "interrupted",
+    OUTPUT_CLOSED: "standard output was closed",
+}
+"""What the command ends with."""
+
 
 def make_parser() -> argparse.ArgumentParser:
     """The parser of all subcommands."""
-    common = argparse.ArgumentParser(add_help=False)
-    common.add_argument("--url", metavar="URL", help="the server, http://HOST:PORT or https://HOST:PORT")
-    common.add_argument("--token-file", metavar="FILE", help="the file of your token, which you alone may read")
-    common.add_argument("--ca-file", metavar="FILE", help="certificates to trust in place of the system's")
-    common.add_argument("--timeout", metavar="SECONDS", help="how long to wait for a connection or a reply")
-    common.add_argument("--config", metavar="FILE", help="the configuration file")
-    common.add_argument("--json", action="store_true", help="write JSON, for scripts")
-    parser = argparse.ArgumentParser("fashkiin", description="Loads, reads and administers a server of labelled points.")
+    common = common_options()
+    parser = argparse.ArgumentParser(
+        "fashkiin", parents=[common], description="Loads, reads and administers a server of labelled points."
+    )
     subparsers = parser.add_subparsers(metavar="COMMAND", required=True)
     for command in COMMANDS:
         own = subparsers.add_parser(command.name, parents=[common], help=command.summary, description=command.summary)
@@ -80,8 +86,10 @@ def run(words: Sequence[str] | None = None) -> int:
     else:
         argcomplete.autocomplete(parser)
     arguments = parser.parse_args(words)
-    flags = {name: getattr(arguments, name.replace("-", "_")) for name in ("config", "url", "token-file", "ca-file", "timeout")}
-    session = Session(read_settings(flags, os.environ), arguments.json)
+    flags = {
+        name: getattr(arguments, name.replace("-", "_"), None) for name in ("config", "url", "token-file", "ca-file", "timeout")
+    }
+    session = Session(read_settings(flags, os.environ), getattr(arguments, "json", False))
     command: Command = arguments.command
     return command.run(session, arguments)
 

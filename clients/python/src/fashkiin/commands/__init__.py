@@ -53,3 +53,16 @@ class Command:
     summary: str
     arguments: Callable[[argparse.ArgumentParser], None]
     run: Callable[[Session, argparse.Namespace], int]
+
+
+def common_options() -> argparse.ArgumentParser:
+    """The options that stand at any place behind the command's name: a parent of each parser. One that is not given is in no
+    namespace."""
+    common = argparse.ArgumentParser(add_help=False, argument_default=argparse.SUPPRESS)
+    common.add_argument("--url", metavar="URL", help="the server, http://HOST:PORT or https://HOST:PORT")
+    common.add_argument("--token-file", metavar="FILE", help="the file of your token, which you alone may read")
+    common.add_argument("--ca-file", metavar="FILE", help="certificates to trust in place of the system's")
+    common.add_argument("--timeout", metavar="SECONDS", help="how long to wait for a connection or a reply")
+    common.add_argument("--config", metavar="FILE", help="the configuration file")
+    common.add_argument("--json", action="store_true", help="write JSON, for scripts")
+    return common

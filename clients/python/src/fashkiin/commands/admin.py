@@ -9,7 +9,7 @@ from dataclasses import asdict
 
 from fashkiin.accounts import Change
 from fashkiin.client import Client
-from fashkiin.commands import DONE, Command, Session
+from fashkiin.commands import DONE, Command, Session, common_options
 from fashkiin.commands.where import read_auths
 from fashkiin.errors import SettingsError
 
@@ -19,7 +19,7 @@ Action = Callable[[Session, Client, argparse.Namespace], None]
 def _action(
     parsers: argparse._SubParsersAction[argparse.ArgumentParser], name: str, summary: str, action: Action
 ) -> argparse.ArgumentParser:
-    parser = parsers.add_parser(name, help=summary, description=summary)
+    parser = parsers.add_parser(name, parents=[common_options()], help=summary, description=summary)
     parser.set_defaults(action=action)
     return parser
 

@@ -6,18 +6,18 @@ import argparse
 import os
 from pathlib import Path
 
-from fashkiin.commands import DONE, Command, Session
+from fashkiin.commands import DONE, Command, Session, common_options
 from fashkiin.errors import CutOffError, SettingsError, TokenError
 from fashkiin.tokens import Token, write_token
 
 
 def _arguments(parser: argparse.ArgumentParser) -> None:
     parsers = parser.add_subparsers(metavar="ACTION", required=True)
-    new = parsers.add_parser("new", help="make a token file, and show the digest that makes its user")
+    new = parsers.add_parser("new", parents=[common_options()], help="make a token file, and show the digest that makes its user")
     new.add_argument("user", metavar="USER")
     new.add_argument("file", metavar="FILE", help="a file that is not there yet")
     new.set_defaults(action=_new)
-    rotate = parsers.add_parser("rotate", help="put a new token in the place of your own")
+    rotate = parsers.add_parser("rotate", parents=[common_options()], help="put a new token in the place of your own")
     rotate.set_defaults(action=_rotate)
 
 
