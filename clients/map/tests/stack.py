@@ -45,7 +45,7 @@ class Stack:
             self.served = opening.enter_context(served(*ROOT_AUTHS))
             self.edge, self.metrics, self.page = free_port(), free_port(), free_port()
             self.url = f"http://127.0.0.1:{self.edge}"
-            page = ["-p", TOP / "clients/map", "-c", self._write("nginx.conf"), "-e", "stderr", "-g", f"pid {self.folder}/nginx.pid;"]
+            page = ["-p", TOP / "clients/map", "-c", self._write("nginx.conf"), "-e", "stderr", "-g", f"daemon off; pid {self.folder}/nginx.pid;"]
             nginx = opening.enter_context(self._running("nginx", *page))
             haproxy = opening.enter_context(self._running("haproxy", "-f", self._write("haproxy.cfg")))
             until_open(self.page, nginx)

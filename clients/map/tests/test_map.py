@@ -145,7 +145,7 @@ def test_notes_are_shown_as_texts(page: Page, stack: Stack) -> None:
     notes = {
         "text": "<img src=x onerror=alert(1)>",
         "number": "17",
-        "deep": '{"properties":' + '{"a":' * 800 + "1" + "}" * 801,
+        "deep": '{"properties":' + '{"a":' * 600 + "1" + "}" * 601,
         "strange": '{"at":[1e999,"x"],"time":7,"properties":["one"],"__proto__":{"label":"no"}}',
     }
     with Client(stack.url, token("root")) as root:
