@@ -11,10 +11,12 @@ export function readRow({ id, label, note, point: [x, y, t] }) {
   const kept = objectOf(note);
   if (!kept) return { ...row, text: note };
   const { at, time, properties, ...others } = kept;
+  const named = properties && typeof properties === 'object' && !Array.isArray(properties);
   if (Array.isArray(at) && at.length >= 2 && at.every(Number.isFinite)) [row.lng, row.lat] = at;
   else if (at !== undefined) others.at = at;
   if (typeof time === 'string') row.time = time;
-  const fields = properties && typeof properties === 'object' ? { ...properties, ...others } : { ...others, ...(properties !== undefined && { properties }) };
+  if (!named && properties !== undefined) others.properties = properties;
+  const fields = named ? { ...properties, ...others } : others;
   row.fields = Object.entries(fields).filter(([, value]) => value !== null && value !== '');
   return row;
 }

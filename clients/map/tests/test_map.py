@@ -46,7 +46,7 @@ def test_wrong_tokens_are_refused(page: Page) -> None:
 
 def test_draws_what_its_user_may_see(page: Page) -> None:
     page.driver.get_log("browser"), page.driver.get_log("performance")
-    page.open(token("ann"))
+    page.open(token("ann"), "table=geo.trips")
     assert page.total == len(seen(HELD))
     bounds = [it.text.replace(",", "").split("–") for it in page.all("#legend span")]
     numbers = [int(it) for bound in bounds for it in bound]
@@ -110,7 +110,7 @@ def test_keyboard_alone_lists_rows_and_moves(page: Page) -> None:
     page["from"].send_keys(Keys.ARROW_RIGHT)
     page.settle()
     assert page["from"].get_attribute("value") == "1"
-    assert page["from"].get_attribute("aria-valuetext").startswith("2021-03-0")
+    assert page["from"].get_attribute("aria-valuetext").startswith("2021-02-25 0")  # the week of the first row
 
 
 def test_reload_forgets_the_token_and_keeps_the_view(page: Page) -> None:

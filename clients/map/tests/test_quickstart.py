@@ -5,10 +5,12 @@ The commands run in one shell, in a copy of the repository's top whose files of 
 
 from __future__ import annotations
 
+import contextlib
 import os
 import re
 import selectors
 import shutil
+import signal
 import subprocess
 import time
 from collections.abc import Iterator
@@ -55,9 +57,16 @@ class Shell:
     """A shell that runs commands one after another, as at a terminal."""
 
     def __init__(self, folder: Path, home: Path) -> None:
-        environment = {"HOME": str(home), "PATH": "/usr/bin:/bin", "LANG": "C.UTF-8", "DEBIAN_FRONTEND": "noninteractive"}
+        self._home = home
+        apt = home / "apt.conf"  # which waits for another apt-get
+        apt.write_text('DPkg::Lock::Timeout "100";')
+        environment = {
+            "HOME": str(home), "PATH": "/usr/sbin:/usr/bin:/sbin:/bin", "LANG": "C.UTF-8",
+            "APT_CONFIG": str(apt), "DEBIAN_FRONTEND": "noninteractive",
+            "FASHKIIN_URL": f"http://127.0.0.1:{PORTS['8080']}",  # the command's own default, at this test's port
+        }
         self._bash = subprocess.Popen(
-            ["bash", "--norc", "-m"], cwd=folder, env=environment,
+            ["bash", "--norc"], cwd=folder, env=environment, start_new_session=True,
             stdin=subprocess.PIPE, stdout=subprocess.PIPE, stderr=subprocess.STDOUT,
         )
         assert self._bash.stdin is not None and self._bash.stdout is not None
@@ -67,7 +76,7 @@ class Shell:
 
     def run(self, step: Step) -> tuple[list[str], int]:
         """The lines that a command writes, and its status; lines of a command in the background are waited for."""
-        self._input.write(f"{step.command}\necho; echo status=$?\n".replace("echo; echo status=$?", 'echo "status=$?"').encode())
+        self._input.write(f"{step.command}\necho status=$?\n".encode())
         self._input.flush()
         data, end = b"", time.monotonic() + SECONDS
         while True:
@@ -84,10 +93,13 @@ class Shell:
             data += piece
 
     def close(self) -> None:
-        """Ends the shell and what it left in the background."""
-        self._input.write(b"kill %1 2> /dev/null; kill $(cat ~/storms/*.pid) 2> /dev/null; exit\n")
-        self._input.close()
+        """Ends the shell and what it left running."""
+        for file in self._home.glob("storms/*.pid"):
+            with contextlib.suppress(ProcessLookupError):
+                os.kill(int(file.read_text()), signal.SIGTERM)
+        os.killpg(self._bash.pid, signal.SIGTERM)
         self._bash.wait(10)
+        self._input.close()
         self._output.close()
 
 
