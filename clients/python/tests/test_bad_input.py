@@ -14,13 +14,17 @@ from fashkiin import Table
 
 GOOD = "good,1.5,2.5,2024-05-01T12:00:00Z,A,x\n"
 HEADER = "id,lon,lat,time,label,name\n"
+NO_LABEL = "missing, wanted a label, or --default-label (the empty text shows a row to everybody)"
+ISO = "an ISO 8601 time such as 2024-05-01T12:00:00Z"
 RANGE = "wanted 1970-01-01T00:00:00Z to 2598-01-03T23:59:59Z"
 
 
 def feature(**changes: object) -> str:
     """A line of GeoJSON, some of whose parts differ."""
     point = {"type": "Point", "coordinates": [changes.pop("lon", 1.5), changes.pop("lat", 2.5)]}
-    properties = {"time": "2024-05-01T12:00:00Z", "label": "A"} | dict(changes.pop("properties", {}))  # type: ignore[call-overload]
+    own = changes.pop("properties", {})
+    assert isinstance(own, dict)
+    properties = {"time": "2024-05-01T12:00:00Z", "label": "A"} | own
     return json.dumps({"type": "Feature", "id": "p", "geometry": point, "properties": properties} | changes) + "\n"
 
 
@@ -89,14 +93,14 @@ def test_text_that_is_no_utf8(run: Run, table: Table, tmp_path: Path) -> None:
         (feature(lon="east"), "lon: 'east', wanted degrees such as 12.5"),
         (feature(geometry={"type": "LineString", "coordinates": []}), "geometry: 'LineString', wanted a Point"),
         (feature(geometry=None), "geometry: None, wanted a Point"),
-        (feature(properties={"label": None}), "label: missing, wanted a label, or --default-label (the empty text shows a row to everybody)"),
+        (feature(properties={"label": None}), f"label: {NO_LABEL}"),
         (feature(properties={"time": None}), "time: missing, wanted a time: name its field by --time-column"),
-        (feature(properties={"time": 1714564800}), "time: 1714564800, wanted an ISO 8601 time such as 2024-05-01T12:00:00Z, or --time-format unix"),
+        (feature(properties={"time": 1714564800}), f"time: 1714564800, wanted {ISO}, or --time-format unix"),
         (feature(properties={"n": float("nan")}), "properties: {'n': nan}, wanted values of JSON, without NaN or Infinity"),
         (feature(properties={"n": "\ud800"}), "note: '\\ud800\"}}', wanted UTF-8"),
         ("[]\n", "type: [], wanted a GeoJSON Feature"),
     ],
-)  # fmt: skip
+)
 def test_a_line_of_geojson(run: Run, table: Table, tmp_path: Path, line: str, said: str) -> None:
     file = tmp_path / "ships.geojsonl"
     file.write_text(feature(id="good") + line)
@@ -111,13 +115,13 @@ def test_a_line_of_geojson(run: Run, table: Table, tmp_path: Path, line: str, sa
     [
         ("a.csv", "", "1: nothing, wanted a header line of CSV"),
         ("a.csv", "id,lon,time,label\n", "1: column lat: missing, wanted lat or latitude or y: name it by --lat-column"),
-        ("a.csv", "id,lon,lat,time\n", "1: column label: missing, wanted a label, or --default-label (the empty text shows a row to everybody)"),
+        ("a.csv", "id,lon,lat,time\n", f"1: column label: {NO_LABEL}"),
         ("a.csv", "id,lon,lat,time,label,lat\n", "1: column 'lat' is there twice, wanted names that differ"),
         ("a.geojson", '{"type":"Topology"}', "1: no features, wanted a GeoJSON FeatureCollection"),
         ("a.gpx", "<html></html>", "1: an element html, wanted gpx"),
         ("a.gpx", "<gpx>\n<wpt>\n", "3: no element found: line 3, column 0, wanted GPX"),
     ],
-)  # fmt: skip
+)
 def test_a_file_that_cannot_be_read(run: Run, table: Table, tmp_path: Path, name: str, text: str, said: str) -> None:
     file = tmp_path / name
     file.write_text(text)

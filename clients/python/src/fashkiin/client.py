@@ -46,8 +46,8 @@ class Client:
     place of the system's.
 
     Connections are kept: close the client, or use it as a context manager. Every method raises `ConnectError` where the server is
-    not there, `CutOffError` where the connection ended before the reply, `ReplyError` where the reply is none of this server's, and
-    the class of `RefusalError` that belongs to a refusal. A client may be shared by threads.
+    not there, `CutOffError` where the connection ended before the reply, `ReplyError` where the reply is none of this server's,
+    and the class of `RefusalError` that belongs to a refusal. A client may be shared by threads.
     """
 
     def __init__(self, url: str, token: Token | str, *, timeout: float = 30.0, cafile: str | None = None) -> None:
@@ -156,9 +156,9 @@ class Client:
         """Puts rows over one connection, up to `window` of them on their way at a time (1 to 256), and tells in their order what
         became of each.
 
-        Where the connection ends, the rows without an answer are sent again on a new one: a put is of the row's id and label, so a
-        repeat changes nothing. After six tries without an answer the error is raised. A row that is on its way when the
-        iterator is closed may be stored or not.
+        Where the connection ends, the rows without an answer are sent again on a new one: a put is of the row's id and label, so
+        a repeat changes nothing. After six tries without an answer the error is raised. A row on its way when the iterator
+        is closed may be stored or not.
         """
         for row, error in self.put_items(table, rows, Row.body, window):
             yield Put(row, error)
@@ -166,7 +166,7 @@ class Client:
     def put_items(
         self, table: str, items: Iterable[Item], body: Callable[[Item], bytes], window: int = 64
     ) -> Iterator[tuple[Item, RefusalError | RowError | None]]:
-        """`put_many` of whatever `body` makes the body of a put of; where it raises `RowError`, that is told in the item's place."""
+        """`put_many` of whatever `body` makes the body of a put of. Where it raises `RowError`, that is told in its place."""
         if not 1 <= window <= LARGEST_WINDOW:
             raise ValueError(f"a window of {window}, wanted 1 to {LARGEST_WINDOW}")
         target = path("tables", table, "put")

@@ -22,7 +22,8 @@ about 19 by 9.5 m and by seconds."""
 FILES = """\
 A file of rows has the columns or properties id, lon, lat, time and label, or names them by --id-column and its like. Rows of a
 file without ids are numbered after the file's name, so that a second load finds the same ids. Cells of CSV without text are
-properties that are not there. Everything else comes by a pipe: ogr2ogr -f GeoJSONSeq /vsistdout/ SOURCE | fashkiin load TABLE -"""
+properties that are not there. Everything else comes by a pipe:
+ogr2ogr -f GeoJSONSeq /vsistdout/ SOURCE | fashkiin load TABLE -"""
 
 
 def page() -> str:

@@ -22,8 +22,8 @@ PAGE = 1_000
 class Table:
     """A table of a server. `Client.table` makes it.
 
-    A `bbox` is west, south, east and north in degrees, `time` a first and a last time, both included; None stands for all. `auths`
-    are authorizations of one's own by which is read; None stands for all of them, which are asked for first.
+    A `bbox` is west, south, east and north in degrees, `time` a first and a last time, both included; None stands for all.
+    `auths` are authorizations of one's own by which is read; None stands for all of them, which are asked for first.
     """
 
     def __init__(self, client: Client, name: str) -> None:
@@ -90,8 +90,8 @@ class Table:
         nx: int = 32,
         ny: int = 32,
     ) -> list[list[int]]:
-        """How many seen rows are in each of `nx` columns and `ny` lines, 1 to 32 each, of the cells of a bbox: a list of lines from
-        south to north. `ValueError` where the bbox crosses the antimeridian."""
+        """How many seen rows are in each of `nx` columns and `ny` lines, 1 to 32 each, of the cells of a bbox: a list of lines
+        from south to north. `ValueError` where the bbox crosses the antimeridian."""
         found = boxes(bbox, time)
         if not found:
             return [[0] * nx for _ in range(ny)]

@@ -163,8 +163,8 @@ def _show_changes(session: Session, changes: Sequence[Change]) -> None:
 
 
 def news(before: Sequence[Change], after: Sequence[Change]) -> Sequence[Change]:
-    """The changes of a listing that an earlier one has not: those behind the longest end of the earlier one with which the later one
-    begins. All of them, where they have nothing in common."""
+    """The changes of a listing that an earlier one has not: those behind the longest end of the earlier one with which the later
+    one begins. All of them, where they have nothing in common."""
     for size in range(min(len(before), len(after)), 0, -1):
         if before[len(before) - size :] == after[:size]:
             return after[size:]

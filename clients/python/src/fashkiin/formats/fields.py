@@ -63,9 +63,9 @@ def _size(stream: io.BufferedReader) -> int | None:
 class Names:
     """How a file names the fields of its rows. An empty text or list stands for the names of `DEFAULTS`.
 
-    A row's id is that of the fields `id`, joined by slashes; or, without such fields, `number`, a dash and the row's number in its
-    file. A row without a label has the label `unlabelled`; where that is None, it is an error. `only` are the properties that are
-    kept; None keeps all. `time_format` is `iso`, `unix` or `unix-ms`.
+    A row's id is that of the fields `id`, joined by slashes; or, without such fields, `number`, a dash and the row's number in
+    its file. A row without a label has the label `unlabelled`; where that is None, it is an error. `only` are the properties that
+    are kept; None keeps all. `time_format` is `iso`, `unix` or `unix-ms`.
     """
 
     id: tuple[str, ...] = ()
