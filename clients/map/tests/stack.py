@@ -3,6 +3,7 @@
 from __future__ import annotations
 
 import json
+import os
 import re
 import socket
 import subprocess
@@ -45,7 +46,10 @@ class Stack:
             self.served = opening.enter_context(served(*ROOT_AUTHS))
             self.edge, self.metrics, self.page = free_port(), free_port(), free_port()
             self.url = f"http://127.0.0.1:{self.edge}"
-            page = ["-p", TOP / "clients/map", "-c", self._write("nginx.conf"), "-e", "stderr", "-g", f"daemon off; pid {self.folder}/nginx.pid;"]
+            words = f"daemon off; pid {self.folder}/nginx.pid;"
+            if os.geteuid() == 0:  # whose folders nginx's own user may not read
+                words += " user root;"
+            page = ["-p", TOP / "clients/map", "-c", self._write("nginx.conf"), "-e", "stderr", "-g", words]
             nginx = opening.enter_context(self._running("nginx", *page))
             haproxy = opening.enter_context(self._running("haproxy", "-f", self._write("haproxy.cfg")))
             until_open(self.page, nginx)

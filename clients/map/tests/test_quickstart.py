@@ -113,6 +113,9 @@ def shell(tmp_path: Path) -> Iterator[Shell]:
     shutil.copytree(TOP / "deploy", top / "deploy")
     for file in (top / "deploy").iterdir():
         file.write_text(with_ports(file.read_text()))
+    if os.geteuid() == 0:  # whose folders nginx's own user may not read
+        page = top / "deploy/nginx.conf"
+        page.write_text("user root;\n" + page.read_text())
     made = Shell(top, home)
     yield made
     made.close()
@@ -124,11 +127,8 @@ def test_every_command_does_what_the_page_says(shell: Shell) -> None:
     opened = False
     for step in todo:
         told, status = shell.run(step)
-        if step.shown or step.command.startswith("cat "):
-            refused = step.shown and step.shown[0].startswith("fashkiin: ")
-            assert bool(status) == bool(refused), (step, told)
-        else:
-            assert status == 0, (step, told)
+        refused = any(it.startswith("fashkiin: ") for it in step.shown)
+        assert (status == 0) != refused, (step, told)
         if step.shown:
             assert told == step.shown, step.command
         if step.command == "cat ann.token":
