@@ -2,8 +2,10 @@
 
 from __future__ import annotations
 
+import io
 import json
 import os
+import signal
 import stat
 import subprocess
 import sys
@@ -18,6 +20,8 @@ from fashkiin import Client, Table, Token
 from fashkiin.accounts import Change
 from fashkiin.cli import COMMANDS, EXIT_STATUSES
 from fashkiin.commands.admin import news
+from fashkiin.formats import Source
+from fashkiin.loading import Progress, Tally
 from fashkiin.manual import page
 from fashkiin.tokens import read_token
 
@@ -136,6 +140,21 @@ def test_a_closed_output_ends_the_command_quietly(table: Table, root: Client, ur
     assert (ended.returncode, ended.stderr) == (141, b"")
 
 
+def test_changes_are_followed_until_an_interrupt(table: Table, root: Client, url: str, token_file: Path) -> None:
+    environment = os.environ | {"PYTHONPATH": str(TOP / "src"), "PYTHONUNBUFFERED": "1"}
+    words = ["audit", "--follow", "--interval", "0.1", "--url", url, "--token-file", str(token_file)]
+    with subprocess.Popen(
+        [sys.executable, "-m", "fashkiin", *words], env=environment, stdout=subprocess.PIPE, text=True
+    ) as following:
+        assert following.stdout is not None
+        while following.stdout.readline() != f"root\tcreate-table\t{table.name}\tdone\n":
+            pass
+        root.tables.set_constraint(table.name, True)
+        assert following.stdout.readline() == f"root\tconstraint\t{table.name}\tdone\n"
+        following.send_signal(signal.SIGINT)
+        assert following.wait(20) == 130
+
+
 @pytest.mark.parametrize(
     ("before", "after", "new"),
     [
@@ -150,6 +169,23 @@ def test_a_closed_output_ends_the_command_quietly(table: Table, root: Client, ur
 def test_what_is_new_in_a_listing(before: Sequence[int], after: Sequence[int], new: Sequence[int]) -> None:
     listing = [[Change("u", "put", str(number), 0) for number in numbers] for numbers in (before, after, new)]
     assert list(news(listing[0], listing[1])) == listing[2]
+
+
+def test_progress_says_rows_rate_and_what_is_left(monkeypatch: pytest.MonkeyPatch) -> None:
+    now = [100.0]
+    monkeypatch.setattr("time.monotonic", lambda: now[0])
+    out = io.StringIO()
+    monkeypatch.setattr(out, "isatty", lambda: True)
+    progress = Progress(out)
+    source = Source("ships.csv", io.BufferedReader(io.BytesIO()))  # type: ignore[arg-type]
+    monkeypatch.setattr(source, "fraction", lambda: 0.25)
+    progress.begin(Tally(5, 0))
+    now[0] = 100.4
+    progress.step(source, Tally(1005, 0))
+    assert out.getvalue() == ""
+    now[0] = 102.0
+    progress.step(source, Tally(2003, 2))
+    assert out.getvalue() == "\r\x1b[Kships.csv: 2,000 rows, 1,000 a second, 25 %, 6 s left"
 
 
 def test_words_are_completed() -> None:

@@ -12,7 +12,7 @@ from hypothesis import strategies as st
 from strategies import names, rows, texts
 
 from fashkiin import FashkiinError, Row
-from fashkiin.formats import FORMATS, Found, Names, Source, format_of, sniff
+from fashkiin.formats import FORMATS, Found, InputError, Names, Source, format_of, sniff
 
 EXACT = ["geojson", "geojsonseq", "gpx"]
 
@@ -123,3 +123,12 @@ def test_the_format_of_first_bytes(data: bytes, form: str) -> None:
 def test_the_format_of_a_name() -> None:
     assert format_of("a/b.GeoJSON") is FORMATS["geojson"]
     assert format_of("b") is None
+
+
+def test_a_feature_collection_is_read_without_ijson(monkeypatch: pytest.MonkeyPatch) -> None:
+    given_rows = [Row(f"r{at}", 1.0, 2.0, datetime(2024, 1, 1, tzinfo=UTC), "A", {"n": at}) for at in range(3)]
+    monkeypatch.setattr("fashkiin.formats.geojson.ijson", None)
+    assert [row for _, row in found("geojson", written("geojson", given_rows))] == given_rows
+    for data in (b"", b"[]", b'{"type":"Topology"}', written("geojson", given_rows)[:-20]):
+        with pytest.raises(InputError, match="wanted a GeoJSON FeatureCollection"):
+            found("geojson", data)

@@ -4,6 +4,7 @@
 from __future__ import annotations
 
 import argparse
+import io
 import os
 import sys
 from collections.abc import Sequence
@@ -107,6 +108,8 @@ def status(error: FashkiinError) -> int:
 
 def main() -> None:
     """Runs the command of the process and ends it."""
+    if isinstance(sys.stdout, io.TextIOWrapper):
+        sys.stdout.reconfigure(encoding="utf-8")
     try:
         code = run()
         sys.stdout.flush()
@@ -116,6 +119,9 @@ def main() -> None:
     except BrokenPipeError:
         os.dup2(os.open(os.devnull, os.O_WRONLY), sys.stdout.fileno())
         code = OUTPUT_CLOSED
+    except OSError as error:
+        print(f"fashkiin: {error.filename or 'output'}: {error.strerror or error}", file=sys.stderr)
+        code = USAGE
     except KeyboardInterrupt:
         code = INTERRUPTED
     sys.exit(code)
