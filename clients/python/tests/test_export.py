@@ -46,13 +46,15 @@ def term(auth: str) -> str:
     return auth if plain else '"' + auth.replace("\\", "\\\\").replace('"', '\\"') + '"'
 
 
+PLAIN = {term(auth) for auth in AUTHS}
+
+
 def made_label(some: random.Random, depth: int = 3) -> str:
-    """A label of some terms, operators and parentheses."""
+    """A label of some terms, operators and parentheses, some of which need not be."""
     if depth == 0 or some.random() < 0.3:
         return term(some.choice(AUTHS[:10] if some.random() < 0.9 else AUTHS))
     units = [made_label(some, depth - 1) for _ in range(some.randrange(1, 4))]
-    units = [f"({unit})" if any(c in unit for c in '&|"') and some.random() < 0.9 else unit for unit in units]
-    units = [f"({unit})" if any(c in unit for c in "&|") and not unit.startswith("(") else unit for unit in units]
+    units = [unit if unit in PLAIN and some.random() < 0.9 else f"({unit})" for unit in units]
     return some.choice("&|").join(units)
 
 

@@ -17,8 +17,8 @@ SUPERUSER = "chief"
 
 
 @contextmanager
-def postgres() -> Iterator[Path]:
-    """The folder of the socket of a new cluster, which ends with the context."""
+def postgres(*settings: str) -> Iterator[Path]:
+    """The folder of the socket of a new cluster, which ends with the context. What is told is on disk only with `fsync=on`."""
     folder = Path(tempfile.mkdtemp(prefix="fashkiin"))
     # PostgreSQL does not run as root.
     user = "postgres" if os.geteuid() == 0 else None
@@ -28,7 +28,9 @@ def postgres() -> Iterator[Path]:
         data = str(folder / "data")
         words = [str(PROGRAMS / "initdb"), "-D", data, "-U", SUPERUSER, "-A", "trust", "-E", "UTF8", "--no-locale", "--no-sync"]
         subprocess.run(words, user=user, cwd=folder, stdout=subprocess.DEVNULL, check=True)
-        words = [str(PROGRAMS / "postgres"), "-D", data, "-k", str(folder), "-c", "listen_addresses=", "-c", "fsync=off"]
+        words = [str(PROGRAMS / "postgres"), "-D", data, "-k", str(folder)]
+        for setting in ("listen_addresses=", "fsync=off", *settings):
+            words += ["-c", setting]
         with (folder / "log").open("wb") as log, subprocess.Popen(words, user=user, cwd=folder, stderr=log) as server:
             try:
                 _wait(folder)
