@@ -5,6 +5,7 @@ from __future__ import annotations
 import json
 import re
 import socket
+import ssl
 import threading
 from collections.abc import Callable, Iterator, Sequence
 from contextlib import contextmanager, suppress
@@ -55,7 +56,7 @@ Script = Callable[[Talk], None]
 
 
 @contextmanager
-def scripted(scripts: Sequence[Script]) -> Iterator[str]:
+def scripted(scripts: Sequence[Script], context: ssl.SSLContext | None = None) -> Iterator[str]:
     """The URL of a server that meets its connections by these scripts, one after another, and closes each behind its script."""
     done = threading.Event()
     with socket.create_server(("127.0.0.1", 0)) as listener:
@@ -68,16 +69,15 @@ def scripted(scripts: Sequence[Script]) -> Iterator[str]:
                         connection, _ = listener.accept()
                     except TimeoutError:
                         continue
-                    with connection:
+                    with connection, suppress(OSError):
                         connection.settimeout(20)
-                        with suppress(OSError):
-                            script(Talk(connection))
+                        script(Talk(context.wrap_socket(connection, server_side=True) if context else connection))
                     break
 
         server = threading.Thread(target=serve, daemon=True)
         server.start()
         try:
-            yield f"http://127.0.0.1:{listener.getsockname()[1]}"
+            yield f"{'https' if context else 'http'}://127.0.0.1:{listener.getsockname()[1]}"
         finally:
             done.set()
             server.join(20)

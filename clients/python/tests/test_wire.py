@@ -4,6 +4,8 @@ from __future__ import annotations
 
 import random
 import re
+import ssl
+import subprocess
 import time
 from collections.abc import Callable
 from datetime import UTC, datetime
@@ -254,3 +256,26 @@ def test_a_url_with_a_path_before_the_servers() -> None:
 
     with scripted([prefixed]) as url, client(url + "/points/") as server:
         assert server.whoami().user == "ann"
+
+
+@pytest.fixture(scope="module")
+def certificate(tmp_path_factory: pytest.TempPathFactory) -> Path:
+    """A certificate of 127.0.0.1 that signs itself, with its key."""
+    folder = tmp_path_factory.mktemp("tls")
+    words = ["-x509", "-newkey", "ec", "-pkeyopt", "ec_paramgen_curve:P-256", "-nodes", "-days", "2", "-subj", "/CN=edge"]
+    files = ["-keyout", str(folder / "key"), "-out", str(folder / "cert")]
+    subprocess.run(["openssl", "req", *words, "-addext", "subjectAltName=IP:127.0.0.1", *files], check=True, capture_output=True)
+    file = folder / "edge.pem"
+    file.write_text((folder / "cert").read_text() + (folder / "key").read_text())
+    return file
+
+
+def test_a_server_over_tls_is_asked_where_its_certificate_is_trusted(certificate: Path) -> None:
+    context = ssl.SSLContext(ssl.PROTOCOL_TLS_SERVER)
+    context.load_cert_chain(certificate)
+    told = reply(200, WHOAMI)
+    with scripted([says(told, told)], context) as url, Client(url, token("ann"), timeout=5, cafile=str(certificate)) as server:
+        assert server.whoami().user == "ann"
+        assert server.whoami().user == "ann"
+    with scripted([says(told)], context) as url, client(url) as server, pytest.raises(ConnectError, match="(?i)certificate"):
+        server.whoami()
