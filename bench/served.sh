@@ -33,7 +33,7 @@ drive 1 47001 count | told "the same beside a connection that puts"
 wait $!
 if command -v haproxy > "$folder/which"; then
     sed '/8443/d' deploy/haproxy.cfg > "$folder/haproxy.cfg"
-    haproxy -f "$folder/haproxy.cfg" 2> "$folder/haproxy" &
+    haproxy -f "$folder/haproxy.cfg" > "$folder/haproxy.log" 2>&1 &
     sleep 1
     drive 64 8080 count | told "counts of 64 clients through HAProxy"
 fi

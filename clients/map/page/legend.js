@@ -25,7 +25,9 @@ const number = value => value.toLocaleString('en');
 
 export function drawLegend(element, classes) {
   const texts = classes.map(({ from, to }) => from === to ? number(from) : `${number(from)}–${number(to)}`);
-  element.replaceChildren(...classes.map(({ colour }, at) => {
+  const title = document.createElement('b');
+  title.textContent = classes.length ? 'Rows in a cell:' : '';
+  element.replaceChildren(title, ...classes.map(({ colour }, at) => {
     const item = document.createElement('span'), swatch = document.createElement('i');
     swatch.style.background = colour;
     item.append(swatch, texts[at]);

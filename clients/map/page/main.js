@@ -120,7 +120,7 @@ function open(view, index, count) {
   if (count) {
     busy(async () => {
       await list({ box: [...box, from, to], auths: auths(), limit: PAGE }, asked.signal);
-      $('cell').scrollIntoView({ block: 'start' });
+      if ($('cell').offsetTop > $('panel').clientHeight / 2) $('cell').scrollIntoView({ block: 'start' });
     });
   }
 }

@@ -1,11 +1,17 @@
 from __future__ import annotations
 
+import signal
 from collections.abc import Iterator
 
 import pytest
 
 from page import Page, chromium
 from stack import Stack
+
+
+def pytest_configure() -> None:
+    """Being terminated ends the servers and the browser too, as an interrupt does."""
+    signal.signal(signal.SIGTERM, signal.default_int_handler)
 
 
 @pytest.fixture(scope="session")
@@ -17,5 +23,7 @@ def stack(tmp_path_factory: pytest.TempPathFactory) -> Iterator[Stack]:
 @pytest.fixture(scope="session")
 def page(stack: Stack) -> Iterator[Page]:
     driver = chromium()
-    yield Page(driver, stack.url)
-    driver.quit()
+    try:
+        yield Page(driver, stack.url)
+    finally:
+        driver.quit()
