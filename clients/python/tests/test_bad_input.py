@@ -214,6 +214,19 @@ def test_rows_that_cannot_be_stored_are_skipped_and_listed(run: Run, table: Tabl
     assert f"{file}:2: lat: 91.0, wanted -90 to 90 degrees" in err.splitlines()
 
 
+def test_a_column_to_keep_that_is_not_there(run: Run, table: Table, tmp_path: Path) -> None:
+    file = tmp_path / "a.csv"
+    file.write_text(HEADER + GOOD)
+    code, _, err = run("load", table.name, file, "--only", "nam")
+    assert (code, err.splitlines()[-1]) == (3, f"fashkiin: {file}:1: column nam: missing, wanted it by --only")
+    assert run("load", table.name, file, "--only", "name")[0] == 0
+    assert [row.properties for row in table.scan()] == [{"name": "x"}]
+
+
+def test_an_argument_that_is_no_utf8(run: Run) -> None:
+    assert run("label", "\udcff") == (2, "", "fashkiin: an argument is not UTF-8, wanted texts in UTF-8\n")
+
+
 def test_settings_of_no_use(run: Run, tmp_path: Path) -> None:
     config = tmp_path / "config.toml"
     for text, said in (

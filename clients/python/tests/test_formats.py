@@ -80,6 +80,12 @@ def test_a_csv_of_ship_positions() -> None:
     ]
 
 
+def test_ids_of_several_columns_differ_where_the_columns_do() -> None:
+    data = b"ship,leg,lon,lat,time\na/b,c,1,2,2024-01-01\na,b/c,1,2,2024-01-01\n"
+    told = found("csv", data, Names(id=("ship", "leg"), unlabelled=""))
+    assert [row.id for _, row in told if isinstance(row, Row)] == ["a%2Fb/c", "a/b%2Fc"]
+
+
 def test_a_gpx_track() -> None:
     data = b"""<?xml version="1.0"?>
 <gpx xmlns="http://www.topografix.com/GPX/1/1" version="1.1" creator="watch">

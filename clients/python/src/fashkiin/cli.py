@@ -119,6 +119,9 @@ def main() -> None:
     except BrokenPipeError:
         os.dup2(os.open(os.devnull, os.O_WRONLY), sys.stdout.fileno())
         code = OUTPUT_CLOSED
+    except UnicodeEncodeError:
+        print("fashkiin: an argument is not UTF-8, wanted texts in UTF-8", file=sys.stderr)
+        code = USAGE
     except OSError as error:
         print(f"fashkiin: {error.filename or 'output'}: {error.strerror or error}", file=sys.stderr)
         code = USAGE

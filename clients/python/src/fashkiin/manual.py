@@ -81,7 +81,7 @@ def _actions(parser: argparse.ArgumentParser) -> Iterator[str]:
 
 
 def _action(action: argparse.Action) -> Iterator[str]:
-    yield f".TP\n{_name(action)}\n{_text(action.help or '')}"
+    yield f".TP\n{_name(action)}\n{_text((action.help or '').replace('%%', '%'))}"
 
 
 def _name(action: argparse.Action) -> str:

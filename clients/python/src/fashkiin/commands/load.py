@@ -24,7 +24,7 @@ STEM_BYTES = 44
 
 def add_names(parser: argparse.ArgumentParser) -> None:
     """How a file names the fields of its rows."""
-    several = "the column or property of the id; several are joined by slashes"
+    several = "the column or property of the id; several are joined by slashes, and a slash in one is %%2F"
     parser.add_argument("--id-column", action="append", default=[], metavar="NAME", help=several)
     for field, what in (("lon", "longitude"), ("lat", "latitude"), ("time", "time"), ("label", "label")):
         parser.add_argument(f"--{field}-column", default="", metavar="NAME", help=f"the column or property of the {what}")

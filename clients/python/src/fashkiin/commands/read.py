@@ -8,7 +8,7 @@ import os
 import sys
 import tempfile
 from collections.abc import Iterable, Iterator
-from itertools import islice
+from itertools import chain, islice
 from pathlib import Path
 from typing import Any, TextIO
 
@@ -19,6 +19,7 @@ from fashkiin.commands.where import add_auths, add_table, add_where, read_auths,
 from fashkiin.errors import SettingsError
 from fashkiin.formats import FORMATS, format_of
 from fashkiin.rows import Row, to_json
+from fashkiin.table import PAGE
 
 
 def record(row: Row) -> dict[str, Any]:
@@ -51,7 +52,7 @@ def _dump_arguments(parser: argparse.ArgumentParser) -> None:
     add_table(parser)
     parser.add_argument("--format", choices=FORMATS, help="by the output's name, if left out; else geojsonseq")
     parser.add_argument(
-        "--output", "-o", metavar="FILE", help="a file that is there once it is whole; standard output, if left out"
+        "--output", "-o", metavar="FILE", help="a file for you alone, there once it is whole; standard output, if left out"
     )
     add_where(parser)
     add_names(parser)
@@ -99,7 +100,8 @@ def _scan(session: Session, arguments: argparse.Namespace) -> int:
         raise SettingsError(f"--limit: {arguments.limit}, wanted 0 or more rows")
     where = read_where(arguments)
     with session.client() as client:
-        show_rows(session, islice(client.table(arguments.table).scan(*where), arguments.limit))
+        pages = client.table(arguments.table).pages(*where, limit=max(1, min(PAGE, arguments.limit or PAGE)))
+        show_rows(session, islice(chain.from_iterable(pages), arguments.limit))
     return DONE
 
 

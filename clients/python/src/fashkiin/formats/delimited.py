@@ -12,7 +12,7 @@ from typing import Any, TextIO
 
 from fashkiin.cells import time_text
 from fashkiin.errors import FashkiinError, Plain, RowError
-from fashkiin.formats.fields import DEFAULTS, LABEL_WANTED, Found, Names, Source, degrees, read_time
+from fashkiin.formats.fields import DEFAULTS, LABEL_WANTED, Found, Names, Source, degrees, join_ids, read_time
 from fashkiin.rows import Row, to_json
 
 FIELDS = ("id", "lon", "lat", "time", "label")
@@ -79,6 +79,9 @@ def _columns(source: Source, header: list[str], names: Names) -> _Columns:
     label = find("label")
     if label is None and (names.label or names.unlabelled is None):
         raise source.fail("1", f"column {names.label or 'label'}: missing, wanted {LABEL_WANTED}")
+    for name in sorted(names.only or ()):
+        if name not in header:
+            raise source.fail("1", f"column {name}: missing, wanted it by --only")
     ids = _id_columns(source, header, names)
     lon, lat, time = need("lon"), need("lat"), need("time")
     taken = {lon, lat, time, label, *(ids if len(ids) == 1 else ())}
@@ -129,7 +132,7 @@ def _row(fields: list[str], columns: _Columns, names: Names, number: int) -> Row
         _check_utf8(fields, header)
     label = "" if columns.label is None else fields[columns.label]
     if columns.id:
-        name = "/".join([fields[at] for at in columns.id])
+        name = join_ids([fields[at] for at in columns.id])
     else:
         name = f"{names.number}-{number}"
     return Row(

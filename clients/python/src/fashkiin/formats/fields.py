@@ -5,7 +5,7 @@ from __future__ import annotations
 import io
 import os
 import stat
-from collections.abc import Mapping
+from collections.abc import Mapping, Sequence
 from dataclasses import dataclass
 from datetime import datetime, timedelta
 from typing import Any
@@ -63,7 +63,7 @@ def _size(stream: io.BufferedReader) -> int | None:
 class Names:
     """How a file names the fields of its rows. An empty text or list stands for the names of `DEFAULTS`.
 
-    A row's id is that of the fields `id`, joined by slashes; or, without such fields, `number`, a dash and the row's number in
+    A row's id is that of the fields `id`, joined by `join_ids`; or, without such fields, `number`, a dash and the row's number in
     its file. A row without a label has the label `unlabelled`; where that is None, it is an error. `only` are the properties that
     are kept; None keeps all. `time_format` is `iso`, `unix` or `unix-ms`.
     """
@@ -133,7 +133,7 @@ def read_id(names: Names, number: int, values: dict[str, Any], own: Any = None) 
         parts = [_id_text(values.get(field), field) for field in names.id]
         if len(names.id) == 1:
             del values[names.id[0]]
-        return "/".join(parts)
+        return join_ids(parts)
     if own is not None:
         return _id_text(own, "id")
     if values.get("id") is not None:
@@ -141,6 +141,13 @@ def read_id(names: Names, number: int, values: dict[str, Any], own: Any = None) 
     if names.number is None:
         raise MissingError("id", "an id: name its fields by --id-column, or number the rows by --number PREFIX")
     return f"{names.number}-{number}"
+
+
+def join_ids(parts: Sequence[str]) -> str:
+    """The id that several texts make, differently for different texts."""
+    if len(parts) == 1:
+        return parts[0]
+    return "/".join(part.replace("%", "%25").replace("/", "%2F") for part in parts)
 
 
 def _id_text(value: Any, field: str) -> str:
