@@ -70,6 +70,7 @@ def test_users_tables_and_grants(run: Run, table: Table, root: Client) -> None:
         "permissions": ["CREATE_TABLE"],
     }
     assert "kim\tREAD\n" in run("tables", "grants", table.name)[1]
+    assert run("tables", "grants", "test", "--namespace")[1] == "kim\tWRITE\n"
     assert run("revoke", "kim", "READ", "--table", table.name)[0] == 0
     assert "kim" not in run("tables", "grants", table.name)[1]
     assert run("tables", "constraint", table.name, "on")[0] == 0

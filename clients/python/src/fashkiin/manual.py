@@ -74,7 +74,8 @@ def _actions(parser: argparse.ArgumentParser) -> Iterator[str]:
         if isinstance(action, argparse._SubParsersAction):
             summaries = {choice.dest: choice.help or "" for choice in action._choices_actions}
             for name, own in action.choices.items():
-                words = " ".join(_name(part) for part in own._actions if not COMMON & set(part.option_strings))
+                parts = [part for part in own._actions if not COMMON & set(part.option_strings)]
+                words = " ".join(f"[{_name(part)}]" if part.option_strings else _name(part) for part in parts)
                 yield f".TP\n.B {_text(name)} {words}\n{_text(summaries.get(name, ''))}"
         elif not COMMON & set(action.option_strings):
             yield from _action(action)

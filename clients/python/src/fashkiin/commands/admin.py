@@ -45,11 +45,12 @@ def _tables(parser: argparse.ArgumentParser) -> None:
         "have a table take no row that its writer could not see, or take all",
         lambda _, client, words: client.tables.set_constraint(words.name, words.on == "on"),
     )
-    grants = _action(parsers, "grants", "list the grants on a table itself", _list_grants)
+    grants = _action(parsers, "grants", "list the grants on a table itself, or on a namespace", _list_grants)
     for own in (create, drop, period, constraint, grants):
         own.add_argument("name", metavar="TABLE")
     create.add_argument("--period", choices=("day", "week"), default="week", help="the length of its time bins, week if left out")
     period.add_argument("period", choices=("day", "week"))
+    grants.add_argument("--namespace", action="store_true", help="the name is that of a namespace")
     constraint.add_argument("on", choices=("on", "off"))
 
 
@@ -60,7 +61,8 @@ def _list_tables(session: Session, client: Client, arguments: argparse.Namespace
 
 
 def _list_grants(session: Session, client: Client, arguments: argparse.Namespace) -> None:
-    for grant in client.grants.list(table=arguments.name):
+    place = "namespace" if arguments.namespace else "table"
+    for grant in client.grants.list(**{place: arguments.name}):
         session.show(asdict(grant), f"{grant.user}\t{' '.join(grant.permissions)}")
 
 
