@@ -90,6 +90,14 @@ def test_a_dump_of_a_place_and_a_time_and_authorizations(run: Run, table: Table,
     assert run("count", table.name, *where)[1] == "1\n"
 
 
+def test_tabs_are_read_from_a_tsv(run: Run, table: Table, tmp_path: Path) -> None:
+    file, again = tmp_path / "a.tsv", tmp_path / "b.csv"
+    file.write_text("id\tlon\tlat\ttime\tlabel\na\t1.5\t2.5\t2024-05-01\tA\n")
+    assert run("load", table.name, file)[0] == 0
+    assert run("dump", table.name, "-o", again, "--delimiter", "tab")[0] == 0
+    assert again.read_text() == "id\tlon\tlat\ttime\tlabel\na\t1.5\t2.5\t2024-05-01T00:00:00Z\tA\n"
+
+
 def test_tracks_are_loaded_from_a_pipe_and_numbered(
     run: Run, table: Table, tmp_path: Path, monkeypatch: pytest.MonkeyPatch
 ) -> None:

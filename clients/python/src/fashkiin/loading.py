@@ -31,7 +31,7 @@ class Fault:
     marks: tuple[str, ...] = ()
 
     def __str__(self) -> str:
-        return "\n".join((f"{self.file}:{self.place}: {self.field}: {self.reason}", *self.marks))
+        return "\n".join((f"{self.file}:{self.place}: {_printable(self.field)}: {self.reason}", *self.marks))
 
 
 class StoppedError(FashkiinError):

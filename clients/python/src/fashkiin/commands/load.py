@@ -28,13 +28,14 @@ def add_names(parser: argparse.ArgumentParser) -> None:
     parser.add_argument("--id-column", action="append", default=[], metavar="NAME", help=several)
     for field, what in (("lon", "longitude"), ("lat", "latitude"), ("time", "time"), ("label", "label")):
         parser.add_argument(f"--{field}-column", default="", metavar="NAME", help=f"the column or property of the {what}")
-    parser.add_argument("--delimiter", default=",", metavar="CHARACTER", help="between the columns of CSV; tab stands for a tab")
+    between = "between the columns of CSV, a comma if left out, or a tab in a .tsv; tab stands for a tab"
+    parser.add_argument("--delimiter", default="", metavar="CHARACTER", help=between)
 
 
 def read_names(arguments: argparse.Namespace) -> Names:
     """The names that the arguments say."""
     delimiter = "\t" if arguments.delimiter == "tab" else arguments.delimiter
-    if len(delimiter) != 1 or delimiter in '"\r\n':
+    if len(delimiter) > 1 or delimiter in ('"', "\r", "\n"):
         raise SettingsError(f"--delimiter: {delimiter!r}, wanted one character, or tab")
     return Names(
         tuple(arguments.id_column),

@@ -36,7 +36,8 @@ def read(source: Source, names: Names) -> Iterator[Found]:
     """The rows of a CSV file by their lines. `InputError` where the header lacks a column."""
     text = io.TextIOWrapper(source.stream, encoding="utf-8-sig", errors="surrogateescape", newline="")
     try:
-        records = csv.reader(text, delimiter=names.delimiter, strict=True)
+        delimiter = names.delimiter or ("\t" if source.name.lower().endswith(".tsv") else ",")
+        records = csv.reader(text, delimiter=delimiter, strict=True)
         columns = _columns(source, _header(source, records), names)
         yield from _rows(records, columns, names)
     finally:
@@ -167,7 +168,7 @@ def write(rows: Iterable[Row], out: TextIO, names: Names) -> None:
                     f"a row has a property {name!r} of its own: name that column by another --{FIELDS[fields.index(name)]}-column"
                 )
         kept.seek(0)
-        writer = csv.writer(out, delimiter=names.delimiter)
+        writer = csv.writer(out, delimiter=names.delimiter or ",")
         writer.writerow([*fields, *properties])
         for line in kept:
             *own, told = _from_json(line)

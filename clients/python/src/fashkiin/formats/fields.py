@@ -65,7 +65,8 @@ class Names:
 
     A row's id is that of the fields `id`, joined by `join_ids`; or, without such fields, `number`, a dash and the row's number in
     its file. A row without a label has the label `unlabelled`; where that is None, it is an error. `only` are the properties that
-    are kept; None keeps all. `time_format` is `iso`, `unix` or `unix-ms`.
+    are kept; None keeps all. `time_format` is `iso`, `unix` or `unix-ms`. An empty
+    `delimiter` stands for a comma, and for a tab in a file of the suffix `.tsv`.
     """
 
     id: tuple[str, ...] = ()
@@ -77,7 +78,7 @@ class Names:
     unlabelled: str | None = None
     only: frozenset[str] | None = None
     time_format: str = "iso"
-    delimiter: str = ","
+    delimiter: str = ""
 
     def column(self, field: str) -> str:
         """The name of a field of a file that is written."""
