@@ -24,7 +24,7 @@ async function drawOutlines(map, land, lines, file) {
 export class Chart {
   #map; #cells; #chosen; #marks; #cellRenderer; #markRenderer;
   #tooltip = L.tooltip({ direction: 'top', offset: [0, -6] });
-  #drawn = null; // the view, its counts and its classes
+  #drawn = null; // the view and its counts
 
   constructor(element) {
     this.#map = L.map(element, {
@@ -99,10 +99,15 @@ export class Chart {
     this.#map.fitBounds(cornersOf(box), { animate: false });
   }
 
-  drawCells(view, counts, classes) {
-    this.#drawn = { view, counts };
+  clearCells() {
+    this.#drawn = null;
     this.#tooltip.remove();
     this.#cells.clearLayers();
+  }
+
+  drawCells(view, counts, classes) {
+    this.clearCells();
+    this.#drawn = { view, counts };
     counts.forEach((count, index) => {
       if (count === 0) return;
       const style = { stroke: false, fillColor: colourOf(classes, count), fillOpacity: 1 };

@@ -2,10 +2,10 @@
 import { readAddress, writeAddress } from './address.js';
 import { Chart } from './chart.js';
 import { classesOf, drawLegend } from './legend.js';
-import { CELLS, LAST_SECOND } from './places.js';
+import { CELLS, LAST_SECOND, WORLD } from './places.js';
 import { itemOf, readRow } from './rows.js';
 import { Refusal, Server } from './server.js';
-import { Timeline, WORLD, endsOf } from './time.js';
+import { Timeline, endsOf } from './time.js';
 import { cellBox, countsOf, rowsBox, viewBox, viewOf } from './view.js';
 
 const PAGE = 20; // rows of a cell that are listed at a time
@@ -17,21 +17,29 @@ const number = value => value.toLocaleString('en');
 const rowsText = count => `${number(count)} ${count === 1 ? 'row' : 'rows'}`;
 
 const chart = new Chart($('map'));
-const timeline = new Timeline({ from: $('from'), to: $('to'), bars: $('bars'), span: $('span') }, () => refreshSoon());
+const timeline = new Timeline({ from: $('from'), to: $('to'), bars: $('bars'), span: $('span') }, () => {
+  closeCell();
+  refreshSoon();
+});
 let server = null;
 let table = null;
 let ends = { begin: 0, end: LAST_SECOND }; // the first and last second of the table
 let asked = new AbortController(); // what the last refresh asks
 let histogramOf = ''; // the view, table and time that the bars show
+let works = 0; // how many answers the page waits for
+let wait = 0; // the timer of a refresh to come, or 0
 
 // What the server is asked, and what comes of it.
 
 const auths = () => [...$('auths').querySelectorAll('input:checked')].map(input => input.name);
 
+const tellBusy = () => document.body.setAttribute('aria-busy', works > 0 || wait !== 0);
+
 /** Does the work with the page marked as busy; a failure is told, and an end by a newer request is none. */
 async function busy(work) {
   const mine = asked;
-  document.body.setAttribute('aria-busy', 'true');
+  works += 1;
+  tellBusy();
   try {
     await work();
     if (mine === asked) $('error').textContent = '';
@@ -40,7 +48,8 @@ async function busy(work) {
     $('error').textContent = error.message;
     if (error instanceof Refusal && error.error === 'token') close(error.message);
   } finally {
-    if (mine === asked) document.body.setAttribute('aria-busy', 'false');
+    works -= 1;
+    tellBusy();
   }
 }
 
@@ -77,7 +86,9 @@ async function fit(name, signal) {
 }
 
 function showAll() {
+  if (!table) return undefined;
   const signal = begin();
+  histogramOf = ''; // rows may have come since
   return busy(async () => {
     await fit(table, signal);
     await draw(signal);
@@ -92,12 +103,24 @@ async function drawBars(box, names, signal) {
   histogramOf = key;
 }
 
-let wait = 0;
 function refreshSoon() {
   if (!table) return;
-  document.body.setAttribute('aria-busy', 'true');
   clearTimeout(wait);
-  wait = setTimeout(refresh, PAUSE);
+  wait = setTimeout(() => {
+    wait = 0;
+    refresh();
+    tellBusy();
+  }, PAUSE);
+  tellBusy();
+}
+
+/** Nothing is drawn or listed. */
+function blank() {
+  closeCell();
+  chart.clearCells();
+  drawLegend($('legend'), []);
+  $('total').textContent = '';
+  histogramOf = '';
 }
 
 // The rows of a cell.
@@ -153,7 +176,7 @@ async function openTable(name, { from, to, anywhere = false } = {}) {
   table = null; // until the table's time and place are known, moves of the map ask nothing
   await busy(async () => {
     $('table').value = name;
-    closeCell();
+    blank();
     ends = await findEnds(name, signal);
     timeline.setWindow(ends, { from, to });
     if (anywhere) await fit(name, signal);
@@ -212,9 +235,8 @@ function close(reason) {
   server = null;
   table = null;
   begin();
-  closeCell();
+  blank();
   for (const id of ['panel', 'time']) $(id).hidden = true;
-  chart.drawCells(viewOf(chart.bounds, chart.pixels), [], []);
   $('refused').textContent = reason;
   $('opening').showModal();
 }
@@ -245,7 +267,7 @@ $('narrow').addEventListener('click', () => {
   timeline.setWindow({ begin: timeline.chosen.from, end: timeline.chosen.to });
   refresh();
 });
-$('alltime').addEventListener('click', () => openTable(table));
+$('alltime').addEventListener('click', () => openTable($('table').value));
 $('all').addEventListener('click', showAll);
 chart.onMove(refreshSoon);
 chart.onChoose(index => onCell(index));

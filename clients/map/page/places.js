@@ -5,6 +5,9 @@ export const LAST_SECOND = 19818086399;
 export const LONGITUDE = { low: -180, high: 180 };
 export const LATITUDE = { low: -90, high: 90 };
 
+/** The columns and lines of the whole world, as a box of the store begins. */
+export const WORLD = [0, CELLS - 1, 0, CELLS - 1];
+
 /** The cell of degrees on an axis; degrees outside of the axis are in its first or last cell. */
 export function cellOf(degrees, { low, high }) {
   if (degrees <= low) return 0;

@@ -1,5 +1,5 @@
 // The time of a table: its two ends, a histogram of the view, and two sliders between the ends.
-import { CELLS, LAST_SECOND, timeText } from './places.js';
+import { LAST_SECOND, timeText } from './places.js';
 
 const BARS = 32;
 const STEPS = 1024; // steps of a slider, as the page has them: each bar is 32 of them
@@ -22,8 +22,6 @@ export async function endsOf(first) {
   }
   return { begin: Math.floor(earliest.point[2] / WEEK) * WEEK, end: Math.min(LAST_SECOND, (low + 1) * DAY - 1) };
 }
-
-export const WORLD = [0, CELLS - 1, 0, CELLS - 1];
 
 /** The sliders and bars of the page. `window` is what they span, `chosen` the part between the sliders, in whole seconds. */
 export class Timeline {
@@ -50,10 +48,6 @@ export class Timeline {
     this.#from.value = this.#stepOf(this.chosen.from);
     this.#to.value = this.#stepOf(this.chosen.to + 1);
     this.#tell();
-  }
-
-  get isWhole() {
-    return this.chosen.from === this.window.begin && this.chosen.to === this.window.end;
   }
 
   #secondOf(step) {

@@ -44,7 +44,8 @@ class Stack:
     def __enter__(self) -> Stack:
         with ExitStack() as opening:
             self.served = opening.enter_context(served(*ROOT_AUTHS))
-            self.edge, self.metrics, self.page = free_port(), free_port(), free_port()
+            self.edge, self.metrics, self.page, self.tls = free_port(), free_port(), free_port(), free_port()
+            self._make_certificate()
             self.url = f"http://127.0.0.1:{self.edge}"
             words = f"daemon off; pid {self.folder}/nginx.pid;"
             if os.geteuid() == 0:  # whose folders nginx's own user may not read
@@ -61,14 +62,20 @@ class Stack:
         self._open.close()
 
     def _write(self, name: str) -> Path:
-        """A file of deploy/ with the ports of this stack; the line of TLS, which needs a certificate, is left out."""
-        text = (TOP / "deploy" / name).read_text()
-        text = re.sub(r"^ *bind .* ssl .*\n", "", text, flags=re.M)
-        ports = {8080: self.edge, 8081: self.page, 8404: self.metrics, 47001: self.served}
+        """A file of deploy/ with the ports and the certificate of this stack."""
+        text = (TOP / "deploy" / name).read_text().replace("crt edge.pem", f"crt {self.folder}/edge.pem")
+        ports = {8080: self.edge, 8443: self.tls, 8081: self.page, 8404: self.metrics, 47001: self.served}
         text = re.sub(r"127\.0\.0\.1:(\d+)", lambda found: f"127.0.0.1:{ports[int(found[1])]}", text)
         file = self.folder / name
         file.write_text(text)
         return file
+
+    def _make_certificate(self) -> None:
+        file = self.folder / "edge.pem"
+        words = ["openssl", "req", "-x509", "-newkey", "rsa:2048", "-nodes", "-days", "1", "-subj", "/CN=localhost"]
+        subprocess.run([*words, "-keyout", file, "-out", self.folder / "certificate"], check=True, stderr=subprocess.DEVNULL)
+        with file.open("a") as pem:
+            pem.write((self.folder / "certificate").read_text())
 
     @contextmanager
     def _running(self, name: str, *words: object) -> Iterator[subprocess.Popen[bytes]]:

@@ -5,6 +5,7 @@ from __future__ import annotations
 import json
 import re
 import socket
+import subprocess
 import time
 from contextlib import ExitStack
 from urllib.error import HTTPError
@@ -81,6 +82,22 @@ def test_log_has_the_user_and_no_secret(stack: Stack) -> None:
     assert (lines[0]["method"], lines[0]["path"], lines[0]["status"]) == ("GET", "/whoami", 200)
     assert {line["path"] for line in lines[1:]} == {'/tables/"a\\b"'}
     assert not re.search(r"[0-9a-f]{64}", stack.log.read_text())
+
+
+def test_requests_over_http_2(stack: Stack) -> None:
+    """With a body of a length that is told, of one that is not, and of too many bytes, as curl sends them."""
+
+    def ask(body: bytes, *words: str) -> str:
+        url = f"https://127.0.0.1:{stack.tls}/label"
+        curl = ["curl", "-s", "--insecure", "--http2", "-H", "@-", "-w", " %{http_version} %{http_code}", *words, url]
+        file = stack.folder / "body"
+        file.write_bytes(body)
+        told = subprocess.run(curl, cwd=stack.folder, input=f"Authorization: Bearer {token('root')}".encode(), stdout=subprocess.PIPE, timeout=20)
+        return told.stdout.decode()
+
+    assert ask(b'{"label":"wind&wind"}', "--data-binary", "@body") == '{"normal":"wind"} 2 200'
+    assert ask(b'{"label":"wind"}', "-X", "POST", "-T", "body", "-H", "Content-Length:") == '{"error":"length"} 2 411'
+    assert ask(bytes(70_000), "-X", "POST", "-T", "body", "-H", "Content-Length:") == '{"error":"size"} 2 413'
 
 
 def test_numbers_for_prometheus(stack: Stack) -> None:

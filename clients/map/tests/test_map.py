@@ -10,6 +10,7 @@ from fashkiin import Client
 from fashkiin.cells import latitude_cell, longitude_cell
 from selenium.webdriver import Keys
 from selenium.webdriver.common.by import By
+from selenium.webdriver.support.ui import Select
 
 from page import Page
 from served import digest, token
@@ -160,6 +161,17 @@ def test_notes_are_shown_as_texts(page: Page, stack: Stack) -> None:
     assert '{"a":{"a":' in listed["deep"]
     assert '["one"]' in listed["strange"]
     assert page.all("#rows img") == []
+
+
+def test_table_that_may_not_be_read_is_told(page: Page) -> None:
+    page.open(token("ann"), WORLD)
+    Select(page["table"]).select_by_value("points")
+    page.until(lambda: page["error"].text == "You lack the permission READ on the table points.")
+    assert page.run("return document.getElementById('total').textContent") == ""
+    Select(page["table"]).select_by_value("geo.trips")
+    page.until(lambda: page["total"].text != "")
+    page.settle()
+    assert (page.total, page["error"].text) == (len(seen(HELD)), "")
 
 
 def test_user_without_read_is_told(page: Page) -> None:
