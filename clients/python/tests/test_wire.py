@@ -109,6 +109,26 @@ def test_a_reply_that_is_none_of_the_servers_is_refused(data: bytes) -> None:
             server.whoami()
 
 
+@pytest.mark.parametrize(
+    ("ask", "told"),
+    [
+        (lambda server: list(server.users), {"users": 1}),
+        (lambda server: list(server.tables), {"tables": [{}]}),
+        (lambda server: server.grants.list(table="a"), {"grants": [1]}),
+        (lambda server: server.audit(), {"entries": [{}]}),
+        (lambda server: server.label("A"), {}),
+        (lambda server: server.table("a").count(auths=[]), {"count": "1"}),
+        (lambda server: server.table("a").get("p", auths=[]), {"rows": [{"id": "p"}]}),
+        (lambda server: list(server.table("a").scan(auths=[])), {"rows": [], "next": {}}),
+        (lambda server: server.table("a").grid(auths=[]), {}),
+    ],
+)
+def test_a_reply_without_its_members_is_refused(ask: Callable[[Client], object], told: dict[str, object]) -> None:
+    with scripted([says(reply(200, told))]) as url, client(url) as server:
+        with pytest.raises(ReplyError):
+            ask(server)
+
+
 def test_an_answer_of_a_proxy_says_its_status() -> None:
     with scripted([says(reply(503, b"<html>no server</html>"))]) as url, client(url) as server:
         with pytest.raises(EdgeError, match="503"):

@@ -9,6 +9,7 @@ from urllib.parse import quote
 
 from fashkiin.errors import ReplyError
 from fashkiin.tokens import Token
+from fashkiin.wire import member
 
 if TYPE_CHECKING:
     from fashkiin.client import Client
@@ -66,6 +67,22 @@ def read_change(told: Mapping[str, Any]) -> Change:
         raise ReplyError("the server told an entry without its fields") from None
 
 
+def read_table(told: Mapping[str, Any]) -> TableInfo:
+    """The table of a reply."""
+    try:
+        return TableInfo(told["table"], told["constraint"], told["period"])
+    except (KeyError, TypeError):
+        raise ReplyError("the server told a table without its fields") from None
+
+
+def read_grant(told: Mapping[str, Any]) -> Grant:
+    """The grant of a reply."""
+    try:
+        return Grant(told["user"], tuple(told["permissions"]))
+    except (KeyError, TypeError):
+        raise ReplyError("the server told a grant without its fields") from None
+
+
 class Users:
     """The users of a server: iterate for their names."""
 
@@ -73,7 +90,7 @@ class Users:
         self._client = client
 
     def __iter__(self) -> Iterator[str]:
-        return iter(self._client.ask("GET", "/users")["users"])
+        return iter(member(self._client.ask("GET", "/users"), "users", list))
 
     def get(self, user: str) -> Account:
         """An account."""
@@ -108,8 +125,8 @@ class Tables:
         self._client = client
 
     def __iter__(self) -> Iterator[TableInfo]:
-        for told in self._client.ask("GET", "/tables")["tables"]:
-            yield TableInfo(told["table"], told["constraint"], told["period"])
+        for told in member(self._client.ask("GET", "/tables"), "tables", list):
+            yield read_table(told)
 
     def create(self, table: str, period: str | None = None) -> None:
         """Makes a table, whose period is `day` or `week`, a week where it is None."""
@@ -137,8 +154,8 @@ class Grants:
 
     def list(self, *, table: str | None = None, namespace: str | None = None) -> list[Grant]:
         """The grants on a table itself, or on a namespace."""
-        told = self._client.ask("GET", f"{_place(table, namespace)}/grants")["grants"]
-        return [Grant(grant["user"], tuple(grant["permissions"])) for grant in told]
+        told = self._client.ask("GET", f"{_place(table, namespace)}/grants")
+        return [read_grant(grant) for grant in member(told, "grants", list)]
 
     def grant(self, user: str, permission: str, *, table: str | None = None, namespace: str | None = None) -> None:
         """Grants a permission; nothing happens where it is held."""

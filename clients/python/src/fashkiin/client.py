@@ -18,7 +18,7 @@ from fashkiin.errors import ConnectError, CutOffError, EdgeError, RefusalError, 
 from fashkiin.rows import Row, to_json
 from fashkiin.table import Table
 from fashkiin.tokens import Token
-from fashkiin.wire import Address, Connection, Reply
+from fashkiin.wire import Address, Connection, Reply, member
 
 TRIES = 6
 LARGEST_WINDOW = 256
@@ -96,11 +96,11 @@ class Client:
 
     def label(self, text: str) -> str:
         """The normal form of a label; `LabelError` where the text is none."""
-        return str(self.ask("POST", "/label", {"label": text}, again=True)["normal"])
+        return str(member(self.ask("POST", "/label", {"label": text}, again=True), "normal", str))
 
     def audit(self) -> list[Change]:
         """The last 1,024 changes that were asked for, oldest first."""
-        return [read_change(entry) for entry in self.ask("GET", "/audit")["entries"]]
+        return [read_change(entry) for entry in member(self.ask("GET", "/audit"), "entries", list)]
 
     def ask(self, method: str, target: str, body: Mapping[str, Any] | None = None, *, again: bool = False) -> dict[str, Any]:
         """The JSON object that a request is answered by.

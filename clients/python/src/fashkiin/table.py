@@ -7,8 +7,8 @@ from typing import TYPE_CHECKING, Any
 from urllib.parse import quote
 
 from fashkiin.cells import Bbox, Box, Span, boxes, holds, span_times
-from fashkiin.errors import ReplyError
 from fashkiin.rows import Page, Place, Row, read_place, read_row
+from fashkiin.wire import member
 
 if TYPE_CHECKING:
     import geopandas
@@ -47,7 +47,7 @@ class Table:
     def get(self, id: str, auths: Sequence[str] | None = None) -> list[Row]:
         """The seen rows of an id, by the bytes of their labels."""
         told = self._ask("get", {"id": id, "auths": self.auths(auths)})
-        return [read_row(row) for row in told["rows"]]
+        return [read_row(row) for row in member(told, "rows", list)]
 
     def scan(self, bbox: Bbox | None = None, time: Span | None = None, auths: Sequence[str] | None = None) -> Iterator[Row]:
         """The seen rows of a bbox and a time, by their exact positions and times, in scan order."""
@@ -75,12 +75,12 @@ class Table:
         if after is not None:
             body["after"] = after.wire()
         told = self._ask("scan", body)
-        return Page([read_row(row) for row in told["rows"]], read_place(told["next"]))
+        return Page([read_row(row) for row in member(told, "rows", list)], read_place(member(told, "next", object)))
 
     def count(self, bbox: Bbox | None = None, time: Span | None = None, auths: Sequence[str] | None = None) -> int:
         """How many seen rows are in the cells of a bbox and the seconds of a time."""
         own = self.auths(auths)
-        return sum(int(self._ask("count", {"box": box, "auths": own})["count"]) for box in boxes(bbox, time))
+        return sum(member(self._ask("count", {"box": box, "auths": own}), "count", int) for box in boxes(bbox, time))
 
     def grid(
         self,
@@ -97,12 +97,13 @@ class Table:
             return [[0] * nx for _ in range(ny)]
         if len(found) > 1:
             raise ValueError("a grid's bbox crosses the antimeridian, wanted one on one side of it")
-        told = self._ask("grid", {"box": found[0], "auths": self.auths(auths), "nx": nx, "ny": ny})["grid"]
-        return [told[line * nx : (line + 1) * nx] for line in range(ny)]
+        told = self._ask("grid", {"box": found[0], "auths": self.auths(auths), "nx": nx, "ny": ny})
+        cells = member(told, "grid", list)
+        return [cells[line * nx : (line + 1) * nx] for line in range(ny)]
 
     def plan(self, box: Box, budget: int = 64) -> list[dict[str, Any]]:
         """The ranges of keys by which a box is scanned, for each part of its span: see the API's "Plans"."""
-        return list(self._ask("plan", {"box": box, "budget": budget})["parts"])
+        return list(member(self._ask("plan", {"box": box, "budget": budget}), "parts", list))
 
     def to_frame(
         self, bbox: Bbox | None = None, time: Span | None = None, auths: Sequence[str] | None = None
@@ -126,11 +127,4 @@ class Table:
 
     def _ask(self, what: str, body: dict[str, Any]) -> dict[str, Any]:
         """Reads, puts and deletes of rows may be sent again: a repeat changes nothing."""
-        told = self._client.ask("POST", f"/tables/{quote(self.name, safe='')}/{what}", body, again=True)
-        for key in _KEYS.get(what, ()):
-            if key not in told:
-                raise ReplyError(f"a reply without {key!r}")
-        return told
-
-
-_KEYS = {"get": ("rows",), "scan": ("rows", "next"), "count": ("count",), "grid": ("grid",), "plan": ("parts",)}
+        return self._client.ask("POST", f"/tables/{quote(self.name, safe='')}/{what}", body, again=True)

@@ -7,6 +7,7 @@ import re
 import select
 import socket
 import ssl
+from collections.abc import Mapping
 from dataclasses import dataclass
 from functools import lru_cache
 from typing import Any
@@ -137,6 +138,14 @@ class Connection:
         if len(body) < length:
             raise CutOffError(f"the reply was cut off after {len(body):,} of {length:,} bytes")
         return body
+
+
+def member(told: Mapping[str, Any], key: str, kind: type) -> Any:
+    """A member of a reply's object; `ReplyError` where it is not there or of another type."""
+    value = told.get(key)
+    if not isinstance(value, kind):
+        raise ReplyError(f"a reply without {key!r}: this is not the server's")
+    return value
 
 
 @lru_cache(maxsize=64)
