@@ -4,7 +4,6 @@ from __future__ import annotations
 
 import json
 import math
-import os
 import random
 import subprocess
 from collections.abc import Iterator
@@ -110,19 +109,36 @@ def expected(user: str, rows: list[Row]) -> list[tuple[str, str]]:
     return sorted((row.id, row.label) for row in rows if row.label in SEEN[user])
 
 
+def ogr2ogr(facade: Facade, user: str, folder: Path, *flags: str) -> list[dict[str, Any]]:
+    """The features that GDAL reads for a user."""
+    header = folder / "header"
+    header.write_text(f"Authorization: Bearer {token(user)}\n")
+    words = ["ogr2ogr", "-f", "GeoJSONSeq", "/vsistdout/", f"OAPIF:{facade.url}/", TABLE, "-oo", "PAGE_SIZE=1000", *flags]
+    ran = subprocess.run(words, env=environment(GDAL_HTTP_HEADER_FILE=str(header)), stdout=subprocess.PIPE, check=True)
+    return [json.loads(line.lstrip(b"\x1e")) for line in ran.stdout.splitlines() if line.strip()]
+
+
+def identities(features: list[dict[str, Any]]) -> list[tuple[str, str]]:
+    return sorted((one["properties"]["id"], one["properties"]["label"]) for one in features)
+
+
 @pytest.mark.parametrize("user", USERS)
 def test_ogr2ogr_reads_all_rows_that_the_user_sees(facade: Facade, user: str, tmp_path: Path) -> None:
-    header = tmp_path / "header"
-    header.write_text(f"Authorization: Bearer {token(user)}\n")
-    words = ["ogr2ogr", "-f", "GeoJSONSeq", "/vsistdout/", f"OAPIF:{facade.url}/", TABLE]
-    ran = subprocess.run(words, env={**os.environ, "GDAL_HTTP_HEADER_FILE": str(header)}, stdout=subprocess.PIPE, check=True)
-    shown = [json.loads(line.lstrip(b"\x1e")) for line in ran.stdout.splitlines() if line.strip()]
-    assert sorted((one["properties"]["id"], one["properties"]["label"]) for one in shown) == expected(user, ROWS)
+    shown = ogr2ogr(facade, user, tmp_path)
+    assert identities(shown) == expected(user, ROWS)
     places = {(row.id, row.label): (row.lon, row.lat) for row in ROWS}
     for one in shown:
         lon, lat = places[one["properties"]["id"], one["properties"]["label"]]
         # GDAL writes seven digits behind the point.
         assert one["geometry"]["coordinates"] == pytest.approx([lon, lat], abs=1e-7)
+
+
+def test_ogr2ogr_asks_for_a_bbox_and_a_time(facade: Facade, tmp_path: Path) -> None:
+    begin, end = datetime(2024, 1, 3, tzinfo=UTC), datetime(2024, 1, 5, tzinfo=UTC)
+    where = "time >= '2024/01/03 00:00:00Z' AND time <= '2024/01/05 00:00:00Z'"
+    shown = ogr2ogr(facade, "bob", tmp_path, "-spat", "-20", "-45", "100", "60", "-where", where)
+    rows = [row for row in ROWS if begin <= row.time <= end and -20 <= row.lon <= 100 and -45 <= row.lat <= 60]
+    assert identities(shown) == expected("bob", rows) != []
 
 
 def boxes() -> list[tuple[float, float, float, float]]:
@@ -361,5 +377,4 @@ def test_a_server_that_is_not_there_is_told() -> None:
         status, _, told = Facade(url, 1).get(f"/collections/{TABLE}/items?bbox=1,2,3,4")
         process.terminate()
         logged = process.stderr.read()
-    assert (status, told["code"]) == (503, "ServiceUnavailable")
-    assert logged == f"127.0.0.1 GET /collections/{TABLE}/items 503\n"
+    assert (status, told["code"], logged) == (503, "ServiceUnavailable", "")

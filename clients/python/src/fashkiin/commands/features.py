@@ -3,11 +3,7 @@
 from __future__ import annotations
 
 import argparse
-import sys
 from collections.abc import Callable
-from socketserver import ThreadingMixIn
-from urllib.parse import urlsplit
-from wsgiref.simple_server import WSGIRequestHandler, WSGIServer, make_server
 
 from fashkiin.client import Client
 from fashkiin.commands import DONE, Command, Session
@@ -17,28 +13,7 @@ from fashkiin.settings import Settings
 from fashkiin.tokens import Token
 
 PORT = 8082
-SECONDS = 30
-
-
-class _Server(ThreadingMixIn, WSGIServer):
-    """Each request on a thread of its own."""
-
-    daemon_threads = True
-    request_queue_size = 128
-
-
-class _Handler(WSGIRequestHandler):
-    """Logs who asked which path, without the query, which may hold what the caller alone sees."""
-
-    timeout = SECONDS
-
-    def log_request(self, code: int | str = "-", size: int | str = "-") -> None:
-        method, _, target = self.requestline.partition(" ")
-        path = urlsplit(target.partition(" ")[0]).path
-        print(self.address_string(), method, ascii(path)[1:-1], code, file=sys.stderr, flush=True)
-
-    def log_message(self, format: str, *args: object) -> None:
-        pass
+THREADS = 8
 
 
 def connector(settings: Settings) -> Callable[[Token], Client]:
@@ -53,16 +28,19 @@ def _arguments(parser: argparse.ArgumentParser) -> None:
 
 
 def _run(session: Session, arguments: argparse.Namespace) -> int:
+    try:
+        import waitress
+    except ImportError:
+        raise SettingsError("features: waitress is missing, wanted: apt install python3-waitress") from None
     if not 0 <= arguments.port <= 65_535:
         raise SettingsError(f"--port: {arguments.port}, wanted 0 to 65535")
     application = Features(connector(session.settings), arguments.base_url)
     try:
-        server = make_server("127.0.0.1", arguments.port, application, _Server, _Handler)
+        server = waitress.create_server(application, host="127.0.0.1", port=arguments.port, threads=THREADS, ident=None)
     except OSError as error:
         raise SettingsError(f"--port: {arguments.port}: {error.strerror}, wanted a free port") from None
-    with server:
-        print(f"listening at http://127.0.0.1:{server.server_port}/", flush=True)
-        server.serve_forever()
+    print(f"listening at http://127.0.0.1:{server.effective_port}/", flush=True)
+    server.run()
     return DONE
 
 

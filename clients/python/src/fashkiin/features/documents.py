@@ -76,18 +76,39 @@ def collection(base: str, table: str) -> dict[str, Any]:
     }
 
 
-def _query(name: str, description: str, schema: dict[str, Any]) -> dict[str, Any]:
-    """A parameter of the query."""
-    return {"name": name, "in": "query", "description": description, "required": False, "schema": schema} | (
-        {"style": "form", "explode": False}
+def _parameter(name: str, place: str, description: str, schema: dict[str, Any]) -> dict[str, Any]:
+    """A parameter of the path or the query."""
+    shown = {"name": name, "in": place, "description": description, "required": place == "path", "schema": schema}
+    return shown if place == "path" else shown | {"style": "form", "explode": False}
+
+
+# QGIS looks up `limit` among the components, to know how large a page may be.
+PARAMETERS = {
+    one["name"]: one
+    for one in (
+        _parameter("collectionId", "path", "The name of a table", {"type": "string"}),
+        _parameter("featureId", "path", "The id of a feature", {"type": "string"}),
+        _parameter(
+            "bbox",
+            "query",
+            "West, south, east, north in degrees",
+            {"type": "array", "items": {"type": "number"}, "minItems": 4, "maxItems": 6},
+        ),
+        _parameter(
+            "datetime", "query", "A time of RFC 3339, or two with / between, or .. for one of them", {"type": "string"}
+        ),
+        _parameter(
+            "limit",
+            "query",
+            "How many features a page has at most",
+            {"type": "integer", "minimum": LEAST_LIMIT, "maximum": LARGEST_LIMIT, "default": DEFAULT_LIMIT},
+        ),
+        _parameter("after", "query", "Behind which place the page begins: next links have it", {"type": "string"}),
     )
+}
 
 
-def _path(name: str) -> dict[str, Any]:
-    return {"name": name, "in": "path", "required": True, "schema": {"type": "string"}}
-
-
-def _get(name: str, summary: str, type: str, parameters: list[dict[str, Any]] | None = None) -> dict[str, Any]:
+def _get(name: str, summary: str, type: str, parameters: tuple[str, ...] = ()) -> dict[str, Any]:
     """An operation, whose refusals are told by an exception."""
     exception = {"description": "An exception", "content": {JSON: {"schema": {"$ref": "#/components/schemas/exception"}}}}
     answer = {"description": summary, "content": {type: {"schema": {"type": "object"}}}}
@@ -95,7 +116,7 @@ def _get(name: str, summary: str, type: str, parameters: list[dict[str, Any]] | 
         "get": {
             "operationId": name,
             "summary": summary,
-            "parameters": parameters or [],
+            "parameters": [{"$ref": f"#/components/parameters/{parameter}"} for parameter in parameters],
             "responses": {"200": answer, "default": exception},
         }
     }
@@ -103,16 +124,6 @@ def _get(name: str, summary: str, type: str, parameters: list[dict[str, Any]] | 
 
 def api(base: str) -> dict[str, Any]:
     """The API definition, by OpenAPI 3.0."""
-    number = {"type": "number"}
-    bbox = {"type": "array", "items": number, "minItems": 4, "maxItems": 6}
-    limit = {"type": "integer", "minimum": LEAST_LIMIT, "maximum": LARGEST_LIMIT, "default": DEFAULT_LIMIT}
-    items = [
-        _path("collectionId"),
-        _query("bbox", "West, south, east, north in degrees", bbox),
-        _query("datetime", "A time of RFC 3339, or two with / between, or .. for one of them", {"type": "string"}),
-        _query("limit", "How many features a page has at most", limit),
-        _query("after", "Behind which place the page begins: next links have it", {"type": "string"}),
-    ]
     exception = {
         "type": "object",
         "required": ["code"],
@@ -128,14 +139,17 @@ def api(base: str) -> dict[str, Any]:
             "/api": _get("api", "The API definition", OPENAPI),
             "/conformance": _get("conformance", "The conformance classes", JSON),
             "/collections": _get("collections", "The collections", JSON),
-            "/collections/{collectionId}": _get("collection", "A collection", JSON, [_path("collectionId")]),
-            "/collections/{collectionId}/items": _get("features", "The features of a collection", GEOJSON, items),
+            "/collections/{collectionId}": _get("collection", "A collection", JSON, ("collectionId",)),
+            "/collections/{collectionId}/items": _get(
+                "features", "The features of a collection", GEOJSON, ("collectionId", "bbox", "datetime", "limit", "after")
+            ),
             "/collections/{collectionId}/items/{featureId}": _get(
-                "feature", "A feature", GEOJSON, [_path("collectionId"), _path("featureId")]
+                "feature", "A feature", GEOJSON, ("collectionId", "featureId")
             ),
         },
         "components": {
             "securitySchemes": {"token": {"type": "http", "scheme": "bearer", "bearerFormat": "USER.SECRET"}},
             "schemas": {"exception": exception},
+            "parameters": PARAMETERS,
         },
     }
