@@ -16,7 +16,7 @@ import pytest
 from conftest import Run
 from served import digest, token
 
-from fashkiin import Client, Table, Token
+from fashkiin import Client, Table, Token, __version__
 from fashkiin.accounts import Change
 from fashkiin.cli import COMMANDS, EXIT_STATUSES
 from fashkiin.commands.admin import news
@@ -80,6 +80,10 @@ def test_users_tables_and_grants(run: Run, table: Table, root: Client) -> None:
     assert run("users", "drop", "kim")[0] == 0
     code, _, err = run("users", "drop", "kim")
     assert (code, err) == (4, "fashkiin: no such user: user 'kim'\n")
+
+
+def test_the_version(run: Run) -> None:
+    assert run("--version") == (0, f"fashkiin {__version__}\n", "")
 
 
 def test_labels_and_whoami(run: Run) -> None:

@@ -17,6 +17,8 @@ from fashkiin.rows import Page, Place, Row
 from fashkiin.table import Table
 from fashkiin.tokens import Token
 
+__version__ = "0.1.0"
+
 __all__ = [
     "Account",
     "Bbox",

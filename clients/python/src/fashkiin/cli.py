@@ -9,6 +9,7 @@ import os
 import sys
 from collections.abc import Sequence
 
+from fashkiin import __version__
 from fashkiin.commands import (
     BAD_INPUT,
     DONE,
@@ -69,6 +70,7 @@ def make_parser() -> argparse.ArgumentParser:
     parser = argparse.ArgumentParser(
         "fashkiin", parents=[common], description="Loads, reads and administers a server of labelled points."
     )
+    parser.add_argument("--version", action="version", version=f"fashkiin {__version__}")
     subparsers = parser.add_subparsers(metavar="COMMAND", required=True)
     for command in COMMANDS:
         own = subparsers.add_parser(command.name, parents=[common], help=command.summary, description=command.summary)

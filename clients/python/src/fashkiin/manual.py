@@ -39,6 +39,8 @@ def _lines() -> Iterator[str]:
     yield ".SH SYNOPSIS"
     yield r".B fashkiin"
     yield r"\fICOMMAND\fR [\fIOPTION\fR]... [\fIARGUMENT\fR]..."
+    yield ".br"
+    yield r".B fashkiin \-\-version"
     yield ".SH DESCRIPTION"
     yield _text(parser.description or "")
     yield "Data is written on standard output, talk on standard error."
