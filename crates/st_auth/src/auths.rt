@@ -71,6 +71,7 @@ impl<A: Allocator + Copy> Auths<A> {
         ensures names { IfOk result (λ auths. auths ≡ map (λ name. name.now) names.now) }
         ensures good { IfOk result (λ auths. first_bad auths ≡ None) }
         ensures fault { IfErr result (λ fault. RefusesNames (map (λ name. name.now) names.now) fault) }
+        ensures no_memory { IfErr result (λ fault. fault ≡ NoMemory → first_bad (map (λ name. name.now) names.now) ≡ None) }
     {
         if let Some(index) = bad_place(names) {
             return Err(AuthsFault::BadName { index });
