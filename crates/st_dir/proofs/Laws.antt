@@ -13,9 +13,9 @@ use Rattle.st_dir.specs.declared.grantee.Grantee.{Grantee}
 use Rattle.st_dir.specs.Permissions.{same_permission}
 use Rattle.st_dir.specs.declared.grant.Grant.{Grant}
 use Rattle.st_dir.specs.declared.grant.Scope.{Scope}
-use Rattle.st_dir.proofs.Keys.{grant_own}
+use Rattle.st_dir.specs.inner.Keys.{grant_own}
 use Rattle.st_dir.proofs.Sets.{any_order}
-use Rattle.st_dir.proofs.Sorted.{clash}
+use Rattle.st_sorted.proofs.Sorted.{clash}
 
 pub held_with : (g : Grant) (grants : List Grant) → list_any (same_grant g) (with_grant g grants) ≡ true
 held_with g grants = at (list_any (same_grant g) grants) refl

@@ -1,5 +1,5 @@
-pub mod Keys
-pub mod Sorted
+pub use Rattle.st_sorted.proofs.Sorted
+pub use Rattle.st_dir.specs.inner.Keys
 mod First
 mod Sets
 mod Laws

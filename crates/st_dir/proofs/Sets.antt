@@ -9,9 +9,9 @@ use Rattle.st_auth.proofs.Search.{among_in_order}
 use Rattle.st_dir.specs.Grants.{same_scope}
 use Rattle.st_dir.specs.declared.grant.Grant.{Grant}
 use Rattle.st_dir.specs.declared.grant.Scope.{Scope}
-use Rattle.st_dir.specs.Sorted.{ComesFirst, Rises, name_key}
-use Rattle.st_dir.specs.inner.Places.{with_name}
-use Rattle.st_dir.proofs.Sorted.{clash, before_trans, in_order_already, none_from_any, not_itself, other_before, rises_put}
+use Rattle.st_sorted.specs.Sorted.{ComesFirst, Rises, name_key}
+use Rattle.st_dir.specs.inner.Names.{with_name}
+use Rattle.st_sorted.proofs.Sorted.{clash, before_trans, in_order_already, none_from_any, not_itself, other_before, rises_put}
 
 module _ {X : Type 0} (key : X → List Text) (test : X → Bool) where
   pub any_put : (x : X) (ys : List X) → list_any test (put_in_order key x ys) ≡ (test x || list_any test ys)

@@ -1,49 +1,25 @@
 //! The names of authorizations, each once.
-ghost use Rattle.std.specs.Prelude.{◌≡◌, ◌<◌, ◌≤◌, true, false, length, slice_index_or, IfOk, OnOk};
-ghost use Rattle.st_text.specs.Texts.{Text, same, comes_before, set_of};
-ghost use Rattle.st_dir.specs.Sorted.{Rises, name_key};
-ghost use Rattle.st_dir.specs.inner.Places.{IsPlace, IsAlone, with_name};
+ghost use Rattle.std.specs.Prelude.{◌≡◌, IfOk, OnOk};
+ghost use Rattle.st_text.specs.Texts.{set_of};
+ghost use Rattle.st_sorted.specs.Sorted.{Rises, name_key};
+ghost use Rattle.st_dir.specs.inner.Names.{with_name};
 
+use crate::named::Named;
 use st_auth::Auths;
+use st_sorted::{has, place_of};
 use st_text::{Items, Words};
 use std::alloc::{AllocError, Allocator};
-
-// Whether a name comes before a text, by its bytes.
-fn comes_before_text<A: Allocator>(name: &Words<A>, text: &str) -> bool
-    ensures { result ≡ comes_before (name_key name.now) (name_key text.now) }
-{
-    name.as_str() < text
-}
-
-// The place of a text among names in order.
-fn place_of<A: Allocator>(names: &[Words<A>], text: &str) -> usize
-    requires { Rises name_key names.now }
-    ensures place { IsPlace name_key (name_key text.now) names.now result }
-    ensures inside { result ≤ length names.now }
-    ensures alone { IsAlone (same text.now) names.now result }
-{
-    names.partition_point(|name| comes_before_text(name, text))
-}
-
-// Whether the name at a place is this text.
-fn is_at<A: Allocator>(names: &[Words<A>], place: usize, text: &str) -> bool
-    ensures inside { result ≡ true → place < length names.now }
-    ensures yes_at { result ≡ true → (d : Text) → same text.now (slice_index_or names.now place d) ≡ true }
-    ensures not_at { result ≡ false → (d : Text) → place < length names.now
-        → same text.now (slice_index_or names.now place d) ≡ false }
-{
-    place < names.len() && text == names[place].as_str()
-}
 
 // Puts in a name, unless it is there.
 fn put<A: Allocator>(names: &mut Vec<Words<A>, A>, name: Words<A>) -> Result<(), AllocError>
     requires { Rises name_key names.old.items }
     ensures ok { OnOk result (names.new.items ≡ with_name name names.old.items) }
 {
-    let place = place_of(names, name.as_str());
-    if is_at(names, place, name.as_str()) {
+    let wanted = Named(name.as_str());
+    if has(names, &wanted) {
         return Ok(());
     }
+    let place = place_of(names, &wanted);
     let Ok(()) = names.insert(place, name) else {
         return Err(AllocError);
     };

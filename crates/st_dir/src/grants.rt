@@ -1,5 +1,5 @@
 //! The grants.
-ghost use Rattle.std.specs.Prelude.{◌≡◌, ◌<◌, ◌≤◌, ◌+◌, [], true, false, filter, map, not, length, IfOk, slice_index_or, IsOk, OnOk, OnErr};
+ghost use Rattle.std.specs.Prelude.{◌≡◌, ◌<◌, ◌≤◌, ◌+◌, [], filter, map, not, length, IfOk, IsOk, OnOk, OnErr};
 ghost use Rattle.std.specs.List.{list_any, fold};
 ghost use Rattle.std.specs.Vec.{vec_len, vec_capacity};
 ghost use Rattle.st_text.specs.Texts.{same, set_of};
@@ -7,14 +7,15 @@ ghost use Rattle.st_dir.specs.Changes.{with_grant, with_all};
 ghost use Rattle.st_dir.specs.Grants.{grant_of, same_grant, same_scope};
 ghost use Rattle.st_dir.specs.Order.{grant_key};
 ghost use Rattle.st_dir.specs.Permissions.{table_permissions};
-ghost use Rattle.st_dir.specs.Sorted.{Rises};
-ghost use Rattle.st_dir.specs.inner.Places.{IsPlace, IsAlone};
+ghost use Rattle.st_sorted.specs.Sorted.{Rises};
 ghost use Rattle.st_dir.specs.declared.grant.Grant as Declared;
 
 use crate::grant::{Grant, Scope};
 use crate::name::Name;
 use crate::permission::Permission;
 use crate::user_names::granted_on;
+use crate::wanted_grant::WantedGrant;
+use st_sorted::{has, place_of, remove};
 use st_text::Items;
 use std::alloc::{AllocError, Allocator, Global};
 use std::marker::Model;
@@ -37,7 +38,7 @@ pub struct Grants<A: Allocator = Global> {
 impl<A: Allocator> Model for Grants<A> {
     ghost use Rattle.std.specs.Prelude.{List};
     ghost use Rattle.st_dir.specs.Order.{grant_key};
-    ghost use Rattle.st_dir.specs.Sorted.{Rises};
+    ghost use Rattle.st_sorted.specs.Sorted.{Rises};
     ghost use Rattle.st_dir.specs.declared.grant.Grant.{Grant};
 
     ghost Value = { List Grant };
@@ -45,36 +46,6 @@ impl<A: Allocator> Model for Grants<A> {
     ghost view = { λ g. g.grants.items };
 
     ghost invariant = { λ g. Rises grant_key g.grants.items };
-}
-
-// The place of a grant among grants in order.
-fn place_of(grants: &[Grant], user: &str, scope: &Scope, permission: Permission) -> usize
-    requires { Rises grant_key grants.now }
-    ensures place { IsPlace grant_key (grant_key (grant_of user.now scope.now permission)) grants.now result }
-    ensures inside { result ≤ length grants.now }
-    ensures alone { IsAlone (same_grant (grant_of user.now scope.now permission)) grants.now result }
-{
-    grants.partition_point(|grant| grant.stands_before(user, scope, permission))
-}
-
-// Whether the grant at a place is this one.
-fn is_at(grants: &[Grant], place: usize, user: &str, scope: &Scope, permission: Permission) -> bool
-    ensures inside { result ≡ true → place < length grants.now }
-    ensures yes_at { result ≡ true → (d : Declared.Grant)
-        → same_grant (grant_of user.now scope.now permission) (slice_index_or grants.now place d) ≡ true }
-    ensures not_at { result ≡ false → (d : Declared.Grant) → place < length grants.now
-        → same_grant (grant_of user.now scope.now permission) (slice_index_or grants.now place d) ≡ false }
-{
-    place < grants.len() && grants[place].gives(user, scope, permission)
-}
-
-// Whether there is such a grant, among grants in order.
-fn has(grants: &[Grant], user: &str, scope: &Scope, permission: Permission) -> bool
-    requires { Rises grant_key grants.now }
-    ensures { result ≡ list_any (same_grant (grant_of user.now scope.now permission)) grants.now }
-{
-    let place = place_of(grants, user, scope, permission);
-    is_at(grants, place, user, scope, permission)
 }
 
 // Puts in a grant, unless it is held. It succeeds if there is room.
@@ -87,10 +58,10 @@ fn put<A: Allocator>(grants: &mut Vec<Grant, A>, grant: Grant) -> Result<(), All
     ensures len { vec_len grants.new ≤ vec_len grants.old + 1 }
     ensures capacity { vec_capacity grants.old ≤ vec_capacity grants.new }
 {
-    if has(grants, grant.user.as_str(), &grant.scope, grant.permission) {
+    if has(grants, &grant) {
         return Ok(());
     }
-    let place = place_of(grants, grant.user.as_str(), &grant.scope, grant.permission);
+    let place = place_of(grants, &grant);
     let Ok(()) = grants.insert(place, grant) else {
         return Err(AllocError);
     };
@@ -127,7 +98,12 @@ impl<A: Allocator> Grants<A> {
     pub fn has(&self, user: &str, scope: &Scope, permission: Permission) -> bool
         ensures { result ≡ list_any (same_grant (grant_of user.now scope.now permission)) self.now }
     {
-        has(&self.grants, user, scope, permission)
+        let wanted = WantedGrant {
+            user,
+            scope,
+            permission,
+        };
+        has(&self.grants, &wanted)
     }
 
     /// Puts in a grant, unless it is held. `AllocError` when out of memory; the grants are then
@@ -154,10 +130,12 @@ impl<A: Allocator> Grants<A> {
     pub fn remove(&mut self, user: &str, scope: &Scope, permission: Permission)
         ensures { self.new ≡ filter (λ g. not (same_grant (grant_of user.now scope.now permission) g)) self.old }
     {
-        let place = place_of(&self.grants, user, scope, permission);
-        if is_at(&self.grants, place, user, scope, permission) {
-            let _ = self.grants.remove(place);
-        }
+        let wanted = WantedGrant {
+            user,
+            scope,
+            permission,
+        };
+        remove(&mut self.grants, &wanted);
     }
 
     /// Takes out every grant to the user.

@@ -2,7 +2,7 @@
 ghost use Rattle.std.specs.Prelude.{◌≡◌, map, true, false, Some};
 ghost use Rattle.st_text.specs.Names.{namespace_of};
 ghost use Rattle.st_text.specs.Texts.{Text};
-ghost use Rattle.st_dir.specs.Sorted.{Rises, name_key};
+ghost use Rattle.st_sorted.specs.Sorted.{Rises, name_key};
 ghost use Rattle.st_dir.specs.Changes.{granted, user_dropped, table_dropped};
 ghost use Rattle.st_dir.specs.Directory.{Directory, has_table, is_granted};
 ghost use Rattle.st_dir.specs.Listings.{grants_on};

@@ -10,6 +10,7 @@ mod grantee;
 mod grants;
 pub mod law;
 mod name;
+mod named;
 mod permission;
 mod system_permissions;
 mod table;
@@ -18,6 +19,7 @@ mod tables;
 mod user;
 mod user_names;
 mod users;
+mod wanted_grant;
 
 pub use account::Account;
 pub use directory::Directory;

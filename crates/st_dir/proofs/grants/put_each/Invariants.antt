@@ -3,7 +3,7 @@ use Rattle.std.specs.List.{fold}
 use Rattle.std.specs.Vec.{vec_len, vec_capacity}
 use Rattle.st_dir.specs.Changes.{with_grant}
 use Rattle.st_dir.specs.Order.{grant_key}
-use Rattle.st_dir.specs.Sorted.{Rises}
+use Rattle.st_sorted.specs.Sorted.{Rises}
 use Rattle.st_dir.proofs.grants.put_each.Given as goal
 
 -- those that have come are granted, and there is room for the others

@@ -4,7 +4,7 @@ use Rattle.std.proofs.lemmas.List.{take_all}
 use Rattle.std.proofs.lemmas.List.Folds.{list_any_more}
 use Rattle.st_text.specs.Texts.{same, is_among}
 use Rattle.st_dir.specs.Grants.{same_scope}
-use Rattle.st_dir.specs.Sorted.{Rises, name_key}
+use Rattle.st_sorted.specs.Sorted.{Rises, name_key}
 use Rattle.st_dir.proofs.Sets.{among_with_user, met_in_grants, rises_with_user}
 use Rattle.st_dir.proofs.user_names.granted_on.Goals as goal
 

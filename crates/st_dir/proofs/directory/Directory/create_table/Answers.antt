@@ -1,7 +1,7 @@
 use Rattle.std.proofs.Common.{rules, find, sym, ◌∙◌}
 use Rattle.st_text.specs.Texts.{same}
 use Rattle.st_dir.specs.Directory.{table_named}
-use Rattle.st_dir.proofs.Sorted.{not_found}
+use Rattle.st_sorted.proofs.Sorted.{not_found}
 use Rattle.st_dir.proofs.directory.Directory.create_table.Goals as goal
 
 pub add-requires : goal.add-requires

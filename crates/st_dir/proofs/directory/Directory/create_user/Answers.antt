@@ -1,7 +1,7 @@
 use Rattle.std.proofs.Common.{rules, find, ap, sym, ◌∙◌}
 use Rattle.st_text.specs.Texts.{same}
 use Rattle.st_dir.specs.Directory.{user_named}
-use Rattle.st_dir.proofs.Sorted.{not_found}
+use Rattle.st_sorted.proofs.Sorted.{not_found}
 use Rattle.st_dir.proofs.directory.Directory.create_user.Goals as goal
 
 pub add-requires : goal.add-requires

@@ -2,9 +2,9 @@ use Rattle.std.proofs.Common.{rules, not, sym, ◌∙◌, ap, subst, filter}
 use Rattle.std.proofs.lemmas.Fn.{filter_same}
 use Rattle.st_text.specs.Texts.{same}
 use Rattle.st_dir.specs.Order.{grant_key}
-use Rattle.st_dir.specs.Sorted.{Rises}
+use Rattle.st_sorted.specs.Sorted.{Rises}
 use Rattle.st_dir.specs.declared.grant.Grant.{Grant}
-use Rattle.st_dir.proofs.Sorted.{rises_filter}
+use Rattle.st_sorted.proofs.Sorted.{rises_filter}
 use Rattle.st_dir.proofs.grants.Grants.remove_user.Goals as goal
 
 pub invariant_of-self : goal.invariant_of-self

@@ -1,7 +1,7 @@
 use Rattle.std.proofs.Common.{ap, sym, ◌∙◌}
 use Rattle.st_text.specs.Texts.{in_order}
 use Rattle.st_dir.specs.Order.{table_key}
-use Rattle.st_dir.proofs.Sorted.{in_order_already}
+use Rattle.st_sorted.proofs.Sorted.{in_order_already}
 use Rattle.st_dir.proofs.tables.Tables.list.Goals as goal
 
 pub returns : goal.returns

@@ -2,7 +2,7 @@ use Rattle.std.proofs.Common.{◌≡◌, List, map, IfOk, ap, sym, subst, ◌∙
 use Rattle.st_text.specs.Texts.{in_order}
 use Rattle.st_dir.specs.Order.{user_key}
 use Rattle.st_dir.specs.declared.user.User.{User}
-use Rattle.st_dir.proofs.Sorted.{in_order_already}
+use Rattle.st_sorted.proofs.Sorted.{in_order_already}
 use Rattle.st_dir.proofs.users.Users.names.Goals as goal
 
 pub returns : goal.returns

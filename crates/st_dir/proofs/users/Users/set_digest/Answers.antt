@@ -3,9 +3,9 @@ use Rattle.std.specs.Prelude.{slice_set}
 use Rattle.st_text.specs.Texts.{same}
 use Rattle.st_dir.specs.Changes.{with_user}
 use Rattle.st_dir.specs.Order.{user_key}
-use Rattle.st_dir.specs.Sorted.{Rises}
+use Rattle.st_sorted.specs.Sorted.{Rises}
 use Rattle.st_dir.specs.declared.user.User.{User}
-use Rattle.st_dir.proofs.Sorted.{changed, none_changed, rises_changed}
+use Rattle.st_sorted.proofs.Sorted.{changed, none_changed, rises_changed}
 use Rattle.st_dir.proofs.users.Users.set_digest.Goals as goal
 
 pub invariant_of-self : goal.invariant_of-self

@@ -1,7 +1,6 @@
--- A stage of the code, which no reader has to believe: the place of a key in a list sorted by key.
-use Rattle.std.specs.Prelude.{◌≡◌, ℕ, zero, suc, List, [], ◌∷◌, Bool, true, false, if◌then◌else◌}
-use Rattle.st_text.specs.Texts.{Text, comes_before, is_among, in_order}
-use Rattle.st_dir.specs.Sorted.{name_key}
+-- The place of a key in a list sorted by key.
+use Rattle.std.specs.Prelude.{◌≡◌, ℕ, zero, suc, List, [], ◌∷◌, Bool, true, false}
+use Rattle.st_text.specs.Texts.{Text, comes_before}
 
 -- no item's key comes before the one wanted
 abbrev pub NoneBefore : {X : Type 0} → (X → List Text) → List Text → List X → Type 0
@@ -25,7 +24,3 @@ IsAlone test [] zero = Unit {0}
 IsAlone test (x ∷ xs) zero = NoneOf test xs
 IsAlone test [] (suc place) = ⊥
 IsAlone test (x ∷ xs) (suc place) = (test x ≡ false) × IsAlone test xs place
-
--- with the name among them, once
-abbrev pub with_name : Text → List Text → List Text
-with_name name names = if is_among names name then names else in_order name_key (name ∷ names)

@@ -11,8 +11,8 @@ use Rattle.std.proofs.lemmas.List.Folds.{list_any_at}
 use Rattle.std.proofs.lemmas.Cmp.{lists_total, nat_list_cmp_total}
 use Rattle.std.proofs.lemmas.Map.Lookups.{exact_bytes}
 use Rattle.st_text.specs.Texts.{Text, comes_before, put_in_order, in_order}
-use Rattle.st_dir.specs.Sorted.{ComesFirst, Rises}
-use Rattle.st_dir.specs.inner.Places.{NoneBefore, IsPlace, NoneOf, IsAlone}
+use Rattle.st_sorted.specs.Sorted.{ComesFirst, Rises}
+use Rattle.st_sorted.specs.Places.{NoneBefore, IsPlace, NoneOf, IsAlone}
 
 pub clash : false ≡ true → ⊥
 clash p = cc

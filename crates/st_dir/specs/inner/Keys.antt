@@ -1,4 +1,4 @@
--- Grants that are left, and what tells names and grants apart.
+-- Proofs, which no reader has to believe: keys tell names and grants apart, and what is taken out is not left.
 use Rattle.std.proofs.Common.{arith, ◌≡◌, List, [], ◌∷◌, Bool, true, false, not, ◌&&◌, filter, refl, sym, ap, ◌∙◌, subst}
 use Rattle.std.specs.Prelude.{slice_index_or}
 use Rattle.std.proofs.lemmas.Bool.{eqb-true, eq-eqb}
