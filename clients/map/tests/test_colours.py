@@ -6,7 +6,9 @@ Deficiency" (2009), at full severity, on linear RGB; differences are those of CI
 
 from __future__ import annotations
 
+import math
 import re
+from collections.abc import Sequence
 from itertools import combinations, pairwise
 
 import pytest
@@ -14,7 +16,7 @@ import pytest
 from served import TOP
 
 PAGE = TOP / "clients/map/page"
-EYES = {
+EYES: dict[str, list[tuple[float, float, float]]] = {
     "all colours": [(1, 0, 0), (0, 1, 0), (0, 0, 1)],
     "protanopia": [(0.152286, 1.052583, -0.204868), (0.114503, 0.786281, 0.099216), (-0.003882, -0.048116, 1.051998)],
     "deuteranopia": [(0.367322, 0.860646, -0.227968), (0.280085, 0.672501, 0.047413), (-0.011820, 0.042940, 0.968881)],
@@ -23,33 +25,28 @@ EYES = {
 CLEAR = 12
 """Five times what is just noticeable."""
 
-Triple = tuple[float, float, float]
+
+def linear(channel: float) -> float:
+    """A channel of linear RGB by that of sRGB (IEC 61966-2-1)."""
+    return channel / 12.92 if channel <= 0.04045 else math.pow((channel + 0.055) / 1.055, 2.4)
 
 
-def linear(colour: str) -> Triple:
-    """Linear RGB of a colour of sRGB (IEC 61966-2-1)."""
-    red, green, blue = (int(colour[at : at + 2], 16) / 255 for at in (1, 3, 5))
-    return tuple(it / 12.92 if it <= 0.04045 else ((it + 0.055) / 1.055) ** 2.4 for it in (red, green, blue))  # type: ignore[return-value]
+def times(matrix: Sequence[Sequence[float]], vector: Sequence[float]) -> list[float]:
+    return [sum(a * b for a, b in zip(row, vector, strict=True)) for row in matrix]
 
 
-def lab(rgb: Triple) -> Triple:
+def lab(rgb: Sequence[float]) -> tuple[float, float, float]:
     """CIE 1976 L*a*b* of linear RGB, white being D65."""
-    rows = [(0.4124, 0.3576, 0.1805), (0.2126, 0.7152, 0.0722), (0.0193, 0.1192, 0.9505)]
-    white = (0.9505, 1.0, 1.089)
-    x, y, z = (
-        it ** (1 / 3) if it > (6 / 29) ** 3 else it / (3 * (6 / 29) ** 2) + 4 / 29
-        for it in (sum(a * b for a, b in zip(row, rgb, strict=True)) / w for row, w in zip(rows, white, strict=True))
-    )
+    xyz = times([(0.4124, 0.3576, 0.1805), (0.2126, 0.7152, 0.0722), (0.0193, 0.1192, 0.9505)], rgb)
+    parts = [value / white for value, white in zip(xyz, (0.9505, 1.0, 1.089), strict=True)]
+    x, y, z = (it ** (1 / 3) if it > (6 / 29) ** 3 else it / (3 * (6 / 29) ** 2) + 4 / 29 for it in parts)
     return 116 * y - 16, 500 * (x - y), 200 * (y - z)
 
 
-def as_seen(colour: str, eye: str) -> Triple:
-    rgb = linear(colour)
-    return lab(tuple(min(1.0, max(0.0, sum(a * b for a, b in zip(row, rgb, strict=True)))) for row in EYES[eye]))  # type: ignore[arg-type]
-
-
-def difference(one: Triple, other: Triple) -> float:
-    return sum((a - b) ** 2 for a, b in zip(one, other, strict=True)) ** 0.5
+def as_seen(colour: str, eye: str) -> tuple[float, float, float]:
+    """What an eye sees of a colour such as #440154."""
+    rgb = [linear(channel / 255) for channel in bytes.fromhex(colour[1:])]
+    return lab([min(1.0, max(0.0, it)) for it in times(EYES[eye], rgb)])
 
 
 @pytest.mark.parametrize("eye", EYES)
@@ -61,6 +58,6 @@ def test_classes_differ(eye: str) -> None:
     classes = [as_seen(it, eye) for it in re.findall(r"#\w{6}", line[1])]
     assert len(classes) == 6
     assert all(light[0] - dark[0] > 5 for light, dark in pairwise(classes))
-    assert min(difference(*pair) for pair in combinations(classes, 2)) > CLEAR
+    assert min(math.dist(*pair) for pair in combinations(classes, 2)) > CLEAR
     for ground in (land[1], sea[1]):
-        assert min(difference(as_seen(ground, eye), it) for it in classes) > CLEAR
+        assert min(math.dist(as_seen(ground, eye), it) for it in classes) > CLEAR

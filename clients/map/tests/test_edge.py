@@ -69,7 +69,8 @@ def test_larger_body_is_refused_as_by_the_server(stack: Stack) -> None:
 def test_log_has_the_user_and_no_secret(stack: Stack) -> None:
     before = len(stack.lines())
     stack.ask("root", "GET", "/whoami")
-    asked = [f"Bearer {token('eve')}", f"Bearer {token('root').partition('.')[2]}", f"Basic {token('root')}", 'Bearer "quoted".' + "0" * 64]
+    alone = token("root").partition(".")[2]
+    asked = [f"Bearer {token('eve')}", f"Bearer {alone}", f"Basic {token('root')}", 'Bearer "quoted".' + "0" * 64]
     for authorization in asked:
         with socket.create_connection(("127.0.0.1", stack.edge), 10) as client:
             client.sendall(
@@ -92,8 +93,8 @@ def test_requests_over_http_2(stack: Stack) -> None:
         curl = ["curl", "-s", "--insecure", "--http2", "-H", "@-", "-w", " %{http_version} %{http_code}", *words, url]
         file = stack.folder / "body"
         file.write_bytes(body)
-        told = subprocess.run(curl, cwd=stack.folder, input=f"Authorization: Bearer {token('root')}".encode(), stdout=subprocess.PIPE, timeout=20)
-        return told.stdout.decode()
+        head = f"Authorization: Bearer {token('root')}".encode()
+        return subprocess.run(curl, cwd=stack.folder, input=head, stdout=subprocess.PIPE, timeout=20).stdout.decode()
 
     assert ask(b'{"label":"wind&wind"}', "--data-binary", "@body") == '{"normal":"wind"} 2 200'
     assert ask(b'{"label":"wind"}', "-X", "POST", "-T", "body", "-H", "Content-Length:") == '{"error":"length"} 2 411'

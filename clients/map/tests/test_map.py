@@ -10,7 +10,7 @@ from fashkiin import Client
 from fashkiin.cells import latitude_cell, longitude_cell
 from selenium.webdriver import Keys
 from selenium.webdriver.common.by import By
-from selenium.webdriver.support.ui import Select
+from selenium.webdriver.support.select import Select
 
 from page import Page
 from served import digest, token
@@ -46,7 +46,8 @@ def test_wrong_tokens_are_refused(page: Page) -> None:
 
 
 def test_draws_what_its_user_may_see(page: Page) -> None:
-    page.driver.get_log("browser"), page.driver.get_log("performance")
+    for log in ("browser", "performance"):
+        page.driver.get_log(log)  # what earlier tests left
     page.open(token("ann"), "table=geo.trips")
     assert page.total == len(seen(HELD))
     bounds = [it.text.replace(",", "").split("–") for it in page.all("#legend span")]
@@ -122,7 +123,8 @@ def test_reload_forgets_the_token_and_keeps_the_view(page: Page) -> None:
     page.driver.refresh()
     page.until(lambda: page["opening"].is_displayed())
     assert not page["panel"].is_displayed()
-    assert page.run("return [localStorage.length, sessionStorage.length, document.cookie, document.getElementById('token').value]") == [0, 0, "", ""]
+    assert page.run("return [localStorage.length, sessionStorage.length, document.cookie]") == [0, 0, ""]
+    assert page["token"].get_attribute("value") == ""
     page.sign_in(token("ann"))
     assert (page.address, page.total) == (before, total)
 
@@ -194,13 +196,15 @@ def test_token_that_is_refused_later_closes_the_page(page: Page, stack: Stack) -
 
 
 def test_telephone(page: Page) -> None:
-    page.driver.execute_cdp_cmd("Emulation.setDeviceMetricsOverride", {"width": 360, "height": 740, "deviceScaleFactor": 2, "mobile": True})
+    telephone = {"width": 360, "height": 740, "deviceScaleFactor": 2, "mobile": True}
+    page.driver.execute_cdp_cmd("Emulation.setDeviceMetricsOverride", telephone)
     try:
         page.open(token("ann"), AT_HARBOUR)
         assert page.run("return [document.documentElement.scrollWidth, document.documentElement.scrollHeight]") == [360, 740]
         assert page["map"].size["width"] == 360 and page["map"].size["height"] > 250
-        small = [it.get_attribute("id") for it in page.all("button, select, #auths label") if it.is_displayed() and it.size["height"] < 44]
-        assert small == []
+        touched = [it for it in page.all("button, select, #auths label") if it.is_displayed()]
+        assert len(touched) > 5
+        assert [it.text for it in touched if it.size["height"] < 44] == []
         page.click_map()
         page.until(lambda: len(page.rows) == 20)
         assert page.run("return document.getElementById('celltitle').getBoundingClientRect().top") < 740 - 100
@@ -218,4 +222,4 @@ def test_cells_are_those_of_the_client(page: Page) -> None:
         degrees,
     )
     assert [it[0] for it in cells] == [longitude_cell(it) for it in degrees]
-    assert [it[1] for it in cells if it] [2:9] == [latitude_cell(it) for it in degrees[2:9]]
+    assert [it[1] for it in cells[2:9]] == [latitude_cell(it) for it in degrees[2:9]]

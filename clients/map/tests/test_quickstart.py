@@ -1,6 +1,6 @@
 """docs/QUICKSTART.md, from its first command to its last, with the map that it opens.
 
-The commands run in one shell, in a copy of the repository's top whose files of deploy/ have free ports, and in a home of their own.
+The commands run in one shell, in a copy of the repository's top whose files of deploy/ have free ports, in a home of their own.
 """
 
 from __future__ import annotations
@@ -82,7 +82,8 @@ class Shell:
         while True:
             lines = data.decode().split("\n")
             status = next((it for it in lines if it.startswith("status=")), None)
-            if status is not None and data.endswith(b"\n") and (not step.command.endswith("&") or len(lines) > 1 + len(step.shown)):
+            enough = not step.command.endswith("&") or len(lines) > 1 + len(step.shown)
+            if status is not None and data.endswith(b"\n") and enough:
                 told = [it for it in lines[:-1] if it != status and not it.startswith("[")]
                 return told, int(status.removeprefix("status="))
             if not self._selector.select(max(0, end - time.monotonic())):

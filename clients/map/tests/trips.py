@@ -3,14 +3,13 @@
 from __future__ import annotations
 
 import random
-from collections.abc import Set
+from collections.abc import Callable, Set
 from datetime import UTC, datetime, timedelta
-from typing import NamedTuple
 
 from fashkiin import Row
 
 BEGIN = datetime(2021, 3, 1, tzinfo=UTC)
-SEEN_BY = {
+SEEN_BY: dict[str, Callable[[Set[str]], bool]] = {
     "": lambda held: True,
     "storms": lambda held: "storms" in held,
     "storms&flight": lambda held: {"storms", "flight"} <= held,
@@ -27,12 +26,20 @@ def trips() -> list[Row]:
     numbers = random.Random(7)
     labels = list(SEEN_BY)
     rows = [
-        Row(f"ship-{at}", numbers.uniform(-70, -10), numbers.uniform(20, 60), BEGIN + timedelta(seconds=numbers.randrange(100 * 86_400)),
-            labels[at % len(labels)], {"knots": at % 20})
+        Row(
+            f"ship-{at}",
+            numbers.uniform(-70, -10),
+            numbers.uniform(20, 60),
+            BEGIN + timedelta(seconds=numbers.randrange(100 * 86_400)),
+            labels[at % len(labels)],
+            {"knots": at % 20},
+        )
         for at in range(300)
     ]
     lat, lon = HARBOUR
-    rows += [Row(f"berth-{at}", lon, lat, BEGIN + timedelta(hours=at), "", {"berth": at, "pilot": "<b>Jan</b>"}) for at in range(30)]
+    rows += [
+        Row(f"berth-{at}", lon, lat, BEGIN + timedelta(hours=at), "", {"berth": at, "pilot": "<b>Jan</b>"}) for at in range(30)
+    ]
     return rows
 
 
