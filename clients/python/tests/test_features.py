@@ -9,6 +9,7 @@ import subprocess
 from collections.abc import Iterator
 from dataclasses import dataclass
 from datetime import UTC, datetime, timedelta
+from email.message import Message
 from pathlib import Path
 from typing import Any
 from urllib.error import HTTPError
@@ -61,15 +62,15 @@ class Facade:
     url: str
     port: int
 
-    def get(self, target: str, user: str | None = "bob", method: str = "GET") -> tuple[int, dict[str, str], Any]:
+    def get(self, target: str, user: str | None = "bob", method: str = "GET") -> tuple[int, Message, Any]:
         """Status, header fields and JSON of an answer; a target is a path of the facade, or a whole URL."""
         url = target if target.startswith("http") else self.url + target
         fields = {} if user is None else {"Authorization": f"Bearer {token(user)}"}
         try:
             with urlopen(Request(url, headers=fields, method=method), timeout=60) as answer:
-                return answer.status, dict(answer.headers), json.loads(answer.read() or b"null")
+                return answer.status, answer.headers, json.loads(answer.read() or b"null")
         except HTTPError as error:
-            return error.code, dict(error.headers), json.loads(error.read())
+            return error.code, error.headers, json.loads(error.read())
 
     def pages(self, user: str, **query: str) -> Iterator[dict[str, Any]]:
         """The pages of a query, along the next links."""
