@@ -4,11 +4,10 @@ from __future__ import annotations
 
 import itertools
 import os
-from collections.abc import Callable, Iterator
-from pathlib import Path
-
 import pytest
+from collections.abc import Callable, Iterator
 from hypothesis import settings
+from pathlib import Path
 from served import served, token
 
 from fashkiin import Client, Table

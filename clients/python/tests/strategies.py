@@ -3,7 +3,6 @@
 from __future__ import annotations
 
 from datetime import UTC, datetime
-
 from hypothesis import strategies as st
 
 from fashkiin import Row

@@ -3,14 +3,13 @@
 from __future__ import annotations
 
 import json
-from pathlib import Path
-
 import pytest
-from conftest import Run
-from scripted import reply, scripted
+from pathlib import Path
 from served import free_port
 
+from conftest import Run
 from fashkiin import Table
+from scripted import reply, scripted
 
 GOOD = "good,1.5,2.5,2024-05-01T12:00:00Z,A,x\n"
 HEADER = "id,lon,lat,time,label,name\n"

@@ -2,11 +2,10 @@
 
 from __future__ import annotations
 
+import pytest
 import random
 from collections.abc import Callable
 from datetime import UTC, datetime, timedelta
-
-import pytest
 from served import digest, token
 
 from fashkiin import Client, Row, Table, Token, errors

@@ -5,17 +5,16 @@ from __future__ import annotations
 import io
 import json
 import os
+import pytest
 import signal
 import stat
 import subprocess
 import sys
 from collections.abc import Sequence
 from pathlib import Path
-
-import pytest
-from conftest import Run
 from served import digest, token
 
+from conftest import Run
 from fashkiin import Client, Table, Token, __version__
 from fashkiin.accounts import Change
 from fashkiin.cli import COMMANDS, EXIT_STATUSES

@@ -2,10 +2,9 @@
 
 from __future__ import annotations
 
+import pytest
 from collections.abc import Iterator
 from datetime import UTC, datetime, timedelta
-
-import pytest
 from served import token
 from stack import Stack
 

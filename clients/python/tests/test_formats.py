@@ -3,21 +3,21 @@
 from __future__ import annotations
 
 import io
+import pytest
 from collections.abc import Sequence
 from datetime import UTC, datetime
-
-import pytest
 from hypothesis import given
 from hypothesis import strategies as st
-from strategies import names, rows, texts
 
 from fashkiin import FashkiinError, Row
 from fashkiin.formats import FORMATS, Found, InputError, Names, Source, format_of, sniff
+from strategies import names, rows, texts
 
+DEFAULT = Names()
 EXACT = ["geojson", "geojsonseq", "gpx"]
 
 
-def written(form: str, given_rows: Sequence[Row], naming: Names = Names()) -> bytes:
+def written(form: str, given_rows: Sequence[Row], naming: Names = DEFAULT) -> bytes:
     raw = io.BytesIO()
     out = io.TextIOWrapper(raw, encoding="utf-8", newline="")
     FORMATS[form].write(given_rows, out, naming)
@@ -25,7 +25,7 @@ def written(form: str, given_rows: Sequence[Row], naming: Names = Names()) -> by
     return raw.getvalue()
 
 
-def found(form: str, data: bytes, naming: Names = Names()) -> list[Found]:
+def found(form: str, data: bytes, naming: Names = DEFAULT) -> list[Found]:
     stream = io.BufferedReader(io.BytesIO(data))  # type: ignore[arg-type]
     return list(FORMATS[form].read(Source("f", stream), naming))
 

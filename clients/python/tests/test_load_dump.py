@@ -6,23 +6,22 @@ import csv
 import itertools
 import json
 import os
+import pytest
 import random
 import signal
 import subprocess
 import sys
 import time
-from pathlib import Path
-
-import pytest
-from conftest import Run
 from hypothesis import given, settings
 from hypothesis import strategies as st
+from pathlib import Path
 from served import token
-from strategies import rows, texts, values
 
+from conftest import Run
 from fashkiin import Client, Row, Table
 from fashkiin.formats import FORMATS, Names, Source
 from fashkiin.loading import Loader
+from strategies import rows, texts, values
 
 numbers = itertools.count(1)
 

@@ -4,11 +4,10 @@ from __future__ import annotations
 
 import http.client
 import json
+import pytest
 import threading
 from collections.abc import Iterator
 from pathlib import Path
-
-import pytest
 from served import free_port, token
 
 from fashkiin.commands.map import PAGES, MapServer

@@ -3,15 +3,14 @@
 from __future__ import annotations
 
 import json
-from datetime import UTC, datetime, timedelta
-
 import pytest
+from datetime import UTC, datetime, timedelta
 from hypothesis import given
-from strategies import rows
 
 from fashkiin import Row, RowError
 from fashkiin.cells import cell_latitude, cell_longitude
 from fashkiin.rows import read_row
+from strategies import rows
 
 TIME = datetime(2024, 5, 1, 12, tzinfo=UTC)
 

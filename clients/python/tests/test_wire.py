@@ -2,6 +2,7 @@
 
 from __future__ import annotations
 
+import pytest
 import random
 import re
 import ssl
@@ -10,15 +11,12 @@ import time
 from collections.abc import Callable
 from datetime import UTC, datetime
 from pathlib import Path
+from served import free_port, token
 from typing import Any
 
-import pytest
-from scripted import OK, Script, Talk, reply, scripted
-from served import free_port, token
-
-from fashkiin import Client, ConnectError, CutOffError, EdgeError, RefusalError, ReplyError, Row, SettingsError
-from fashkiin import errors
+from fashkiin import Client, ConnectError, CutOffError, EdgeError, RefusalError, ReplyError, Row, SettingsError, errors
 from fashkiin.wire import Address
+from scripted import OK, Script, Talk, reply, scripted
 
 API = Path(__file__).resolve().parents[3] / "docs/API.md"
 WHOAMI = {"auths": ["A"], "permissions": [], "user": "ann"}

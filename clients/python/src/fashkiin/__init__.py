@@ -3,16 +3,7 @@
 from fashkiin.accounts import Account, Change, Grant, TableInfo
 from fashkiin.cells import Bbox, Box, Span
 from fashkiin.client import Client, Put
-from fashkiin.errors import (
-    ConnectError,
-    CutOffError,
-    EdgeError,
-    FashkiinError,
-    RefusalError,
-    ReplyError,
-    RowError,
-    SettingsError,
-)
+from fashkiin.errors import ConnectError, CutOffError, EdgeError, FashkiinError, RefusalError, ReplyError, RowError, SettingsError
 from fashkiin.rows import Page, Place, Row
 from fashkiin.table import Table
 from fashkiin.tokens import Token

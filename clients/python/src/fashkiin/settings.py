@@ -12,8 +12,9 @@ The file is TOML: `--config`, `FASHKIIN_CONFIG`, or `fashkiin/config.toml` in `X
 
 from __future__ import annotations
 
-import math
 import tomllib
+
+import math
 from collections.abc import Mapping
 from dataclasses import dataclass
 from pathlib import Path

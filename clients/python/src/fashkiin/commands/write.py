@@ -6,10 +6,10 @@ import argparse
 import json
 from typing import Any
 
+from fashkiin.cells import parse_time
 from fashkiin.commands import DONE, Command, Session
 from fashkiin.commands.labels import explained
 from fashkiin.commands.where import add_table
-from fashkiin.cells import parse_time
 from fashkiin.errors import SettingsError
 from fashkiin.formats.fields import degrees
 from fashkiin.rows import Row
