@@ -276,8 +276,6 @@ def test_roles_that_are_there_are_never_taken(both: Both) -> None:
     made = run(both.port, both.folder, "root", "export", "postgis", "--table", "points")
     loaded = load(both.socket, "again", made.stdout)
     assert loaded.returncode == 3 and b'role "auth:A" already exists' in loaded.stderr
-    listed = ["psql", "-X", "-h", str(both.socket), "-U", SUPERUSER, "-d", "again", "-Atc", "select count(*) from pg_namespace"]
-    assert subprocess.run([*listed[:-1], "select to_regnamespace('fashkiin')"], capture_output=True).stdout == b"\n"
     made = run(both.port, both.folder, "root", "export", "postgis", "--table", "points", "--role-prefix", "other_")
     loaded = load(both.socket, "other", made.stdout)
     assert (loaded.returncode, loaded.stderr) == (0, b"")
@@ -286,6 +284,19 @@ def test_roles_that_are_there_are_never_taken(both: Both) -> None:
         cursor.execute("select count(*) from points")
         with both.client("select") as client:
             assert cursor.fetchone() == (client.table("points").count(),)
+
+
+@pytest.mark.parametrize("left", [0.999, 0.5, 0.1])
+def test_a_script_that_was_cut_off_changes_nothing(both: Both, left: float) -> None:
+    made = run(both.port, both.folder, "root", "export", "postgis", "--table", "geo.trips", "--role-prefix", "cut_").stdout
+    database = f"cut_{int(1000 * left)}"
+    load(both.socket, database, made[: int(len(made) * left)])
+    with closing(psycopg2.connect(host=str(both.socket), user=SUPERUSER, dbname=database)) as connection:
+        cursor = connection.cursor()
+        cursor.execute("select count(*) from pg_namespace where nspname = 'fashkiin'")
+        assert cursor.fetchone() == (0,)
+        cursor.execute("select count(*) from pg_roles where rolname like 'cut_%'")
+        assert cursor.fetchone() == (0,)
 
 
 def test_what_the_exporter_does_not_see_is_told(both: Both) -> None:
