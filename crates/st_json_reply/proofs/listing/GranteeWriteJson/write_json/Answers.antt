@@ -1,7 +1,7 @@
 use Rattle.std.proofs.Common.{[], ◌∷◌, sym}
 use Rattle.json.specs.Token.{begin_object, end_object}
 use Rattle.st_json_reply.proofs.Added.{added, added_then, then_last}
-use Rattle.st_json_reply.proofs.listing.GivenWriteJson.write_json.Goals as goal
+use Rattle.st_json_reply.proofs.listing.GranteeWriteJson.write_json.Goals as goal
 
 pub returns : goal.returns
 returns g c =
