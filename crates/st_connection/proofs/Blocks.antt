@@ -4,11 +4,12 @@ use Rattle.std.specs.List.{concat}
 use Rattle.std.specs.Io.KnownBytes.{Appends}
 use Rattle.std.proofs.KnownBytes.{Appends-trans}
 use Rattle.std.proofs.lemmas.List.Folds.{concat-append}
-use Rattle.st_http.specs.First.{First, more}
+use Rattle.st_http.specs.First.{First}
 use Rattle.st_connection.specs.Items.{Begins, is_closed}
-use Rattle.st_connection.specs.Connection.{Run, Reaches, ReachesWithin, all_but_last, Amid, Whole, Broken, Loses, One, Sent, Passed}
-use Rattle.st_connection.specs.declared.connection.Stopped.{Stopped}
-use Rattle.st_connection.specs.declared.connection.Stopped.TheVariants as stopped
+use Rattle.st_connection.specs.Connection.{Run, Reaches, ReachesWithin, all_but_last, Amid}
+use Rattle.st_connection.specs.inner.Stages.{Whole, Broken, Loses, One, Sent, Passed}
+use Rattle.st_connection.specs.declared.sending.Stopped.{Stopped}
+use Rattle.st_connection.specs.declared.sending.Stopped.TheVariants as stopped
 use Rattle.st_connection.proofs.Reading.{begins_one, begins_none, begins_join, closed_one, closed_join}
 use Rattle.st_connection.proofs.Joins.{run_join, whole_join}
 

@@ -5,7 +5,8 @@ use Rattle.std.specs.Io.KnownBytes.{Appends}
 use Rattle.std.proofs.KnownBytes.{Appends-nil, Appends-trans}
 use Rattle.std.proofs.lemmas.List.Folds.{concat-append}
 use Rattle.st_http.specs.First.{First}
-use Rattle.st_connection.specs.Connection.{Run, Whole}
+use Rattle.st_connection.specs.Connection.{Run}
+use Rattle.st_connection.specs.inner.Stages.{Whole}
 use Rattle.st_connection.proofs.Reading.{closed_join, begins_grows, begins_join, begins_none}
 
 pub run_join : {S : Type 0} (step : S → First → List ℕ → S → Type 0) (old mid new : S) (items others : List First) (answers replies : List (List ℕ))

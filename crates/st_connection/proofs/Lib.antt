@@ -8,3 +8,4 @@ pub mod Buffer
 pub mod Turns
 pub mod Blocks
 pub mod AtOnce
+pub mod Ending

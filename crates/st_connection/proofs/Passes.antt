@@ -5,11 +5,11 @@ use Rattle.st_http.specs.First.{First, more, IsFirst}
 use Rattle.std.specs.Io.KnownBytes.{Appends}
 use Rattle.std.specs.List.{concat}
 use Rattle.std.proofs.KnownBytes.{Appends-trans}
-use Rattle.st_connection.specs.Connection.{Whole, Broken, Loses, One, Passed, Answered, AnsweredNext}
-use Rattle.st_connection.specs.declared.connection.Stopped.{Stopped}
+use Rattle.st_connection.specs.inner.Stages.{Whole, Broken, Loses, One, Passed, Answered, AnsweredNext}
+use Rattle.st_connection.specs.declared.sending.Stopped.{Stopped}
 use Rattle.st_connection.specs.declared.connection.Next.TheVariants as nexts
 use Rattle.st_connection.specs.declared.connection.Stop.TheVariants as stops
-use Rattle.st_connection.specs.declared.connection.Stopped.TheVariants as stopped
+use Rattle.st_connection.specs.declared.sending.Stopped.TheVariants as stopped
 use Rattle.st_connection.proofs.Blocks.{Gathered, gathered_none, gathered_one, gathered_out, gathered_breaks, gathered_lost, held_still, flushed, amid_all, all_but_most}
 use Rattle.st_connection.proofs.Reading.{few_items}
 

@@ -1,5 +1,5 @@
 -- One item, answered.
-use Rattle.std.proofs.Common.{◌≡◌, ℕ, ◌^◌, ◌<◌, ◌≤◌, ◌⊎◌, Bool, true, false, Option, Ok, Err, List, [], ◌++◌, length, drop, refl, sym, ap, ◌∙◌, subst, arith}
+use Rattle.std.proofs.Common.{◌≡◌, ℕ, ◌^◌, ◌<◌, ◌≤◌, ◌⊎◌, Bool, true, false, Option, Ok, Err, List, ◌++◌, length, drop, refl, sym, ap, ◌∙◌, subst, arith}
 use Rattle.httparse.specs.Grammar.{RequestHead}
 use Rattle.st_http.specs.declared.message.Take.TheVariants as takes
 use Rattle.st_http.specs.declared.message.Message.{Message}
@@ -8,8 +8,8 @@ use Rattle.st_http.specs.Message.{Takes, ShowsMessage}
 use Rattle.st_http.specs.First.{First, message, fault, more, IsFirst, size_of}
 use Rattle.st_http.specs.Items.{after_message}
 use Rattle.st_http.proofs.ItemLemmas.{message_size}
-use Rattle.st_connection.specs.Connection.{One, Passed, AnsweredNext}
-use Rattle.st_connection.specs.declared.connection.Stopped.{Stopped}
+use Rattle.st_connection.specs.inner.Stages.{One, Passed, AnsweredNext}
+use Rattle.st_connection.specs.declared.sending.Stopped.{Stopped}
 use Rattle.st_connection.specs.declared.connection.Next.TheVariants as nexts
 
 -- the message that stands first in a text

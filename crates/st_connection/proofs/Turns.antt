@@ -6,7 +6,8 @@ use Rattle.std.proofs.KnownBytes.{Consumes-nil, Consumes-trans, Consumes-kept}
 use Rattle.st_http.specs.First.{First, more, IsFirst}
 use Rattle.st_http.specs.Items.{Items}
 use Rattle.st_http.proofs.FirstLemmas.{more_short}
-use Rattle.st_connection.specs.Connection.{Whole, Broken, Loses, ServedWithin}
+use Rattle.st_connection.specs.Connection.{ServedWithin}
+use Rattle.st_connection.specs.inner.Stages.{Whole, Broken, Loses}
 use Rattle.st_connection.specs.declared.connection.Ended.TheVariants.{Clean, Closed, Cut, TurnsSpent, Lost}
 use Rattle.st_connection.proofs.Empty.{first_empty}
 use Rattle.st_connection.proofs.Reading.{few_items, items_whole}

@@ -4,7 +4,7 @@ use Rattle.std.specs.Io.KnownBytes.{Appends}
 use Rattle.std.proofs.KnownBytes.{Appends-trans}
 use Rattle.std.proofs.lemmas.List.{take-append-drop, drop-take}
 use Rattle.std.proofs.lemmas.Grind.{common_steps}
-use Rattle.st_connection.specs.Connection.{Sent}
+use Rattle.st_connection.specs.inner.Stages.{Sent}
 
 pub sent_part : (ho hn : Option (List ℕ)) (wo wn : ℕ) (bytes : List ℕ) (done : ℕ) (b : Bool) → done ≤ length bytes → Appends ho hn (take done bytes)
     → wn ≡ wo + done → (b ≡ true → length bytes ≤ done) → Sent ho hn wo wn bytes b

@@ -1,3 +1,4 @@
 pub mod Render
 pub mod Items
 pub mod Connection
+pub mod inner

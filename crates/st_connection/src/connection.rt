@@ -1,13 +1,14 @@
 //! One connection, from its first byte to its end.
-ghost use Rattle.std.specs.Prelude.{◌≡◌, ◌≢◌, ◌+◌, ◌-◌, ◌*◌, ◌^◌, ◌<◌, ◌≤◌, ◌⊎◌, ◌++◌, [], Ok, Err, true, false, length, take, min, OnErr, OnOk, IsErr, is_ok};
-ghost use Rattle.std.specs.Io.KnownBytes.{IsAtEnd};
-ghost use Rattle.st_connection.specs.Connection.{ServedWithin, Answered, AnsweredNext, Passed, Sent};
+ghost use Rattle.std.specs.Prelude.{◌≡◌, ◌≢◌, ◌+◌, ◌*◌, ◌^◌, ◌<◌, ◌≤◌, Err, true, false, length, take};
+ghost use Rattle.st_connection.specs.Connection.{EndsOn, KeptUnlessLost, ServedWithin};
+ghost use Rattle.st_connection.specs.inner.Stages.{Answered, AnsweredNext};
 
 use crate::constant::fault_text;
 use crate::replies::Replies;
-use crate::streams::{Failed, Sink, Source};
-use st_http::routes::Routes;
+use crate::sending::{Stopped, flush, pass};
+use crate::streams::{Sink, Source};
 use st_http::message::Take;
+use st_http::routes::Routes;
 use std::convert::AsSlice;
 
 /// How a connection ended.
@@ -19,25 +20,26 @@ pub enum Ended {
     Closed,
     /// The input ended inside a message.
     Cut,
-    /// None of these after the reads that one call makes.
+    /// None of these after `MAX_READS` reads.
     TurnsSpent,
     /// What was answered could not be settled.
     Lost,
 }
 
-/// A read or a write failed, when so many bytes were written.
+/// A read or a write failed.
 #[derive(Clone, Copy, Debug, PartialEq, Eq)]
 pub struct IoFault {
+    /// How many bytes were written before.
     pub written: u128,
 }
 
-/// How many reads one call makes at most.
+/// The most reads that one call makes.
 pub const MAX_READS: u32 = 1_000_000;
 
-/// How many bytes one read takes at most.
+/// The most bytes that one read takes.
 pub const PIECE: usize = 65_536;
 
-/// How many bytes the buffer of a connection has at least: those of a head and of a body, and a piece more.
+/// The least length of a connection's buffer, in bytes: the longest head and the longest body (8,192 and 65,536), and one more read.
 pub const ROOM: usize = 139_264;
 
 // What was done about the first item of a text.
@@ -56,97 +58,6 @@ enum Stop {
     Closed,
 }
 
-// Writes the bytes, as far as the writer takes them.
-fn write_all<W: Sink>(writer: &mut W, bytes: &[u8], written: &mut u128) -> Result<(), Failed>
-    requires { written.old + length bytes.now < 2 ^ 128 }
-    ensures sent { Sent (W.held writer.old) (W.held writer.new) written.old written.new bytes.now (is_ok result) }
-    ensures failed { OnErr result (W.has_failed writer.new ≡ true) }
-    ensures ok { OnOk result (W.has_failed writer.new ≡ W.has_failed writer.old) }
-{
-    let mut done = 0;
-    while done < bytes.len() {
-        let taken = writer.write(&bytes[done..])?;
-        if taken == 0 {
-            return Err(Failed);
-        }
-        done += taken;
-        *written += taken as u128;
-    }
-    Ok(())
-}
-
-// Why answering stopped.
-enum Stopped {
-    // A write failed.
-    Unwritten,
-    // The answers could not be settled.
-    Lost,
-}
-
-// Settles, and writes the block.
-fn flush<X: Replies, W: Sink>(
-    answerer: &mut X,
-    block: &[u8],
-    writer: &mut W,
-    written: &mut u128,
-) -> Result<(), Stopped>
-    requires room { written.old + 2 ^ 64 < 2 ^ 128 }
-    requires sound { X.has_failed answerer.old ≡ false }
-    ensures passed { Passed (X.now answerer.old) (X.kept answerer.old) (X.kept answerer.new)
-        (W.held writer.old) (W.held writer.new) written.old written.new block.now [] result }
-    ensures now { X.now answerer.new ≡ X.now answerer.old }
-    ensures settled { result ≢ Err Stopped.Lost → X.kept answerer.new ≡ X.now answerer.old }
-    ensures unwritten { result ≡ Err Stopped.Unwritten → W.has_failed writer.new ≡ true }
-    ensures lost { result ≡ Err Stopped.Lost → X.has_failed answerer.new ≡ true }
-    ensures not_lost { result ≢ Err Stopped.Lost → X.has_failed answerer.new ≡ false }
-    ensures ok { OnOk result (W.has_failed writer.new ≡ W.has_failed writer.old) }
-{
-    if let Err(Failed) = answerer.settle() {
-        return Err(Stopped::Lost);
-    }
-    match write_all(writer, block, written) {
-        Ok(()) => Ok(()),
-        Err(Failed) => Err(Stopped::Unwritten),
-    }
-}
-
-// Puts an answer behind those of the block. Where it has no room there, all are settled and written.
-fn pass<X: Replies, W: Sink>(
-    answerer: &mut X,
-    answer: &[u8],
-    block: &mut [u8],
-    held: &mut usize,
-    writer: &mut W,
-    written: &mut u128,
-) -> Result<(), Stopped>
-    requires room { written.old + 2 * 2 ^ 64 < 2 ^ 128 }
-    requires within { held.old ≤ length block.old }
-    requires sound { X.has_failed answerer.old ≡ false }
-    ensures passed { Passed (X.now answerer.old) (X.kept answerer.old) (X.kept answerer.new)
-        (W.held writer.old) (W.held writer.new) written.old written.new (take held.old block.old ++ answer.now) (take held.new block.new) result }
-    ensures now { X.now answerer.new ≡ X.now answerer.old }
-    ensures unwritten { result ≡ Err Stopped.Unwritten → W.has_failed writer.new ≡ true }
-    ensures settled { result ≡ Err Stopped.Unwritten → X.kept answerer.new ≡ X.now answerer.old }
-    ensures lost { result ≡ Err Stopped.Lost → X.has_failed answerer.new ≡ true }
-    ensures not_lost { result ≢ Err Stopped.Lost → X.has_failed answerer.new ≡ false }
-    ensures ok { OnOk result (W.has_failed writer.new ≡ W.has_failed writer.old) }
-    ensures room_stays { length block.new ≡ length block.old }
-    ensures within_stays { held.new ≤ length block.old }
-{
-    let filled = *held;
-    if answer.len() < block.len() - filled {
-        block[filled..filled + answer.len()].copy_from_slice(answer);
-        *held = filled + answer.len();
-        return Ok(());
-    }
-    *held = 0;
-    flush(answerer, &block[..filled], writer, written)?;
-    match write_all(writer, answer, written) {
-        Ok(()) => Ok(()),
-        Err(Failed) => Err(Stopped::Unwritten),
-    }
-}
-
 // Answers the first item of a text.
 fn answer_next<X: Replies, W: Sink>(
     answerer: &mut X,
@@ -160,13 +71,14 @@ fn answer_next<X: Replies, W: Sink>(
     requires room { written.old + 2 * 2 ^ 64 < 2 ^ 128 }
     requires within { held.old ≤ length block.old }
     requires sound { X.has_failed answerer.old ≡ false }
-    ensures answered { AnsweredNext X.answers (X.now answerer.old) (X.now answerer.new) (X.kept answerer.old) (X.kept answerer.new) text.now
+    ensures answered { AnsweredNext X.answers (X.now answerer.old) (X.now answerer.new)
+        (X.kept answerer.old) (X.kept answerer.new) text.now
         (W.held writer.old) (W.held writer.new) written.old written.new (take held.old block.old) (take held.new block.new) result }
     ensures unwritten { result ≡ Err Stopped.Unwritten → W.has_failed writer.new ≡ true }
     ensures settled { result ≡ Err Stopped.Unwritten → X.kept answerer.new ≡ X.now answerer.new }
     ensures lost { result ≡ Err Stopped.Lost → X.has_failed answerer.new ≡ true }
     ensures not_lost { result ≢ Err Stopped.Lost → X.has_failed answerer.new ≡ false }
-    ensures ok { OnOk result (W.has_failed writer.new ≡ W.has_failed writer.old) }
+    ensures ok { result ≢ Err Stopped.Unwritten → W.has_failed writer.new ≡ W.has_failed writer.old }
     ensures room_stays { length block.new ≡ length block.old }
     ensures within_stays { held.new ≤ length block.old }
 {
@@ -211,7 +123,7 @@ fn answer_all<X: Replies, W: Sink>(
     ensures lost { result ≡ Err Stopped.Lost → X.has_failed answerer.new ≡ true }
     ensures not_lost { result ≢ Err Stopped.Lost → X.has_failed answerer.new ≡ false }
     ensures unwritten { result ≡ Err Stopped.Unwritten → W.has_failed writer.new ≡ true }
-    ensures ok { OnOk result (W.has_failed writer.new ≡ W.has_failed writer.old) }
+    ensures ok { result ≢ Err Stopped.Unwritten → W.has_failed writer.new ≡ W.has_failed writer.old }
     ensures room_stays { length block.new ≡ length block.old }
 {
     let mut held = 0;
@@ -261,13 +173,9 @@ pub fn serve_connection<X: Replies, R: Source, W: Sink>(
     requires writer_sound { W.has_failed writer.old ≡ false }
     ensures served { ServedWithin X.answers (length block.old) (X.now answerer.old) (X.now answerer.new) (X.kept answerer.new)
         (R.left reader.old) (R.left reader.new) (W.held writer.old) (W.held writer.new) (R.has_failed reader.new) result }
-    ensures settled { result ≢ Ok Ended.Lost → X.kept answerer.new ≡ X.now answerer.new }
-    ensures lost { result ≡ Ok Ended.Lost → X.has_failed answerer.new ≡ true }
-    ensures not_lost { result ≢ Ok Ended.Lost → X.has_failed answerer.new ≡ false }
-    ensures at_end { (result ≡ Ok Ended.Clean) ⊎ (result ≡ Ok Ended.Cut) → (R.has_ended reader.new ≡ true) × IsAtEnd (R.left reader.new) }
-    ensures turns { result ≡ Ok Ended.TurnsSpent → R.reads reader.new ≡ min (R.reads reader.old + 1000000) (2 ^ 64 - 1) }
-    ensures faults { IsErr result → (R.has_failed reader.new ≡ true) ⊎ (W.has_failed writer.new ≡ true) }
-    ensures sound { OnOk result ((R.has_failed reader.new ≡ false) × (result ≢ Ok Ended.Lost → W.has_failed writer.new ≡ false)) }
+    ensures kept { KeptUnlessLost (X.kept answerer.new) (X.now answerer.new) (X.has_failed answerer.new) result }
+    ensures ends { EndsOn MAX_READS (R.left reader.new) (R.reads reader.old) (R.reads reader.new)
+        (R.has_ended reader.new) (R.has_failed reader.new) (W.has_failed writer.new) result }
 {
     let mut written: u128 = 0;
     let mut filled = 0;

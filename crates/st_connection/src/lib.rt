@@ -1,11 +1,14 @@
-//! Serves one connection, by whatever answers its messages.
+//! Serves connections, by whatever answers their messages.
 #![tactic(auto)]
 
 pub mod connection;
 pub mod constant;
 pub mod law;
 pub mod replies;
+mod sending;
+mod server;
 pub mod streams;
 
 pub use connection::{Ended, IoFault};
+pub use server::Server;
 pub use streams::{Failed, FromRead, FromWrite, Sink, Source};

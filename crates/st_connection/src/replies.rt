@@ -1,9 +1,8 @@
 //! What answers the messages of a connection.
 ghost use Rattle.std.specs.Prelude.{◌≡◌, ◌⊎◌, ℕ, List, Bool, true, false, OnOk, OnErr};
-ghost use Rattle.httparse.specs.Grammar.{RequestHead};
-ghost use Rattle.st_http.specs.First.{First, message as of_message, fault as of_fault};
-ghost use Rattle.st_http.specs.Message.{ShowsMessage};
+ghost use Rattle.st_http.specs.First.{First, fault as of_fault};
 ghost use Rattle.st_http.specs.declared.fields.Reason.{Reason as Why};
+ghost use Rattle.st_connection.specs.Connection.{Replied};
 ghost use Rattle.st_connection.specs.Render.{fault_text};
 
 use crate::streams::Failed;
@@ -33,8 +32,7 @@ pub trait Replies {
     /// Answers a message.
     fn reply(&mut self, message: &Message<'_>) -> Self::Reply
         requires { has_failed self.old ≡ false }
-        ensures answered { (h : RequestHead) (body : List ℕ) (bare : Bool) → ShowsMessage h body bare message.now
-            → answers (now self.old) (of_message h body bare) (Self.Reply.items result) (now self.new) }
+        ensures answered { Replied answers (now self.old) message.now (Self.Reply.items result) (now self.new) }
         ensures kept { (kept self.new ≡ kept self.old) ⊎ (kept self.new ≡ now self.new) }
         ensures sound { has_failed self.new ≡ false };
 

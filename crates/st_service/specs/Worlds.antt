@@ -31,7 +31,8 @@ IsUnrouted (bad_method allow) = ⊤
 -- The item asks what its endpoint, the name in its path, its token and its body make. No item asks two things.
 abbrev pub ItemAsks : {A : Type 0} → First → Option (Asked A) → Type 0
 ItemAsks (message h body bare) (Some asked) =
-    (endpoint : Endpoint) × (name : List ℕ) × (routed h.method h.target ≡ found endpoint name) × Asks endpoint name (token_of (fields_of h)) body asked
+    (endpoint : Endpoint) × (name : List ℕ) × (routed h.method h.target ≡ found endpoint name)
+    × Asks endpoint name (token_of (fields_of h)) body asked
 ItemAsks (message h body bare) None = IsUnrouted (routed h.method h.target)
 ItemAsks (fault reason bare) (Some asked) = ⊥
 ItemAsks (fault reason bare) None = ⊤
@@ -113,7 +114,8 @@ item_text more reply = []
 -- the answers to the items of a history, in order: what asks takes its step, and what does not leaves the state
 abbrev pub answers : {A : Type 0} → State A → List (Event A) → List (List ℕ)
 answers s [] = []
-answers s (event ∷ rest) = item_text event.item (option_map (λ asked. (step s asked).reply) event.asked) ∷ answers (next_state s event.asked) rest
+answers s (event ∷ rest) =
+    item_text event.item (option_map (λ asked. (step s asked).reply) event.asked) ∷ answers (next_state s event.asked) rest
 
 -- of the answers to items, those to the user's own
 abbrev pub answers_to : Text → List First → List (List ℕ) → List (List ℕ)

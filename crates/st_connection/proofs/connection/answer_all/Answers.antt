@@ -29,7 +29,7 @@ items-preserved g c =
       within = let n = piece_length c.args.text.now c.items.used in omega (arith, a.3, n, c.items.invariant.within);
       held_within = omega (arith, c.in-Ok-Open.ensures.within_stays, c.items.invariant.room);
       room = c.in-Ok-Open.ensures.room_stays ∙ c.items.invariant.room;
-      sound = c.in-Ok-Open.ensures.ok ∙ c.items.invariant.sound;
+      sound = c.in-Ok-Open.ensures.ok (λ e. cc) ∙ c.items.invariant.sound;
       answerer_sound = c.in-Ok-Open.ensures.not_lost (λ e. cc);
     }
 

@@ -1,9 +1,9 @@
-use Rattle.std.proofs.Common.{List, [], take, ℕ, Bool, false, true, refl, inl, sym, subst, arith}
+use Rattle.std.proofs.Common.{List, [], take, ℕ, Bool, true, refl, inl, sym, subst, arith}
 use Rattle.std.proofs.KnownBytes.{Appends-nil}
 use Rattle.httparse.specs.Grammar.{RequestHead}
 use Rattle.st_http.specs.Message.{ShowsMessage}
 use Rattle.st_http.specs.First.{message, fault}
-use Rattle.st_connection.specs.Connection.{One}
+use Rattle.st_connection.specs.inner.Stages.{One}
 use Rattle.st_connection.proofs.Steps.{finds_more, fault_one, message_one, message_stays, next_stops, next_closed, next_open}
 use Rattle.st_connection.proofs.connection.answer_next.Goals.{then-message, else-message}
 use Rattle.st_connection.proofs.connection.answer_next.Goals as goal

@@ -1,7 +1,8 @@
-use Rattle.std.proofs.Common.{rules, ◌+◌, ◌-◌, ◌≤◌, take, refl, ap, ◌∙◌, arith}
+use Rattle.std.proofs.Common.{rules, inl, inr, Err, ◌+◌, ◌-◌, ◌≤◌, take, refl, ap, ◌∙◌, arith}
 use borrow.Rule.Slice.PartMut.{put_mid}
 use Rattle.st_connection.proofs.Buffer.{text_after_read, text_after_move, front_length, front_at_most, front_empty, front_some, part_at_most, part_within}
 use Rattle.st_connection.proofs.Turns.{serving_start, text_short, enough, read_breaks, turns_spent, ends_clean, ends_cut, write_breaks, connection_lost, connection_closes, goes_on_serving, counted_on}
+use Rattle.st_connection.proofs.Ending.{on_fault, on_lost, on_closed, kept_sound, kept_lost}
 use Rattle.st_connection.proofs.connection.serve_connection.Goals as goal
 
 pub reads-init : goal.reads-init
@@ -77,7 +78,7 @@ reads-preserved g c =
       answerer_sound = c.in-Ok-Waits.ensures.not_lost (λ e. cc);
       block_room = c.in-Ok-Waits.ensures.room_stays ∙ c.reads.invariant.block_room;
       reader_sound = c.in-Ok.ensures.ok ∙ c.reads.invariant.reader_sound;
-      writer_sound = c.in-Ok-Waits.ensures.ok ∙ c.reads.invariant.writer_sound;
+      writer_sound = c.in-Ok-Waits.ensures.ok (λ e. cc) ∙ c.reads.invariant.writer_sound;
       no_reads = λ h. omega arith;
       reads = λ _. counted_on _ _ _ _ c.reads.invariant.no_reads c.reads.invariant.reads c.read.ensures.counted;
     }
@@ -85,8 +86,71 @@ reads-preserved g c =
 pub returns-clause-served : goal.returns-clause-served
 returns-clause-served g c = turns_spent _ _ _ _ _ _ _ _ _ _ c.reads.invariant.serving _ (g.X.Replies.kept c.reads.answerer) _
 
-pub returns-clause-at_end : goal.returns-clause-at_end
-returns-clause-at_end g c = search rules
+pub returns-in_default-clause-kept : goal.returns-in_default-clause-kept
+returns-in_default-clause-kept g c = kept_sound _ _ _ _ (λ e. cc) c.reads.invariant.settled c.reads.invariant.answerer_sound
+
+pub returns-then-filled-eq0-clause-kept : goal.returns-then-filled-eq0-clause-kept
+returns-then-filled-eq0-clause-kept g c = kept_sound _ _ _ _ (λ e. cc) c.reads.invariant.settled c.reads.invariant.answerer_sound
+
+pub returns-else-filled-eq0-clause-kept : goal.returns-else-filled-eq0-clause-kept
+returns-else-filled-eq0-clause-kept g c = kept_sound _ _ _ _ (λ e. cc) c.reads.invariant.settled c.reads.invariant.answerer_sound
+
+pub returns-in-Err-Unwritten-clause-kept : goal.returns-in-Err-Unwritten-clause-kept
+returns-in-Err-Unwritten-clause-kept g c =
+    kept_sound _ _ _ _ (λ e. cc) (c.in-Err-Unwritten.ensures.settled (rw c.in-Err-Unwritten.field-0-is (λ e. cc)))
+    (c.in-Err-Unwritten.ensures.not_lost (rw c.in-Err-Unwritten.field-0-is (λ e. cc)))
+
+pub returns-in-Err-Lost-clause-kept : goal.returns-in-Err-Lost-clause-kept
+returns-in-Err-Lost-clause-kept g c = kept_lost _ _ _ (c.in-Err-Lost.ensures.lost (ap Err c.in-Err-Lost.field-0-is))
+
+pub returns-in-Ok-Closed-clause-kept : goal.returns-in-Ok-Closed-clause-kept
+returns-in-Ok-Closed-clause-kept g c =
+    kept_sound _ _ _ _ (λ e. cc) (c.in-Ok-Closed.ensures.settled (λ e. cc)) (c.in-Ok-Closed.ensures.not_lost (λ e. cc))
+
+pub returns-clause-kept : goal.returns-clause-kept
+returns-clause-kept g c = kept_sound _ _ _ _ (λ e. cc) c.reads.invariant.settled c.reads.invariant.answerer_sound
+
+pub returns-in_default-clause-ends : goal.returns-in_default-clause-ends
+returns-in_default-clause-ends g c = on_fault _ _ _ _ _ _ _ _ (inl c.in_default.ensures.err)
+
+pub returns-then-filled-eq0-clause-ends : goal.returns-then-filled-eq0-clause-ends
+returns-then-filled-eq0-clause-ends g c = record {
+  at_end = search rules;
+  turns = search rules;
+  faults = search rules;
+  sound = search rules;
+}
+
+pub returns-else-filled-eq0-clause-ends : goal.returns-else-filled-eq0-clause-ends
+returns-else-filled-eq0-clause-ends g c = record {
+  at_end = search rules;
+  turns = search rules;
+  faults = search rules;
+  sound = search rules;
+}
+
+pub returns-in-Err-Unwritten-clause-ends : goal.returns-in-Err-Unwritten-clause-ends
+returns-in-Err-Unwritten-clause-ends g c = on_fault _ _ _ _ _ _ _ _ (inr (c.in-Err-Unwritten.ensures.unwritten (ap Err c.in-Err-Unwritten.field-0-is)))
+
+pub returns-in-Err-Lost-clause-ends : goal.returns-in-Err-Lost-clause-ends
+returns-in-Err-Lost-clause-ends g c = on_lost _ _ _ _ _ _ _ (
+  c.in-Ok.ensures.ok ∙ c.reads.invariant.reader_sound,
+  c.in-Err-Lost.ensures.ok (rw c.in-Err-Lost.field-0-is (λ e. cc)) ∙ c.reads.invariant.writer_sound,
+)
+
+pub returns-in-Ok-Closed-clause-ends : goal.returns-in-Ok-Closed-clause-ends
+returns-in-Ok-Closed-clause-ends g c = on_closed _ _ _ _ _ _ _ (
+  c.in-Ok.ensures.ok ∙ c.reads.invariant.reader_sound,
+  c.in-Ok-Closed.ensures.ok (λ e. cc) ∙ c.reads.invariant.writer_sound,
+)
+
+pub returns-clause-ends : goal.returns-clause-ends
+returns-clause-ends g c = record {
+  at_end = search rules;
+  turns = search rules;
+  faults = search rules;
+  sound = search rules;
+}
 
 pub overflow_add-filled-in-reads : goal.overflow_add-filled-in-reads
 overflow_add-filled-in-reads g c =

@@ -4,4 +4,6 @@ use Rattle.st_connection.proofs.AtOnce.{at_once}
 use Rattle.st_service.proofs.service.Service.serve.Goals as goal
 
 pub returns-clause-served : goal.returns-clause-served
-returns-clause-served g c = rw (sym c.self.view_is) (at_once Answers _ _ _ _ _ _ _ _ _ c.serve_connection.ensures.served (λ e. let k : false ≡ true = c.serve_connection.ensures.lost e in cc))
+returns-clause-served g c =
+    rw (sym c.self.view_is) (at_once Answers _ _ _ _ _ _ _ _ _ c.serve.ensures.served
+    (λ e. let k : false ≡ true = c.serve.ensures.kept.lost e in cc))

@@ -2,7 +2,7 @@ use Rattle.std.proofs.Common.{◌≡◌, ◌+◌, false, ◌∙◌, arith}
 use Rattle.std.proofs.lemmas.Result.{err_from_is_err_and}
 use Rattle.std.proofs.KnownBytes.{Appends-kept}
 use Rattle.st_connection.proofs.Writing.{sent_part, piece_within, appends_piece}
-use Rattle.st_connection.proofs.connection.write_all.Goals as goal
+use Rattle.st_connection.proofs.sending.write_all.Goals as goal
 
 pub returns-in_err-taken-clause-sent : goal.returns-in_err-taken-clause-sent
 returns-in_err-taken-clause-sent g c =

@@ -1,6 +1,6 @@
 use Rattle.std.proofs.Common.{◌≡◌, refl}
 use Rattle.st_service.proofs.Told.{replied_busy, replied}
-use Rattle.st_service.proofs.desk.Desk.tell_step.Goals as goal
+use Rattle.st_service.proofs.answerer.Answerer.tell_step.Goals as goal
 
 pub returns-in_default : goal.returns-in_default
 returns-in_default g c =

@@ -1,9 +1,10 @@
-//! A store, and what answers messages over it.
+//! What answers messages by a store.
 ghost use Rattle.std.specs.Prelude.{◌≡◌, ◌≢◌, ◌⊎◌, false};
 ghost use Rattle.st_core.specs.State.{State};
 ghost use Rattle.st_policy.specs.declared.reply.Reply.{Reply as Told};
-ghost use Rattle.st_service.specs.Answers.{Answers, AsksBy, Replied, IsFound, faulty, reply_status, reply_text};
+ghost use Rattle.st_service.specs.Answers.{Answers, AsksBy, IsFound, faulty, reply_status, reply_text};
 ghost use Rattle.st_service.specs.Bytes.{bytes_of};
+ghost use Rattle.st_connection.specs.Connection.{Replied};
 ghost use Rattle.st_connection.specs.Render.{busy_text};
 
 use crate::answer::Answer;
@@ -18,15 +19,15 @@ use st_json_reply::{encode, status};
 use std::alloc::{AllocError, Allocator, Global};
 use std::marker::Model;
 
-// A store, and the allocators for what is asked of it and told.
+// A store, and the allocators for requests and answers.
 #[derive(Drop)]
-pub(crate) struct Desk<A: Allocator + Copy = Global> {
+pub(crate) struct Answerer<A: Allocator + Copy = Global> {
     alloc: A,
     global: Global,
     store: Store<A>,
 }
 
-impl<A: Allocator + Copy> Model for Desk<A> {
+impl<A: Allocator + Copy> Model for Answerer<A> {
     ghost use Rattle.st_core.specs.State.{State};
 
     ghost Value = { State A };
@@ -57,8 +58,8 @@ fn status_of<A: Allocator>(reply: &Reply<A>) -> StatusCode
     }
 }
 
-/// The answer that tells a reply. That a change was made is told without memory; where memory is wanting for
-/// another reply the answer is a 503.
+/// The answer that tells a reply. The answer to an accepted change takes no memory. Where there is no memory for the text of any
+/// other reply, the answer is a 503.
 pub fn tell<A: Allocator + Copy>(alloc: A, reply: &Reply<A>, close: bool, bare: bool) -> Answer<A>
     ensures { (bytes_of result ≡ reply_text reply.now close bare)
         ⊎ ((bytes_of result ≡ busy_text close bare) × (reply.now ≢ Told.Accepted)) }
@@ -72,22 +73,22 @@ pub fn tell<A: Allocator + Copy>(alloc: A, reply: &Reply<A>, close: bool, bare: 
     }
 }
 
-impl<A: Allocator + Copy> Desk<A> {
-    pub(crate) fn new(alloc: A, global: Global, store: Store<A>) -> Desk<A>
+impl<A: Allocator + Copy> Answerer<A> {
+    pub(crate) fn new(alloc: A, global: Global, store: Store<A>) -> Answerer<A>
         ensures { result ≡ store }
     {
-        Desk {
+        Answerer {
             alloc,
             global,
             store,
         }
     }
 
-    // Answers what a message asks.
+    // Takes the step that a message asks, and tells the reply.
     fn tell_step(&mut self, message: &Message<'_>, asked: &Asked<A>) -> Answer<A>
         requires found { IsFound message.now }
         requires asks { AsksBy message.now asked.now }
-        ensures { Replied self.old message.now (bytes_of result) self.new }
+        ensures { Replied Answers self.old message.now (bytes_of result) self.new }
     {
         let close = message.close;
         let bare = message.bare;
@@ -102,7 +103,7 @@ impl<A: Allocator + Copy> Desk<A> {
     // Answers a message whose route is an endpoint.
     fn answer(&mut self, message: &Message<'_>) -> Answer<A>
         requires { IsFound message.now }
-        ensures { Replied self.old message.now (bytes_of result) self.new }
+        ensures { Replied Answers self.old message.now (bytes_of result) self.new }
     {
         let Ok(asked) = asked_of(self.alloc, self.global, message) else {
             return Answer::Busy {
@@ -119,7 +120,7 @@ impl<A: Allocator + Copy> Desk<A> {
 /// The answer to a message whose route is no endpoint of the table of requests.
 pub fn refuse<A: Allocator + Copy>(alloc: A, message: &Message<'_>) -> Answer<A>
     requires { IsFound message.now → ⊥ }
-    ensures { (s : State A) → Replied s message.now (bytes_of result) s }
+    ensures { (s : State A) → Replied Answers s message.now (bytes_of result) s }
 {
     let close = message.close;
     let bare = message.bare;
@@ -137,7 +138,7 @@ pub fn refuse<A: Allocator + Copy>(alloc: A, message: &Message<'_>) -> Answer<A>
     }
 }
 
-impl<A: Allocator + Copy> Replies for Desk<A> {
+impl<A: Allocator + Copy> Replies for Answerer<A> {
     type Reply = Answer<A>;
 
     ghost State = { State A };

@@ -1,0 +1,78 @@
+-- What a call leaves of its reader and its writer, and of what answers, at each of its ends.
+use Rattle.std.proofs.Common.{◌≡◌, ◌⊎◌, inl, inr, ◌-◌, ◌+◌, ◌^◌, min, ℕ, Bool, true, false, Option, Ok, Err, List, refl}
+use Rattle.std.specs.Prelude.{Result}
+use Rattle.std.specs.Io.KnownBytes.{IsAtEnd}
+use Rattle.st_connection.specs.Connection.{EndsOn, KeptUnlessLost}
+use Rattle.st_connection.specs.declared.connection.Ended.{Ended}
+use Rattle.st_connection.specs.declared.connection.Ended.TheVariants.{Clean, Closed, Cut, TurnsSpent, Lost}
+use Rattle.st_connection.specs.declared.connection.IoFault.{IoFault}
+
+module _ (most : ℕ) (left : Option (List ℕ)) (first_reads reads : ℕ) (has_ended read_failed write_failed : Bool) where
+  pub on_fault : (fault : IoFault) → (read_failed ≡ true) ⊎ (write_failed ≡ true)
+      → EndsOn most left first_reads reads has_ended read_failed write_failed (Err fault)
+  on_fault fault broke = record {
+    at_end = elim [ inl e ↦ cc | inr e ↦ cc ];
+    turns = λ e. cc;
+    faults = λ e. broke;
+    sound = tt;
+  }
+
+  module _ (sound : (read_failed ≡ false) × (write_failed ≡ false)) where
+    pub on_clean : (has_ended ≡ true) × IsAtEnd left → EndsOn most left first_reads reads has_ended read_failed write_failed (Ok Clean)
+    on_clean at_end = record {
+      at_end = λ e. at_end;
+      turns = λ e. cc;
+      faults = λ e. cc;
+      sound = sound;
+    }
+
+    pub on_cut : (has_ended ≡ true) × IsAtEnd left → EndsOn most left first_reads reads has_ended read_failed write_failed (Ok Cut)
+    on_cut at_end = record {
+      at_end = λ e. at_end;
+      turns = λ e. cc;
+      faults = λ e. cc;
+      sound = sound;
+    }
+
+    pub on_closed : EndsOn most left first_reads reads has_ended read_failed write_failed (Ok Closed)
+    on_closed = record {
+      at_end = elim [ inl e ↦ cc | inr e ↦ cc ];
+      turns = λ e. cc;
+      faults = λ e. cc;
+      sound = sound;
+    }
+
+    pub on_lost : EndsOn most left first_reads reads has_ended read_failed write_failed (Ok Lost)
+    on_lost = record {
+      at_end = elim [ inl e ↦ cc | inr e ↦ cc ];
+      turns = λ e. cc;
+      faults = λ e. cc;
+      sound = sound;
+    }
+
+    pub on_turns : reads ≡ min (first_reads + most) (2 ^ 64 - 1)
+        → EndsOn most left first_reads reads has_ended read_failed write_failed (Ok TurnsSpent)
+    on_turns turns = record {
+      at_end = elim [ inl e ↦ cc | inr e ↦ cc ];
+      turns = λ e. turns;
+      faults = λ e. cc;
+      sound = sound;
+    }
+
+-- ---- what answers
+
+module _ {S : Type 0} (kept now : S) (has_failed : Bool) where
+  pub kept_sound : (result : Result Ended IoFault) → (result ≡ Ok Lost → ⊥) → kept ≡ now → has_failed ≡ false
+      → KeptUnlessLost kept now has_failed result
+  kept_sound result some settled sound = record {
+    settled = λ n. settled;
+    lost = λ e. absurd (some e);
+    sound = λ n. sound;
+  }
+
+  pub kept_lost : has_failed ≡ true → KeptUnlessLost kept now has_failed (Ok Lost)
+  kept_lost failed = record {
+    settled = λ n. absurd (n refl);
+    lost = λ e. failed;
+    sound = λ n. absurd (n refl);
+  }
