@@ -22,18 +22,21 @@ impl Gate for Open {
     fn gave_up(&self, _worker: u64, _call: u64) {}
 }
 
-// A stream that takes each reply whole. One that takes a part of it has waited for as long as it may.
+// A stream that must take each reply whole. A write that took a part of one has waited for as long as it may: it says how much it
+// took, and the next write fails.
 #[derive(Drop)]
 struct Prompt<'a> {
     stream: &'a TcpStream,
+    is_late: bool,
 }
 
 impl Write for Prompt<'_> {
     fn write(&mut self, bytes: &[u8]) -> io::Result<usize> {
-        let taken = self.stream.write(bytes)?;
-        if taken < bytes.len() {
+        if self.is_late {
             return Err(ErrorKind::TimedOut.into());
         }
+        let taken = self.stream.write(bytes)?;
+        self.is_late = taken < bytes.len();
         Ok(taken)
     }
 
@@ -42,8 +45,8 @@ impl Write for Prompt<'_> {
     }
 }
 
-// A read or a write that waits longer fails, and replies go out without delay.
-fn prepare(stream: &TcpStream, limit: Duration) -> io::Result<()> {
+// A read or a write that waits longer than the limit fails, and replies go out without delay.
+fn set_limits(stream: &TcpStream, limit: Duration) -> io::Result<()> {
     stream.set_read_timeout(Some(limit))?;
     stream.set_write_timeout(Some(limit))?;
     stream.set_nodelay(true)
@@ -52,9 +55,9 @@ fn prepare(stream: &TcpStream, limit: Duration) -> io::Result<()> {
 // How often a connection that the server has ended is still read.
 const LAST_READS: u32 = 16;
 
-// Says that no more comes, and takes for a moment what the client sent before it heard so. Left unread, it would reset
-// the connection, and the client could not tell whether its last request was taken (RFC 9112, on the end of a connection).
-fn part(mut stream: &TcpStream) -> io::Result<()> {
+// Says that no more comes, and takes for a moment what the client sent before it heard so. Left unread, it would reset the
+// connection, and the client could not tell whether its last request was taken (RFC 9112, "Tear-down").
+fn close_gently(mut stream: &TcpStream) -> io::Result<()> {
     stream.shutdown(Shutdown::Write)?;
     stream.set_read_timeout(Some(Duration::from_secs(1)))?;
     let mut rest = [0; 4096];
@@ -66,18 +69,21 @@ fn part(mut stream: &TcpStream) -> io::Result<()> {
     Ok(())
 }
 
-/// Serves a connection to its end. A fault ends it alone.
-pub fn serve<H: HallName, C: Wait + Drop, W: Wait>(
+/// Answers the requests of one connection until it ends. A fault ends this connection alone.
+pub fn converse<H: HallName, C: Wait + Drop, W: Wait>(
     station: &mut Station<'_, H, C, Open, W>,
     stream: TcpStream,
     limit: Duration,
 ) {
-    if prepare(&stream, limit).is_err() {
+    if set_limits(&stream, limit).is_err() {
         return;
     }
     let mut reader = FromRead::new(&stream);
-    let mut writer = FromWrite::new(Prompt { stream: &stream });
+    let mut writer = FromWrite::new(Prompt {
+        stream: &stream,
+        is_late: false,
+    });
     if let Ok(Ended::Closed | Ended::TurnsSpent) = work(station, &mut reader, &mut writer) {
-        let _parted = part(&stream);
+        let _closed = close_gently(&stream);
     }
 }

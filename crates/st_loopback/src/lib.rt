@@ -7,4 +7,4 @@ mod workers;
 
 pub use connection::Open;
 pub use served::serve_words;
-pub use workers::serve_on;
+pub use workers::serve_all;

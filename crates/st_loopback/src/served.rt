@@ -7,7 +7,7 @@ ghost use Rattle.st_command_line.specs.Status.{exit_status_after};
 ghost use Rattle.st_command_line.specs.declared.fault.Fault.TheVariants.{Bind, Write as Unwritten, NoMemory};
 
 use crate::connection::Open;
-use crate::workers::{serve_on, serve_some};
+use crate::workers::{serve_all, serve_number};
 use st_command::stores_for;
 use st_command_line::{Fault, ServedArguments, give_up};
 use st_core::Store;
@@ -36,7 +36,8 @@ fn listen<R: Net<Listener = TcpListener, Stream = TcpStream>>(
 // Writes a line.
 fn tell<O: Write>(alloc: Global, output: &mut O, what: &str, number: u16) -> Result<(), Fault>
     ensures ok { OnOk result (Appends (O.contents output.old) (O.contents output.new) (line what.now number)) }
-    ensures err { IfErr result (λ fault. (fault ≡ Unwritten) ⊎ ((fault ≡ NoMemory) × (O.contents output.new ≡ O.contents output.old))) }
+    ensures err { IfErr result (λ fault. (fault ≡ Unwritten)
+        ⊎ ((fault ≡ NoMemory) × (O.contents output.new ≡ O.contents output.old))) }
 {
     let text = format!(in alloc; "{what} {number}\n")?;
     match output.write_all(text.as_bytes()) {
@@ -53,14 +54,15 @@ fn begin<R: Net<Listener = TcpListener, Stream = TcpStream>, O: Write>(
     output: &mut O,
 ) -> Result<TcpListener, Fault>
     ensures ok { OnOk result (Appends (O.contents output.old) (O.contents output.new) (line (codes "listening") said.now.port)) }
-    ensures err { IfErr result (λ fault. Tells said.now.port said.now.connections (O.contents output.old) (O.contents output.new) (Err fault)) }
+    ensures err { IfErr result (λ fault. Tells said.now.port said.now.connections
+        (O.contents output.old) (O.contents output.new) (Err fault)) }
 {
     let listener = listen(rt, said.address())?;
     tell(alloc, output, "listening", said.port)?;
     Ok(listener)
 }
 
-// Serves connections at two workers, and says how many.
+// Serves as many connections as the words say, or all that come, and gives their number.
 fn attend<'c, H: HallName + Send + Sync, R: Threads + Wait + Sync>(
     rt: &R,
     alloc: Global,
@@ -74,14 +76,14 @@ fn attend<'c, H: HallName + Send + Sync, R: Threads + Wait + Sync>(
 {
     let limit = said.limit();
     let Some(connections) = said.connections else {
-        return Err(serve_on(rt, listener, limit, one, two));
+        return Err(serve_all(rt, listener, limit, one, two));
     };
-    serve_some(rt, alloc, listener, connections, limit, one, two)?;
+    serve_number(rt, alloc, listener, connections, limit, one, two)?;
     Ok(connections)
 }
 
-// Serves connections at two stations, and tells of it.
-fn serve_at<
+// Tells that the server listens, serves connections at two stations, and tells how many were served.
+fn announce<
     'c,
     H: HallName + Send + Sync,
     R: Net<Listener = TcpListener, Stream = TcpStream> + Threads + Wait + Sync,
@@ -108,8 +110,8 @@ fn serve_at<
     tell(alloc, output, "served", connections)
 }
 
-// Serves connections at two desks, and tells of it.
-fn serve_between<
+// Makes a station at each desk, and serves at them.
+fn seat_workers<
     'c,
     H: HallName + Send + Sync,
     R: Net<Listener = TcpListener, Stream = TcpStream> + Threads + Wait + Sync,
@@ -127,11 +129,11 @@ fn serve_between<
 {
     let one = Station::new(rt, alloc, 1, one, clerk, &Open)?;
     let two = Station::new(rt, alloc, 2, two, clerk, &Open)?;
-    serve_at(rt, alloc, said, one, two, output)
+    announce(rt, alloc, said, one, two, output)
 }
 
-// Serves connections in a hall over the two stores, and tells of it.
-fn serve<
+// Opens a hall over the two stores, and serves at its desks.
+fn open_hall<
     H: HallName + Send + Sync,
     R: Net<Listener = TcpListener, Stream = TcpStream> + Threads + Wait + Sync,
     O: Write,
@@ -150,14 +152,14 @@ fn serve<
 {
     match Hall::<H>::open(rt, alloc, name, both.0, both.1) {
         Ok((clerk, one, two)) => {
-            serve_between(rt, alloc, said, &Mutex::new(clerk), one, two, output)
+            seat_workers(rt, alloc, said, &Mutex::new(clerk), one, two, output)
         }
         Err(HallFault::NoPlace) => Err(Fault::NoPlace),
         Err(HallFault::NoMemory) => Err(Fault::NoMemory),
     }
 }
 
-// Serves by the words.
+// Reads the words, opens the stores, and serves.
 fn run<R: Net<Listener = TcpListener, Stream = TcpStream> + Threads + Wait + Sync, O: Write>(
     rt: &R,
     alloc: Global,
@@ -168,7 +170,7 @@ fn run<R: Net<Listener = TcpListener, Stream = TcpStream> + Threads + Wait + Syn
 {
     let said = ServedArguments::read(alloc, words)?;
     let both = stores_for(alloc, said.digest, &said.names)?;
-    serve::<Brand, _, _>(rt, alloc, Unnamed::new(), both, &said, output)
+    open_hall::<Brand, _, _>(rt, alloc, Unnamed::new(), both, &said, output)
 }
 
 /// Opens a store by the words, the program's own name first among them, binds the port of the loopback

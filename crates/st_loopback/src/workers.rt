@@ -4,7 +4,7 @@ ghost use Rattle.std.specs.Thread.{IsSync};
 ghost use Rattle.st_loopback.specs.Serving.{Stops};
 ghost use Rattle.st_command_line.specs.declared.fault.Fault.TheVariants.{Accept};
 
-use crate::connection::{Open, serve};
+use crate::connection::{Open, converse};
 use crossbeam_channel::{Receiver, Sender, unbounded};
 use st_command_line::Fault;
 use st_hall::HallName;
@@ -33,26 +33,26 @@ fn accept(listener: &TcpListener) -> Result<TcpStream, Fault>
     Err(Fault::Accept)
 }
 
-// Serves what comes to one worker, one after another.
-fn serve_each<H: HallName, C: Wait + Drop, R: Wait>(
+// Answers the connections of a queue, one after another.
+fn answer_queued<H: HallName, C: Wait + Drop, R: Wait>(
     rt: &R,
     station: &mut Station<'_, H, C, Open, R>,
     queue: &Receiver<TcpStream>,
     limit: Duration,
 ) {
     for stream in queue.iter(rt) {
-        serve(station, stream, limit);
+        converse(station, stream, limit);
     }
 }
 
-// Serves a worker's queue, whose sender ends it.
-fn serve_queue<H: HallName, C: Wait + Drop, R: Wait>(
+// One worker's thread: works until the sender of its queue is gone.
+fn work_from_queue<H: HallName, C: Wait + Drop, R: Wait>(
     rt: &R,
     mut station: Station<'_, H, C, Open, R>,
     queue: Receiver<TcpStream>,
     limit: Duration,
 ) {
-    serve_each(rt, &mut station, &queue, limit);
+    answer_queued(rt, &mut station, &queue, limit);
 }
 
 // Whether a connection is for the first worker: the first, the third and so on are, where the first has number 0.
@@ -62,8 +62,8 @@ fn is_for_first(number: u16) -> bool
     number % 2 == 0
 }
 
-// Accepts so many connections, each for one worker or the other.
-fn accept_all<R: Wait>(
+// Accepts this many connections, and sends each to one worker or the other.
+fn distribute<R: Wait>(
     rt: &R,
     listener: &TcpListener,
     connections: u16,
@@ -89,8 +89,8 @@ fn queues(alloc: Global) -> Result<(Queue, Queue), AllocError> {
     Ok((unbounded(alloc)?, unbounded(alloc)?))
 }
 
-// Serves so many connections by two queues.
-fn serve_by<'c, H: HallName + Send + Sync, R: Threads + Wait + Sync>(
+// Starts two workers, each with a queue, and spreads this many connections over them.
+fn spread<'c, H: HallName + Send + Sync, R: Threads + Wait + Sync>(
     rt: &R,
     both: (Queue, Queue),
     listener: &TcpListener,
@@ -110,21 +110,21 @@ fn serve_by<'c, H: HallName + Send + Sync, R: Threads + Wait + Sync>(
             ensures { IfErr result Stops }
         {
             let is_first = scope
-                .spawn(move || serve_queue(rt, one, for_one, limit))
+                .spawn(move || work_from_queue(rt, one, for_one, limit))
                 .is_ok();
             let is_second = scope
-                .spawn(move || serve_queue(rt, two, for_two, limit))
+                .spawn(move || work_from_queue(rt, two, for_two, limit))
                 .is_ok();
             if !is_first || !is_second {
                 return Err(Fault::NoThread);
             }
-            accept_all(rt, listener, connections, to_one, to_two)
+            distribute(rt, listener, connections, to_one, to_two)
         },
     )
 }
 
-/// Serves so many connections.
-pub fn serve_some<'c, H: HallName + Send + Sync, R: Threads + Wait + Sync>(
+/// Serves this many connections by two workers, each on a thread of its own: the first, the third and so on by the first worker.
+pub fn serve_number<'c, H: HallName + Send + Sync, R: Threads + Wait + Sync>(
     rt: &R,
     alloc: Global,
     listener: &TcpListener,
@@ -136,7 +136,7 @@ pub fn serve_some<'c, H: HallName + Send + Sync, R: Threads + Wait + Sync>(
     ensures { IfErr result Stops }
 {
     match queues(alloc) {
-        Ok(both) => serve_by(rt, both, listener, connections, limit, one, two),
+        Ok(both) => spread(rt, both, listener, connections, limit, one, two),
         Err(fault) => {
             drop(one);
             drop(two);
@@ -145,7 +145,7 @@ pub fn serve_some<'c, H: HallName + Send + Sync, R: Threads + Wait + Sync>(
     }
 }
 
-// Where each worker accepts its next connection, until an accept fails.
+// Where the workers accept their connections, one at a time, until an accept fails.
 #[derive(Drop)]
 struct Door<'a> {
     listener: &'a TcpListener,
@@ -168,8 +168,8 @@ impl Door<'_> {
     }
 }
 
-// Serves what comes while a worker is free, until an accept fails.
-fn serve_while_open<H: HallName, C: Wait + Drop, R: Wait>(
+// Answers one connection after another at the door, until an accept fails.
+fn answer_at_door<H: HallName, C: Wait + Drop, R: Wait>(
     rt: &R,
     station: &mut Station<'_, H, C, Open, R>,
     door: &Door<'_>,
@@ -179,22 +179,23 @@ fn serve_while_open<H: HallName, C: Wait + Drop, R: Wait>(
         let Some(stream) = door.next(rt) else {
             return;
         };
-        serve(station, stream, limit);
+        converse(station, stream, limit);
     }
 }
 
-// Serves at the door by one worker.
-fn serve_door<H: HallName, C: Wait + Drop, R: Wait>(
+// One worker's thread: works until the door is closed.
+fn work_at_door<H: HallName, C: Wait + Drop, R: Wait>(
     rt: &R,
     mut station: Station<'_, H, C, Open, R>,
     door: &Door<'_>,
     limit: Duration,
 ) {
-    serve_while_open(rt, &mut station, door, limit);
+    answer_at_door(rt, &mut station, door, limit);
 }
 
-/// Serves all connections that come, until an accept fails.
-pub fn serve_on<'c, H: HallName + Send + Sync, R: Threads + Wait + Sync>(
+/// Serves all connections by two workers, each on a thread of its own: a worker that is free accepts the next one. Ends when an
+/// accept fails.
+pub fn serve_all<'c, H: HallName + Send + Sync, R: Threads + Wait + Sync>(
     rt: &R,
     listener: &TcpListener,
     limit: Duration,
@@ -216,13 +217,13 @@ pub fn serve_on<'c, H: HallName + Send + Sync, R: Threads + Wait + Sync>(
             ensures { Stops result }
         {
             let has_begun = scope
-                .spawn(move || serve_door(rt, one, door, limit))
+                .spawn(move || work_at_door(rt, one, door, limit))
                 .is_ok();
             if !has_begun {
                 drop(two);
                 return Fault::NoThread;
             }
-            serve_door(rt, two, door, limit);
+            work_at_door(rt, two, door, limit);
             Fault::Accept
         },
     )

@@ -20,11 +20,12 @@ use Rattle.st_core.specs.declared.asked.Call.{Call}
 use Rattle.st_policy.specs.declared.reply.Reply.{Reply}
 use Rattle.st_core.specs.Reads.{shown}
 use Rattle.st_core.specs.Step.{Heard, asker_of, asks_for_change, calls_for_change, judge_call, settle}
+use Rattle.st_connection.specs.Connection.{Replied}
 use Rattle.st_connection.specs.Render.{busy_text}
-use Rattle.st_service.specs.Answers.{Asks, AsksBy, IsFound, reply_text, close_of, Replied as ServiceReplied}
+use Rattle.st_service.specs.Answers.{Asks, AsksBy, IsFound, reply_text, close_of, Answers as ServiceAnswers}
 use Rattle.st_hall.specs.Steps.{Ask, State, Told, reply_of, state_after}
 use Rattle.st_hall.specs.Views.{Seat, EndsWith}
-use Rattle.st_station.specs.Seats.{Moves, AsksIn, Answers, read, made, untold, busy, unrouted, Replied}
+use Rattle.st_station.specs.Seats.{Moves, AsksIn, Answers, read, made, untold, busy, unrouted}
 
 -- a change is told to be made, or is refused
 shown_change : (s : State) (asker : Text) (request : Request _) → is_change request ≡ true → shown s asker request ≡ Reply.Accepted
@@ -53,14 +54,14 @@ one_told routes.NoRoute endpoint name r a b = absurd (let e : found endpoint nam
 one_told (routes.BadMethod allow) endpoint name r a b = absurd (let e : found endpoint name ≡ bad_method allow.now = a in cc)
 
 module _ (start : State) (s t : Seat) (m : Message) (bytes : List ℕ) where
-  pub seated_busy : bytes ≡ busy_text m.close m.bare → Moves 0 s t → Replied start s m bytes t
+  pub seated_busy : bytes ≡ busy_text m.close m.bare → Moves 0 s t → Replied (Answers start) s m bytes t
   seated_busy is moves h body bare shows =
       let text : busy_text (close_of h) bare ≡ bytes = (λ i. busy_text (sym shows.close i) (sym shows.bare_is i)) ∙ sym is in
       subst (λ (b : List ℕ). Answers start s (message h body bare) b t) text (busy moves)
 
   -- memory was wanting for what was asked
   pub seated_wanting : (asked : Ask) → bytes ≡ busy_text m.close m.bare → IsPrefix s.seen t.seen → (asks_for_change asked ≡ true → t.made ≡ s.made)
-      → (asks_for_change asked ≡ false → t.made ≡ s.made) → Replied start s m bytes t
+      → (asks_for_change asked ≡ false → t.made ≡ s.made) → Replied (Answers start) s m bytes t
   seated_wanting asked is seen changed kept = seated_busy is (record { seen = seen; made = go (asks_for_change asked) refl })
     where
       go : (b : Bool) → asks_for_change asked ≡ b → t.made ≡ s.made + 0
@@ -78,7 +79,7 @@ module _ (start : State) (s t : Seat) (m : Message) (bytes : List ℕ) where
     }
 
     pub seated_read : (reply : Told) → asks_for_change asked ≡ false → Moves 0 s t → reply ≡ reply_of (state_after start t.seen) asked
-        → (bytes ≡ reply_text reply m.close m.bare) ⊎ ((bytes ≡ busy_text m.close m.bare) × (reply ≢ Reply.Accepted)) → Replied start s m bytes t
+        → (bytes ≡ reply_text reply m.close m.bare) ⊎ ((bytes ≡ busy_text m.close m.bare) × (reply ≢ Reply.Accepted)) → Replied (Answers start) s m bytes t
     seated_read reply is_read moves told (inl is) h body bare shows =
         let text : reply_text (reply_of (state_after start t.seen) asked) (close_of h) bare ≡ bytes
         = (λ i. reply_text (sym told i) (sym shows.close i) (sym shows.bare_is i)) ∙ sym is in
@@ -86,7 +87,7 @@ module _ (start : State) (s t : Seat) (m : Message) (bytes : List ℕ) where
     seated_read reply is_read moves told (inr (is, other)) h body bare shows = seated_busy is moves h body bare shows
 
     pub seated_change : (reply : Told) → asks_for_change asked ≡ true → Moves 1 s t → (list : List Ask) × EndsWith start list asked reply
-        → (bytes ≡ reply_text reply m.close m.bare) ⊎ ((bytes ≡ busy_text m.close m.bare) × (reply ≢ Reply.Accepted)) → Replied start s m bytes t
+        → (bytes ≡ reply_text reply m.close m.bare) ⊎ ((bytes ≡ busy_text m.close m.bare) × (reply ≢ Reply.Accepted)) → Replied (Answers start) s m bytes t
     seated_change reply changes moves ends (inl is) h body bare shows =
         let text : reply_text reply (close_of h) bare ≡ bytes = (λ i. reply_text reply (sym shows.close i) (sym shows.bare_is i)) ∙ sym is in
         subst (λ (b : List ℕ). Answers start s (message h body bare) b t) text (made (asks_in h body bare shows) changes ends moves)
@@ -103,19 +104,19 @@ module _ (start : State) (s t : Seat) (m : Message) (bytes : List ℕ) where
         → (asks_for_change asked ≡ true → (list : List Ask) × EndsWith start list asked reply)
         → (asks_for_change asked ≡ false → t.made ≡ s.made)
         → (asks_for_change asked ≡ false → reply ≡ reply_of (state_after start t.seen) asked)
-        → (bytes ≡ reply_text reply m.close m.bare) ⊎ ((bytes ≡ busy_text m.close m.bare) × (reply ≢ Reply.Accepted)) → Replied start s m bytes t
+        → (bytes ≡ reply_text reply m.close m.bare) ⊎ ((bytes ≡ busy_text m.close m.bare) × (reply ≢ Reply.Accepted)) → Replied (Answers start) s m bytes t
     seated_told reply seen counted ends kept shown text = go (asks_for_change asked) refl
       where
-        go : (b : Bool) → asks_for_change asked ≡ b → Replied start s m bytes t
+        go : (b : Bool) → asks_for_change asked ≡ b → Replied (Answers start) s m bytes t
         go true e = seated_change reply e (record { seen = seen; made = counted e }) (ends e) text
         go false e = seated_read reply e (record { seen = seen; made = (let same = kept e in omega arith) }) (shown e) text
 
 -- no memory was found for what is asked
-pub seated_unasked : (start : State) (s : Seat) (m : Message) (bytes : List ℕ) → bytes ≡ busy_text m.close m.bare → Replied start s m bytes s
+pub seated_unasked : (start : State) (s : Seat) (m : Message) (bytes : List ℕ) → bytes ≡ busy_text m.close m.bare → Replied (Answers start) s m bytes s
 seated_unasked start s m bytes is = seated_busy start s s m bytes is (record { seen = ([], append-nil s.seen); made = omega arith })
 
 -- a message without an endpoint
-pub seated_unrouted : (start : State) (s : Seat) (m : Message) (bytes : List ℕ) → (IsFound m → ⊥) → ((state : State) → ServiceReplied state m bytes state) → Replied start s m bytes s
+pub seated_unrouted : (start : State) (s : Seat) (m : Message) (bytes : List ℕ) → (IsFound m → ⊥) → ((state : State) → Replied ServiceAnswers state m bytes state) → Replied (Answers start) s m bytes s
 seated_unrouted start s m bytes none told h body bare shows =
     unrouted (λ endpoint name is. none (endpoint, name, subst (ShowsRoute m.route) is shows.route)) (λ state. told state h body bare shows)
 

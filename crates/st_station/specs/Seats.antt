@@ -4,10 +4,8 @@ use mathlib.Core.List.{IsPrefix}
 use Rattle.httparse.specs.Grammar.{RequestHead}
 use Rattle.st_http.specs.declared.fields.Reason.{Reason}
 use Rattle.st_http.specs.declared.routes.Endpoint.{Endpoint}
-use Rattle.st_http.specs.declared.message.Message.{Message}
 use Rattle.st_http.specs.First.{First, message, fault, fields_of}
 use Rattle.st_http.specs.Routes.{found, routed}
-use Rattle.st_http.specs.Message.{ShowsMessage}
 use Rattle.st_http.specs.Token.{token_of}
 use Rattle.st_policy.specs.declared.refusal.Refusal.{Refusal}
 use Rattle.st_policy.specs.declared.reply.Reply.{Reply}
@@ -39,12 +37,14 @@ pub data Answers (start : State) : Seat → First → List ℕ → Seat → Type
   made : {s t : Seat} {h : RequestHead} {body : List ℕ} {bare : Bool} {asked : Ask} {reply : Told}
       → AsksIn h body asked → asks_for_change asked ≡ true → (list : List Ask) × EndsWith start list asked reply → Moves 1 s t
       → Answers start s (message h body bare) (reply_text reply (close_of h) bare) t
-  -- memory was wanting for the text of a refusal, which is counted
+  -- out of memory for the text of a refusal, which is counted
   untold : {s t : Seat} {h : RequestHead} {body : List ℕ} {bare : Bool} {asked : Ask} {refusal : Refusal}
-      → AsksIn h body asked → asks_for_change asked ≡ true → (list : List Ask) × EndsWith start list asked (Reply.Refused refusal) → Moves 1 s t
+      → AsksIn h body asked → asks_for_change asked ≡ true
+      → (list : List Ask) × EndsWith start list asked (Reply.Refused refusal) → Moves 1 s t
       → Answers start s (message h body bare) (busy_text (close_of h) bare) t
-  -- memory was wanting, and no change is made
-  busy : {s t : Seat} {h : RequestHead} {body : List ℕ} {bare : Bool} → Moves 0 s t → Answers start s (message h body bare) (busy_text (close_of h) bare) t
+  -- out of memory, and no change is made
+  busy : {s t : Seat} {h : RequestHead} {body : List ℕ} {bare : Bool} → Moves 0 s t
+      → Answers start s (message h body bare) (busy_text (close_of h) bare) t
   -- a message without an endpoint asks nothing, and is answered as by a service in any state
   unrouted : {s : Seat} {h : RequestHead} {body : List ℕ} {bare : Bool} {text : List ℕ}
       → ((endpoint : Endpoint) (name : List ℕ) → routed h.method h.target ≡ found endpoint name → ⊥)
@@ -52,8 +52,3 @@ pub data Answers (start : State) : Seat → First → List ℕ → Seat → Type
       → Answers start s (message h body bare) text s
   -- nor does a fault
   faulty : {s : Seat} {reason : Reason} {bare : Bool} → Answers start s (fault reason bare) (fault_text reason bare) s
-
--- the answer to a message, whatever its head and its body are
-abbrev pub Replied : State → Seat → Message → List ℕ → Seat → Type 0
-Replied start old m answer new =
-    (h : RequestHead) (body : List ℕ) (bare : Bool) → ShowsMessage h body bare m → Answers start old (message h body bare) answer new

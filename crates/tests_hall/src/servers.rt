@@ -5,7 +5,7 @@ use crate::words::{DIGEST, words_for};
 use st_command::stores_for;
 use st_core::Store;
 use st_hall::{Clerk, Desk, Hall, HallName, Unnamed};
-use st_loopback::{Open, serve_on, serve_words};
+use st_loopback::{Open, serve_all, serve_words};
 use st_station::Station;
 use std::alloc::Global;
 use std::io::{Read, Write};
@@ -174,7 +174,7 @@ fn ended_at<
         drop(two);
         return None;
     };
-    let fault = serve_on(rt, &listener, Duration::from_secs(10), one, two);
+    let fault = serve_all(rt, &listener, Duration::from_secs(10), one, two);
     Some((fault.status(), rest_of(alloc, &mut stream)?))
 }
 

@@ -17,14 +17,14 @@ returns-in_err-both g c =
     let why = widens words _ (c.in_err-both.ensures.err served_command words says) in
     rw p.1 (inr (record { fault = p.0; why = subst (RefusesServedWords words) (sym p.2) why; status_is = refl; untold = refl }))
 
-pub serve-requires-clause-named : goal.serve-requires-clause-named
-serve-requires-clause-named g c κs within = (refl, refl, refl)
+pub open_hall-requires-clause-named : goal.open_hall-requires-clause-named
+open_hall-requires-clause-named g c κs within = (refl, refl, refl)
 
-pub serve-requires-clause-alike : goal.serve-requires-clause-alike
-serve-requires-clause-alike g c κs within = (refl, c.in_ok-both.ensures.alike)
+pub open_hall-requires-clause-alike : goal.open_hall-requires-clause-alike
+open_hall-requires-clause-alike g c κs within = (refl, c.in_ok-both.ensures.alike)
 
-pub serve-requires-clause-opens : goal.serve-requires-clause-opens
-serve-requires-clause-opens g c κs within =
+pub open_hall-requires-clause-opens : goal.open_hall-requires-clause-opens
+open_hall-requires-clause-opens g c κs within =
     subst (λ (names : List (Bor Text)). Opens c.in_ok-said.said.digest.now (map (λ name. name.now) names) c.in_ok-both.both.0) c.deref.ensures.value c.in_ok-both.ensures.ok
 
 pub returns : goal.returns
@@ -39,7 +39,7 @@ returns g c =
       says = c.in_ok-said.ensures.ok;
       state = c.in_ok-both.both.0;
       opens = subst (λ (names : List (Bor Text)). Opens said.digest.now (map (λ name. name.now) names) c.in_ok-both.both.0) c.deref.ensures.value c.in_ok-both.ensures.ok;
-      ended = c.serve.result;
-      tells = c.serve.ensures;
+      ended = c.open_hall.result;
+      tells = c.open_hall.ensures;
       status_is = refl;
     })

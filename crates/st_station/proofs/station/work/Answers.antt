@@ -5,5 +5,5 @@ use Rattle.st_station.proofs.station.work.Goals as goal
 
 pub returns-clause-served : goal.returns-clause-served
 returns-clause-served g c =
-    rw (sym c.station.view_is) (at_once (Answers g.H.HallName.start) _ _ _ _ _ _ _ _ _ c.serve_connection.ensures.served
-    (λ e. let k : false ≡ true = c.serve_connection.ensures.lost e in cc))
+    rw (sym c.station.view_is) (at_once (Answers g.H.HallName.start) _ _ _ _ _ _ _ _ _ c.serve.ensures.served
+    (λ e. let k : false ≡ true = c.serve.ensures.kept.lost e in cc))

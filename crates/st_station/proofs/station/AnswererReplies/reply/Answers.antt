@@ -1,6 +1,6 @@
 use Rattle.std.proofs.Common.{refl, inl}
 use Rattle.st_station.proofs.Seated.{not_found, seated_unrouted}
-use Rattle.st_station.proofs.station.AnsweringReplies.reply.Goals as goal
+use Rattle.st_station.proofs.station.AnswererReplies.reply.Goals as goal
 
 pub answer-requires : goal.answer-requires
 answer-requires g c = (c.in-Found.field-0, c.in-Found.field-1.now, rw c.in-Found.is refl)

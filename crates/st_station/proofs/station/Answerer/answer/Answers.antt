@@ -1,6 +1,6 @@
 use Rattle.std.proofs.Common.{refl, sym}
 use Rattle.st_station.proofs.Seated.{seated_told, seated_unasked, seated_wanting}
-use Rattle.st_station.proofs.station.Answering.answer.Goals as goal
+use Rattle.st_station.proofs.station.Answerer.answer.Goals as goal
 
 pub returns-in_default : goal.returns-in_default
 returns-in_default g c = seated_unasked g.H.HallName.start c.args.self.now c.args.message.now _ refl

@@ -2,7 +2,7 @@ use Rattle.std.proofs.Common.{Err, sym, subst}
 use Rattle.std.proofs.lemmas.Result.{err_from_is_err_and}
 use Rattle.st_loopback.specs.Serving.{Tells}
 use Rattle.st_loopback.proofs.Telling.{all_told, stopped}
-use Rattle.st_loopback.proofs.served.serve_at.Goals as goal
+use Rattle.st_loopback.proofs.served.announce.Goals as goal
 
 pub returns-in-Err : goal.returns-in-Err
 returns-in-Err g c = c.in-Err.ensures.err
