@@ -1,53 +1,99 @@
 -- What a user is answered, by the user's own items and the replies to them.
-use Rattle.std.proofs.Common.{◌≡◌, ℕ, List, [], ◌∷◌, map, Bool, true, false, Option, Some, None, option_map, refl, sym, ◌∙◌, ap, subst}
+use Rattle.std.proofs.Common.{◌≡◌, ℕ, List, [], ◌∷◌, map, filter, Bool, true, false, Option, Some, None, refl, sym, ◌∙◌, ap, subst}
 use Rattle.std.specs.Prelude.{filter_map}
 use Rattle.st_text.specs.Texts.{Text}
-use Rattle.st_http.specs.First.{First}
+use Rattle.st_http.specs.First.{First, message, fault, more}
+use Rattle.st_http.specs.Routes.{Routed, found, no_route, bad_method, routed}
 use Rattle.st_core.specs.declared.asked.Asked.{Asked}
 use Rattle.st_policy.specs.declared.reply.Reply.{Reply}
 use Rattle.st_core.specs.State.{State}
 use Rattle.st_core.specs.Step.{step}
 use Rattle.st_core.specs.Worlds.{ever, NeverSystem, names, keep, replies_to}
 use Rattle.st_core.proofs.Kept.{told_the_same}
-use Rattle.st_service.specs.Worlds.{Event, ItemAsks, IsHistory, requests, is_of, kept_events, Trace, trace_of, keep_history, keep_items, item_text, answers, answers_to}
+use Rattle.st_service.specs.Answers.{close_of, reply_text, no_route_text, bad_method_text}
+use Rattle.st_service.specs.Worlds.{Form, route_fault, form_of, unrouted_text, Event, ItemAsks, IsHistory, requests, is_of, kept_events, Trace, trace_of, keep_history, keep_items, item_text, answers, answers_to}
 use Rattle.st_service.proofs.Histories.{each_asks, each_kept, same_events, whose, requests_kept, own_events, own_kept}
 
-module _ {A : Type 0} where
-  -- an item, and the rest of the answers by the replies that are left
-  abbrev told_one : First → Option (Asked A) → (List (Reply A) → List (List ℕ)) → List (Reply A) → List (List ℕ)
-  told_one item None rest replies = item_text {A = A} item None ∷ rest replies
-  told_one item (Some asked) rest [] = []
-  told_one item (Some asked) rest (reply ∷ replies) = item_text item (Some reply) ∷ rest replies
+-- the text of an answer by its form
+abbrev fault_text_of : Option (Option (List ℕ)) → Bool → Bool → List ℕ
+fault_text_of None close bare = []
+fault_text_of (Some None) close bare = no_route_text close bare
+fault_text_of (Some (Some allow)) close bare = bad_method_text allow close bare
 
-  abbrev told : List (Event A) → List (Reply A) → List (List ℕ)
+abbrev form_text : {A : Type 0} → Option Form → Option (Reply A) → List ℕ
+form_text None reply = []
+form_text (Some form) None = fault_text_of form.unrouted form.close form.bare
+form_text (Some form) (Some reply) = reply_text reply form.close form.bare
+
+route_text : (r : Routed) (close bare : Bool) → fault_text_of (route_fault r) close bare ≡ unrouted_text r close bare
+route_text (found endpoint name) close bare = refl
+route_text no_route close bare = refl
+route_text (bad_method allow) close bare = refl
+
+-- a user's own item is a message, and its answer hangs on its form
+text_is : {A : Type 0} (user : Text) (item : First) (reply : Option (Reply A)) → is_of user item ≡ true
+    → form_text (form_of item) reply ≡ item_text item reply
+text_is user (message h body bare) None e = route_text (routed h.method h.target) (close_of h) bare
+text_is user (message h body bare) (Some reply) e = refl
+text_is user (fault reason bare) reply e = absurd (let k : false ≡ true = e in cc)
+text_is user more reply e = absurd (let k : false ≡ true = e in cc)
+
+abbrev has_form : Option Form → Bool
+has_form None = false
+has_form (Some form) = true
+
+owned : (user : Text) (item : First) → is_of user item ≡ true → has_form (form_of item) ≡ true
+owned user (message h body bare) e = refl
+owned user (fault reason bare) e = absurd (let k : false ≡ true = e in cc)
+owned user more e = absurd (let k : false ≡ true = e in cc)
+
+module _ {A : Type 0} where
+  -- an own item, and the rest of the answers by the replies that are left
+  abbrev told_one : Option Form → Option (Asked A) → (List (Reply A) → List (List ℕ)) → List (Reply A) → List (List ℕ)
+  told_one form None rest replies = form_text {A = A} form None ∷ rest replies
+  told_one form (Some asked) rest [] = []
+  told_one form (Some asked) rest (reply ∷ replies) = form_text form (Some reply) ∷ rest replies
+
+  abbrev told : List (Trace A) → List (Reply A) → List (List ℕ)
   told [] = λ replies. []
-  told (event ∷ events) = told_one event.item event.asked (told events)
+  told (trace ∷ traces) = told_one trace.own trace.asked (told traces)
+
+  abbrev own_traces : Text → List (Event A) → List (Trace A)
+  own_traces user events = map (trace_of user) (own_events user events)
 
   -- a user's answers are those to the user's items by the replies to the user's requests
   own_told : (user : Text) (s : State A) (items : List First) (history : List (Event A)) → IsHistory items history
-      → answers_to user items (answers s history) ≡ told (own_events user history) (replies_to user s (requests history))
+      → answers_to user items (answers s history) ≡ told (own_traces user history) (replies_to user s (requests history))
   own_told user s [] [] h = refl
   own_told user s [] (event ∷ events) h = absurd h
   own_told user s (item ∷ items) [] h = absurd h
   own_told user s (item ∷ items) (event ∷ events) (is, asks, rest) = by event.asked refl (λ m. own_told user m items events rest)
     where
       Goal : Type 0
-      Goal = answers_to user (item ∷ items) (answers s (event ∷ events)) ≡ told (own_events user (event ∷ events)) (replies_to user s (requests (event ∷ events)))
+      Goal = answers_to user (item ∷ items) (answers s (event ∷ events))
+          ≡ told (own_traces user (event ∷ events)) (replies_to user s (requests (event ∷ events)))
 
       by : (o : Option (Asked A)) → event.asked ≡ o
-          → ((m : State A) → answers_to user items (answers m events) ≡ told (own_events user events) (replies_to user m (requests events))) → Goal
+          → ((m : State A) → answers_to user items (answers m events) ≡ told (own_traces user events) (replies_to user m (requests events))) → Goal
       by None e more = at (is_of user event.item) refl (more s)
         where
-          at : (b : Bool) → is_of user event.item ≡ b → answers_to user items (answers s events) ≡ told (own_events user events) (replies_to user s (requests events)) → Goal
-          at true f ih = let mine = ap (is_of user) (sym is) ∙ f in simp (e, f, mine, ih)
+          at : (b : Bool) → is_of user event.item ≡ b
+              → answers_to user items (answers s events) ≡ told (own_traces user events) (replies_to user s (requests events)) → Goal
+          at true f ih =
+              let mine = ap (is_of user) (sym is) ∙ f in
+              let text = text_is {A = A} user event.item None f in simp (e, f, mine, text, ih)
           at false f ih = let mine = ap (is_of user) (sym is) ∙ f in simp (e, f, mine, ih)
       by (Some asked) e more =
           let own = whose user item asked (subst (λ o. ItemAsks item o) e asks) in
           at own (names asked.token user) refl (more (step s asked).state)
         where
           at : is_of user item ≡ names asked.token user → (b : Bool) → names asked.token user ≡ b
-              → answers_to user items (answers (step s asked).state events) ≡ told (own_events user events) (replies_to user (step s asked).state (requests events)) → Goal
-          at own true g ih = let f = own ∙ g in let mine = ap (is_of user) is ∙ f in simp (e, f, mine, g, ih)
+              → answers_to user items (answers (step s asked).state events)
+              ≡ told (own_traces user events) (replies_to user (step s asked).state (requests events)) → Goal
+          at own true g ih =
+              let f = own ∙ g in
+              let mine = ap (is_of user) is ∙ f in
+              let text = text_is user event.item (Some (step s asked).reply) mine in simp (e, f, mine, g, text, ih)
           at own false g ih = let f = own ∙ g in let mine = ap (is_of user) is ∙ f in simp (e, f, mine, g, ih)
 
   -- ---- the traces say the requests that are kept, and the user's own events
@@ -63,15 +109,16 @@ module _ {A : Type 0} where
       at None e ih = simp (e, ih)
       at (Some asked) e ih = simp (e, ih)
 
-  abbrev own_of : List (Trace A) → List (Event A)
-  own_of traces = filter_map (λ trace. option_map (λ item. record { item = item; asked = trace.asked }) trace.own) traces
+  abbrev own_of : List (Trace A) → List (Trace A)
+  own_of traces = filter (λ trace. has_form trace.own) traces
 
-  events_traced : (user : Text) (events : List (Event A)) → own_events user events ≡ own_of (map (trace_of user) events)
-  events_traced user [] = refl
-  events_traced user (event ∷ rest) = at (is_of user event.item) refl (events_traced user rest)
+  own_traced : (user : Text) (events : List (Event A)) → own_traces user events ≡ own_of (map (trace_of user) events)
+  own_traced user [] = refl
+  own_traced user (event ∷ rest) = at (is_of user event.item) refl (own_traced user rest)
     where
-      at : (b : Bool) → is_of user event.item ≡ b → own_events user rest ≡ own_of (map (trace_of user) rest) → own_events user (event ∷ rest) ≡ own_of (map (trace_of user) (event ∷ rest))
-      at true e ih = simp (e, ih)
+      at : (b : Bool) → is_of user event.item ≡ b → own_traces user rest ≡ own_of (map (trace_of user) rest)
+          → own_traces user (event ∷ rest) ≡ own_of (map (trace_of user) (event ∷ rest))
+      at true e ih = let has = owned user event.item e in simp (e, has, ih)
       at false e ih = simp (e, ih)
 
   -- histories of which the same items are kept
@@ -97,6 +144,7 @@ module _ {A : Type 0} where
       ∙ sym (requests_traced user events_too) ∙ requests_kept user sight_too s other (each_asks others other also) in
       let replies_same : replies_to user s (requests history) ≡ replies_to user s (requests other) =
       told_the_same s user (requests history) never ∙ ap (replies_to user s) kept_same ∙ sym (told_the_same s user (requests other) never_too) in
-      let own_same : own_events user history ≡ own_events user other =
-      sym (own_kept user sight s history) ∙ events_traced user events ∙ ap own_of same ∙ sym (events_traced user events_too) ∙ own_kept user sight_too s other in
+      let own_same : own_traces user history ≡ own_traces user other =
+      sym (ap (map (trace_of user)) (own_kept user sight s history)) ∙ own_traced user events ∙ ap own_of same
+      ∙ sym (own_traced user events_too) ∙ ap (map (trace_of user)) (own_kept user sight_too s other) in
       own_told user s items history is ∙ (λ i. told (own_same i) (replies_same i)) ∙ sym (own_told user s others other also)

@@ -79,14 +79,31 @@ kept_events user sight s (event ∷ rest) =
     then event ∷ kept_events user sight (next_state s event.asked) rest
     else kept_events user sight (next_state s event.asked) rest
 
--- What an item leaves to notice: what it asks, and of the user's own the item itself, whose head says how its answer is written. How others
--- write what they ask does not matter.
+-- What the answer to a message hangs on beside what it asks: whether its route is an endpoint (`None`), or else which methods its path
+-- has, if any; whether the connection is closed after it; and whether it is a HEAD request.
+pub record Form : Type 0 where
+  pub unrouted : Option (Option (List ℕ))
+  pub close : Bool
+  pub bare : Bool
+
+abbrev pub route_fault : Routed → Option (Option (List ℕ))
+route_fault (found endpoint name) = None
+route_fault no_route = Some None
+route_fault (bad_method allow) = Some (Some allow)
+
+-- the form of a message; no other item is a user's
+abbrev pub form_of : First → Option Form
+form_of (message h body bare) = Some (record { unrouted = route_fault (routed h.method h.target); close = close_of h; bare = bare })
+form_of (fault reason bare) = None
+form_of more = None
+
+-- What an item leaves to notice: what it asks, and of the user's own the form. How it is written otherwise does not matter.
 pub record Trace (A : Type 0) : Type 0 where
-  pub own : Option First
+  pub own : Option Form
   pub asked : Option (Asked A)
 
 abbrev pub trace_of : {A : Type 0} → Text → Event A → Trace A
-trace_of user event = record { own = if is_of user event.item then Some event.item else None; asked = event.asked }
+trace_of user event = record { own = if is_of user event.item then form_of event.item else None; asked = event.asked }
 
 -- what the items leave that stay for what the user may ever see
 abbrev pub keep_history : {A : Type 0} → Text → State A → List (Event A) → List (Trace A)

@@ -15,7 +15,7 @@ ghost use Rattle.st_text.specs.Texts.{Text};
 
 use std::alloc::Allocator;
 
-/// Where no answer is for want of memory, the answers are those of a run of the requests that the items ask, and the state is
+/// Where no answer is a 503, the answers are those of a run of the requests that the items ask, and the state is
 /// that after it.
 pub fn ample_run<A: Allocator>()
     ensures { (s t : State A) (items : List First) (answers : List (List ℕ)) → Run Answers s items answers t
@@ -23,7 +23,7 @@ pub fn ample_run<A: Allocator>()
         → (asked : List (Asked A)) × Tells items asked (replies s asked) answers × (t ≡ after s asked) }
 {}
 
-/// Where no answer is for want of memory, the items have one history: what each of them asks. The answers are those of the
+/// Where no answer is a 503, the items have one history: what each of them asks. The answers are those of the
 /// history, and the state is that after its requests.
 pub fn one_history<A: Allocator>()
     ensures there { (s t : State A) (items : List First) (texts : List (List ℕ)) → Run Answers s items texts t
@@ -36,7 +36,8 @@ pub fn one_history<A: Allocator>()
 {}
 
 /// Histories that agree on what a user may ever see give that user equal bytes: from one state, where the user holds SYSTEM at
-/// no moment and the same is kept of both. The same is kept, at the least, where the same items are kept.
+/// no moment and the same is kept of both. Of the user's own items that is what they ask and the form of their answers, so
+/// that a field of a head that nothing hangs on may differ. The same is kept, at the least, where the same items are kept.
 pub fn equal_bytes<A: Allocator>()
     ensures told_the_same { (s : State A) (user : Text) (items others : List First) (history other : List (Event A))
         → IsHistory items history → IsHistory others other
