@@ -75,7 +75,7 @@ module _ {A : Type 0} where
 
       by : (o : Option (Asked A)) → event.asked ≡ o
           → ((m : State A) → answers_to user items (answers m events) ≡ told (own_traces user events) (replies_to user m (requests events))) → Goal
-      by None e more = at (is_of user event.item) refl (more s)
+      by None e onward = at (is_of user event.item) refl (onward s)
         where
           at : (b : Bool) → is_of user event.item ≡ b
               → answers_to user items (answers s events) ≡ told (own_traces user events) (replies_to user s (requests events)) → Goal
@@ -83,9 +83,9 @@ module _ {A : Type 0} where
               let mine = ap (is_of user) (sym is) ∙ f in
               let text = text_is {A = A} user event.item None f in simp (e, f, mine, text, ih)
           at false f ih = let mine = ap (is_of user) (sym is) ∙ f in simp (e, f, mine, ih)
-      by (Some asked) e more =
+      by (Some asked) e onward =
           let own = whose user item asked (subst (λ o. ItemAsks item o) e asks) in
-          at own (names asked.token user) refl (more (step s asked).state)
+          at own (names asked.token user) refl (onward (step s asked).state)
         where
           at : is_of user item ≡ names asked.token user → (b : Bool) → names asked.token user ≡ b
               → answers_to user items (answers (step s asked).state events)

@@ -4,8 +4,8 @@ ghost use Rattle.std.specs.Prelude.{false};
 use st_connection::connection::{ROOM, serve_connection};
 use st_connection::replies::Replies;
 use st_connection::{Ended, Failed, FromRead, FromWrite, IoFault};
-use st_http::routes::Routes;
 use st_http::message::Message;
+use st_http::routes::Routes;
 use std::alloc::Global;
 use std::convert::AsSlice;
 

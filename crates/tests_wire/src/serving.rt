@@ -1,8 +1,8 @@
 //! A service of one connection, from the bytes that are read to the bytes that are written.
 
 use st_core::Store;
-use st_http::routes::Routes;
 use st_http::message::{Message, Take};
+use st_http::routes::Routes;
 use st_service::{Ended, FromRead, FromWrite, IoFault, Service};
 use std::alloc::{Allocator, Global};
 
