@@ -6,6 +6,7 @@ import json
 import math
 import random
 import subprocess
+from base64 import b64encode
 from collections.abc import Iterator
 from dataclasses import dataclass
 from datetime import UTC, datetime, timedelta
@@ -169,6 +170,11 @@ def test_a_bbox_is_exact(facade: Facade, bbox: tuple[float, float, float, float]
     assert shown == expected("bob", [row for row in ROWS if inside(row)])
 
 
+def test_a_page_that_has_all_says_how_many(facade: Facade) -> None:
+    [page] = facade.pages("bob", bbox="0,0,20,20", limit="1000")
+    assert page["numberMatched"] == page["numberReturned"] > 10
+
+
 def test_heights_of_a_bbox_are_of_no_account(facade: Facade) -> None:
     assert facade.names("bob", bbox="0,0,-5,90,45,5", limit="1000") == facade.names("bob", bbox="0,0,90,45", limit="1000") != []
 
@@ -214,6 +220,7 @@ def test_pages_show_each_row_once_and_are_full(facade: Facade, limit: int) -> No
     size = min(limit, 1_000)
     assert [page["numberReturned"] for page in pages[:-1]] == [size] * (len(pages) - 1)
     assert len(pages) == math.ceil(len(ids) / size)
+    assert [page.get("numberMatched") for page in pages] == [None if limit == 7 else len(ids)] + [None] * (len(pages) - 1)
 
 
 def test_pages_go_on_over_the_antimeridian(facade: Facade) -> None:
@@ -314,8 +321,33 @@ def test_the_token_is_the_callers(facade: Facade) -> None:
     for path in ("/collections", f"/collections/{TABLE}", f"/collections/{TABLE}/items", f"/collections/{TABLE}/items/r1"):
         for user in (None, "nobody"):
             status, fields, told = facade.get(path, user)
-            assert (status, told["code"], fields["WWW-Authenticate"]) == (401, "Unauthorized", 'Bearer realm="points"')
+            assert (status, told["code"]) == (401, "Unauthorized")
+            assert fields.get_all("WWW-Authenticate") == ['Bearer realm="points"', 'Basic realm="points", charset="UTF-8"']
     assert facade.get("/collections/points/items", "ann")[0] == 403
+
+
+@pytest.mark.parametrize(
+    ("credentials", "status"),
+    [
+        (f"Bearer {token('ann')}", 200),
+        (f"bearer {token('ann')}", 200),
+        ("Basic " + b64encode(token("ann").replace(".", ":").encode()).decode(), 200),
+        ("Basic " + b64encode(token("ann").encode()).decode(), 401),
+        ("Basic " + b64encode(b"ann:secret").decode(), 401),
+        ("Basic " + b64encode(b"\xff:").decode(), 401),
+        ("Basic ann", 401),
+        (f"Bearer {token('ann')}x", 401),
+        ("Bearer", 401),
+        (f"Digest {token('ann')}", 401),
+    ],
+)
+def test_a_token_may_be_a_user_and_a_password(facade: Facade, credentials: str, status: int) -> None:
+    """As QGIS sends it."""
+    try:
+        with urlopen(Request(f"{facade.url}/collections", headers={"Authorization": credentials}), timeout=60) as answer:
+            assert answer.status == status
+    except HTTPError as error:
+        assert error.code == status
 
 
 def test_only_get_and_head(facade: Facade) -> None:

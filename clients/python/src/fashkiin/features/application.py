@@ -2,6 +2,7 @@
 
 from __future__ import annotations
 
+import base64
 import json
 from collections.abc import Callable, Iterable
 from dataclasses import dataclass, field
@@ -26,12 +27,14 @@ from fashkiin.errors import (
 )
 from fashkiin.features import documents
 from fashkiin.features.documents import GEOJSON, JSON, OPENAPI, link
-from fashkiin.features.items import feature, find, read
+from fashkiin.features.items import count, feature, find, read
 from fashkiin.features.query import ParameterError, Query, read_parameters, read_query, write_after
 from fashkiin.tokens import Token
 
 if TYPE_CHECKING:
     from wsgiref.types import StartResponse, WSGIEnvironment
+
+CHALLENGES = ('Bearer realm="points"', 'Basic realm="points", charset="UTF-8"')
 
 
 @dataclass(frozen=True, slots=True)
@@ -74,11 +77,25 @@ class Request:
         return cls(segments, environ.get("QUERY_STRING", ""), environ.get("HTTP_AUTHORIZATION", ""), own.rstrip("/"))
 
     def token(self) -> Token:
-        """The caller's token; `SettingsError` where there is none."""
-        scheme, _, token = self.authorization.partition(" ")
-        if scheme.lower() != "bearer":
-            raise SettingsError("no token, wanted the field Authorization: Bearer USER.SECRET")
-        return Token.parse(token)
+        """The caller's token, as a bearer's (RFC 6750), or as a user's name and its secret as password (RFC 7617), which is what
+        QGIS can send; `SettingsError` where there is none."""
+        scheme, _, credentials = self.authorization.partition(" ")
+        match scheme.lower():
+            case "bearer":
+                return Token.parse(credentials)
+            case "basic":
+                return Token.parse(_joined(credentials))
+            case _:
+                raise SettingsError("no token, wanted the field Authorization: Bearer USER.SECRET, or user and secret by Basic")
+
+
+def _joined(credentials: str) -> str:
+    """The text of the token whose user and secret are a user and a password."""
+    try:
+        user, _, secret = base64.b64decode(credentials, validate=True).decode().partition(":")
+    except ValueError:
+        raise SettingsError("no credentials, wanted a user and a secret in Base64") from None
+    return f"{user}.{secret}"
 
 
 class Features:
@@ -138,6 +155,7 @@ class Features:
     def _items(self, request: Request, table: str, query: Query) -> Answer:
         with self._connect(request.token()) as client:
             rows, after = read(client.table(table), query)
+            matched = count(client.table(table), query, len(rows), after)
         collection = request.base + documents.collection_path(table)
         own = f"{collection}/items" + (f"?{request.query}" if request.query else "")
         links = [link("self", own, GEOJSON, "This page"), link("collection", collection, JSON, f"The collection {table}")]
@@ -151,7 +169,7 @@ class Features:
             "timeStamp": time_text(datetime.now(UTC).replace(microsecond=0)),
             "numberReturned": len(rows),
         }
-        return Answer("200 OK", GEOJSON, page)
+        return Answer("200 OK", GEOJSON, page if matched is None else page | {"numberMatched": matched})
 
     def _item(self, request: Request, table: str, name: str) -> dict[str, Any]:
         with self._connect(request.token()) as client:
@@ -172,7 +190,7 @@ def refused(error: FashkiinError) -> Answer:
             status, code = "400 Bad Request", "InvalidParameterValue"
         case SettingsError() | TokenError():
             status, code = "401 Unauthorized", "Unauthorized"
-            fields = [("WWW-Authenticate", 'Bearer realm="points"')]
+            fields = [("WWW-Authenticate", challenge) for challenge in CHALLENGES]
         case PermissionDeniedError() | AuthorizationError():
             status, code = "403 Forbidden", "Forbidden"
         case NotThereError() | NoTableError() | InvalidNameError():

@@ -133,7 +133,7 @@ def api(base: str) -> dict[str, Any]:
         "openapi": "3.0.3",
         "info": {"title": TITLE, "description": DESCRIPTION, "version": "1.0.0"},
         "servers": [{"url": base}],
-        "security": [{"token": []}],
+        "security": [{"token": []}, {"user": []}],
         "paths": {
             "/": _get("landing", "The landing page", JSON),
             "/api": _get("api", "The API definition", OPENAPI),
@@ -148,7 +148,10 @@ def api(base: str) -> dict[str, Any]:
             ),
         },
         "components": {
-            "securitySchemes": {"token": {"type": "http", "scheme": "bearer", "bearerFormat": "USER.SECRET"}},
+            "securitySchemes": {
+                "token": {"type": "http", "scheme": "bearer", "bearerFormat": "USER.SECRET"},
+                "user": {"type": "http", "scheme": "basic", "description": "The user, and its secret as password"},
+            },
             "schemas": {"exception": exception},
             "parameters": PARAMETERS,
         },

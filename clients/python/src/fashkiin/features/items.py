@@ -26,6 +26,15 @@ def read(table: Table, query: Query) -> tuple[list[Row], Place | None]:
     return rows, None
 
 
+def count(table: Table, query: Query, returned: int, after: Place | None) -> int | None:
+    """How many rows match, where the first page or a count tells it: the server counts by cells, and not by exact positions."""
+    if query.after is not None:
+        return None
+    if after is None:
+        return returned
+    return table.count() if query.whole else None
+
+
 def _pages(table: Table, query: Query, auths: Sequence[str]) -> Iterator[Page]:
     """The pages of the query's boxes as the server has them, from its place on."""
     # One row more tells whether there is a next page.
