@@ -1,6 +1,6 @@
 //! Entries of the audit listing.
 ghost use Rattle.std.specs.Prelude.{◌≡◌};
-ghost use Rattle.st_policy.specs.Requests.{name_of, target_of};
+ghost use Rattle.st_policy.specs.Requests.{request_name, target_of};
 
 use crate::request::Request;
 use st_dir::Name;
@@ -50,7 +50,7 @@ impl Entry {
 
 // The name of a request's line.
 fn text_of_name<A: Allocator>(request: &Request<A>) -> Text<16>
-    ensures { result ≡ name_of request.now }
+    ensures { result ≡ request_name request.now }
 {
     match Text::new(request.name()) {
         Some(text) => text,

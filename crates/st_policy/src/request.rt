@@ -160,7 +160,7 @@ pub enum Request<A: Allocator = Global> {
 
 impl<A: Allocator> Request<A> {
     ghost use Rattle.std.specs.Prelude.{◌≡◌, ◌≤◌, length, option_map};
-    ghost use Rattle.st_policy.specs.Requests.{is_change, name_of, namespace_of, table_of, target_of, user_of};
+    ghost use Rattle.st_policy.specs.Requests.{is_change, request_name, namespace_of, table_of, target_of, user_of};
 
     /// Whether it changes anything, where it is allowed.
     pub fn is_change(&self) -> bool
@@ -186,7 +186,7 @@ impl<A: Allocator> Request<A> {
 
     /// The name of its line in the table of requests, by which the audit listing writes it.
     pub fn name(&self) -> &'static str
-        ensures value { result.now ≡ name_of self.now }
+        ensures value { result.now ≡ request_name self.now }
         ensures short { length result.now ≤ 16 }
     {
         match self {
