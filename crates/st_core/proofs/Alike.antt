@@ -32,7 +32,7 @@ use Rattle.st_core.specs.declared.asked.Call.{Call}
 use Rattle.st_core.specs.declared.asked.Token.{Token}
 use Rattle.st_policy.specs.declared.reply.Reply.{Reply}
 use Rattle.st_core.specs.State.{State}
-use Rattle.st_core.specs.Reads.{rows_that, seen, page_of, account, shown}
+use Rattle.st_core.specs.Reads.{rows_that, rows_inside, page_of, account, shown}
 use Rattle.st_core.specs.Changes.{rows_after, directory_after}
 use Rattle.st_core.specs.Step.{Judged, Unheard, Heard, asker_of, judge_call, settle}
 use Rattle.st_core.specs.Worlds.{Sight, names, may_show, matters}
@@ -153,7 +153,7 @@ module _ {A : Type 0} (sight : Sight) (user : Text) (s t : State A) (alike : Ali
     pub sorted_alike : in_order key (rows_that test table auths s.rows) ≡ in_order key (rows_that test table auths t.rows)
     sorted_alike = of_visible s.rows ∙ ap (λ rows. map row_of (in_order row_key (filter passes rows))) alike.rows ∙ sym (of_visible t.rows)
 
-  seen_alike : (table : Text) (query : Query) (auths : List Text) → MayRead table auths → seen s table query auths ≡ seen t table query auths
+  seen_alike : (table : Text) (query : Query) (auths : List Text) → MayRead table auths → rows_inside s table query auths ≡ rows_inside t table query auths
   seen_alike table query auths may =
       sorted_alike (scan_key (period_of s.directory table)) (λ row. is_inside query row.point) (scan_names (period_of s.directory table) (λ row. is_inside query row.point)) table auths may
       ∙ ap (λ d. in_order (scan_key (period_of d table)) (rows_that (λ row. is_inside query row.point) table auths t.rows)) alike.directory

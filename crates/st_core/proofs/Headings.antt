@@ -11,7 +11,7 @@ use Rattle.st_dir.specs.Order.{table_key}
 use Rattle.st_dir.specs.declared.table.TableInfo.{TableInfo}
 use Rattle.st_policy.specs.declared.request.Request.{Request}
 use Rattle.st_core.specs.Changes.{directory_after}
-use Rattle.st_core.specs.Tables.{Heading, heading_key, heading_named, headings_of, headings_with, headings_without}
+use Rattle.st_core.specs.inner.Tables.{Heading, heading_key, heading_named, headings_of, headings_with, headings_without}
 
 abbrev heading : TableInfo → Heading
 heading info = record { table = info.table; period = info.period }

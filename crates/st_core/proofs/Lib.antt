@@ -9,7 +9,7 @@ pub mod Sieves
 pub mod Truth
 pub mod Alike
 pub mod Kept
-pub mod Decisions
+pub mod Judgements
 mod Worked
 mod WorkedRows
 mod WorkedDirectory

@@ -13,13 +13,13 @@ use Rattle.st_table.specs.Rows.{rows_in_table}
 use Rattle.st_dir.specs.Directory.{period_of}
 use Rattle.st_policy.specs.declared.reply.Reply.{Reply}
 use Rattle.st_core.specs.State.{State}
-use Rattle.st_core.specs.Reads.{page_of, seen}
+use Rattle.st_core.specs.Reads.{page_of, rows_inside}
 
 pub paged : {A : Type 0} (s : State A) (table : Text) (query : Query) (auths : List Text) (limit : ℕ) (after : Option (Place A))
     (period : Period) (content rows : List (Row A)) (more : Bool) → period ≡ period_of s.directory table
     → in_order (scan_key period) (filter (is_visible_inside query auths) (rows_in_table table s.rows)) ≡ filter (is_visible_inside query auths) content
     → IsPage limit (visible_after period query auths after content) rows more
-    → Reply.Page rows more ≡ page_of limit (filter (is_past (period_of s.directory table) after) (seen s table query auths))
+    → Reply.Page rows more ≡ page_of limit (filter (is_past (period_of s.directory table) after) (rows_inside s table query auths))
 paged {A} s table query auths limit after period content rows more own scans page =
     let tested : List (Row A) = filter (is_visible_inside query auths) (rows_in_table table s.rows) in
     let all = ap (filter (is_past {A = A} period after)) (sym scans) ∙ ap (λ p. filter (is_past {A = A} p after) (in_order (scan_key p) tested)) own in

@@ -20,9 +20,9 @@ use Rattle.st_table.specs.Table.{HasEachOnce, rows_by_label, with_row, without_n
 use Rattle.st_table.proofs.Storing.{elsewhere, table_put, table_delete, table_dropped, resorted}
 use Rattle.st_table.proofs.Reading.{seen_is}
 use Rattle.st_table.proofs.Getting.{got_is}
-use Rattle.st_core.specs.Tables.{Heading, heading_key, heading_named, headings_with, headings_without, is_of, without}
-use Rattle.st_core.specs.Shelves.{heading_of, headings_in, rows_in, tables_in}
-use Rattle.st_core.specs.declared.tables.Shelf.{Shelf}
+use Rattle.st_core.specs.inner.Tables.{Heading, heading_key, heading_named, headings_with, headings_without, is_of, tables_without}
+use Rattle.st_core.specs.inner.Shelves.{heading_of, headings_in, rows_in, tables_in}
+use Rattle.st_core.specs.declared.store.tables.Shelf.{Shelf}
 
 clash : false ≡ true → ⊥
 clash p = cc
@@ -242,7 +242,7 @@ module _ {A : Type 0} (name : Text) where
     removed_headings =
         map_remove heading_of ts i ∙ taken_out heading_key (is_of name) (headings_in ts) i (heading_of t) s.alone inside_headings there_heading
 
-    pub remove_is : tables_in (remove ts i) ≡ without name (tables_in ts)
+    pub remove_is : tables_in (remove ts i) ≡ tables_without name (tables_in ts)
     remove_is =
         let p = s.parts in
         let rows = ap (in_order full_name) p.taken
@@ -309,7 +309,7 @@ module _ {A : Type 0} (name : Text) where
         λ k. record { headings = headings k; rows = rows k }
 
     -- what is added is taken away again
-    pub added_back : t.table.rows ≡ [] → without name (tables_in (insert ts i t)) ≡ tables_in ts
+    pub added_back : t.table.rows ≡ [] → tables_without name (tables_in (insert ts i t)) ≡ tables_in ts
     added_back e =
         let is : is_of name (heading_of t) ≡ true = subst (λ n. same n name ≡ true) (sym named) (same-refl name) in
         let headings = ap (headings_without name) (map_insert heading_of ts i t) ∙ back heading_key (is_of name) (heading_of t) (headings_in ts) i none is in

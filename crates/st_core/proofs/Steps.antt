@@ -1,5 +1,5 @@
 -- Steps, by what was found on the way to them.
-use Rattle.std.proofs.Common.{◌≡◌, List, [], ◌∷◌, ◌++◌, true, false, Option, Some, None, Ok, Err, refl, length}
+use Rattle.std.proofs.Common.{rules, ◌≡◌, List, [], ◌∷◌, ◌++◌, true, false, Option, Some, None, Ok, Err, refl, length}
 use Rattle.circular_buffer.specs.Buffer.{keep_last}
 use Rattle.std.proofs.lemmas.List.Sorted.{length_permutation}
 use Rattle.st_text.specs.Texts.{Text, in_order}
@@ -18,7 +18,7 @@ use Rattle.st_core.specs.Reads.{shown}
 use Rattle.st_core.specs.Changes.{rows_after, directory_after}
 use Rattle.st_core.specs.Step.{Heard, asker_of, asks_for_change, calls_for_change, result_of, judge_call, settle, step}
 
-is_refused : (o : Option Refusal) (refusal : Refusal) → decision o ≡ Err refusal → o ≡ Some refusal
+pub is_refused : (o : Option Refusal) (refusal : Refusal) → decision o ≡ Err refusal → o ≡ Some refusal
 is_refused None refusal e = cc
 is_refused (Some other) refusal e = cc
 
@@ -26,35 +26,27 @@ pub is_allowed : (o : Option Refusal) → decision o ≡ Ok tt → o ≡ None
 is_allowed None e = refl
 is_allowed (Some other) e = cc
 
-module _ {A : Type 0} (s : State A) (asked : Asked A) (asker : Text) (request : Request A)
-    (heard : asker_of s.directory asked.token ≡ Some asker) (good : asked.call ≡ Call.Good request) where
-  pub step_refused : (refusal : Refusal) → decision (refusal_of s.directory asker request) ≡ Err refusal → asks_for_change asked ≡ true
-      → step s asked ≡ record {
-        reply = Reply.Refused refusal;
-        state = record s { audit = keep_last 1024 (s.audit ++ entry_of asker request (number_of refusal) ∷ []) };
-      }
-  step_refused refusal e change =
-      let is : is_change request ≡ true = rw good at change in
-      rw (heard, good, is_refused _ _ e, is) refl
+-- a change that is allowed is told to be made
+pub shown_change : {A : Type 0} (s : State A) (asker : Text) (request : Request A) → is_change request ≡ true → shown s asker request ≡ Reply.Accepted
+shown_change s asker Request.Whoami e = cc
+shown_change s asker _ e = first_of (search rules, cc)
 
-  pub step_allowed : decision (refusal_of s.directory asker request) ≡ Ok tt → asks_for_change asked ≡ true
-      → step s asked ≡ record {
-        reply = shown s asker request;
-        state = record {
-          directory = directory_after asker request s.directory;
-          rows = rows_after request s.rows;
-          audit = keep_last 1024 (s.audit ++ entry_of asker request 0 ∷ []);
-        };
-      }
-  step_allowed e change =
-      let is : is_change request ≡ true = rw good at change in
-      rw (heard, good, is_allowed _ e, is) refl
+module _ {A : Type 0} (s : State A) (asker : Text) (request : Request A) (change : is_change request ≡ true) where
+  pub settled_refused : (refusal : Refusal) → settle s (Heard asker request (Some refusal)) ≡ record {
+    reply = Reply.Refused refusal;
+    state = record s { audit = keep_last 1024 (s.audit ++ entry_of asker request (number_of refusal) ∷ []) };
+  }
+  settled_refused refusal = rw change refl
 
-  pub told_refused : (refusal : Refusal) → decision (refusal_of s.directory asker request) ≡ Err refusal → (step s asked).reply ≡ Reply.Refused refusal
-  told_refused refusal e = rw (heard, good, is_refused _ _ e) refl
-
-  pub step_shown : decision (refusal_of s.directory asker request) ≡ Ok tt → (step s asked).reply ≡ shown s asker request
-  step_shown e = rw (heard, good, is_allowed _ e) refl
+  pub settled_allowed : settle s (Heard asker request None) ≡ record {
+    reply = Reply.Accepted;
+    state = record {
+      directory = directory_after asker request s.directory;
+      rows = rows_after request s.rows;
+      audit = keep_last 1024 (s.audit ++ entry_of asker request 0 ∷ []);
+    };
+  }
+  settled_allowed = rw (change, shown_change s asker request change) refl
 
 -- what is no change leaves the state as it was
 settled_read : {A : Type 0} (s : State A) (asker : Text) (request : Request A) (o : Option Refusal) → is_change request ≡ false → (settle s (Heard asker request o)).state ≡ s

@@ -24,18 +24,18 @@ use Rattle.st_core.specs.State.{State}
 abbrev pub rows_that : {A : Type 0} → (Row A → Bool) → Text → List Text → List (Held A) → List (Row A)
 rows_that test table auths rows = filter (λ row. test row && is_true (is_among auths) row.label) (rows_in_table table rows)
 
--- the seen rows of the table inside the query, in scan order
-abbrev pub seen : {A : Type 0} → State A → Text → Query → List Text → List (Row A)
-seen s table query auths =
+-- the visible rows of the table inside the query, in scan order
+abbrev pub rows_inside : {A : Type 0} → State A → Text → Query → List Text → List (Row A)
+rows_inside s table query auths =
     in_order (scan_key (period_of s.directory table)) (rows_that (λ row. is_inside query row.point) table auths s.rows)
 
 -- the first rows, and whether more follow
 abbrev pub page_of : {A : Type 0} → ℕ → List (Row A) → Reply A
 page_of limit rows = Reply.Page (take limit rows) (nat_lt limit (length rows))
 
--- the seen rows of the table with the id, by the bytes of their labels
-abbrev pub rows_named : {A : Type 0} → State A → Text → Text → List Text → List (Row A)
-rows_named s table id auths = in_order (λ row. row.label ∷ []) (rows_that (λ row. same row.id id) table auths s.rows)
+-- the visible rows of the table with the id, by the bytes of their labels
+abbrev pub rows_with_id : {A : Type 0} → State A → Text → Text → List Text → List (Row A)
+rows_with_id s table id auths = in_order (λ row. row.label ∷ []) (rows_that (λ row. same row.id id) table auths s.rows)
 
 -- a user's account, where there is such a user
 abbrev pub account : {A : Type 0} → Directory A → Text → Reply A
@@ -51,11 +51,11 @@ shown s asker (Request.Grants table) = Reply.Grants (grants_on s.directory (OnTa
 shown s asker (Request.NamespaceGrants namespace) = Reply.Grants (grants_on s.directory (OnNamespace namespace))
 shown s asker (Request.Label label) = Reply.Normal (normal_text label)
 shown s asker Request.Audit = Reply.Audit s.audit
-shown s asker (Request.Get table id auths) = Reply.Rows (rows_named s table id auths)
+shown s asker (Request.Get table id auths) = Reply.Rows (rows_with_id s table id auths)
 shown s asker (Request.Scan table query auths limit after) =
-    page_of limit (filter (is_past (period_of s.directory table) after) (seen s table query auths))
-shown s asker (Request.Count table query auths) = Reply.Count (length (seen s table query auths))
-shown s asker (Request.Grid table query auths columns lines) = Reply.Grid (grid_of query columns lines (seen s table query auths))
+    page_of limit (filter (is_past (period_of s.directory table) after) (rows_inside s table query auths))
+shown s asker (Request.Count table query auths) = Reply.Count (length (rows_inside s table query auths))
+shown s asker (Request.Grid table query auths columns lines) = Reply.Grid (grid_of query columns lines (rows_inside s table query auths))
 shown s asker (Request.Plan table query budget) = Reply.Plan (plan_of (period_of s.directory table) query budget)
 shown s asker (Request.Put table row) = Reply.Accepted
 shown s asker (Request.Delete table id label) = Reply.Accepted

@@ -13,6 +13,8 @@ use Rattle.st_policy.specs.Policy.{refusal_of}
 use Rattle.st_core.specs.declared.asked.Asked.{Asked}
 use Rattle.st_core.specs.declared.asked.Call.{Call}
 use Rattle.st_core.specs.declared.asked.Token.{Token}
+pub use Rattle.st_core.specs.declared.judged.Judged.{Judged}
+pub use Rattle.st_core.specs.declared.judged.Judged.TheVariants.{Unheard, Heard}
 use Rattle.st_policy.specs.declared.entry.Entry.{Entry}
 use Rattle.st_policy.specs.declared.reply.Reply.{Reply}
 use Rattle.st_core.specs.State.{State}
@@ -26,11 +28,8 @@ abbrev pub asker_of : {A : Type 0} → Directory A → Option Token → Option T
 asker_of d None = None
 asker_of d (Some token) = if has_secret d token.name token.secret then Some token.name else None
 
--- what is asked is refused before anything is decided, or it is a user's request, with the policy's refusal, if there is one
-pub data Judged (A : Type 0) : Type 0 where
-  Unheard : Refusal → Judged A
-  Heard : (asker : Text) → Request A → Option Refusal → Judged A
-
+-- A judgement is of what is refused before anything is decided (unheard), or of a user's request, with the policy's refusal, if
+-- there is one (heard).
 abbrev pub judge_call : {A : Type 0} → Directory A → Option Text → Call A → Judged A
 judge_call d None call = Unheard (Refusal.Denied Denial.Token)
 judge_call d (Some asker) (Call.Bad refusal) = Unheard refusal

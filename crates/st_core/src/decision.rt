@@ -1,17 +1,17 @@
-//! Changes, as the directory alone decides them.
+//! What changes come to, by the directory alone.
 ghost use Rattle.std.specs.Prelude.{◌≡◌, None, true, IfOk, unwrap_or};
 ghost use Rattle.st_text.specs.Texts.{Text};
 ghost use Rattle.st_dir.specs.Directory.{Directory as Lists, is_user};
 ghost use Rattle.st_policy.specs.Policy.{refusal_of};
 ghost use Rattle.st_core.specs.Changes.{directory_after};
 ghost use Rattle.st_core.specs.State.{State};
-ghost use Rattle.st_core.specs.Step.{asks_for_change, step};
+ghost use Rattle.st_core.specs.Judging.{JudgesChange, judgement};
+ghost use Rattle.st_core.specs.Step.{settle};
 
-use crate::asked::{Asked, Call};
-use crate::change::change_directory;
-use crate::store::{Store, asker};
+use crate::judged::JudgedRef;
+use crate::store::changing::change_directory;
 use st_dir::{Directory, Name};
-use st_policy::{Denial, Refusal, Reply, Request, decide};
+use st_policy::{Reply, Request};
 use std::alloc::{AllocError, Allocator, Global};
 
 /// What a change replies, and the directory after it where that is another.
@@ -62,36 +62,28 @@ fn changed<A: Allocator + Copy>(
 }
 
 impl<A: Allocator + Copy> Decision<A> {
-    /// Decides a change by a directory: what each state with this directory replies, and the directory
-    /// that it leaves. Changes of rows and refused changes take no memory.
-    pub fn of(directory: &Directory<A>, asked: &Asked<A>) -> Result<Decision<A>, AllocError>
-        requires { asks_for_change asked.now ≡ true }
-        ensures reply { IfOk result (λ decision. (s : State A) → s.directory ≡ directory.now → decision.reply ≡ (step s asked.now).reply) }
+    /// What a change that was judged by a directory comes to: what each state with this directory replies, and the directory that
+    /// it leaves. Changes of rows and refused changes take no memory.
+    pub fn of(directory: &Directory<A>, judged: &JudgedRef<A>) -> Result<Decision<A>, AllocError>
+        requires { JudgesChange directory.now (judgement judged.now) }
+        ensures reply { IfOk result (λ decision. (s : State A) → decision.reply ≡ (settle s (judgement judged.now)).reply) }
         ensures directory { IfOk result (λ decision. (s : State A) → s.directory ≡ directory.now
-            → unwrap_or decision.directory directory.now ≡ (step s asked.now).state.directory) }
+            → unwrap_or decision.directory directory.now ≡ (settle s (judgement judged.now)).state.directory) }
     {
-        let Some(asker) = asker(directory, asked) else {
-            return Ok(told(Reply::Refused(Refusal::Denied(Denial::Token))));
-        };
-        let Call::Good(request) = &asked.call else {
-            unreachable!()
-        };
-        if let Err(refusal) = decide(directory, asker, request) {
-            return Ok(told(Reply::Refused(refusal)));
+        match judged {
+            JudgedRef::Unheard(refusal) => Ok(told(Reply::Refused(refusal.copy()))),
+            JudgedRef::Heard {
+                refusal: Some(refusal),
+                ..
+            } => Ok(told(Reply::Refused(refusal.copy()))),
+            JudgedRef::Heard {
+                asker,
+                request,
+                refusal: None,
+            } => Ok(Decision {
+                directory: changed(directory, asker, request)?,
+                reply: Reply::Accepted,
+            }),
         }
-        let next = changed(directory, asker, request)?;
-        Ok(Decision {
-            reply: Reply::Accepted,
-            directory: next,
-        })
-    }
-}
-
-impl<A: Allocator + Copy> Store<A> {
-    /// The users, tables and grants of its state.
-    pub fn directory(&self) -> &Directory<A>
-        ensures { result.now ≡ self.now.directory }
-    {
-        &self.directory
     }
 }

@@ -29,19 +29,20 @@ pub fn refusals_change_nothing<A: Allocator>()
         → ((step s asked).state.directory ≡ s.directory) × ((step s asked).state.rows ≡ s.rows) }
 {}
 
-/// Each change whose token holds is listed, made or refused, and nothing else is: what a stranger asks
-/// changes nothing at all.
+/// Each change whose token is valid is listed, made or refused, and nothing else is: what a stranger asks changes nothing.
 pub fn changes_are_listed<A: Allocator>()
     ensures listed { (s : State A) (asked : Event A) (asker : Text) (request : Request A)
         → asker_of s.directory asked.token ≡ Some asker → asked.call ≡ Call.Good request → is_change request ≡ true
-        → (step s asked).state.audit ≡ keep_last 1024 (s.audit ++ entry_of asker request (result_of (refusal_of s.directory asker request)) ∷ []) }
+        → (step s asked).state.audit
+        ≡ keep_last 1024 (s.audit ++ entry_of asker request (result_of (refusal_of s.directory asker request)) ∷ []) }
     ensures strangers { (s : State A) (asked : Event A) → asker_of s.directory asked.token ≡ None → (step s asked).state ≡ s }
 {}
 
 /// A request leaves the rows of each table but its own as they were.
 pub fn other_tables_stay<A: Allocator>()
     ensures { (request : Request A) (rows : List (Held A)) (table : Text)
-        → in_order full_name rows ≡ rows → (table_of request ≡ Some table → ⊥) → rows_in_table table (rows_after request rows) ≡ rows_in_table table rows }
+        → in_order full_name rows ≡ rows
+        → (table_of request ≡ Some table → ⊥) → rows_in_table table (rows_after request rows) ≡ rows_in_table table rows }
 {}
 
 /// What a user may not see cannot be noticed. Let a user hold SYSTEM at no moment of a run. Then the replies to the user's own

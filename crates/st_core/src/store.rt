@@ -1,15 +1,21 @@
 //! The store: the state, and the requests on it.
-ghost use Rattle.std.specs.Prelude.{◌≡◌, None, codes, ◌++◌, ◌∷◌, [], map, option_map, IfOk, IfErr, OnOk, OnErr};
+ghost use Rattle.std.specs.Prelude.{◌≡◌, None, codes, ◌++◌, ◌∷◌, [], map, IfOk, IfErr, OnOk, OnErr};
 ghost use Rattle.st_auth.specs.Names.{RefusesNames, first_bad};
 ghost use Rattle.circular_buffer.specs.Buffer.{keep_last};
 ghost use Rattle.st_key.specs.declared.period.Period.TheVariants.{Week};
 ghost use Rattle.st_policy.specs.Entries.{entry_of};
 ghost use Rattle.st_core.specs.State.{first_state};
-ghost use Rattle.st_core.specs.Step.{asker_of, step};
+ghost use Rattle.st_core.specs.Step.{step};
+
+mod answering;
+mod audit;
+pub(crate) mod changing;
+mod reading;
+mod table_changes;
+mod tables;
 
 use crate::asked::Asked;
-use crate::audit::AUDIT_LEN;
-use crate::tables::Tables;
+use audit::AUDIT_LEN;
 use circular_buffer::HeapCircularBuffer;
 use st_auth::{Auths, AuthsFault};
 use st_dir::{Directory, Name, TableName};
@@ -17,6 +23,7 @@ use st_key::Period;
 use st_policy::{Entry, Reply, Request};
 use std::alloc::{AllocError, Allocator, Global};
 use std::marker::Model;
+use tables::Tables;
 
 /// The directory, the rows of each table, and the audit listing.
 #[derive(Drop)]
@@ -30,7 +37,7 @@ pub struct Store<A: Allocator + Copy = Global> {
 impl<A: Allocator + Copy> Model for Store<A> {
     ghost use Rattle.std.specs.Prelude.{◌≡◌};
     ghost use Rattle.st_core.specs.State.{State};
-    ghost use Rattle.st_core.specs.Tables.{headings_of};
+    ghost use Rattle.st_core.specs.inner.Tables.{headings_of};
 
     ghost Value = { State A };
 
@@ -52,7 +59,8 @@ fn first_tables<A: Allocator + Copy>(alloc: A) -> Result<Tables<A>, AllocError>
 fn first_parts<A: Allocator + Copy>(
     alloc: A,
 ) -> Result<(Tables<A>, HeapCircularBuffer<Entry, A>), AllocError>
-    ensures tables { IfOk result (λ parts. parts.0 ≡ record { headings = record { table = codes "points"; period = Week } ∷ []; rows = [] }) }
+    ensures tables { IfOk result (λ parts. parts.0
+        ≡ record { headings = record { table = codes "points"; period = Week } ∷ []; rows = [] }) }
     ensures audit { IfOk result (λ parts. (parts.1.items ≡ []) × (parts.1.capacity ≡ 1024)) }
 {
     let tables = first_tables(alloc)?;
@@ -72,25 +80,6 @@ fn points() -> TableName
     match TableName::new("points") {
         Ok(name) => name,
         Err(_) => unreachable!(),
-    }
-}
-
-// The user of a token that holds.
-pub(crate) fn asker<'a, A: Allocator>(
-    directory: &Directory<A>,
-    asked: &'a Asked<A>,
-) -> Option<&'a Name>
-    ensures { option_map (λ name. name.now) result ≡ asker_of directory.now asked.now.token }
-{
-    match &asked.token {
-        Some(token) => {
-            if directory.authenticate(token.name.as_str(), &token.secret) {
-                Some(&token.name)
-            } else {
-                None
-            }
-        }
-        None => None,
     }
 }
 
@@ -124,6 +113,13 @@ impl<A: Allocator + Copy> Store<A> {
         self.alloc
     }
 
+    /// The users, tables and grants of its state.
+    pub fn directory(&self) -> &Directory<A>
+        ensures { result.now ≡ self.now.directory }
+    {
+        &self.directory
+    }
+
     // Lists a change that was asked for.
     pub(crate) fn note(&mut self, asker: &Name, request: &Request<A>, number: u8)
         ensures { self.new ≡ record self.old { audit = keep_last 1024 (self.old.audit ++ entry_of asker.now request.now number ∷ []) } }
@@ -131,7 +127,7 @@ impl<A: Allocator + Copy> Store<A> {
         self.audit.push_back(Entry::of(asker, request, number));
     }
 
-    /// The reply to what is asked, which may be a change.
+    /// The reply to what is asked, which may be a change. When out of memory nothing is changed.
     pub fn step(&mut self, asked: &Asked<A>) -> Result<Reply<A>, AllocError>
         ensures reply { IfOk result (λ reply. reply ≡ (step self.old asked.now).reply) }
         ensures state { OnOk result (self.new ≡ (step self.old asked.now).state) }

@@ -9,7 +9,7 @@ use Rattle.core.specs.declared.clone.Clone.{Ghosts as Copies}
 use Rattle.std.proofs.Crossing.{crosses, frees, send as heap_send, sync as heap_sync}
 use Rattle.std_heap.specs.contracts.Global as Heap
 use Rattle.std_heap.specs.contracts.GlobalAllocator.TheImpl.{ghosts}
-use Rattle.st_core.specs.contracts.tables.Tables as Tables
+use Rattle.st_core.specs.contracts.store.tables.Tables as Tables
 use Rattle.st_core.specs.contracts.store.Store as Store
 use Rattle.st_dir.specs.contracts.directory.Directory as Directory
 use Rattle.st_index.specs.contracts.row.Row as Row
@@ -25,10 +25,9 @@ use Rattle.st_hall.specs.contracts.front.Front as Front
 use Rattle.st_hall.specs.contracts.desk.Desk as Desk
 use Rattle.st_hall.specs.contracts.clerk.Clerk as Clerk
 use Rattle.st_hall.specs.contracts.worker.Worker as Worker
-use Rattle.st_hall.specs.declared.front.HallName as hall
-use Rattle.st_hall.proofs.front.Trace.TheSendSync as TraceCross
+use Rattle.st_hall.specs.declared.name.HallName as hall
 use Rattle.st_hall.proofs.front.Front.TheSendSync as FrontCross
-use Rattle.st_hall.proofs.front.Head.TheSendSync as HeadCross
+use Rattle.st_hall.proofs.history.Head.TheSendSync as HeadCross
 use Rattle.st_hall.proofs.edition.Queued.TheSendSync as QueuedCross
 use Rattle.core.specs.declared.ledger.Ledger as ledger
 use Rattle.core.proofs.ledger.Book.TheSendSync as BookCross
@@ -124,20 +123,6 @@ store c = let d = directory in let t = tables c in search (sendable, crosses, Ce
 store_sync : (c : Copies (Heap.the_row).Denot) → IsSync (Store.the_row Heap.the_row ghosts c)
 store_sync c = let d = directory_sync in let t = tables_sync c in search (sendable, crosses, CellsCross.the_sync, DeedCross.the_sync) depth 60 fits 100000
 
-edition : IsSend Edition.the_row
-edition = search (sendable, crosses, store, TraceCross.the_send) depth 60 fits 100000
-
-edition_sync : IsSync Edition.the_row
-edition_sync = search (sendable, crosses, store_sync, TraceCross.the_sync) depth 60 fits 100000
-
--- as a struct's field has it, which is how `search` meets it
-reader : (V P : RattleType) (p : protocol.Ghosts P.Denot (Edition.the_row).Denot V.Denot) → IsSend (Reader.the_field Edition.the_row V P Heap.the_row p ghosts).row
-reader V P p = ReaderCross.the_field_send Edition.the_row V P Heap.the_row p ghosts heap_send edition_sync heap_sync frees
-
-writer : (V P S : RattleType) (a : absorb.Ghosts (Edition.the_row).Denot (Queued.the_row).Denot S.Denot) (p : protocol.Ghosts P.Denot (Edition.the_row).Denot V.Denot)
-    → IsSend (Writer.the_field Edition.the_row Queued.the_row V P Heap.the_row S a p ghosts).row
-writer V P S a p = WriterCross.the_field_send Edition.the_row Queued.the_row V P Heap.the_row S a p ghosts edition QueuedCross.the_send heap_send edition_sync heap_sync frees
-
 pub front : (H : RattleType) (h : hall.Ghosts H.Denot) (l : ledger.Ghosts H.Denot) → IsSend (Front.the_row H h l)
 front H h l = FrontCross.the_send H h l
 
@@ -145,14 +130,37 @@ front H h l = FrontCross.the_send H h l
 held_front : (H : RattleType) (h : hall.Ghosts H.Denot) (l : ledger.Ghosts H.Denot) → IsSend (Front.the_field H h l).row
 held_front H h l = front H h l
 
+held_front_sync : (H : RattleType) (h : hall.Ghosts H.Denot) (l : ledger.Ghosts H.Denot) → IsSync (Front.the_field H h l).row
+held_front_sync H h l = FrontCross.the_sync H h l
+
+edition : (H : RattleType) (h : hall.Ghosts H.Denot) (l : ledger.Ghosts H.Denot) → IsSend (Edition.the_row H h l)
+edition H h l = search (sendable, crosses, store, held_front) depth 60 fits 100000
+
+edition_sync : (H : RattleType) (h : hall.Ghosts H.Denot) (l : ledger.Ghosts H.Denot) → IsSync (Edition.the_row H h l)
+edition_sync H h l = search (sendable, crosses, store_sync, held_front_sync) depth 60 fits 100000
+
+queued : (H : RattleType) (h : hall.Ghosts H.Denot) (l : ledger.Ghosts H.Denot) → IsSend (Queued.the_row H h l)
+queued H h l = QueuedCross.the_send H h l
+
+-- as a struct's field has it, which is how `search` meets it
+reader : (H V P : RattleType) (h : hall.Ghosts H.Denot) (l : ledger.Ghosts H.Denot) (p : protocol.Ghosts P.Denot (Edition.the_row H h l).Denot V.Denot)
+    → IsSend (Reader.the_field (Edition.the_row H h l) V P Heap.the_row p ghosts).row
+reader H V P h l p = ReaderCross.the_field_send (Edition.the_row H h l) V P Heap.the_row p ghosts heap_send (edition_sync H h l) heap_sync frees
+
+writer : (H V P S : RattleType) (h : hall.Ghosts H.Denot) (l : ledger.Ghosts H.Denot)
+    (a : absorb.Ghosts (Edition.the_row H h l).Denot (Queued.the_row H h l).Denot S.Denot) (p : protocol.Ghosts P.Denot (Edition.the_row H h l).Denot V.Denot)
+    → IsSend (Writer.the_field (Edition.the_row H h l) (Queued.the_row H h l) V P Heap.the_row S a p ghosts).row
+writer H V P S h l a p =
+    WriterCross.the_field_send (Edition.the_row H h l) (Queued.the_row H h l) V P Heap.the_row S a p ghosts (edition H h l) (queued H h l) heap_send (edition_sync H h l) heap_sync frees
+
 pub desk : (H : RattleType) (h : hall.Ghosts H.Denot) (l : ledger.Ghosts H.Denot) → IsSend (Desk.the_row H h l)
 desk H h l = search (sendable, crosses, reader, held_front, ShareCross.the_send) depth 60 fits 100000
 
 held_desk : (H : RattleType) (h : hall.Ghosts H.Denot) (l : ledger.Ghosts H.Denot) → IsSend (Desk.the_field H h l).row
 held_desk H h l = desk H h l
 
-pub clerk : (H R : RattleType) (h : hall.Ghosts H.Denot) (l : ledger.Ghosts H.Denot) → IsSend R → IsSend (Clerk.the_row H R h l)
-clerk H R h l s = let d = directory in search (sendable, crosses, writer, held_front, HeadCross.the_field_send, QueuedCross.the_send, BookCross.the_send) depth 60 fits 100000
+pub clerk : (H R : RattleType) (h : hall.Ghosts H.Denot) (l : ledger.Ghosts H.Denot) (a : _) → IsSend R → IsSend (Clerk.the_row H R h l a)
+clerk H R h l a s = let d = directory in search (sendable, crosses, writer, held_front, HeadCross.the_field_send, QueuedCross.the_send, BookCross.the_send) depth 60 fits 100000
 
 pub worker : (a : NamedLft) (H R G : RattleType) (h : hall.Ghosts H.Denot) (l : ledger.Ghosts H.Denot) → IsSend R → IsSync G → IsSend (Worker.the_row a H R G h l)
 worker a H R G h l s y = search (sendable, crosses, held_desk, clerk) depth 60 fits 100000

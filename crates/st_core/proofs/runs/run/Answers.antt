@@ -1,4 +1,4 @@
-use Rattle.std.proofs.Common.{◌∙◌, refl, arith}
+use Rattle.std.proofs.Common.{◌∙◌, refl, arith, inl, inr}
 use Rattle.std.proofs.lemmas.Result.{err_from_is_err_and}
 use Rattle.st_core.proofs.Progress.{at_start, one_more_told, done}
 use Rattle.st_core.proofs.runs.run.Goals as goal
@@ -6,7 +6,7 @@ use Rattle.st_core.proofs.runs.run.Goals as goal
 pub returns-in_err-replies-clause-stopped : goal.returns-in_err-replies-clause-stopped
 returns-in_err-replies-clause-stopped g c =
     let p = err_from_is_err_and c.from_residual.result c.from_residual.ensures.1 in
-    rw p.1 (0, omega arith, refl)
+    rw p.1 (0, inr refl, refl)
 
 pub loop-one-init : goal.loop-one-init
 loop-one-init g c = (at_start _ _ _ c.in_ok-replies.ensures.items, c.in_ok-replies.ensures.capacity)
@@ -14,7 +14,7 @@ loop-one-init g c = (at_start _ _ _ c.in_ok-replies.ensures.items, c.in_ok-repli
 pub returns-in_err-reply-clause-stopped : goal.returns-in_err-reply-clause-stopped
 returns-in_err-reply-clause-stopped g c =
     let p = err_from_is_err_and c.from_residual-in_err-reply.result c.from_residual-in_err-reply.ensures.1 in
-    rw p.1 (c.loop-one.one-index, omega (arith, c.loop-one-test.true), c.in_err-reply.ensures.unchanged ∙ c.loop-one.invariant.0.so_far)
+    rw p.1 (c.loop-one.one-index, inl c.loop-one-test.true, c.in_err-reply.ensures.unchanged ∙ c.loop-one.invariant.0.so_far)
 
 pub loop-one-preserved : goal.loop-one-preserved
 loop-one-preserved g c = (

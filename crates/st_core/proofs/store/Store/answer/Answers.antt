@@ -1,19 +1,17 @@
-use Rattle.std.proofs.Common.{rules, ◌≡◌, Some, IfOk, sym, subst}
-use Rattle.st_policy.specs.declared.reply.Reply.{Reply}
-use Rattle.st_core.specs.Step.{asker_of}
-use Rattle.st_core.proofs.Steps.{step_shown, told_refused}
+use Rattle.std.proofs.Common.{rules, ◌≡◌, None}
+use Rattle.st_core.specs.Step.{Heard, judge}
+use Rattle.st_core.proofs.Judgements.{heard_by}
 use Rattle.st_core.proofs.store.Store.answer.Goals as goal
 
-pub returns-in-Err : goal.returns-in-Err
-returns-in-Err g c =
-    let heard : asker_of c.args.self.now.directory c.args.asked.now.token ≡ Some c.in-Some.asker.now = search rules in
-    sym (told_refused c.args.self.now c.args.asked.now c.in-Some.asker.now c.in-Good.request heard c.in-Good.is c.in-Err.refusal (search rules))
+pub show-requires-clause-read : goal.show-requires-clause-read
+show-requires-clause-read g c =
+    let at = c.in-Heard-default-default-None in
+    let said : judge c.args.self.now.directory c.args.asked.now ≡ Heard at.asker.now at.request.now None = search rules in
+    let heard = heard_by c.args.self.now.directory c.args.asked.now at.asker.now at.request.now None said in
+    rw heard.1 at c.requires
 
-pub returns : goal.returns
-returns g c =
-    let heard : asker_of c.args.self.now.directory c.args.asked.now.token ≡ Some c.in-Some.asker.now = search rules in
-    let told = step_shown c.args.self.now c.args.asked.now c.in-Some.asker.now c.in-Good.request heard c.in-Good.is (search rules) in
-    subst (λ (reply : Reply g.row.A.Denot). IfOk c.show.result (λ r. r ≡ reply)) (sym told) c.show.ensures
-
-pub returns-in_default : goal.returns-in_default
-returns-in_default g c = search rules
+pub show-requires-clause-allowed : goal.show-requires-clause-allowed
+show-requires-clause-allowed g c =
+    let at = c.in-Heard-default-default-None in
+    let said : judge c.args.self.now.directory c.args.asked.now ≡ Heard at.asker.now at.request.now None = search rules in
+    (heard_by c.args.self.now.directory c.args.asked.now at.asker.now at.request.now None said).2

@@ -3,7 +3,7 @@ use Rattle.st_dir.specs.Directory.{is_table}
 use Rattle.st_core.specs.State.{State}
 use Rattle.st_text.specs.Texts.{in_order}
 use Rattle.st_dir.specs.Directory.{Directory}
-use Rattle.st_core.specs.Tables.{TablesValue, heading_key, headings_of}
+use Rattle.st_core.specs.inner.Tables.{TablesValue, heading_key, headings_of}
 use Rattle.st_core.proofs.Headings.{has_no_heading, headings_added, now_named}
 use Rattle.st_core.proofs.store.Store.create_table.Goals as goal
 

@@ -1,6 +1,6 @@
 use Rattle.std.proofs.Common.{rules, sym, ap, ◌∙◌}
 use Rattle.st_dir.specs.Directory.{Directory}
-use Rattle.st_core.specs.Tables.{headings_of}
+use Rattle.st_core.specs.inner.Tables.{headings_of}
 use Rattle.st_core.proofs.Headings.{directory_stays}
 use Rattle.st_core.proofs.Shelving.{either_way}
 use Rattle.st_core.proofs.store.Store.make.Goals as goal

@@ -2,7 +2,7 @@ use Rattle.std.proofs.Common.{◌≡◌, true, sym, ap, subst, ◌∙◌}
 use Rattle.st_dir.specs.Directory.{is_table}
 use Rattle.st_core.specs.State.{State}
 use Rattle.st_dir.specs.Directory.{Directory}
-use Rattle.st_core.specs.Tables.{TablesValue, headings_of, headings_with}
+use Rattle.st_core.specs.inner.Tables.{TablesValue, headings_of, headings_with}
 use Rattle.st_core.proofs.Headings.{has_heading, headings_changed}
 use Rattle.st_core.proofs.Shelving.{surely}
 use Rattle.st_core.proofs.store.Store.set_period.Goals as goal

@@ -2,7 +2,7 @@ use Rattle.std.proofs.Common.{◌≡◌, true, sym, ap, subst, ◌∙◌}
 use Rattle.st_dir.specs.Directory.{is_table}
 use Rattle.st_core.specs.State.{State}
 use Rattle.st_dir.specs.Directory.{period_of}
-use Rattle.st_core.specs.Tables.{heading_named}
+use Rattle.st_core.specs.inner.Tables.{heading_named}
 use Rattle.st_core.proofs.Headings.{has_heading, period_is}
 use Rattle.st_core.proofs.store.Store.table.Goals as goal
 

@@ -1,5 +1,0 @@
-use Rattle.std.proofs.Common.{rules}
-use Rattle.st_core.proofs.tables.comes_before_name.Goals as goal
-
-pub returns : goal.returns
-returns g c = search rules
