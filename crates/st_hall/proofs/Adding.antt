@@ -6,7 +6,7 @@ use mathlib.Core.List.{IsPrefix}
 use prog.Atomic.{either}
 use Rattle.logbook.specs.Pages.{Cell, cell, keeps, no_nib, step, Moves, Goes}
 use Rattle.st_hall.specs.Steps.{Ask}
-use Rattle.st_hall.specs.Rules.{IsKept, Adds}
+use Rattle.st_hall.specs.inner.History.{IsKept, Adds}
 use Rattle.st_hall.proofs.Fronts.{prefix_whole}
 
 abbrev pub shown : List Ask → List Ask

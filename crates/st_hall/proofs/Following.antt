@@ -1,14 +1,14 @@
--- What follows from entries that follow each other.
-use Rattle.std.proofs.Common.{◌≡◌, ◌+◌, subst, List, [], ◌∷◌, ◌++◌, length, fold, refl, ap, sym, ◌∙◌, arith, length-append, append_assoc, Result, Ok, Err, MatchResult, IfOk}
-use Rattle.std.proofs.lemmas.List.{append-nil}
+-- What follows from queued changes that follow each other.
+use Rattle.std.proofs.Common.{◌≡◌, ◌+◌, subst, List, [], ◌∷◌, ◌++◌, length, fold, refl, ap, sym, ◌∙◌, arith, length-append, append_assoc, Result, Ok, Err, MatchResult, IfOk, OnOk, true}
+use Rattle.std.proofs.lemmas.List.{append-nil, same_from_push}
 use mathlib.Core.List.{IsPrefix}
-use Rattle.logbook.specs.Pages.{Book}
 use Rattle.std.specs.declared.alloc.Global.{Global}
-use Rattle.st_core.specs.Step.{after, step}
-use Rattle.st_hall.specs.Steps.{Ask, State, Told, next, state_after, reply_of}
-use Rattle.st_hall.specs.Views.{EndsWith}
+use Rattle.st_core.specs.Judging.{JudgesChange}
+use Rattle.st_core.specs.Step.{after, step, asks_for_change}
+use Rattle.st_hall.specs.Steps.{Ask, State, Told, judged_in, settled, next, state_after, reply_of}
+use Rattle.st_hall.specs.Views.{EndsAfter, EndsWith}
 use Rattle.st_dir.specs.Directory.{Directory}
-use Rattle.st_hall.specs.Editions.{Copy, Added, taken, Agrees, Follows}
+use Rattle.st_hall.specs.inner.Editions.{EditionValue, QueuedValue, IsNext, IsJudged, absorbed, Agrees, Follows}
 
 run_snoc : (s : State) (xs : List Ask) (a : Ask) → after s (xs ++ a ∷ []) ≡ (step (after s xs) a).state
 run_snoc s [] a = refl
@@ -23,76 +23,117 @@ pub after_none : (s : State) → state_after s [] ≡ s
 unfolding state_after
 after_none s = refl
 
--- a copy that agrees, and takes entries that follow it, agrees with the last list
-pub follows_taken : (start : State) (book : Book) (c : Copy) (es : List Added) (ys : List Ask) → Agrees start book c → Follows book c.trail.list es ys
-    → Agrees start book (fold taken c es) × ((fold taken c es).trail.list ≡ ys)
-follows_taken start book c [] ys agrees same = (agrees, same)
-follows_taken start book c (e ∷ es) ys agrees f =
-    follows_taken start book (taken c e) es ys
-    (ap (λ s. next s e.ask) agrees.0 ∙ (sym (after_snoc start c.trail.list e.ask) ∙ ap (state_after start) (sym f.1)), f.0)
-    f.2
+-- a step settles the judgement
+next_settled : (s : State) (a : Ask) → settled s (judged_in s a) ≡ next s a
+unfolding settled judged_in next
+next_settled s a = refl
 
-pub follows_length : (book : Book) (xs : List Ask) (es : List Added) (ys : List Ask) → Follows book xs es ys → length ys ≡ length xs + length es
-follows_length book xs [] ys same = omega (arith, ap length same)
-follows_length book xs (e ∷ es) ys f = omega (arith, follows_length book e.trail.list es ys f.2, ap length f.1, length-append xs (e.ask ∷ []))
+judged_by : (s : State) (a : Ask) → asks_for_change a ≡ true → JudgesChange s.directory (judged_in s a)
+unfolding judged_in
+judged_by s a change = (a, change, refl)
+
+-- the next change was judged by the directory of the state before it
+pub judges_next : (start s : State) (before : List Ask) (q : QueuedValue) → s ≡ state_after start before → IsNext start before q
+    → JudgesChange s.directory q.judged
+judges_next start s before q is (ask, change, list, judged) =
+    subst (JudgesChange s.directory) (sym (judged ∙ ap (λ (t : State). judged_in t ask) (sym is))) (judged_by s ask change)
+
+-- settled there, it gives the state after its list
+pub settles_next : (start s : State) (before : List Ask) (q : QueuedValue) → s ≡ state_after start before → IsNext start before q
+    → settled s q.judged ≡ state_after start q.list
+settles_next start s before q is (ask, change, list, judged) =
+    ap (λ (t : State). settled t q.judged) is ∙ ap (settled (state_after start before)) judged ∙ next_settled (state_after start before) ask
+    ∙ sym (after_snoc start before ask) ∙ ap (state_after start) (sym list)
+
+-- what goes on some list by one change goes on each list that it is one longer than
+pub is_next : (start : State) (before : List Ask) (q : QueuedValue) → IsJudged start q → (ask : Ask) × (q.list ≡ before ++ ask ∷ []) → IsNext start before q
+is_next start before q (other, (ask, change, list, judged)) (last, is) =
+    let same = same_from_push other before ask last (sym list ∙ is) in
+    (ask, change, is ∙ ap (λ (a : Ask). before ++ a ∷ []) (sym same.1), judged ∙ ap (λ (l : List Ask). judged_in (state_after start l) ask) same.0)
+
+-- a copy that agrees, and takes changes that follow it, agrees with the last list
+pub follows_taken : (start : State) (e : EditionValue) (qs : List QueuedValue) (ys : List Ask) → Agrees start e → Follows start e.list qs ys
+    → Agrees start (fold absorbed e qs) × ((fold absorbed e qs).list ≡ ys)
+follows_taken start e [] ys agrees same = (agrees, same)
+follows_taken start e (q ∷ qs) ys agrees f = follows_taken start (absorbed e q) qs ys (settles_next start e.state e.list q agrees f.0) f.1
+
+pub follows_length : (start : State) (xs : List Ask) (qs : List QueuedValue) (ys : List Ask) → Follows start xs qs ys → length ys ≡ length xs + length qs
+follows_length start xs [] ys same = omega (arith, ap length same)
+follows_length start xs (q ∷ qs) ys ((ask, change, list, judged), f) =
+    omega (arith, follows_length start q.list qs ys f, ap length list, length-append xs (ask ∷ []))
 
 pub empty_of : {A : Type 0} (xs : List A) → length xs ≡ 0 → xs ≡ []
 empty_of [] h = refl
 empty_of (x ∷ xs) h = absurd (omega arith)
 
--- where the last list is the first, there is no entry
-pub follows_none : (book : Book) (xs : List Ask) (es : List Added) (ys : List Ask) → Follows book xs es ys → xs ≡ ys → es ≡ []
-follows_none book xs es ys f same = empty_of es (omega (arith, follows_length book xs es ys f, ap length same))
+-- where the last list is the first, there is no change between them
+pub follows_none : (start : State) (xs : List Ask) (qs : List QueuedValue) (ys : List Ask) → Follows start xs qs ys → xs ≡ ys → qs ≡ []
+follows_none start xs qs ys f same = empty_of qs (omega (arith, follows_length start xs qs ys f, ap length same))
 
 pub first_empty : {A : Type 0} (xs ys : List A) → xs ++ ys ≡ [] → xs ≡ []
 first_empty xs ys h = empty_of xs (omega (arith, ap length h, length-append xs ys))
 
 -- a copy that agrees agrees after publishing, whether that found memory or not
-pub publishes : {A E : Type 0} (start : State) (book : Book) (shown shown' : Copy) (es es' : List Added) (ys : List Ask) (r : Result A E)
-    → Agrees start book shown → Follows book shown.trail.list es ys
-    → MatchResult r (λ _. (shown' ≡ fold taken shown es) × (es' ≡ [])) (λ _. (shown' ≡ shown) × (es' ≡ es))
-    → Agrees start book shown' × Follows book shown'.trail.list (es' ++ []) ys
-publishes start book shown shown' es es' ys (Ok x) agrees f m =
-    let t = follows_taken start book shown es ys agrees f in
+pub publishes : {A E : Type 0} (start : State) (shown shown' : EditionValue) (qs qs' : List QueuedValue) (ys : List Ask) (r : Result A E)
+    → Agrees start shown → Follows start shown.list qs ys
+    → MatchResult r (λ _. (shown' ≡ fold absorbed shown qs) × (qs' ≡ [])) (λ _. (shown' ≡ shown) × (qs' ≡ qs))
+    → Agrees start shown' × Follows start shown'.list (qs' ++ []) ys
+publishes start shown shown' qs qs' ys (Ok x) agrees f m =
+    let t = follows_taken start shown qs ys agrees f in
     rw (m.1, m.0) (t.0, t.1)
-publishes start book shown shown' es es' ys (Err e) agrees f m =
-    rw (m.1, m.0, append-nil es) (agrees, f)
+publishes start shown shown' qs qs' ys (Err e) agrees f m =
+    rw (m.1, m.0, append-nil qs) (agrees, f)
 
-pub published_list : {A E : Type 0} (start : State) (book : Book) (shown shown' : Copy) (es es' : List Added) (ys : List Ask) (r : Result A E)
-    → Agrees start book shown → Follows book shown.trail.list es ys
-    → MatchResult r (λ _. (shown' ≡ fold taken shown es) × (es' ≡ [])) (λ _. (shown' ≡ shown) × (es' ≡ es))
-    → MatchResult r (λ _. shown'.trail.list ≡ ys) (λ _. shown'.trail.list ≡ shown.trail.list)
-published_list start book shown shown' es es' ys (Ok x) agrees f m =
-    let t = follows_taken start book shown es ys agrees f in
+pub published_list : {A E : Type 0} (start : State) (shown shown' : EditionValue) (qs qs' : List QueuedValue) (ys : List Ask) (r : Result A E)
+    → Agrees start shown → Follows start shown.list qs ys
+    → MatchResult r (λ _. (shown' ≡ fold absorbed shown qs) × (qs' ≡ [])) (λ _. (shown' ≡ shown) × (qs' ≡ qs))
+    → MatchResult r (λ _. shown'.list ≡ ys) (λ _. shown'.list ≡ shown.list)
+published_list start shown shown' qs qs' ys (Ok x) agrees f m =
+    let t = follows_taken start shown qs ys agrees f in
     rw (m.0) (t.1)
-published_list start book shown shown' es es' ys (Err e) agrees f m = ap (λ (c : Copy). c.trail.list) m.0
+published_list start shown shown' qs qs' ys (Err e) agrees f m = ap (λ (c : EditionValue). c.list) m.0
 
--- one entry more
-pub follows_snoc : (book : Book) (xs : List Ask) (es : List Added) (ys : List Ask) (e : Added) → Follows book xs es ys → e.trail.book ≡ book → e.trail.list ≡ ys ++ e.ask ∷ []
-    → Follows book xs (es ++ e ∷ []) e.trail.list
-follows_snoc book xs [] ys e f is list = (is, list ∙ ap (λ (l : List Ask). l ++ e.ask ∷ []) (sym f), refl)
-follows_snoc book xs (d ∷ es) ys e f is list = (f.0, f.1, follows_snoc book d.trail.list es ys e f.2 is list)
+-- one change more
+pub follows_snoc : (start : State) (xs : List Ask) (qs : List QueuedValue) (ys : List Ask) (q : QueuedValue) → Follows start xs qs ys → IsNext start ys q
+    → Follows start xs (qs ++ q ∷ []) q.list
+follows_snoc start xs [] ys q f is = (subst (λ (l : List Ask). IsNext start l q) (sym f) is, refl)
+follows_snoc start xs (d ∷ qs) ys q f is = (f.0, follows_snoc start d.list qs ys q f.1 is)
 
--- a reply after some list is the last of the run of a list that ends with the change
-pub ends : {A E : Type 0} (start : State) (before : List Ask) (a : Ask) (reply : A → Told) (r : Result A E) → IfOk r (λ x. reply x ≡ reply_of (state_after start before) a)
-    → IfOk r (λ x. (list : List Ask) × EndsWith start list a (reply x))
-ends start before a reply (Ok x) h = (before ++ a ∷ [], (before, refl, h))
-ends start before a reply (Err e) h = tt
+-- a reply after some list that goes on what was seen is the last of the run of a list that ends with the change
+pub ends : {A E : Type 0} (start : State) (seen before : List Ask) (a : Ask) (reply : A → Told) (r : Result A E)
+    → OnOk r (IsPrefix seen before) → IfOk r (λ x. reply x ≡ reply_of (state_after start before) a)
+    → IfOk r (λ x. (list : List Ask) × EndsAfter start seen list a (reply x))
+ends start seen before a reply (Ok x) on h = (before ++ a ∷ [], (before, on, refl, h))
+ends start seen before a reply (Err e) on h = tt
+
+-- whatever was seen
+pub ended : (start : State) (seen : List Ask) (a : Ask) (reply : Told) → ((list : List Ask) × EndsAfter start seen list a reply)
+    → (list : List Ask) × EndsWith start list a reply
+ended start seen a reply (list, (before, on, is, told)) = (list, (before, is, told))
 
 -- the first list begins the last
-pub follows_prefix : (book : Book) (xs : List Ask) (es : List Added) (ys : List Ask) → Follows book xs es ys → IsPrefix xs ys
-follows_prefix book xs [] ys f = ([], append-nil xs ∙ f)
-follows_prefix book xs (e ∷ es) ys f =
-    let p = follows_prefix book e.trail.list es ys f.2 in
-    (e.ask ∷ p.0, sym (append_assoc xs (e.ask ∷ []) p.0) ∙ (ap (λ (l : List Ask). l ++ p.0) (sym f.1) ∙ p.1))
+pub follows_prefix : (start : State) (xs : List Ask) (qs : List QueuedValue) (ys : List Ask) → Follows start xs qs ys → IsPrefix xs ys
+follows_prefix start xs [] ys f = ([], append-nil xs ∙ f)
+follows_prefix start xs (q ∷ qs) ys ((ask, change, list, judged), f) =
+    let p = follows_prefix start q.list qs ys f in
+    (ask ∷ p.0, sym (append_assoc xs (ask ∷ []) p.0) ∙ (ap (λ (l : List Ask). l ++ p.0) (sym list) ∙ p.1))
 
--- one entry more, of a change that is added to the list
-pub enters : (book : Book) (xs : List Ask) (es es' : List Added) (front front' : List Ask) (asked : Ask) (post : Added) → es' ≡ es → post.ask ≡ asked
-    → post.trail.book ≡ book → post.trail.list ≡ front ++ asked ∷ [] → front' ≡ front ++ asked ∷ [] → Follows book xs es front → Follows book xs (es' ++ post ∷ []) front'
-enters book xs es es' front front' asked post same is_ask is_book is_list is_front f =
-    let list : post.trail.list ≡ front ++ post.ask ∷ [] = is_list ∙ ap (λ (a : Ask). front ++ a ∷ []) (sym is_ask) in
-    subst (λ (l : List Added). Follows book xs (l ++ post ∷ []) front') (sym same)
-    (subst (Follows book xs (es ++ post ∷ [])) (is_list ∙ sym is_front) (follows_snoc book xs es front post f is_book list))
+-- what is shown after publishing goes on what was shown before
+pub published_grows : {A E : Type 0} (start : State) (shown shown' : EditionValue) (qs qs' : List QueuedValue) (ys : List Ask) (r : Result A E)
+    → Agrees start shown → Follows start shown.list qs ys
+    → MatchResult r (λ _. (shown' ≡ fold absorbed shown qs) × (qs' ≡ [])) (λ _. (shown' ≡ shown) × (qs' ≡ qs))
+    → IsPrefix shown.list shown'.list
+published_grows start shown shown' qs qs' ys (Ok x) agrees f m =
+    let t = follows_taken start shown qs ys agrees f in
+    subst (λ (l : List Ask). IsPrefix shown.list l) (sym (ap (λ (e : EditionValue). e.list) m.0 ∙ t.1)) (follows_prefix start shown.list qs ys f)
+published_grows start shown shown' qs qs' ys (Err e) agrees f m = ([], append-nil shown.list ∙ sym (ap (λ (e : EditionValue). e.list) m.0))
+
+-- one change more, which is added to the list
+pub enters : (start : State) (xs : List Ask) (qs qs' : List QueuedValue) (front front' : List Ask) (q : QueuedValue) → qs' ≡ qs → IsNext start front q
+    → front' ≡ q.list → Follows start xs qs front → Follows start xs (qs' ++ q ∷ []) front'
+enters start xs qs qs' front front' q same next is_front f =
+    subst (λ (l : List QueuedValue). Follows start xs (l ++ q ∷ []) front') (sym same)
+    (subst (Follows start xs (qs ++ q ∷ [])) (sym is_front) (follows_snoc start xs qs front q f next))
 
 -- what is decided after a list holds in the state after it
 pub at_state : {D E : Type 0} (P : D → State → Type 0) (directory : Directory Global) (s : State) (r : Result D E) → directory ≡ s.directory

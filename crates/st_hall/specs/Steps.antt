@@ -2,18 +2,30 @@
 use Rattle.std.specs.Prelude.{List}
 use Rattle.std.specs.declared.alloc.Global.{Global}
 use Rattle.st_core.specs.declared.asked.Asked.{Asked}
+use Rattle.st_core.specs.declared.judged.Judged.{Judged}
 use Rattle.st_policy.specs.declared.reply.Reply.{Reply}
 use Rattle.st_core.specs.State.{State as StateOver}
-use Rattle.st_core.specs.Step.{step, after}
+use Rattle.st_core.specs.Step.{judge, settle, step, after}
 
 abbrev pub Ask : Type 0
 Ask = Asked Global
+
+abbrev pub Verdict : Type 0
+Verdict = Judged Global
 
 abbrev pub State : Type 0
 State = StateOver Global
 
 abbrev pub Told : Type 0
 Told = Reply Global
+
+-- how a request is judged in a state
+unfoldable pub judged_in : State → Ask → Verdict
+judged_in s asked = judge s.directory asked
+
+-- the state after a judged change
+unfoldable pub settled : State → Verdict → State
+settled s judged = (settle s judged).state
 
 -- the reply to one request in a state
 unfoldable pub reply_of : State → Ask → Told

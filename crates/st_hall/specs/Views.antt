@@ -1,5 +1,6 @@
 -- What contracts see of a desk, a worker and a clerk.
-use Rattle.std.specs.Prelude.{ℕ, ◌≡◌, List, [], ◌∷◌, ◌++◌}
+use Rattle.std.specs.Prelude.{ℕ, ◌≡◌, ◌≤◌, List, [], ◌∷◌, ◌++◌, length}
+use mathlib.Core.List.{IsPrefix}
 use Rattle.st_hall.specs.Steps.{Ask, State, Told, reply_of, state_after}
 
 -- the changes that a desk has seen, and how many receipts were got with it
@@ -22,3 +23,12 @@ pub record Roll : Type 0 where
 abbrev pub EndsWith : State → List Ask → Ask → Told → Type 0
 EndsWith start list asked reply =
     (before : List Ask) × (list ≡ before ++ asked ∷ []) × (reply ≡ reply_of (state_after start before) asked)
+
+-- the list goes on what was seen and ends with the change, and the reply is the last of its run
+abbrev pub EndsAfter : State → (seen list : List Ask) → Ask → Told → Type 0
+EndsAfter start seen list asked reply =
+    (before : List Ask) × IsPrefix seen before × (list ≡ before ++ asked ∷ []) × (reply ≡ reply_of (state_after start before) asked)
+
+-- one of two lists begins the other
+abbrev pub Beside : List Ask → List Ask → Type 0
+Beside xs ys = (length xs ≤ length ys → IsPrefix xs ys) × (length ys ≤ length xs → IsPrefix ys xs)

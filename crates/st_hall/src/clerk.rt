@@ -1,42 +1,37 @@
 //! The clerk, who makes changes and publishes them.
-ghost use Rattle.std.specs.Prelude.{◌≡◌, ◌+◌, ◌^◌, ◌<◌, List, [], ◌∷◌, ◌++◌, drop, fold, length, true, unwrap_or, Ok, Err, None, Some, IfOk, IfSome, OnOk, MatchResult};
+ghost use Rattle.std.specs.Prelude.{◌≡◌, ◌+◌, ◌^◌, ◌<◌, [], ◌∷◌, ◌++◌, drop, length, true, unwrap_or, IfOk, IfSome, OnOk, MatchResult};
 ghost use mathlib.Core.List.{IsPrefix};
+ghost use Rattle.st_core.specs.Judging.{judgement};
 ghost use Rattle.st_core.specs.Step.{asks_for_change};
-ghost use Rattle.st_hall.specs.Steps.{Ask, reply_of, state_after};
-ghost use Rattle.st_hall.specs.Editions.{Agrees, Follows, taken, waiting_list};
-ghost use Rattle.st_hall.specs.Rules.{Beside};
+ghost use Rattle.st_hall.specs.Steps.{judged_in, reply_of, state_after};
+ghost use Rattle.st_hall.specs.Views.{Beside};
+ghost use Rattle.st_hall.specs.inner.Editions.{Agrees};
 
 use crate::desk::Desk;
-use crate::edition::{Agreeing, Consistent, Edition, Queued};
-use crate::front::{Front, HallName, Head};
+use crate::edition::{Edition, Queued};
+use crate::front::Front;
+use crate::history::Head;
+use crate::name::HallName;
+use crate::queue::{EditionWriter, enter, queue, show};
+use crate::receipt::{Receipt, receipt_of};
 use crate::steps::{decide, replace};
 use core::mem::replace_with;
-use left_right::writer::Writer;
-use st_core::{Asked, Decision, Reply, Store};
+use left_right::Absorb;
+use st_core::{Asked, Decision, JudgedRef, Reply, Store};
 use st_dir::Directory;
 use std::alloc::AllocError;
 use std::marker::Model;
 use std::sync::Wait;
 use std::sync::ledger::Book;
 
-// The history takes no more changes than this.
-const MOST: u64 = 1 << 61;
-
-pub(crate) type EditionWriter<H> = Writer<Edition, Queued, (), Consistent<H>>;
-
-/// What a change is answered: the change itself, its reply, and the list that ends with it, where it was published at once.
-#[derive(Drop)]
-pub struct Receipt<H: HallName> {
-    pub asked: Asked,
-    pub reply: Reply,
-    pub front: Option<Front<H>>,
-}
-
 /// Contracts see the one list of changes, and the part of it that is published. Its drop waits for the readers.
-pub struct Clerk<H: HallName, R: Wait + Drop> {
+pub struct Clerk<H: HallName, R: Wait + Drop>
+where
+    Edition<H>: Absorb<Queued<H>, State = Edition<H>>,
+{
     pub(crate) writer: EditionWriter<H>,
     // The last change, where there was no memory to queue it.
-    pub(crate) waiting: Option<Queued>,
+    pub(crate) waiting: Option<Queued<H>>,
     pub(crate) head: Head<H>,
     pub(crate) front: Front<H>,
     pub(crate) directory: Directory,
@@ -45,90 +40,23 @@ pub struct Clerk<H: HallName, R: Wait + Drop> {
     pub(crate) rt: R,
 }
 
-impl<H: HallName, R: Wait + Drop> Model for Clerk<H, R> {
+impl<H: HallName, R: Wait + Drop> Model for Clerk<H, R>
+where
+    Edition<H>: Absorb<Queued<H>, State = Edition<H>>,
+{
     ghost use Rattle.std.specs.Prelude.{◌≡◌, ◌++◌, drop, length};
     ghost use Rattle.st_hall.specs.Steps.{state_after};
-    ghost use Rattle.st_hall.specs.Editions.{Agrees, Follows, waiting_list};
     ghost use Rattle.st_hall.specs.Views.{Roll};
+    ghost use Rattle.st_hall.specs.inner.Editions.{Agrees, Follows, waiting_list};
 
     ghost Value = { Roll };
 
-    ghost view = { λ c. record { list = c.front; published = c.writer.desk.shown.value.trail.list } };
+    ghost view = { λ c. record { list = c.front; published = c.writer.desk.shown.value.list } };
 
-    ghost invariant = { λ c. Agrees H.start H.book c.writer.desk.shown.value
-        × Follows H.book c.writer.desk.shown.value.trail.list (drop c.writer.behind c.writer.log.items ++ waiting_list c.waiting) c.front
+    ghost invariant = { λ c. Agrees H.start c.writer.desk.shown.value
+        × Follows H.start c.writer.desk.shown.value.list (drop c.writer.behind c.writer.log.items ++ waiting_list c.waiting) c.front
         × (c.directory ≡ (state_after H.start c.front).directory)
         × (c.book.total ≡ length c.front) };
-}
-
-// Lets a change wait.
-fn hold(waiting: &mut Option<Queued>, post: Queued)
-    ensures { waiting.new ≡ Some post }
-{
-    drop(waiting.replace(post));
-}
-
-// Queues what waits.
-fn queue<H: HallName>(
-    writer: &mut EditionWriter<H>,
-    waiting: &mut Option<Queued>,
-) -> Result<(), AllocError>
-    ensures desk { writer.new.desk ≡ writer.old.desk }
-    ensures queued { MatchResult result
-        (λ _. (drop writer.new.behind writer.new.log.items ≡ drop writer.old.behind writer.old.log.items ++ waiting_list waiting.old)
-        × (waiting.new ≡ None))
-        (λ _. (drop writer.new.behind writer.new.log.items ≡ drop writer.old.behind writer.old.log.items) × (waiting.new ≡ waiting.old)) }
-{
-    let Some(post) = waiting.take() else {
-        return Ok(());
-    };
-    match writer.append(post) {
-        Ok(()) => Ok(()),
-        Err(post) => {
-            hold(waiting, post);
-            Err(AllocError)
-        }
-    }
-}
-
-// A change for the queue, added to the history after all that a front has seen. An error where the history is longer.
-fn post_of<H: HallName>(head: &Head<H>, front: &Front<H>, asked: &Asked) -> Result<Queued, AllocError>
-    ensures room { OnOk result (length front.now < 2 ^ 61) }
-    ensures ask { IfOk result (λ post. post.ask ≡ asked.now) }
-    ensures book { IfOk result (λ post. post.trail.book ≡ H.book) }
-    ensures list { IfOk result (λ post. post.trail.list ≡ front.now ++ asked.now ∷ []) }
-{
-    if front.len() >= MOST {
-        return Err(AllocError);
-    }
-    let copy = asked.copy()?;
-    let mut trace = front.trace().again();
-    if trace.add(head, asked) {
-        Ok(Queued { asked: copy, trace })
-    } else {
-        drop(copy);
-        Err(AllocError)
-    }
-}
-
-// Adds a change to the list, after all that is queued or waits. It waits then.
-fn enter<H: HallName>(
-    writer: &mut EditionWriter<H>,
-    waiting: &mut Option<Queued>,
-    head: &Head<H>,
-    front: &mut Front<H>,
-    asked: &Asked,
-) -> Result<(), AllocError>
-    ensures desk { writer.new.desk ≡ writer.old.desk }
-    ensures list { MatchResult result (λ _. (front.new ≡ front.old ++ asked.now ∷ []) × (length front.old < 2 ^ 61)) (λ _. front.new ≡ front.old) }
-    ensures follows { (xs : List Ask) → Follows H.book xs (drop writer.old.behind writer.old.log.items ++ waiting_list waiting.old) front.old
-        → Follows H.book xs (drop writer.new.behind writer.new.log.items ++ waiting_list waiting.new) front.new }
-{
-    queue(writer, waiting)?;
-    let post = post_of(head, front, asked)?;
-    *front = Front::of(post.trace.again());
-    hold(waiting, post);
-    Ok(())
 }
 
 // Counts a change at a desk.
@@ -144,7 +72,7 @@ fn count<H: HallName>(book: &mut Book<H>, desk: &mut Desk<H>)
 }
 
 // Makes what a decision does to the directory, and gives the reply.
-fn settle(directory: &mut Directory, decision: Decision) -> Reply
+fn adopt(directory: &mut Directory, decision: Decision) -> Reply
     ensures reply { result ≡ decision.reply }
     ensures directory { directory.new ≡ unwrap_or decision.directory directory.old }
 {
@@ -154,43 +82,6 @@ fn settle(directory: &mut Directory, decision: Decision) -> Reply
     } = decision;
     replace(directory, next);
     reply
-}
-
-// The receipt of a change that was made.
-fn receipt_of<H: HallName>(
-    asked: Asked,
-    made: Result<(Reply, Option<Front<H>>), AllocError>,
-) -> Result<Receipt<H>, AllocError>
-    ensures { MatchResult result
-        (λ r. (r.asked ≡ asked) × (made ≡ Ok (r.reply, r.front)))
-        (λ e. made ≡ Err e) }
-{
-    match made {
-        Ok((reply, front)) => Ok(Receipt {
-            asked,
-            reply,
-            front,
-        }),
-        Err(fault) => {
-            drop(asked);
-            Err(fault)
-        }
-    }
-}
-
-// Publishes what is queued.
-fn show<H: HallName, R: Wait>(
-    writer: EditionWriter<H>,
-    rt: &R,
-) -> (EditionWriter<H>, Result<(), AllocError>)
-    requires { Agrees H.start H.book (fold taken writer.desk.shown.value (drop writer.behind writer.log.items)) }
-    ensures { MatchResult result.1
-        (λ _. (result.0.desk.shown.value ≡ fold taken writer.desk.shown.value (drop writer.behind writer.log.items))
-        × (drop result.0.behind result.0.log.items ≡ []))
-        (λ _. (result.0.desk.shown.value ≡ writer.desk.shown.value)
-        × (drop result.0.behind result.0.log.items ≡ drop writer.behind writer.log.items)) }
-{
-    writer.publish_as::<Agreeing<H>, R>(rt)
 }
 
 impl<H: HallName, R: Wait + Drop> Clerk<H, R> {
@@ -203,8 +94,8 @@ impl<H: HallName, R: Wait + Drop> Clerk<H, R> {
         book: Book<H>,
         rt: R,
     ) -> Clerk<H, R>
-        requires agrees { Agrees H.start H.book writer.desk.shown.value }
-        requires start { (writer.desk.shown.value.trail.list ≡ []) × (drop writer.behind writer.log.items ≡ []) × (front ≡ []) }
+        requires agrees { Agrees H.start writer.desk.shown.value }
+        requires start { (writer.desk.shown.value.list ≡ []) × (drop writer.behind writer.log.items ≡ []) × (front ≡ []) }
         requires directory { (directory ≡ H.start.directory) × (book.total ≡ 0) }
         ensures { (result.list ≡ []) × (result.published ≡ []) }
     {
@@ -219,11 +110,12 @@ impl<H: HallName, R: Wait + Drop> Clerk<H, R> {
         }
     }
 
-    /// Publishes the changes that are not published yet. On a want of memory none of them is.
+    /// Publishes the changes that are not published yet. When out of memory none of them is.
     pub fn publish<W: Wait>(&mut self, rt: &W) -> Result<(), AllocError>
         ensures list { self.new.list ≡ self.old.list }
         ensures published { MatchResult result (λ _. self.new.published ≡ self.new.list)
             (λ _. self.new.published ≡ self.old.published) }
+        ensures grows { IsPrefix self.old.published self.new.published }
     {
         queue(&mut self.writer, &mut self.waiting)?;
         if !self.writer.has_pending_operations() {
@@ -232,38 +124,54 @@ impl<H: HallName, R: Wait + Drop> Clerk<H, R> {
         replace_with(&mut self.writer, rt, show::<H, W>)
     }
 
-    // What a change comes to after the whole list.
-    fn decided(&self, asked: &Asked) -> Result<Decision, AllocError>
+    // Whether the list begins with all that a desk has seen, which always is so.
+    fn goes_on(&self, desk: &Desk<H>) -> bool
+        ensures { result ≡ true → IsPrefix desk.now.seen self.now.list }
+    {
+        self.compare(&desk.front);
+        desk.front.len() <= self.front.len()
+    }
+
+    // What a change comes to after the whole list: how it is judged, what it is told, and the directory that it leaves.
+    fn decided<'a>(&self, asked: &'a Asked) -> Result<(JudgedRef<'a>, Decision), AllocError>
         requires { asks_for_change asked.now ≡ true }
-        ensures reply { IfOk result (λ decision. decision.reply ≡ reply_of (state_after H.start self.now.list) asked.now) }
-        ensures directory { IfOk result (λ decision. unwrap_or decision.directory (state_after H.start self.now.list).directory
+        ensures judged { IfOk result (λ d. judgement d.0 ≡ judged_in (state_after H.start self.now.list) asked.now) }
+        ensures reply { IfOk result (λ d. d.1.reply ≡ reply_of (state_after H.start self.now.list) asked.now) }
+        ensures directory { IfOk result (λ d. unwrap_or d.1.directory (state_after H.start self.now.list).directory
             ≡ (state_after H.start (self.now.list ++ asked.now ∷ [])).directory) }
     {
         decide(self.directory(), asked)
     }
 
-    /// Adds a change to the list, and does not publish it: decides it by the directory after the whole list, and makes there what
-    /// it does to the directory. On a want of memory nothing is added.
+    /// Adds a change to the list, and does not publish it: judges it once, by the directory after the whole list, and makes there
+    /// what it does to the directory. When out of memory nothing is added.
     pub fn add(&mut self, desk: &mut Desk<H>, asked: &Asked) -> Result<Reply, AllocError>
         requires change { asks_for_change asked.now ≡ true }
+        ensures after { OnOk result (IsPrefix desk.old.seen self.old.list) }
         ensures published { self.new.published ≡ self.old.published }
         ensures list { MatchResult result (λ _. self.new.list ≡ self.old.list ++ asked.now ∷ []) (λ _. self.new.list ≡ self.old.list) }
         ensures made { MatchResult result (λ _. desk.new.made ≡ desk.old.made + 1) (λ _. desk.new.made ≡ desk.old.made) }
         ensures seen { desk.new.seen ≡ desk.old.seen }
         ensures reply { IfOk result (λ r. r ≡ reply_of (state_after H.start self.old.list) asked.now) }
     {
-        let decision = self.decided(asked)?;
+        if !self.goes_on(desk) {
+            return Err(AllocError);
+        }
+        let decided = self.decided(asked)?;
+        let (judged, decision) = decided;
         let entered = enter(
             &mut self.writer,
             &mut self.waiting,
             &self.head,
             &mut self.front,
             asked,
+            &judged,
         );
+        drop(judged);
         match entered {
             Ok(()) => {
                 count(&mut self.book, desk);
-                Ok(settle(&mut self.directory, decision))
+                Ok(adopt(&mut self.directory, decision))
             }
             Err(fault) => {
                 drop(decision);
@@ -280,6 +188,8 @@ impl<H: HallName, R: Wait + Drop> Clerk<H, R> {
         asked: &Asked,
     ) -> Result<(Reply, Option<Front<H>>), AllocError>
         requires change { asks_for_change asked.now ≡ true }
+        ensures after { OnOk result (IsPrefix desk.old.seen self.old.list) }
+        ensures grows { IsPrefix self.old.published self.new.published }
         ensures list { MatchResult result (λ _. self.new.list ≡ self.old.list ++ asked.now ∷ []) (λ _. self.new.list ≡ self.old.list) }
         ensures made { MatchResult result (λ _. desk.new.made ≡ desk.old.made + 1) (λ _. desk.new.made ≡ desk.old.made) }
         ensures seen { desk.new.seen ≡ desk.old.seen }
@@ -295,7 +205,7 @@ impl<H: HallName, R: Wait + Drop> Clerk<H, R> {
     }
 
     /// Makes a change: publishes what is not published yet, adds the change, and publishes it where there is memory. Its receipt
-    /// has a front where it is published. On a want of memory the change is not made; changes before it may have become published.
+    /// has a front where it is published. When out of memory the change is not made; changes before it may have become published.
     pub fn commit<W: Wait>(
         &mut self,
         rt: &W,
@@ -303,6 +213,8 @@ impl<H: HallName, R: Wait + Drop> Clerk<H, R> {
         asked: Asked,
     ) -> Result<Receipt<H>, AllocError>
         requires change { asks_for_change asked ≡ true }
+        ensures after { OnOk result (IsPrefix desk.old.seen self.old.list) }
+        ensures grows { IsPrefix self.old.published self.new.published }
         ensures list { MatchResult result (λ _. self.new.list ≡ self.old.list ++ asked ∷ []) (λ _. self.new.list ≡ self.old.list) }
         ensures made { MatchResult result (λ _. desk.new.made ≡ desk.old.made + 1) (λ _. desk.new.made ≡ desk.old.made) }
         ensures seen { desk.new.seen ≡ desk.old.seen }
@@ -330,11 +242,13 @@ impl<H: HallName, R: Wait + Drop> Clerk<H, R> {
         &self.writer.published().store
     }
 
-    /// The list and a front begin each other. It does nothing.
+    /// Of the list and a front, the shorter begins the longer, and so it is with what is published. It does nothing.
     pub fn compare(&self, front: &Front<H>)
-        ensures { Beside self.now.list front.now }
+        ensures list { Beside self.now.list front.now }
+        ensures published { Beside self.now.published front.now }
     {
-        self.front.trace().compare(front.trace());
+        self.writer.published().front.compare(front);
+        self.front.compare(front);
     }
 
     /// The length of the list, which is how many receipts were got with the two desks.

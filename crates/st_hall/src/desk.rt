@@ -1,12 +1,13 @@
 //! Desks, which read a published copy and wait for nobody.
-ghost use Rattle.std.specs.Prelude.{◌≡◌, ◌+◌, ◌⊎◌, IfOk, false};
+ghost use Rattle.std.specs.Prelude.{◌≡◌, ◌⊎◌, IfOk, false};
 ghost use mathlib.Core.List.{IsPrefix};
 ghost use Rattle.st_core.specs.Step.{asks_for_change};
 ghost use Rattle.st_hall.specs.Steps.{reply_of, state_after};
-ghost use Rattle.st_hall.specs.Editions.{Agrees};
+ghost use Rattle.st_hall.specs.inner.Editions.{Agrees};
 
 use crate::edition::{Agreeing, Consistent, Edition};
-use crate::front::{Front, HallName};
+use crate::front::Front;
+use crate::name::HallName;
 use crate::steps::answer;
 use core::mem::replace_with;
 use left_right::reader::Reader;
@@ -15,13 +16,13 @@ use std::alloc::AllocError;
 use std::marker::Model;
 use std::sync::ledger::Share;
 
-pub(crate) type EditionReader<H> = Reader<Edition, (), Consistent<H>>;
+pub(crate) type EditionReader<H> = Reader<Edition<H>, (), Consistent<H>>;
 
 /// A reader of the hall. Contracts see the changes that it has seen, and how many receipts were got with it.
 #[derive(Drop)]
 pub struct Desk<H: HallName> {
     reader: EditionReader<H>,
-    front: Front<H>,
+    pub(crate) front: Front<H>,
     pub(crate) share: Share<H>,
     pub(crate) made: u64,
 }
@@ -39,20 +40,20 @@ impl<H: HallName> Model for Desk<H> {
 
 // Reads a copy. A copy that is older than what was seen, which never comes, is not read.
 fn consult<H: HallName>(
-    edition: &Edition,
+    edition: &Edition<H>,
     front: &Front<H>,
     asked: &Asked,
 ) -> (Front<H>, Result<Reply, AllocError>)
-    requires { Agrees H.start H.book edition.now × (asks_for_change asked.now ≡ false) }
+    requires { Agrees H.start edition.now × (asks_for_change asked.now ≡ false) }
     ensures seen { IsPrefix front.now result.0 }
     ensures reply { IfOk result.1 (λ r. r ≡ reply_of (state_after H.start result.0) asked.now) }
 {
-    let next = &edition.trace;
-    front.trace().compare(next);
+    let next = &edition.front;
+    front.compare(next);
     if next.len() < front.len() {
         return (front.again(), Err(AllocError));
     }
-    (Front::of(next.again()), answer(&edition.store, asked))
+    (next.again(), answer(&edition.store, asked))
 }
 
 // Enters the copy that was published last, reads it and leaves it.

@@ -1,56 +1,101 @@
 //! What the two copies hold: a store, and the changes that it stands for.
-ghost use Rattle.std.specs.Prelude.{◌≡◌, MatchResult};
+ghost use Rattle.std.specs.Prelude.{◌≡◌, true};
+ghost use Rattle.st_hall.specs.Steps.{state_after};
+ghost use Rattle.st_hall.specs.inner.Editions.{IsJudged, IsNext};
 
-use crate::front::{HallName, Trace};
+use crate::front::Front;
+use crate::name::HallName;
 use crate::steps::make;
 use crossbeam_utils::rule::{Outcome, Protocol};
 use left_right::Absorb;
-use st_core::{Asked, Store};
+use st_core::{Judged, Store};
 use std::alloc::AllocError;
 use std::marker::{Model, PhantomData};
 
-/// A change, with the list that ends with it.
+/// A change that was judged after the list before it, with the list that ends with it. It holds no token.
 #[derive(Drop)]
-pub struct Queued {
-    pub(crate) asked: Asked,
-    pub(crate) trace: Trace,
+pub struct Queued<H: HallName> {
+    judged: Judged,
+    front: Front<H>,
 }
 
-impl Model for Queued {
-    ghost use Rattle.st_hall.specs.Editions.{Added};
+impl<H: HallName> Model for Queued<H> {
+    ghost use Rattle.st_hall.specs.inner.Editions.{QueuedValue, IsJudged};
 
-    ghost Value = { Added };
+    ghost Value = { QueuedValue };
 
-    ghost view = { λ p. record { ask = p.asked; trail = p.trace } };
+    ghost view = { λ q. record { judged = q.judged; list = q.front } };
+
+    ghost invariant = { λ q. IsJudged H.start (record { judged = q.judged; list = q.front }) };
 }
 
 /// A store beside the changes that it stands for.
 #[derive(Drop)]
-pub struct Edition {
+pub struct Edition<H: HallName> {
     pub(crate) store: Store,
-    pub(crate) trace: Trace,
+    pub(crate) front: Front<H>,
 }
 
-impl Model for Edition {
-    ghost use Rattle.st_hall.specs.Editions.{Copy};
+impl<H: HallName> Model for Edition<H> {
+    ghost use Rattle.std.specs.Prelude.{◌≡◌};
+    ghost use Rattle.st_hall.specs.Steps.{state_after};
+    ghost use Rattle.st_hall.specs.inner.Editions.{EditionValue};
 
-    ghost Value = { Copy };
+    ghost Value = { EditionValue };
 
-    ghost view = { λ e. record { state = e.store; trail = e.trace } };
+    ghost view = { λ e. record { state = e.store; list = e.front } };
+
+    ghost invariant = { λ e. e.store ≡ state_after H.start e.front };
 }
 
-impl Absorb<Queued> for Edition {
-    ghost use Rattle.st_hall.specs.Editions.{taken};
+impl<H: HallName> Queued<H> {
+    pub(crate) fn new(judged: Judged, front: Front<H>) -> Queued<H>
+        requires { IsJudged H.start (record { judged = judged; list = front }) }
+        ensures { result ≡ record { judged = judged; list = front } }
+    {
+        Queued { judged, front }
+    }
 
-    type State = Edition;
+    // The list that ends with it.
+    pub(crate) fn front(&self) -> &Front<H>
+        ensures { result.now ≡ self.now.list }
+    {
+        &self.front
+    }
+
+    // Whether it is the next change after a list.
+    fn is_after(&self, front: &Front<H>) -> bool
+        ensures { result ≡ true → IsNext H.start front.now self.now }
+    {
+        self.front.is_after(front)
+    }
+}
+
+impl<H: HallName> Edition<H> {
+    pub(crate) fn new(store: Store, front: Front<H>) -> Edition<H>
+        requires { store ≡ state_after H.start front }
+        ensures { result ≡ record { state = store; list = front } }
+    {
+        Edition { store, front }
+    }
+}
+
+impl<H: HallName> Absorb<Queued<H>> for Edition<H> {
+    ghost use Rattle.st_hall.specs.inner.Editions.{absorbed};
+
+    type State = Edition<H>;
 
     ghost state = { λ e. e };
 
-    ghost applied = { taken };
+    ghost applied = { absorbed };
 
-    fn absorb_first(&mut self, post: &Queued, _other: &Edition) -> Result<(), AllocError> {
-        make(&mut self.store, &post.asked)?;
-        self.trace = post.trace.again();
+    // A change that is not the next one, which never comes, is not made.
+    fn absorb_first(&mut self, queued: &Queued<H>, _other: &Edition<H>) -> Result<(), AllocError> {
+        if !queued.is_after(&self.front) {
+            return Err(AllocError);
+        }
+        make(&mut self.store, &queued.judged)?;
+        self.front = queued.front.again();
         Ok(())
     }
 }
@@ -60,10 +105,10 @@ pub struct Consistent<H: HallName> {
     of: PhantomData<H>,
 }
 
-impl<H: HallName> Protocol<Edition, ()> for Consistent<H> {
-    ghost use Rattle.st_hall.specs.Editions.{Agrees};
+impl<H: HallName> Protocol<Edition<H>, ()> for Consistent<H> {
+    ghost use Rattle.st_hall.specs.inner.Editions.{Agrees};
 
-    ghost holds = { λ e views. Agrees H.start H.book e };
+    ghost holds = { λ e views. Agrees H.start e };
 
     ghost first = { tt };
 }
@@ -73,8 +118,8 @@ pub struct Agreeing<H: HallName> {
     of: PhantomData<H>,
 }
 
-impl<H: HallName> Outcome<Edition, ()> for Agreeing<H> {
-    ghost use Rattle.st_hall.specs.Editions.{Agrees};
+impl<H: HallName> Outcome<Edition<H>, ()> for Agreeing<H> {
+    ghost use Rattle.st_hall.specs.inner.Editions.{Agrees};
 
-    ghost then = { λ v x y w. Agrees H.start H.book y };
+    ghost then = { λ v x y w. Agrees H.start y };
 }

@@ -1,15 +1,18 @@
 //! What opens a hall, and a change by any thread.
 ghost use Rattle.std.specs.Prelude.{◌≡◌, ◌+◌, [], drop, true, List, IfOk, IfSome, MatchResult};
 ghost use Rattle.st_core.specs.Step.{asks_for_change};
-ghost use Rattle.st_hall.specs.Editions.{Agrees};
 ghost use Rattle.st_hall.specs.Steps.{Ask};
 ghost use Rattle.st_hall.specs.declared.hall.HallFault.TheVariants.{NoMemory};
-ghost use Rattle.st_hall.specs.Views.{EndsWith};
+ghost use Rattle.st_hall.specs.Views.{EndsAfter, EndsWith};
+ghost use Rattle.st_hall.specs.inner.Editions.{Agrees};
 
-use crate::clerk::{Clerk, EditionWriter, Receipt};
+use crate::clerk::Clerk;
 use crate::desk::{Desk, EditionReader};
 use crate::edition::Edition;
-use crate::front::{Front, HallName, Trace, Unnamed, begin};
+use crate::front::{Front, begin};
+use crate::name::{HallName, Unnamed};
+use crate::queue::EditionWriter;
+use crate::receipt::Receipt;
 use left_right::writer::Writer;
 use st_core::{Asked, Store};
 use st_dir::Directory;
@@ -37,24 +40,18 @@ impl From<AllocError> for HallFault {
 // What publishes two copies of a state.
 fn writer_of<H: HallName>(
     alloc: Global,
-    trace: &Trace,
+    front: &Front<H>,
     first: Store,
     second: Store,
 ) -> Result<EditionWriter<H>, AllocError>
-    requires empty { (trace.now.book ≡ H.book) × (trace.now.list ≡ []) }
+    requires empty { front.now ≡ [] }
     requires alike { (first ≡ H.start) × (second ≡ H.start) }
     ensures state { IfOk result (λ writer. writer.desk.shown.value.state ≡ H.start) }
-    ensures trail { IfOk result (λ writer. writer.desk.shown.value.trail ≡ trace.now) }
+    ensures list { IfOk result (λ writer. writer.desk.shown.value.list ≡ []) }
     ensures queued { IfOk result (λ writer. drop writer.behind writer.log.items ≡ []) }
 {
-    let first = Edition {
-        store: first,
-        trace: trace.again(),
-    };
-    let second = Edition {
-        store: second,
-        trace: trace.again(),
-    };
+    let first = Edition::new(first, front.again());
+    let second = Edition::new(second, front.again());
     Writer::new(alloc, first, second, 2)
 }
 
@@ -86,7 +83,7 @@ fn begun<H: HallName>(
 fn copies<H: HallName, R: Wait + Drop>(
     rt: &R,
     alloc: Global,
-    trace: &Trace,
+    front: &Front<H>,
     first: Store,
     second: Store,
 ) -> Result<
@@ -98,14 +95,14 @@ fn copies<H: HallName, R: Wait + Drop>(
     ),
     HallFault,
 >
-    requires empty { (trace.now.book ≡ H.book) × (trace.now.list ≡ []) }
+    requires empty { front.now ≡ [] }
     requires alike { (first ≡ H.start) × (second ≡ H.start) }
     ensures directory { IfOk result (λ t. t.0 ≡ H.start.directory) }
-    ensures agrees { IfOk result (λ t. Agrees H.start H.book t.1.desk.shown.value) }
-    ensures shown { IfOk result (λ t. t.1.desk.shown.value.trail.list ≡ []) }
+    ensures agrees { IfOk result (λ t. Agrees H.start t.1.desk.shown.value) }
+    ensures shown { IfOk result (λ t. t.1.desk.shown.value.list ≡ []) }
     ensures queued { IfOk result (λ t. drop t.1.behind t.1.log.items ≡ []) }
 {
-    let writer = writer_of::<H>(alloc, trace, first, second)?;
+    let writer = writer_of::<H>(alloc, front, first, second)?;
     match begun(&writer) {
         Ok((directory, one, two)) => Ok((directory, writer, one, two)),
         Err(fault) => {
@@ -154,7 +151,7 @@ impl<H: HallName> Hall<H> {
     {
         let Unnamed { head, seen, blank } = name;
         let (head, front) = begin::<H>(head, seen);
-        let (directory, writer, one, two) = copies(&rt, alloc, front.trace(), first, second)?;
+        let (directory, writer, one, two) = copies(&rt, alloc, &front, first, second)?;
         let (book, share) = blank.open::<H>();
         let (one, two) = desks(one, two, &front, share);
         Ok((
@@ -176,7 +173,7 @@ impl<H: HallName> Hall<H> {
         ensures seen { desk.new.seen ≡ desk.old.seen }
         ensures asked { IfOk result (λ r. r.asked ≡ asked) }
         ensures front { IfOk result (λ r. IfSome r.front (λ f. EndsWith H.start f asked r.reply)) }
-        ensures reply { IfOk result (λ r. (list : List Ask) × EndsWith H.start list asked r.reply) }
+        ensures reply { IfOk result (λ r. (list : List Ask) × EndsAfter H.start desk.old.seen list asked r.reply) }
     {
         clerk.lock(rt).commit(rt, desk, asked)
     }

@@ -1,19 +1,21 @@
 //! What is asked of a copy, and of the clerk's directory.
 ghost use Rattle.std.specs.Prelude.{◌≡◌, true, false, unwrap_or, IfOk, OnOk, OnErr};
 ghost use Rattle.st_core.specs.Step.{asks_for_change};
-ghost use Rattle.st_hall.specs.Steps.{State, next, reply_of};
+ghost use Rattle.st_core.specs.Judging.{JudgesChange, judgement};
+ghost use Rattle.st_hall.specs.Steps.{State, judged_in, next, reply_of, settled};
 
-use st_core::{Asked, Decision, Reply, Store};
+use st_core::{Asked, Decision, Judged, JudgedRef, Reply, Store, judge};
 use st_dir::Directory;
 use std::alloc::AllocError;
 
-#[tactic(auto, unfolding(crate::specs::Steps::next))]
-// Makes a change on one copy, or leaves it where there is no memory for it.
-pub(crate) fn make(store: &mut Store, asked: &Asked) -> Result<(), AllocError>
-    ensures ok { OnOk result (store.new ≡ next store.old asked.now) }
+#[tactic(auto, unfolding(crate::specs::Steps::settled))]
+// Makes what a judged change comes to on one copy, or leaves it when out of memory.
+pub(crate) fn make(store: &mut Store, judged: &Judged) -> Result<(), AllocError>
+    requires { JudgesChange store.old.directory judged.now }
+    ensures ok { OnOk result (store.new ≡ settled store.old judged.now) }
     ensures err { OnErr result (store.new ≡ store.old) }
 {
-    drop(store.step(asked)?);
+    drop(store.settle(judged.as_ref())?);
     Ok(())
 }
 
@@ -26,15 +28,26 @@ pub(crate) fn answer(store: &Store, asked: &Asked) -> Result<Reply, AllocError>
     store.answer(asked)
 }
 
-#[tactic(auto, unfolding(crate::specs::Steps::reply_of, crate::specs::Steps::next))]
-// What a change replies, and the directory after it where that is another.
-pub(crate) fn decide(directory: &Directory, asked: &Asked) -> Result<Decision, AllocError>
+#[tactic(auto, unfolding(crate::specs::Steps::judged_in, crate::specs::Steps::reply_of, crate::specs::Steps::next))]
+// How a directory judges a change, what it is told, and the directory after it where that is another.
+pub(crate) fn decide<'a>(
+    directory: &Directory,
+    asked: &'a Asked,
+) -> Result<(JudgedRef<'a>, Decision), AllocError>
     requires { asks_for_change asked.now ≡ true }
-    ensures reply { IfOk result (λ decision. (s : State) → s.directory ≡ directory.now → decision.reply ≡ reply_of s asked.now) }
-    ensures directory { IfOk result (λ decision. (s : State) → s.directory ≡ directory.now
-        → unwrap_or decision.directory directory.now ≡ (next s asked.now).directory) }
+    ensures judged { IfOk result (λ d. (s : State) → s.directory ≡ directory.now → judgement d.0 ≡ judged_in s asked.now) }
+    ensures reply { IfOk result (λ d. (s : State) → s.directory ≡ directory.now → d.1.reply ≡ reply_of s asked.now) }
+    ensures directory { IfOk result (λ d. (s : State) → s.directory ≡ directory.now
+        → unwrap_or d.1.directory directory.now ≡ (next s asked.now).directory) }
 {
-    Decision::of(directory, asked)
+    let judged = judge(directory, asked);
+    match Decision::of(directory, &judged) {
+        Ok(decision) => Ok((judged, decision)),
+        Err(fault) => {
+            drop(judged);
+            Err(fault)
+        }
+    }
 }
 
 // Puts a directory in the place of another, where there is one.

@@ -1,14 +1,16 @@
 //! A worker, who answers requests one after the other at a desk.
-ghost use Rattle.std.specs.Prelude.{◌≡◌, ◌+◌, ◌-◌, ◌^◌, ◌≤◌, true, false, min, List, IfOk, MatchResult};
+ghost use Rattle.std.specs.Prelude.{◌≡◌, ◌+◌, ◌-◌, ◌^◌, true, false, min, List, IfOk, IfSome, MatchResult};
 ghost use mathlib.Core.List.{IsPrefix};
 ghost use Rattle.st_core.specs.Step.{asks_for_change};
 ghost use Rattle.st_hall.specs.Steps.{Ask, reply_of, state_after};
-ghost use Rattle.st_hall.specs.Views.{EndsWith};
+ghost use Rattle.st_hall.specs.Views.{EndsAfter, EndsWith};
 
-use crate::clerk::{Clerk, Receipt};
+use crate::clerk::Clerk;
 use crate::desk::Desk;
-use crate::front::{Front, HallName};
+use crate::front::Front;
 use crate::hall::Hall;
+use crate::name::HallName;
+use crate::receipt::Receipt;
 use st_core::{Asked, Reply};
 use std::alloc::AllocError;
 use std::marker::Model;
@@ -73,6 +75,7 @@ fn told<H: HallName>(receipt: Receipt<H>) -> (Reply, Option<Front<H>>)
 
 // Learns a front, where there is one.
 fn learn<H: HallName>(desk: &mut Desk<H>, front: Option<Front<H>>)
+    ensures learnt { IfSome front (λ f. IsPrefix f desk.new.seen) }
     ensures seen { IsPrefix desk.old.seen desk.new.seen }
     ensures made { desk.new.made ≡ desk.old.made }
 {
@@ -93,6 +96,7 @@ fn change<H: HallName, R: Wait + Drop, W: Wait>(
     ensures made { MatchResult result (λ _. desk.new.made ≡ desk.old.made + 1) (λ _. desk.new.made ≡ desk.old.made) }
     ensures seen { IsPrefix desk.old.seen desk.new.seen }
     ensures reply { IfOk result (λ r. (list : List Ask) × EndsWith H.start list asked r) }
+    ensures goes_on { IfOk result (λ r. (list : List Ask) × EndsAfter H.start desk.old.seen list asked r) }
 {
     let receipt = Hall::change(rt, clerk, desk, asked)?;
     let (reply, front) = told(receipt);
@@ -146,7 +150,7 @@ impl<'a, H: HallName, R: Wait + Drop, G: Gate> Worker<'a, H, R, G> {
     }
 
     /// Answers one request. A change is made by the clerk, and its front is learnt where it has one. A read waits at the gate first,
-    /// and is then answered without waiting. On a want of memory a change is not made, and a read may have seen more changes.
+    /// and is then answered without waiting. When out of memory a change is not made, and a read may have seen more changes.
     pub fn ask<W: Wait>(&mut self, rt: &W, asked: Asked) -> Result<Reply, AllocError>
         ensures number { self.new.number ≡ self.old.number }
         ensures calls { self.new.calls ≡ min (self.old.calls + 1) (2 ^ 64 - 1) }
@@ -154,6 +158,8 @@ impl<'a, H: HallName, R: Wait + Drop, G: Gate> Worker<'a, H, R, G> {
         ensures change { asks_for_change asked ≡ true
             → MatchResult result (λ _. self.new.seat.made ≡ self.old.seat.made + 1) (λ _. self.new.seat.made ≡ self.old.seat.made) }
         ensures changed { asks_for_change asked ≡ true → IfOk result (λ r. (list : List Ask) × EndsWith H.start list asked r) }
+        ensures goes_on { asks_for_change asked ≡ true
+            → IfOk result (λ r. (list : List Ask) × EndsAfter H.start self.old.seat.seen list asked r) }
         ensures read { asks_for_change asked ≡ false → self.new.seat.made ≡ self.old.seat.made }
         ensures shown { asks_for_change asked ≡ false → IfOk result (λ r. r ≡ reply_of (state_after H.start self.new.seat.seen) asked) }
     {

@@ -1,10 +1,14 @@
 use Rattle.std.proofs.Common.{◌≡◌, ◌++◌, [], ◌∷◌, unwrap_or, IfOk, sym, subst}
-use Rattle.st_hall.specs.Steps.{reply_of, state_after, next}
+use Rattle.st_core.specs.Judging.{judgement}
+use Rattle.st_hall.specs.Steps.{reply_of, state_after, next, judged_in}
 use Rattle.st_hall.proofs.Following.{at_state, after_snoc}
 use Rattle.st_hall.proofs.clerk.Clerk.decided.Goals as goal
 
+pub returns-clause-judged : goal.returns-clause-judged
+returns-clause-judged g c = at_state (λ d s. judgement d.0 ≡ judged_in s c.args.asked.now) _ _ _ c.directory.ensures c.decide.ensures.judged
+
 pub returns-clause-reply : goal.returns-clause-reply
-returns-clause-reply g c = at_state (λ d s. d.reply ≡ reply_of s c.args.asked.now) _ _ _ c.directory.ensures c.decide.ensures.reply
+returns-clause-reply g c = at_state (λ d s. d.1.reply ≡ reply_of s c.args.asked.now) _ _ _ c.directory.ensures c.decide.ensures.reply
 
 pub returns-clause-directory : goal.returns-clause-directory
 returns-clause-directory g c =
@@ -12,6 +16,6 @@ returns-clause-directory g c =
     let list = c.args.self.now.list in
     let asked = c.args.asked.now in
     let before = c.directory.result.now in
-    let made = at_state (λ d s. unwrap_or d.directory before ≡ (next s asked).directory) before (state_after start list) c.decide.result c.directory.ensures c.decide.ensures.directory in
-    let after = subst (λ s. IfOk c.decide.result (λ d. unwrap_or d.directory before ≡ s.directory)) (sym (after_snoc start list asked)) made in
-    subst (λ (b : _). IfOk c.decide.result (λ d. unwrap_or d.directory b ≡ (state_after start (list ++ asked ∷ [])).directory)) c.directory.ensures after
+    let made = at_state (λ d s. unwrap_or d.1.directory before ≡ (next s asked).directory) before (state_after start list) c.decide.result c.directory.ensures c.decide.ensures.directory in
+    let after = subst (λ s. IfOk c.decide.result (λ d. unwrap_or d.1.directory before ≡ s.directory)) (sym (after_snoc start list asked)) made in
+    subst (λ (b : _). IfOk c.decide.result (λ d. unwrap_or d.1.directory b ≡ (state_after start (list ++ asked ∷ [])).directory)) c.directory.ensures after

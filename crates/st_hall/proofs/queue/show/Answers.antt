@@ -1,5 +1,5 @@
 use Rattle.std.proofs.Common.{rules}
-use Rattle.st_hall.proofs.clerk.show.Goals as goal
+use Rattle.st_hall.proofs.queue.show.Goals as goal
 
 pub returns : goal.returns
 returns g c = search rules

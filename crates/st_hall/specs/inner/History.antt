@@ -1,6 +1,5 @@
--- The rule of the history, and what its steps tell.
-use Rattle.std.specs.Prelude.{ℕ, ◌≡◌, ◌≤◌, ◌==◌, true, List, [], ◌∷◌, ◌++◌, length, MatchBool}
-use mathlib.Core.List.{IsPrefix}
+-- A rule of a representation, which no reader has to believe: how the history of changes grows, and what its steps tell.
+use Rattle.std.specs.Prelude.{ℕ, ◌≡◌, ◌==◌, true, List, [], ◌∷◌, ◌++◌, length, MatchBool}
 use Rattle.logbook.specs.Pages.{Cell, Step, View, Book, Named}
 use Rattle.st_hall.specs.Steps.{Ask}
 
@@ -14,7 +13,3 @@ head_of b = record { tracked = true; key = 0; book = b }
 -- the change was added to all that had been seen; or the history was longer
 abbrev pub Adds : Step Ask → View Ask ℕ → ℕ → View Ask ℕ → Type 0
 Adds s v found w = MatchBool (found == s.old) (w.0 ≡ v.0 ++ s.ask ∷ []) (length w.0 ≡ found)
-
--- one of two lists begins the other
-abbrev pub Beside : List Ask → List Ask → Type 0
-Beside xs ys = (length xs ≤ length ys → IsPrefix xs ys) × (length ys ≤ length xs → IsPrefix ys xs)

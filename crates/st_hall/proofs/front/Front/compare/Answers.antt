@@ -2,10 +2,10 @@ use Rattle.std.proofs.Common.{ap, subst, List}
 use mathlib.Core.List.{IsPrefix}
 use Rattle.st_hall.specs.Steps.{Ask}
 use Rattle.st_hall.proofs.Fronts.{prefix_shorter}
-use Rattle.st_hall.proofs.front.Trace.compare.Goals as goal
+use Rattle.st_hall.proofs.front.Front.compare.Goals as goal
 
 pub returns : goal.returns
-returns c =
+returns g c =
     let both = c.learn.new.self.log in
     let mine = c.self.inside.seen.log in
     let this : IsPrefix mine both = subst (λ (l : List Ask). IsPrefix l both) (ap (λ s. s.log) c.again-both.ensures) c.learn.ensures.2 in

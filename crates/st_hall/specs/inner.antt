@@ -1,0 +1,3 @@
+-- What no reader has to believe: invariants of representations, and the rule of the history.
+pub mod History
+pub mod Editions
