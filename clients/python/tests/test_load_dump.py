@@ -118,21 +118,23 @@ def test_a_load_that_is_killed_and_run_again_ends_with_the_rows_of_the_file(
     with file.open("w", newline="") as out:
         writer = csv.writer(out)
         writer.writerow(("id", "lon", "lat", "time", "label", "speed"))
-        for at in range(3_000):
+        for at in range(1_500):
             lon, lat = round(chance.uniform(-180, 180), 5), round(chance.uniform(-90, 90), 5)
             writer.writerow((f"r{at}", lon, lat, f"2024-05-01T12:{at % 60:02}:00Z", "A", at))
             wanted[f"r{at}"] = (lon, lat, {"speed": str(at)})
-    words = [sys.executable, "-m", "fashkiin", "load", table.name, str(file), "--url", url, "--token-file", str(token_file)]
+    words = [sys.executable, "-m", "fashkiin", "load", table.name, "-", "--url", url, "--token-file", str(token_file)]
     environment = os.environ | {"PYTHONPATH": str(Path(__file__).resolve().parents[1] / "src")}
+    data = file.read_bytes()
     root.close()
-    killed = 0
     for _ in range(3):
-        with subprocess.Popen(words, env=environment, stderr=subprocess.DEVNULL) as loading:
+        with subprocess.Popen(words, env=environment, stdin=subprocess.PIPE, stderr=subprocess.DEVNULL) as loading:
+            assert loading.stdin is not None
+            loading.stdin.write(data[: chance.randrange(len(data))])
+            loading.stdin.flush()
             time.sleep(chance.uniform(0.2, 0.5))
             loading.send_signal(signal.SIGKILL)
-            killed += loading.wait() == -signal.SIGKILL
-    assert killed > 0
-    ended = subprocess.run(words, env=environment, capture_output=True, text=True, timeout=60)
+            assert loading.wait() == -signal.SIGKILL
+    ended = subprocess.run(words, env=environment, input=data, capture_output=True, timeout=120)
     assert ended.returncode == 0, ended.stderr
-    assert ended.stderr.splitlines()[-1].startswith("3,000 rows stored, 0 rejected, in ")
+    assert ended.stderr.splitlines()[-1].startswith(b"1,500 rows stored, 0 rejected, in ")
     assert {row.id: (row.lon, row.lat, row.properties) for row in table.scan()} == wanted
