@@ -2,6 +2,7 @@
 
 from __future__ import annotations
 
+import contextlib
 import json
 import re
 import socket
@@ -22,7 +23,10 @@ def half_sent(stack: Stack, head: str, sent: int) -> socket.socket:
     client = socket.create_connection(("127.0.0.1", stack.edge), 10)
     chunk = f"{sent + 1:x}\r\n" if "chunked" in head else ""
     request = f"POST /label HTTP/1.1\r\nHost: x\r\nAuthorization: Bearer x.{'0' * 64}\r\n{head}\r\n\r\n{chunk}"
-    client.sendall(request.encode() + b" " * sent)
+    client.sendall(request.encode())
+    time.sleep(0.1)  # so that the edge has the head before any of the body
+    with contextlib.suppress(ConnectionError):  # of a body that was refused by its length alone
+        client.sendall(b" " * sent)
     return client
 
 
