@@ -8,10 +8,10 @@ use Rattle.std.proofs.lemmas.List.{drop_all}
 use Rattle.serde_json.specs.declared.value.Value.{Value}
 use Rattle.serde_json.specs.View.{items_of, items_view, view}
 use Rattle.std.specs.Prelude.{IfNone, IfSome}
-use Rattle.st_json.specs.Needs.{Picks}
 use Rattle.st_key.specs.declared.point.Point.{Point}
 use Rattle.st_json.specs.declared.value.Bounds.{Bounds}
-use Rattle.st_json.specs.Fields.{number_of, numbers_of, numbers, with_text, texts_of, texts_among}
+use Rattle.st_json.specs.Fields.{number_of, numbers_of, numbers, texts_of}
+use Rattle.st_json.specs.inner.Parts.{Picks, texts_among, with_text}
 
 -- both a first and the rest were there
 pub record Both (A : Type 0) (o : Option A) (p : Option (List A)) (xs : List A) : Type 0 where

@@ -1,4 +1,4 @@
--- Which request an endpoint, the name in its path and a body make, and which refusal they meet.
+-- Which request an endpoint, the name in its path and a body make, or which refusal.
 use Rattle.std.specs.Prelude.{◌≡◌, ℕ, List, Bool, true, false, Result, Ok}
 use Rattle.serde_json.specs.Data.{Data, null}
 use Rattle.st_text.specs.Texts.{Text}
@@ -9,12 +9,15 @@ use Rattle.st_policy.specs.declared.request.Request.TheVariants as requests
 use Rattle.st_http.specs.declared.routes.Endpoint.{Endpoint}
 use Rattle.st_http.specs.declared.routes.Endpoint.TheVariants as endpoints
 use Rattle.st_json.specs.Needs.{Needs}
-use Rattle.st_json.specs.Rules.{ObjectOf, TextField, IdField, NoteField, PointField, BoxField, AuthsField, DigestField, OnField, TablePermissionField, SystemPermissionField, PeriodField, NewPeriodField, LimitField, SideField, BudgetField, AfterField, QueryOf, LabelOf, TableOf, UserOf, NamespaceOf, AuthsOf}
+use Rattle.st_json.specs.Rules.{ObjectOf, TextField, IdField, NoteField, PointField, BoxField, AuthsField, DigestField, OnField}
+use Rattle.st_json.specs.Rules.{TablePermissionField, SystemPermissionField, PeriodField, NewPeriodField, LimitField, SideField}
+use Rattle.st_json.specs.Rules.{BudgetField, AfterField, QueryOf, LabelOf, TableOf, UserOf, NamespaceOf, AuthsOf}
 
 abbrev pub Answer : Type 0 → Type 0
 Answer A = Result (Request A) Refusal
 
--- The answer to an endpoint by its body, whose rules stand in their order. A path without a name has the empty one.
+-- The request that an endpoint makes of the object in its body, or the refusal: its rules, in their order. A path without
+-- a name has the empty one.
 abbrev pub Made : {A : Type 0} → Endpoint → Text → Data → Answer A → Type 0
 Made endpoints.Whoami name d = λ answer. answer ≡ Ok requests.Whoami
 Made endpoints.Tables name d = λ answer. answer ≡ Ok requests.Tables
@@ -94,7 +97,7 @@ Made endpoints.RevokeNamespace name d =
     Needs (NamespaceOf name) (λ namespace. Needs (UserOf text) (λ user answer.
     answer ≡ Ok (requests.RevokeNamespace namespace user p)))))
 
--- the body is read; that of a GET or a DELETE is not
+-- the body is read, unless the method is GET or DELETE
 abbrev pub has_body : Endpoint → Bool
 has_body endpoints.Whoami = false
 has_body endpoints.Tables = false
@@ -131,6 +134,6 @@ abbrev pub ReadBody : Bool → List ℕ → Result Data Refusal → Type 0
 ReadBody true body = ObjectOf body
 ReadBody false body = λ read. read ≡ Ok null
 
--- the answer to an endpoint, the name in its path and a body
+-- the same of the bytes of the body
 abbrev pub Decoded : {A : Type 0} → Endpoint → Text → List ℕ → Answer A → Type 0
 Decoded endpoint name body = Needs (ReadBody (has_body endpoint) body) (Made endpoint name)

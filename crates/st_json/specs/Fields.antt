@@ -1,5 +1,6 @@
 -- The fields of a body, an object of JSON (RFC 8259).
-use Rattle.std.specs.Prelude.{◌≡◌, ◌⊎◌, ℕ, Bool, List, [], ◌∷◌, codes, nat_le, ◌&&◌, if◌then◌else◌, length, find, Option, Some, None, option_map, option_and_then}
+use Rattle.std.specs.Prelude.{◌≡◌, ◌⊎◌, ℕ, Bool, List, [], ◌∷◌, codes, nat_le, ◌&&◌, if◌then◌else◌}
+use Rattle.std.specs.Prelude.{length, find, Option, Some, None, option_map, option_and_then}
 use Rattle.std.specs.Result.{result_ok}
 use Rattle.hex.specs.Hex.{decode_sized}
 use Rattle.serde_json.specs.Data.{Data, null, Items, no_items, item}
@@ -24,22 +25,12 @@ text_in name d = option_and_then as_str (get name d)
 abbrev pub list_in : Text → Data → Option Items
 list_in name d = option_and_then as_array (get name d)
 
--- the texts, where each item is one
+-- the texts, if each item is one
 abbrev pub texts_of : Items → Option (List Text)
 texts_of no_items = Some []
 texts_of (item d ds) = option_and_then (λ s. option_map (λ more. s ∷ more) (texts_of ds)) (as_str d)
 
--- the texts, with this one before them, if it is there
-abbrev pub with_text : Option Text → List Text → List Text
-with_text None more = more
-with_text (Some s) more = s ∷ more
-
--- the texts among the items
-abbrev pub texts_among : Items → List Text
-texts_among no_items = []
-texts_among (item d ds) = with_text (as_str d) (texts_among ds)
-
--- the numbers, where each item is one
+-- the numbers, if each item is one
 abbrev pub numbers_of : Items → Option (List ℕ)
 numbers_of no_items = Some []
 numbers_of (item d ds) = option_and_then (λ n. option_map (λ more. n ∷ more) (numbers_of ds)) (number_of d)
@@ -50,15 +41,15 @@ texts_in name d = option_and_then texts_of (list_in name d)
 abbrev pub numbers_in : Text → Data → Option (List ℕ)
 numbers_in name d = option_and_then numbers_of (list_in name d)
 
--- the text, where its bytes are that many
+-- the text, if its length in bytes is in the range
 abbrev pub sized : ℕ → ℕ → Text → Option Text
 sized least most s = if nat_le least (length s) && nat_le (length s) most then Some s else None
 
--- the number, where it is in the range
+-- the number, if it is in the range
 abbrev pub ranged : ℕ → ℕ → ℕ → Option ℕ
 ranged least most n = if nat_le least n && nat_le n most then Some n else None
 
--- the number of this name, where it is in the range
+-- the number of this name, if it is in the range
 abbrev pub number_in : ℕ → ℕ → Text → Data → Option ℕ
 number_in least most name d = option_and_then (ranged least most) (option_and_then number_of (get name d))
 
@@ -104,7 +95,7 @@ period_of d = option_and_then (λ s. find (λ p. same (period_name p) s) (Day �
 abbrev pub period_in : Data → Option Period
 period_in d = option_and_then period_of (get (codes "period") d)
 
--- the week, where the value is absent or null
+-- the week, if the value is absent or null
 abbrev pub period_or_week : Option Data → Option Period
 period_or_week None = Some Week
 period_or_week (Some null) = Some Week
@@ -117,7 +108,7 @@ new_period_in d = period_or_week (get (codes "period") d)
 abbrev pub limit_in : Data → Option ℕ
 limit_in d = number_in 1 1000 (codes "limit") d
 
--- 1 to 32, under one of two names
+-- a side of a grid, 1 to 32
 abbrev pub side_in : Text → Data → Option ℕ
 side_in name d = number_in 1 32 name d
 
@@ -125,7 +116,7 @@ side_in name d = number_in 1 32 name d
 abbrev pub budget_in : Data → Option ℕ
 budget_in d = number_in 1 64 (codes "budget") d
 
--- an object with a point, an id and a label, which are texts of any kind
+-- an object with a point, an id and a label, any two texts
 pub record IsPlace {A : Type 0} (d : Data) (place : Place A) : Type 0 where
   pub point : HasPoint d place.point
   pub id : text_in (codes "id") d ≡ Some place.id
@@ -135,7 +126,7 @@ pub record IsPlace {A : Type 0} (d : Data) (place : Place A) : Type 0 where
 abbrev pub IsLeftOut : Text → Data → Type 0
 IsLeftOut name d = (get name d ≡ None) ⊎ (get name d ≡ Some null)
 
--- the place that the field is, or none, where it is left out
+-- the place in the field, or none if it is left out
 abbrev pub HasAfter : {A : Type 0} → Data → Option (Place A) → Type 0
 HasAfter d None = IsLeftOut (codes "after") d
 HasAfter d (Some place) = (value : Data) × (get (codes "after") d ≡ Some value) × IsPlace value place

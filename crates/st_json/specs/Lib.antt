@@ -2,3 +2,4 @@ pub mod Fields
 pub mod Needs
 pub mod Rules
 pub mod Bodies
+pub mod inner

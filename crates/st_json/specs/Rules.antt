@@ -22,7 +22,8 @@ use Rattle.st_policy.specs.declared.field_name.FieldName.TheVariants as names
 use Rattle.st_policy.specs.declared.refusal.Refusal.{Refusal}
 use Rattle.st_policy.specs.declared.refusal.Refusal.TheVariants.{Json, Field, BadBox, BadLabel, BadName}
 use Rattle.st_json.specs.declared.value.Bounds.{Bounds}
-use Rattle.st_json.specs.Fields.{HasBox, HasPoint, text_in, auths_in, id_in, note_in, digest_in, on_in, permission_in, period_in, new_period_in, limit_in, side_in, budget_in, HasAfter}
+use Rattle.st_json.specs.Fields.{HasBox, HasPoint, text_in, auths_in, id_in, note_in, digest_in, on_in}
+use Rattle.st_json.specs.Fields.{permission_in, period_in, new_period_in, limit_in, side_in, budget_in, HasAfter}
 use Rattle.st_json.specs.Needs.{Rule, Has}
 
 -- the body is UTF-8 and reads as this object
@@ -76,7 +77,7 @@ NewPeriodField d = Has (Field names.Period) (λ period. new_period_in d ≡ Some
 abbrev pub LimitField : Data → Rule ℕ
 LimitField d = Has (Field names.Limit) (λ limit. limit_in d ≡ Some limit)
 
--- the columns or the lines of a grid
+-- a side of a grid
 abbrev pub SideField : FieldName → Data → Rule ℕ
 SideField name d = Has (Field name) (λ side. side_in (field_text name) d ≡ Some side)
 
@@ -96,25 +97,26 @@ IsQuery b q = query.Makes b.x0 b.x1 b.y0 b.y1 b.t0 b.t1 q
 abbrev pub QueryOf : Bounds → Rule Query
 QueryOf b = Has BadBox (IsQuery b)
 
--- The place at which the text is no label: its greatest length, where it is too long.
+-- The place at which a text is not a label: the greatest length of labels, if the text is too long.
 abbrev pub RefusesAt : Text → ℕ → Type 0
-RefusesAt text at = RefusesLabel text (fault.BadLabel at) ⊎ (RefusesLabel text (fault.TooDeep at) ⊎ (RefusesLabel text fault.TooLong × (at ≡ max_len)))
+RefusesAt text at =
+    RefusesLabel text (fault.BadLabel at) ⊎ (RefusesLabel text (fault.TooDeep at) ⊎ (RefusesLabel text fault.TooLong × (at ≡ max_len)))
 
--- the label that is written so, or the place that shows that the text is none
+-- the label that the text writes, or the place at which it is not a label
 abbrev pub LabelOf : Text → Result Text Refusal → Type 0
 LabelOf text (Ok label) = (label ≡ text) × IsLabel text
 LabelOf text (Err refusal) = (at : ℕ) × (refusal ≡ BadLabel at) × RefusesAt text at
 
 -- ---- names
 
--- the name of a table that the text is
+-- the text is the name of a table
 abbrev pub IsTable : Text → Text → Type 0
 IsTable text table = (table ≡ text) × IsTrue (is_table_name text)
 
 abbrev pub TableOf : Text → Rule Text
 TableOf text = Has (BadName names.Table) (IsTable text)
 
--- the name of a user or a namespace that the text is
+-- the text is the name of a user or of a namespace
 abbrev pub IsOwnName : Text → Text → Type 0
 IsOwnName text name = (name ≡ text) × IsTrue (is_name text)
 
@@ -124,7 +126,7 @@ UserOf text = Has (BadName names.User) (IsOwnName text)
 abbrev pub NamespaceOf : Text → Rule Text
 NamespaceOf text = Has (BadName names.Namespace) (IsOwnName text)
 
--- the authorizations that the texts are, where none of them is bad
+-- the texts are these authorizations, each of them valid
 abbrev pub AreAuths : List Text → List Text → Type 0
 AreAuths texts auths = (auths ≡ texts) × (first_bad texts ≡ None)
 

@@ -1,8 +1,9 @@
-//! Requests from bodies.
+//! The request that an endpoint, the name in its path and a body make.
 ghost use Rattle.std.specs.Prelude.{◌≡◌};
 ghost use Rattle.serde_json.specs.View.{view};
-ghost use Rattle.st_json.specs.Needs.{Tells, shown};
+ghost use Rattle.st_json.specs.Needs.{Obeys};
 ghost use Rattle.st_json.specs.Bodies.{Made, Decoded, ReadBody, has_body};
+ghost use Rattle.st_json.specs.inner.Parts.{shown};
 
 use crate::fault::DecodeFault;
 use crate::{grants, grids, plans, rows, rule, scans, tables, users};
@@ -48,9 +49,9 @@ fn has_body(endpoint: Endpoint) -> bool
     }
 }
 
-// The object that the endpoint's body is, or null where it is not read.
+// The object in the body, or null if the endpoint reads no body.
 fn read(global: Global, endpoint: Endpoint, body: &[u8]) -> Result<Value, DecodeFault>
-    ensures { Tells (ReadBody (has_body endpoint) body.now) (shown view result) }
+    ensures { Obeys (ReadBody (has_body endpoint) body.now) (shown view result) }
 {
     if has_body(endpoint) {
         rule::object(global, body)
@@ -59,14 +60,14 @@ fn read(global: Global, endpoint: Endpoint, body: &[u8]) -> Result<Value, Decode
     }
 }
 
-// The request of an endpoint by its body.
+// The request that the object in the body makes.
 fn request<A: Allocator + Copy>(
     alloc: A,
     endpoint: Endpoint,
     name: &str,
     object: &Value,
 ) -> Result<Request<A>, DecodeFault>
-    ensures { Tells (Made endpoint name.now (view object.now)) result }
+    ensures { Obeys (Made endpoint name.now (view object.now)) result }
 {
     match endpoint {
         Endpoint::Whoami => Ok(Request::Whoami),
@@ -101,12 +102,11 @@ fn request<A: Allocator + Copy>(
     }
 }
 
-/// The request that an endpoint, the name in its path and a body make (RFC 8259). Its rules come in this
-/// order: the body is an object, its fields are there, of their kinds and in their ranges (in the order
-/// of the endpoint's fields), six numbers make a query, a text is a label, names are names (the path's, and
-/// then the body's in the order of its fields). The first that is not kept is the refusal. The bodies of
-/// GET and DELETE are not read. `NoMemory` may come at any place where memory is taken, and then stands
-/// in place of what would have followed.
+/// The request that an endpoint, the name in its path and a body of JSON (RFC 8259) make. These rules are
+/// tested in this order: the body is an object; its fields are there, of the right types and in their ranges
+/// (in the order of the endpoint's fields); six numbers make a query; a text is a label; names are valid (the
+/// path's first, then the body's in the order of its fields). The first rule that fails is the refusal. The
+/// bodies of GET and DELETE are not read. `NoMemory` comes when memory runs out, and then no later rule is tested.
 pub fn decode<A: Allocator + Copy>(
     alloc: A,
     global: Global,
@@ -114,7 +114,7 @@ pub fn decode<A: Allocator + Copy>(
     name: &str,
     body: &[u8],
 ) -> Result<Request<A>, DecodeFault>
-    ensures { Tells (Decoded endpoint name.now body.now) result }
+    ensures { Obeys (Decoded endpoint name.now body.now) result }
 {
     let object = read(global, endpoint, body)?;
     request(alloc, endpoint, name, &object)

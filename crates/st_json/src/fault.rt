@@ -1,15 +1,16 @@
-//! Why a body gave no request.
+//! Why a body makes no request.
 ghost use Rattle.std.specs.Prelude.{◌≡◌};
 ghost use Rattle.st_json.specs.declared.fault.DecodeFault.TheVariants.{NoMemory};
 
 use st_policy::Refusal;
 use std::alloc::AllocError;
 
-/// Why a body gave no request.
+/// Why a body makes no request.
 #[derive(Drop)]
 pub enum DecodeFault {
-    /// The first of the rules that the body, or the name in the path, does not keep.
+    /// The first rule that the body or the name in the path breaks.
     Refused(Refusal),
+    /// Memory ran out.
     NoMemory,
 }
 

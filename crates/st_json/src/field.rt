@@ -1,17 +1,20 @@
-//! The fields of a body: each reader gives the field's value, or the refusal of a body in which it is missing, of another type or
-//! out of range.
-ghost use Rattle.std.specs.Prelude.{◌≡◌, ◌≤◌, IfOk, IfSome, length, find, option_map, option_and_then, None};
+//! The fields of a body. Each function gives the value of a field, or refuses a body in which it is missing, of another
+//! type or out of range.
+ghost use Rattle.std.specs.Prelude.{◌≡◌, ◌≤◌, IfOk, IfSome, length, find, option_map, None};
 ghost use Rattle.std.specs.Result.{result_ok};
 ghost use Rattle.hex.specs.Hex.{decode_sized};
 ghost use Rattle.serde_json.specs.Find.{as_str};
 ghost use Rattle.serde_json.specs.View.{view, items_view};
 ghost use Rattle.st_text.specs.Texts.{same};
 ghost use Rattle.st_index.specs.Texts.{IsId, IsNote};
-ghost use Rattle.st_dir.specs.Permissions.{permission_name, table_permissions, system_permissions};
+ghost use Rattle.st_dir.specs.Permissions.{permission_name};
 ghost use Rattle.st_policy.specs.declared.refusal.Refusal.TheVariants.{Field as OfField};
-ghost use Rattle.st_json.specs.Fields.{sized, id_in, note_in, digest_in, on_in, permission_in, period_of, period_in, new_period_in, texts_among};
-ghost use Rattle.st_json.specs.Needs.{Has, Tells, shown};
-ghost use Rattle.st_json.specs.Rules.{TextField, IdField, NoteField, PointField, BoxField, AuthsField, DigestField, OnField, TablePermissionField, SystemPermissionField, PeriodField, NewPeriodField};
+ghost use Rattle.st_json.specs.Fields.{sized, id_in, note_in, digest_in, on_in, permission_in};
+ghost use Rattle.st_json.specs.Fields.{period_of, period_in, new_period_in};
+ghost use Rattle.st_json.specs.Needs.{Has, Obeys};
+ghost use Rattle.st_json.specs.Rules.{TextField, IdField, NoteField, PointField, BoxField, AuthsField, DigestField, OnField};
+ghost use Rattle.st_json.specs.Rules.{TablePermissionField, SystemPermissionField, PeriodField, NewPeriodField};
+ghost use Rattle.st_json.specs.inner.Parts.{shown, texts_among};
 
 use crate::fault::DecodeFault::{self, Refused};
 use crate::value::{self, Bounds};
@@ -23,7 +26,7 @@ use st_key::{Period, Point};
 use st_policy::FieldName;
 use st_policy::Refusal::Field;
 
-// The permissions on a table, in listing order.
+// The permissions on a table, in the order of listings.
 const TABLE_PERMISSIONS: [Permission; 5] = [
     Permission::Read,
     Permission::Write,
@@ -32,7 +35,7 @@ const TABLE_PERMISSIONS: [Permission; 5] = [
     Permission::DropTable,
 ];
 
-// The permissions on the system, in listing order.
+// The permissions on the system, in the order of listings.
 const SYSTEM_PERMISSIONS: [Permission; 8] = [
     Permission::CreateTable,
     Permission::DropTable,
@@ -46,7 +49,7 @@ const SYSTEM_PERMISSIONS: [Permission; 8] = [
 
 // A field's value, or its refusal.
 pub(crate) fn required<T: Drop>(name: FieldName, found: Option<T>) -> Result<T, DecodeFault>
-    ensures { Tells (Has (OfField name) (λ value. found ≡ Some value)) result }
+    ensures { Obeys (Has (OfField name) (λ value. found ≡ Some value)) result }
 {
     match found {
         Some(value) => Ok(value),
@@ -54,9 +57,9 @@ pub(crate) fn required<T: Drop>(name: FieldName, found: Option<T>) -> Result<T, 
     }
 }
 
-/// A text.
-pub fn text<'a>(object: &'a Value, name: FieldName) -> Result<&'a str, DecodeFault>
-    ensures { Tells (TextField name (view object.now)) (shown (λ s. s.now) result) }
+// The text in the field of this name.
+pub(crate) fn text<'a>(object: &'a Value, name: FieldName) -> Result<&'a str, DecodeFault>
+    ensures { Obeys (TextField name (view object.now)) (shown (λ s. s.now) result) }
 {
     match value::text(object, name.name()) {
         Some(text) => Ok(text),
@@ -64,7 +67,7 @@ pub fn text<'a>(object: &'a Value, name: FieldName) -> Result<&'a str, DecodeFau
     }
 }
 
-// The text, where its bytes are that many.
+// The text, if its length in bytes is in the range.
 fn sized(text: &str, least: usize, most: usize) -> Option<&str>
     ensures value { option_map (λ s. s.now) result ≡ sized least most text.now }
     ensures fits { IfSome result (λ s. (least ≤ length s.now) × (length s.now ≤ most)) }
@@ -83,9 +86,9 @@ fn id_in(object: &Value) -> Option<&str>
     sized(value::text(object, "id")?, 1, MAX_ID)
 }
 
-/// 1 to 64 bytes.
-pub fn id(object: &Value) -> Result<&str, DecodeFault>
-    ensures value { Tells (IdField (view object.now)) (shown (λ s. s.now) result) }
+// The field `id`: 1 to 64 bytes.
+pub(crate) fn id(object: &Value) -> Result<&str, DecodeFault>
+    ensures value { Obeys (IdField (view object.now)) (shown (λ s. s.now) result) }
     ensures fits { IfOk result (λ s. IsId s.now) }
 {
     match id_in(object) {
@@ -103,9 +106,9 @@ fn note_in(object: &Value) -> Option<&str>
     sized(value::text(object, "note")?, 0, MAX_NOTE)
 }
 
-/// At most 4,096 bytes.
-pub fn note(object: &Value) -> Result<&str, DecodeFault>
-    ensures value { Tells (NoteField (view object.now)) (shown (λ s. s.now) result) }
+// The field `note`: at most 4,096 bytes.
+pub(crate) fn note(object: &Value) -> Result<&str, DecodeFault>
+    ensures value { Obeys (NoteField (view object.now)) (shown (λ s. s.now) result) }
     ensures fits { IfOk result (λ s. IsNote s.now) }
 {
     match note_in(object) {
@@ -116,9 +119,9 @@ pub fn note(object: &Value) -> Result<&str, DecodeFault>
     }
 }
 
-/// Six numbers.
-pub fn bounds(object: &Value) -> Result<Bounds, DecodeFault>
-    ensures { Tells (BoxField (view object.now)) result }
+// The field `box`: six numbers.
+pub(crate) fn bounds(object: &Value) -> Result<Bounds, DecodeFault>
+    ensures { Obeys (BoxField (view object.now)) result }
 {
     match value::box_bounds(object) {
         Some(bounds) => Ok(bounds),
@@ -128,9 +131,9 @@ pub fn bounds(object: &Value) -> Result<Bounds, DecodeFault>
     }
 }
 
-/// A point.
-pub fn point(object: &Value) -> Result<Point, DecodeFault>
-    ensures { Tells (PointField (view object.now)) result }
+// The field `point`: three numbers, which make a point.
+pub(crate) fn point(object: &Value) -> Result<Point, DecodeFault>
+    ensures { Obeys (PointField (view object.now)) result }
 {
     match value::point(object) {
         Some(point) => Ok(point),
@@ -140,9 +143,9 @@ pub fn point(object: &Value) -> Result<Point, DecodeFault>
     }
 }
 
-/// A list of texts.
-pub fn auths(object: &Value) -> Result<&[Value], DecodeFault>
-    ensures { Tells (AuthsField (view object.now)) (shown (λ v. texts_among (items_view v.now)) result) }
+// The field `auths`: a list of texts.
+pub(crate) fn auths(object: &Value) -> Result<&[Value], DecodeFault>
+    ensures { Obeys (AuthsField (view object.now)) (shown (λ v. texts_among (items_view v.now)) result) }
 {
     match value::texts(object, "auths") {
         Some(items) => Ok(items),
@@ -165,9 +168,9 @@ fn digest_in(object: &Value) -> Option<[u8; 32]>
     bytes_of(value::text(object, "digest")?)
 }
 
-/// 64 hexadecimal digits of either case.
-pub fn digest(object: &Value) -> Result<[u8; 32], DecodeFault>
-    ensures { Tells (DigestField (view object.now)) result }
+// The field `digest`: 64 hexadecimal digits of either case.
+pub(crate) fn digest(object: &Value) -> Result<[u8; 32], DecodeFault>
+    ensures { Obeys (DigestField (view object.now)) result }
 {
     required(FieldName::Digest, digest_in(object))
 }
@@ -178,9 +181,9 @@ fn on_in(object: &Value) -> Option<bool>
     object.get("on")?.as_bool()
 }
 
-/// True or false.
-pub fn on(object: &Value) -> Result<bool, DecodeFault>
-    ensures { Tells (OnField (view object.now)) result }
+// The field `on`: true or false.
+pub(crate) fn on(object: &Value) -> Result<bool, DecodeFault>
+    ensures { Obeys (OnField (view object.now)) result }
 {
     required(FieldName::On, on_in(object))
 }
@@ -199,9 +202,9 @@ fn permission_in(listed: &[Permission], object: &Value) -> Option<Permission>
     named(listed, value::text(object, "permission")?).copied()
 }
 
-/// A permission on a table.
-pub fn table_permission(object: &Value) -> Result<Permission, DecodeFault>
-    ensures { Tells (TablePermissionField (view object.now)) result }
+// The field `permission`, where it is one on a table.
+pub(crate) fn table_permission(object: &Value) -> Result<Permission, DecodeFault>
+    ensures { Obeys (TablePermissionField (view object.now)) result }
 {
     required(
         FieldName::Permission,
@@ -209,9 +212,9 @@ pub fn table_permission(object: &Value) -> Result<Permission, DecodeFault>
     )
 }
 
-/// A permission on the system.
-pub fn system_permission(object: &Value) -> Result<Permission, DecodeFault>
-    ensures { Tells (SystemPermissionField (view object.now)) result }
+// The field `permission`, where it is one on the system.
+pub(crate) fn system_permission(object: &Value) -> Result<Permission, DecodeFault>
+    ensures { Obeys (SystemPermissionField (view object.now)) result }
 {
     required(
         FieldName::Permission,
@@ -236,9 +239,9 @@ fn period_in(object: &Value) -> Option<Period>
     period_of(object.get("period")?)
 }
 
-/// Day or week.
-pub fn period(object: &Value) -> Result<Period, DecodeFault>
-    ensures { Tells (PeriodField (view object.now)) result }
+// The field `period`: day or week.
+pub(crate) fn period(object: &Value) -> Result<Period, DecodeFault>
+    ensures { Obeys (PeriodField (view object.now)) result }
 {
     required(FieldName::Period, period_in(object))
 }
@@ -252,9 +255,9 @@ fn new_period_in(object: &Value) -> Option<Period>
     }
 }
 
-/// Day or week; week, where it is absent or null.
-pub fn new_period(object: &Value) -> Result<Period, DecodeFault>
-    ensures { Tells (NewPeriodField (view object.now)) result }
+// The field `period` of a new table: day or week; week if it is absent or null.
+pub(crate) fn new_period(object: &Value) -> Result<Period, DecodeFault>
+    ensures { Obeys (NewPeriodField (view object.now)) result }
 {
     required(FieldName::Period, new_period_in(object))
 }

@@ -1,7 +1,7 @@
-//! The endpoints about what is granted.
+//! The endpoints about grants.
 ghost use Rattle.serde_json.specs.View.{view};
 ghost use Rattle.st_http.specs.declared.routes.Endpoint.TheVariants as endpoints;
-ghost use Rattle.st_json.specs.Needs.{Tells};
+ghost use Rattle.st_json.specs.Needs.{Obeys};
 ghost use Rattle.st_json.specs.Bodies.{Made};
 
 use crate::fault::DecodeFault;
@@ -10,38 +10,55 @@ use serde_json::Value;
 use st_policy::{FieldName, Request};
 use std::alloc::Allocator;
 
-pub fn grants<A: Allocator>(name: &str, object: &Value) -> Result<Request<A>, DecodeFault>
-    ensures { Tells (Made endpoints.Grants name.now (view object.now)) result }
+// The request that `GET /tables/{table}/grants` makes.
+pub(crate) fn grants<A: Allocator>(name: &str, object: &Value) -> Result<Request<A>, DecodeFault>
+    ensures { Obeys (Made endpoints.Grants name.now (view object.now)) result }
 {
     let table = rule::table(name)?;
     Ok(Request::Grants { table })
 }
 
-pub fn namespace_grants<A: Allocator>(name: &str, object: &Value) -> Result<Request<A>, DecodeFault>
-    ensures { Tells (Made endpoints.NamespaceGrants name.now (view object.now)) result }
+// The request that `GET /namespaces/{namespace}/grants` makes.
+pub(crate) fn namespace_grants<A: Allocator>(
+    name: &str,
+    object: &Value,
+) -> Result<Request<A>, DecodeFault>
+    ensures { Obeys (Made endpoints.NamespaceGrants name.now (view object.now)) result }
 {
     let namespace = rule::namespace(name)?;
     Ok(Request::NamespaceGrants { namespace })
 }
 
-pub fn grant_system<A: Allocator>(name: &str, object: &Value) -> Result<Request<A>, DecodeFault>
-    ensures { Tells (Made endpoints.GrantSystem name.now (view object.now)) result }
+// The request that `POST /users/{user}/grant` makes.
+pub(crate) fn grant_system<A: Allocator>(
+    name: &str,
+    object: &Value,
+) -> Result<Request<A>, DecodeFault>
+    ensures { Obeys (Made endpoints.GrantSystem name.now (view object.now)) result }
 {
     let permission = field::system_permission(object)?;
     let user = rule::user(name)?;
     Ok(Request::GrantSystem { user, permission })
 }
 
-pub fn revoke_system<A: Allocator>(name: &str, object: &Value) -> Result<Request<A>, DecodeFault>
-    ensures { Tells (Made endpoints.RevokeSystem name.now (view object.now)) result }
+// The request that `POST /users/{user}/revoke` makes.
+pub(crate) fn revoke_system<A: Allocator>(
+    name: &str,
+    object: &Value,
+) -> Result<Request<A>, DecodeFault>
+    ensures { Obeys (Made endpoints.RevokeSystem name.now (view object.now)) result }
 {
     let permission = field::system_permission(object)?;
     let user = rule::user(name)?;
     Ok(Request::RevokeSystem { user, permission })
 }
 
-pub fn grant_table<A: Allocator>(name: &str, object: &Value) -> Result<Request<A>, DecodeFault>
-    ensures { Tells (Made endpoints.GrantTable name.now (view object.now)) result }
+// The request that `POST /tables/{table}/grant` makes.
+pub(crate) fn grant_table<A: Allocator>(
+    name: &str,
+    object: &Value,
+) -> Result<Request<A>, DecodeFault>
+    ensures { Obeys (Made endpoints.GrantTable name.now (view object.now)) result }
 {
     let text = field::text(object, FieldName::User)?;
     let permission = field::table_permission(object)?;
@@ -54,8 +71,12 @@ pub fn grant_table<A: Allocator>(name: &str, object: &Value) -> Result<Request<A
     })
 }
 
-pub fn revoke_table<A: Allocator>(name: &str, object: &Value) -> Result<Request<A>, DecodeFault>
-    ensures { Tells (Made endpoints.RevokeTable name.now (view object.now)) result }
+// The request that `POST /tables/{table}/revoke` makes.
+pub(crate) fn revoke_table<A: Allocator>(
+    name: &str,
+    object: &Value,
+) -> Result<Request<A>, DecodeFault>
+    ensures { Obeys (Made endpoints.RevokeTable name.now (view object.now)) result }
 {
     let text = field::text(object, FieldName::User)?;
     let permission = field::table_permission(object)?;
@@ -68,8 +89,12 @@ pub fn revoke_table<A: Allocator>(name: &str, object: &Value) -> Result<Request<
     })
 }
 
-pub fn grant_namespace<A: Allocator>(name: &str, object: &Value) -> Result<Request<A>, DecodeFault>
-    ensures { Tells (Made endpoints.GrantNamespace name.now (view object.now)) result }
+// The request that `POST /namespaces/{namespace}/grant` makes.
+pub(crate) fn grant_namespace<A: Allocator>(
+    name: &str,
+    object: &Value,
+) -> Result<Request<A>, DecodeFault>
+    ensures { Obeys (Made endpoints.GrantNamespace name.now (view object.now)) result }
 {
     let text = field::text(object, FieldName::User)?;
     let permission = field::table_permission(object)?;
@@ -82,8 +107,12 @@ pub fn grant_namespace<A: Allocator>(name: &str, object: &Value) -> Result<Reque
     })
 }
 
-pub fn revoke_namespace<A: Allocator>(name: &str, object: &Value) -> Result<Request<A>, DecodeFault>
-    ensures { Tells (Made endpoints.RevokeNamespace name.now (view object.now)) result }
+// The request that `POST /namespaces/{namespace}/revoke` makes.
+pub(crate) fn revoke_namespace<A: Allocator>(
+    name: &str,
+    object: &Value,
+) -> Result<Request<A>, DecodeFault>
+    ensures { Obeys (Made endpoints.RevokeNamespace name.now (view object.now)) result }
 {
     let text = field::text(object, FieldName::User)?;
     let permission = field::table_permission(object)?;

@@ -1,7 +1,7 @@
-//! The endpoint that counts rows by the fields of a grid.
+//! The endpoint that counts rows by the cells of a grid.
 ghost use Rattle.serde_json.specs.View.{view};
 ghost use Rattle.st_http.specs.declared.routes.Endpoint.TheVariants as endpoints;
-ghost use Rattle.st_json.specs.Needs.{Tells};
+ghost use Rattle.st_json.specs.Needs.{Obeys};
 ghost use Rattle.st_json.specs.Bodies.{Made};
 
 use crate::fault::DecodeFault;
@@ -10,12 +10,13 @@ use serde_json::Value;
 use st_policy::{FieldName, Request};
 use std::alloc::Allocator;
 
-pub fn grid<A: Allocator + Copy>(
+// The request that `POST /tables/{table}/grid` makes.
+pub(crate) fn grid<A: Allocator + Copy>(
     alloc: A,
     name: &str,
     object: &Value,
 ) -> Result<Request<A>, DecodeFault>
-    ensures { Tells (Made endpoints.Grid name.now (view object.now)) result }
+    ensures { Obeys (Made endpoints.Grid name.now (view object.now)) result }
 {
     let bounds = field::bounds(object)?;
     let texts = field::auths(object)?;

@@ -1,9 +1,10 @@
-//! The field that says where a page begins.
-ghost use Rattle.std.specs.Prelude.{◌≡◌, IfOk};
+//! The field `after`, which says where a page begins.
+ghost use Rattle.std.specs.Prelude.{IfOk};
 ghost use Rattle.serde_json.specs.View.{view};
 ghost use Rattle.st_json.specs.Fields.{IsPlace, HasAfter};
-ghost use Rattle.st_json.specs.Needs.{Tells, Picks};
+ghost use Rattle.st_json.specs.Needs.{Obeys};
 ghost use Rattle.st_json.specs.Rules.{AfterField};
+ghost use Rattle.st_json.specs.inner.Parts.{Picks};
 
 use crate::fault::DecodeFault::{self, Refused};
 use crate::value;
@@ -14,7 +15,7 @@ use st_policy::Refusal::Field;
 use st_text::Words;
 use std::alloc::{AllocError, Allocator};
 
-// The place that an object is.
+// The place that an object writes.
 fn place_of<A: Allocator + Copy>(alloc: A, value: &Value) -> Result<Option<Place<A>>, AllocError>
     ensures { IfOk result (Picks (IsPlace (view value.now))) }
 {
@@ -52,9 +53,12 @@ fn after_in<A: Allocator + Copy>(
     }
 }
 
-/// A place: a point, an id and a label, which are texts of any kind; none, where the field is absent or null.
-pub fn after<A: Allocator + Copy>(alloc: A, object: &Value) -> Result<Option<Place<A>>, DecodeFault>
-    ensures { Tells (AfterField (view object.now)) result }
+// The field `after`: a point, an id and a label, any two texts; none if it is absent or null.
+pub(crate) fn after<A: Allocator + Copy>(
+    alloc: A,
+    object: &Value,
+) -> Result<Option<Place<A>>, DecodeFault>
+    ensures { Obeys (AfterField (view object.now)) result }
 {
     match after_in(alloc, object)? {
         Some(after) => Ok(after),

@@ -3,7 +3,7 @@ ghost use Rattle.std.specs.Prelude.{◌≡◌, IfOk};
 ghost use Rattle.serde_json.specs.View.{view};
 ghost use Rattle.st_index.specs.Texts.{IsId, IsNote};
 ghost use Rattle.st_http.specs.declared.routes.Endpoint.TheVariants as endpoints;
-ghost use Rattle.st_json.specs.Needs.{Tells};
+ghost use Rattle.st_json.specs.Needs.{Obeys};
 ghost use Rattle.st_json.specs.Bodies.{Made};
 
 use crate::fault::DecodeFault;
@@ -37,7 +37,7 @@ fn owned_note<A: Allocator + Copy>(alloc: A, text: &str) -> Result<Note<A>, Allo
     Ok(note)
 }
 
-// The row of these parts, whose texts are an id's and a note's.
+// The row of these parts.
 fn row_of<A: Allocator + Copy>(
     alloc: A,
     id: &str,
@@ -59,24 +59,26 @@ fn row_of<A: Allocator + Copy>(
     })
 }
 
-pub fn label<A: Allocator + Copy>(
+// The request that `POST /label` makes.
+pub(crate) fn label<A: Allocator + Copy>(
     alloc: A,
     name: &str,
     object: &Value,
 ) -> Result<Request<A>, DecodeFault>
-    ensures { Tells (Made endpoints.Label name.now (view object.now)) result }
+    ensures { Obeys (Made endpoints.Label name.now (view object.now)) result }
 {
     let text = field::text(object, FieldName::Label)?;
     let label = rule::label(alloc, text)?;
     Ok(Request::Label { label })
 }
 
-pub fn get<A: Allocator + Copy>(
+// The request that `POST /tables/{table}/get` makes.
+pub(crate) fn get<A: Allocator + Copy>(
     alloc: A,
     name: &str,
     object: &Value,
 ) -> Result<Request<A>, DecodeFault>
-    ensures { Tells (Made endpoints.Get name.now (view object.now)) result }
+    ensures { Obeys (Made endpoints.Get name.now (view object.now)) result }
 {
     let id = field::id(object)?;
     let texts = field::auths(object)?;
@@ -90,12 +92,13 @@ pub fn get<A: Allocator + Copy>(
     })
 }
 
-pub fn count<A: Allocator + Copy>(
+// The request that `POST /tables/{table}/count` makes.
+pub(crate) fn count<A: Allocator + Copy>(
     alloc: A,
     name: &str,
     object: &Value,
 ) -> Result<Request<A>, DecodeFault>
-    ensures { Tells (Made endpoints.Count name.now (view object.now)) result }
+    ensures { Obeys (Made endpoints.Count name.now (view object.now)) result }
 {
     let bounds = field::bounds(object)?;
     let texts = field::auths(object)?;
@@ -109,12 +112,13 @@ pub fn count<A: Allocator + Copy>(
     })
 }
 
-pub fn put<A: Allocator + Copy>(
+// The request that `POST /tables/{table}/put` makes.
+pub(crate) fn put<A: Allocator + Copy>(
     alloc: A,
     name: &str,
     object: &Value,
 ) -> Result<Request<A>, DecodeFault>
-    ensures { Tells (Made endpoints.Put name.now (view object.now)) result }
+    ensures { Obeys (Made endpoints.Put name.now (view object.now)) result }
 {
     let id = field::id(object)?;
     let point = field::point(object)?;
@@ -126,12 +130,13 @@ pub fn put<A: Allocator + Copy>(
     Ok(Request::Put { table, row })
 }
 
-pub fn delete<A: Allocator + Copy>(
+// The request that `POST /tables/{table}/delete` makes.
+pub(crate) fn delete<A: Allocator + Copy>(
     alloc: A,
     name: &str,
     object: &Value,
 ) -> Result<Request<A>, DecodeFault>
-    ensures { Tells (Made endpoints.Delete name.now (view object.now)) result }
+    ensures { Obeys (Made endpoints.Delete name.now (view object.now)) result }
 {
     let id = field::id(object)?;
     let text = field::text(object, FieldName::Label)?;

@@ -1,9 +1,9 @@
-//! What a body, its numbers, its texts and the name in the path make. Each function gives it, or the refusal where there is none.
-ghost use Rattle.std.specs.Prelude.{◌≡◌};
+//! What a body, its numbers, its texts and the name in the path make: each function gives that, or the refusal.
 ghost use Rattle.serde_json.specs.View.{view, items_view};
-ghost use Rattle.st_json.specs.Fields.{texts_among};
-ghost use Rattle.st_json.specs.Needs.{Tells, Picks, shown};
-ghost use Rattle.st_json.specs.Rules.{ObjectOf, QueryOf, LabelOf, TableOf, UserOf, NamespaceOf, AuthsOf, IsQuery, IsTable, IsOwnName, AreAuths};
+ghost use Rattle.st_json.specs.Needs.{Obeys};
+ghost use Rattle.st_json.specs.Rules.{ObjectOf, QueryOf, LabelOf, TableOf, UserOf, NamespaceOf};
+ghost use Rattle.st_json.specs.Rules.{AuthsOf, IsQuery};
+ghost use Rattle.st_json.specs.inner.Parts.{Picks, shown, texts_among};
 
 use crate::fault::DecodeFault::{self, NoMemory, Refused};
 use crate::value::{self, Bounds};
@@ -16,9 +16,9 @@ use st_policy::FieldName;
 use st_policy::Refusal::{BadBox, BadLabel, BadName, Json};
 use std::alloc::{Allocator, Global};
 
-/// The object that a body is.
-pub fn object(global: Global, body: &[u8]) -> Result<Value, DecodeFault>
-    ensures { Tells (ObjectOf body.now) (shown view result) }
+// The object in a body.
+pub(crate) fn object(global: Global, body: &[u8]) -> Result<Value, DecodeFault>
+    ensures { Obeys (ObjectOf body.now) (shown view result) }
 {
     match Value::from_slice(global, body) {
         Ok(value) => {
@@ -52,9 +52,9 @@ fn query_at(bounds: Bounds) -> Option<Query>
     Query::new(x0, x1, y0, y1, t0, t1).ok()
 }
 
-/// The query of six numbers.
-pub fn query(bounds: Bounds) -> Result<Query, DecodeFault>
-    ensures { Tells (QueryOf bounds) result }
+// The query of six numbers.
+pub(crate) fn query(bounds: Bounds) -> Result<Query, DecodeFault>
+    ensures { Obeys (QueryOf bounds) result }
 {
     match query_at(bounds) {
         Some(query) => Ok(query),
@@ -62,9 +62,9 @@ pub fn query(bounds: Bounds) -> Result<Query, DecodeFault>
     }
 }
 
-/// The label that is written so.
-pub fn label<A: Allocator + Copy>(alloc: A, text: &str) -> Result<Label<A>, DecodeFault>
-    ensures { Tells (LabelOf text.now) result }
+// The label that the text writes.
+pub(crate) fn label<A: Allocator + Copy>(alloc: A, text: &str) -> Result<Label<A>, DecodeFault>
+    ensures { Obeys (LabelOf text.now) result }
 {
     match Label::parse(alloc, text) {
         Ok(label) => Ok(label),
@@ -75,9 +75,9 @@ pub fn label<A: Allocator + Copy>(alloc: A, text: &str) -> Result<Label<A>, Deco
     }
 }
 
-/// The name of a table.
-pub fn table(text: &str) -> Result<TableName, DecodeFault>
-    ensures { Tells (TableOf text.now) result }
+// The name of a table.
+pub(crate) fn table(text: &str) -> Result<TableName, DecodeFault>
+    ensures { Obeys (TableOf text.now) result }
 {
     match TableName::new(text) {
         Ok(table) => Ok(table),
@@ -87,9 +87,9 @@ pub fn table(text: &str) -> Result<TableName, DecodeFault>
     }
 }
 
-/// The name of a user.
-pub fn user(text: &str) -> Result<Name, DecodeFault>
-    ensures { Tells (UserOf text.now) result }
+// The name of a user.
+pub(crate) fn user(text: &str) -> Result<Name, DecodeFault>
+    ensures { Obeys (UserOf text.now) result }
 {
     match Name::new(text) {
         Ok(user) => Ok(user),
@@ -99,9 +99,9 @@ pub fn user(text: &str) -> Result<Name, DecodeFault>
     }
 }
 
-/// The name of a namespace.
-pub fn namespace(text: &str) -> Result<Name, DecodeFault>
-    ensures { Tells (NamespaceOf text.now) result }
+// The name of a namespace.
+pub(crate) fn namespace(text: &str) -> Result<Name, DecodeFault>
+    ensures { Obeys (NamespaceOf text.now) result }
 {
     match Name::new(text) {
         Ok(namespace) => Ok(namespace),
@@ -111,9 +111,9 @@ pub fn namespace(text: &str) -> Result<Name, DecodeFault>
     }
 }
 
-/// The authorizations that the texts among the items are.
-pub fn auths<A: Allocator + Copy>(alloc: A, items: &[Value]) -> Result<Auths<A>, DecodeFault>
-    ensures { Tells (AuthsOf (texts_among (items_view items.now))) result }
+// The authorizations that the texts among the items name.
+pub(crate) fn auths<A: Allocator + Copy>(alloc: A, items: &[Value]) -> Result<Auths<A>, DecodeFault>
+    ensures { Obeys (AuthsOf (texts_among (items_view items.now))) result }
 {
     let names = value::texts_among(alloc, items)?;
     match Auths::from_list(alloc, &names) {

@@ -1,7 +1,7 @@
 //! The endpoint that shows rows by pages.
 ghost use Rattle.serde_json.specs.View.{view};
 ghost use Rattle.st_http.specs.declared.routes.Endpoint.TheVariants as endpoints;
-ghost use Rattle.st_json.specs.Needs.{Tells};
+ghost use Rattle.st_json.specs.Needs.{Obeys};
 ghost use Rattle.st_json.specs.Bodies.{Made};
 
 use crate::fault::DecodeFault;
@@ -10,12 +10,13 @@ use serde_json::Value;
 use st_policy::Request;
 use std::alloc::Allocator;
 
-pub fn scan<A: Allocator + Copy>(
+// The request that `POST /tables/{table}/scan` makes.
+pub(crate) fn scan<A: Allocator + Copy>(
     alloc: A,
     name: &str,
     object: &Value,
 ) -> Result<Request<A>, DecodeFault>
-    ensures { Tells (Made endpoints.Scan name.now (view object.now)) result }
+    ensures { Obeys (Made endpoints.Scan name.now (view object.now)) result }
 {
     let bounds = field::bounds(object)?;
     let texts = field::auths(object)?;

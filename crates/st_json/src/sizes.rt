@@ -1,9 +1,9 @@
-//! The fields that say how much is asked for.
+//! The fields that bound an answer.
 ghost use Rattle.std.specs.Prelude.{◌≡◌};
 ghost use Rattle.serde_json.specs.View.{view};
 ghost use Rattle.st_policy.specs.Refusals.{field_text};
 ghost use Rattle.st_json.specs.Fields.{limit_in, side_in, budget_in};
-ghost use Rattle.st_json.specs.Needs.{Tells};
+ghost use Rattle.st_json.specs.Needs.{Obeys};
 ghost use Rattle.st_json.specs.Rules.{LimitField, SideField, BudgetField};
 
 use crate::fault::DecodeFault;
@@ -18,9 +18,9 @@ fn limit_in(object: &Value) -> Option<Limit>
     Limit::new(value::number(object, "limit")?)
 }
 
-/// 1 to 1,000 rows.
-pub fn limit(object: &Value) -> Result<Limit, DecodeFault>
-    ensures { Tells (LimitField (view object.now)) result }
+// The field `limit`: 1 to 1,000 rows.
+pub(crate) fn limit(object: &Value) -> Result<Limit, DecodeFault>
+    ensures { Obeys (LimitField (view object.now)) result }
 {
     required(FieldName::Limit, limit_in(object))
 }
@@ -31,9 +31,9 @@ fn side_in(object: &Value, name: FieldName) -> Option<Side>
     Side::new(value::number(object, name.name())?)
 }
 
-/// 1 to 32 columns or lines.
-pub fn side(object: &Value, name: FieldName) -> Result<Side, DecodeFault>
-    ensures { Tells (SideField name (view object.now)) result }
+// A side of a grid: 1 to 32 cells.
+pub(crate) fn side(object: &Value, name: FieldName) -> Result<Side, DecodeFault>
+    ensures { Obeys (SideField name (view object.now)) result }
 {
     required(name, side_in(object, name))
 }
@@ -44,9 +44,9 @@ fn budget_in(object: &Value) -> Option<Budget>
     Budget::new(value::number(object, "budget")?)
 }
 
-/// 1 to 64 ranges.
-pub fn budget(object: &Value) -> Result<Budget, DecodeFault>
-    ensures { Tells (BudgetField (view object.now)) result }
+// The field `budget`: 1 to 64 ranges.
+pub(crate) fn budget(object: &Value) -> Result<Budget, DecodeFault>
+    ensures { Obeys (BudgetField (view object.now)) result }
 {
     required(FieldName::Budget, budget_in(object))
 }

@@ -4,15 +4,15 @@ ghost use Rattle.std.specs.List.{list_all};
 ghost use Rattle.serde_json.specs.Find.{get, as_str};
 ghost use Rattle.serde_json.specs.View.{view, items_view};
 ghost use Rattle.st_key.specs.declared.point.Point.{Point};
-ghost use Rattle.st_json.specs.Fields.{text_in, number_of, list_in, texts_among, texts_in, numbers_of, numbers, HasBox, HasPoint};
-ghost use Rattle.st_json.specs.Needs.{Picks};
+ghost use Rattle.st_json.specs.Fields.{text_in, number_of, list_in, texts_in, numbers_of, numbers, HasBox, HasPoint};
 ghost use Rattle.st_json.specs.declared.value.Bounds.{Bounds};
+ghost use Rattle.st_json.specs.inner.Parts.{Picks, texts_among};
 
 use serde_json::Value;
 use st_key::Point;
 use std::alloc::{AllocError, Allocator};
 
-/// Six numbers, which need make no query.
+/// The six numbers of a box, which may or may not make a query.
 #[derive(Clone, Copy)]
 pub struct Bounds {
     pub x0: u64,
@@ -23,13 +23,15 @@ pub struct Bounds {
     pub t1: u64,
 }
 
-pub fn text<'a>(object: &'a Value, name: &str) -> Option<&'a str>
+// The text of this name in an object.
+pub(crate) fn text<'a>(object: &'a Value, name: &str) -> Option<&'a str>
     ensures { option_map (λ s. s.now) result ≡ text_in name.now (view object.now) }
 {
     object.get(name).and_then(Value::as_str)
 }
 
-pub fn number(object: &Value, name: &str) -> Option<u64>
+// The number of this name in an object.
+pub(crate) fn number(object: &Value, name: &str) -> Option<u64>
     ensures { result ≡ option_and_then number_of (get name.now (view object.now)) }
 {
     object.get(name).and_then(Value::as_u64)
@@ -47,8 +49,8 @@ fn are_texts(items: &[Value]) -> bool
     items.iter().all(|item| item.is_string())
 }
 
-/// The items of a list of texts.
-pub fn texts<'a>(object: &'a Value, name: &str) -> Option<&'a [Value]>
+// The items of a list of texts.
+pub(crate) fn texts<'a>(object: &'a Value, name: &str) -> Option<&'a [Value]>
     ensures { option_map (λ v. texts_among (items_view v.now)) result ≡ texts_in name.now (view object.now) }
 {
     let items = list(object, name)?.as_slice();
@@ -56,8 +58,8 @@ pub fn texts<'a>(object: &'a Value, name: &str) -> Option<&'a [Value]>
     if all { Some(items) } else { None }
 }
 
-/// The texts among the items.
-pub fn texts_among<'a, A: Allocator + Copy>(
+// The texts among the items.
+pub(crate) fn texts_among<'a, A: Allocator + Copy>(
     alloc: A,
     items: &'a [Value],
 ) -> Result<Vec<&'a str, A>, AllocError>
@@ -73,7 +75,7 @@ pub fn texts_among<'a, A: Allocator + Copy>(
     Ok(texts)
 }
 
-// The numbers of a list of six.
+// The six numbers of a list.
 fn six(items: &[Value]) -> Option<Bounds>
     ensures some { IfSome result (λ b. numbers_of (items_view items.now) ≡ Some (numbers b)) }
     ensures none { IfNone result ((b : Bounds) → numbers_of (items_view items.now) ≡ Some (numbers b) → ⊥) }
@@ -91,7 +93,8 @@ fn six(items: &[Value]) -> Option<Bounds>
     })
 }
 
-pub fn box_bounds(object: &Value) -> Option<Bounds>
+// The six numbers of the field `box`.
+pub(crate) fn box_bounds(object: &Value) -> Option<Bounds>
     ensures { Picks (HasBox (view object.now)) result }
 {
     six(list(object, "box")?)
@@ -104,7 +107,7 @@ fn point_at(x: u64, y: u64, t: u64) -> Option<Point>
     Point::new(x, y, t).ok()
 }
 
-// The point of a list of three numbers.
+// The point that three numbers in a list make.
 fn three(items: &[Value]) -> Option<Point>
     ensures some { IfSome result (λ p. numbers_of (items_view items.now) ≡ Some (p.x ∷ p.y ∷ p.t ∷ [])) }
     ensures none { IfNone result ((p : Point) → numbers_of (items_view items.now) ≡ Some (p.x ∷ p.y ∷ p.t ∷ []) → ⊥) }
@@ -115,7 +118,8 @@ fn three(items: &[Value]) -> Option<Point>
     point_at(x.as_u64()?, y.as_u64()?, t.as_u64()?)
 }
 
-pub fn point(object: &Value) -> Option<Point>
+// The point of the field `point`.
+pub(crate) fn point(object: &Value) -> Option<Point>
     ensures { Picks (HasPoint (view object.now)) result }
 {
     three(list(object, "point")?)

@@ -10,7 +10,7 @@ use Rattle.serde_json.specs.Data.{Data}
 use Rattle.serde_json.specs.View.{items_of}
 use Rattle.serde_json.specs.Written.{compact_text, items_outline}
 use Rattle.serde_json.proofs.Texts.{print-outline}
-use Rattle.st_json_reply.specs.Adds.{tokens_of, Adds}
+use Rattle.st_json_reply.specs.inner.Adds.{tokens_of, Adds}
 use Rattle.st_json_reply.specs.Replies.{list}
 
 pub added : (a b : Written) (ts : List Token) → b.before ≡ a.before → b.tokens ≡ a.tokens ++ ts → Adds a b ts

@@ -10,11 +10,11 @@ use Rattle.st_dir.specs.declared.permission.Permission.{Permission}
 use Rattle.st_policy.specs.declared.denial.Denial.{Denial}
 use Rattle.st_policy.specs.declared.refusal.Refusal.{Refusal}
 use Rattle.st_policy.specs.declared.reply.Reply.{Reply}
-use Rattle.st_json_reply.specs.Order.{in_order, items_in_order}
+use Rattle.st_json_reply.specs.Order.{keys_rise, items_keys_rise}
 use Rattle.st_json_reply.specs.Refusals.{nat, denial_data, refusal_data}
-use Rattle.st_json_reply.specs.Replies.{listing, texts_data, permission_data, permissions_data, account_data, table_data, given_data, entry_data, row_data, range_data, part_data, place_or_null, next_data, page_data, reply_data}
+use Rattle.st_json_reply.specs.Replies.{listing, texts_data, permission_data, permissions_data, account_data, table_data, grantee_data, entry_data, row_data, range_data, part_data, place_or_null, next_data, page_data, reply_data}
 
-denial_in_order : (d : Denial) → in_order (denial_data d) ≡ true
+denial_in_order : (d : Denial) → keys_rise (denial_data d) ≡ true
 denial_in_order Denial.Token = refl
 denial_in_order (Denial.Permission name None) = refl
 denial_in_order (Denial.Permission name (Some table)) = refl
@@ -23,7 +23,7 @@ denial_in_order (Denial.Authorization name) = refl
 denial_in_order (Denial.Constraint label) = refl
 denial_in_order Denial.OwnSelf = refl
 
-refusal_in_order : (r : Refusal) → in_order (refusal_data r) ≡ true
+refusal_in_order : (r : Refusal) → keys_rise (refusal_data r) ≡ true
 refusal_in_order Refusal.Json = refl
 refusal_in_order (Refusal.Field name) = refl
 refusal_in_order Refusal.BadBox = refl
@@ -40,45 +40,45 @@ refusal_in_order (Refusal.UserExists user) = refl
 both : (a b : Bool) → a ≡ true → b ≡ true → (a && b) ≡ true
 both a b is_a is_b = rw (is_a, is_b) refl
 
-all_in_order : {T : Type 0} (f : T → Data) → ((x : T) → in_order (f x) ≡ true) → (xs : List T) → items_in_order (items_of (map f xs)) ≡ true
+all_in_order : {T : Type 0} (f : T → Data) → ((x : T) → keys_rise (f x) ≡ true) → (xs : List T) → items_keys_rise (items_of (map f xs)) ≡ true
 all_in_order f each [] = refl
 all_in_order f each (x ∷ xs) = both _ _ (each x) (all_in_order f each xs)
 
-texts_in_order : (texts : List (List ℕ)) → in_order (texts_data texts) ≡ true
+texts_in_order : (texts : List (List ℕ)) → keys_rise (texts_data texts) ≡ true
 texts_in_order texts = all_in_order string (λ s. refl) texts
 
-permissions_in_order : (ps : List Permission) → in_order (permissions_data ps) ≡ true
+permissions_in_order : (ps : List Permission) → keys_rise (permissions_data ps) ≡ true
 permissions_in_order ps = all_in_order permission_data (λ p. refl) ps
 
-listing_in_order : {T : Type 0} (name : List ℕ) (f : T → Data) → ((x : T) → in_order (f x) ≡ true) → (xs : List T) → in_order (listing name (map f xs)) ≡ true
+listing_in_order : {T : Type 0} (name : List ℕ) (f : T → Data) → ((x : T) → keys_rise (f x) ≡ true) → (xs : List T) → keys_rise (listing name (map f xs)) ≡ true
 listing_in_order name f each xs = both _ _ (all_in_order f each xs) refl
 
-account_in_order : {A : Type 0} (a : Account A) → in_order (account_data a) ≡ true
+account_in_order : {A : Type 0} (a : Account A) → keys_rise (account_data a) ≡ true
 account_in_order a = rw (texts_in_order a.auths, permissions_in_order a.permissions) refl
 
-given_in_order : {A : Type 0} (g : Grantee A) → in_order (given_data g) ≡ true
-given_in_order g = rw (permissions_in_order g.permissions) refl
+grantee_in_order : {A : Type 0} (g : Grantee A) → keys_rise (grantee_data g) ≡ true
+grantee_in_order g = rw (permissions_in_order g.permissions) refl
 
-part_in_order : {A : Type 0} (p : PartPlan A) → in_order (part_data p) ≡ true
+part_in_order : {A : Type 0} (p : PartPlan A) → keys_rise (part_data p) ≡ true
 part_in_order p = both _ _ (all_in_order range_data (λ r. refl) p.ranges) refl
 
-place_in_order : {A : Type 0} (o : Option (Row A)) → in_order (place_or_null o) ≡ true
+place_in_order : {A : Type 0} (o : Option (Row A)) → keys_rise (place_or_null o) ≡ true
 place_in_order None = refl
 place_in_order (Some r) = refl
 
-next_in_order : {A : Type 0} (rows : List (Row A)) (more : Bool) → in_order (next_data rows more) ≡ true
+next_in_order : {A : Type 0} (rows : List (Row A)) (more : Bool) → keys_rise (next_data rows more) ≡ true
 next_in_order rows false = refl
 next_in_order rows true = place_in_order (slice_get rows (length rows - 1))
 
-page_in_order : {A : Type 0} (rows : List (Row A)) (more : Bool) → in_order (page_data rows more) ≡ true
+page_in_order : {A : Type 0} (rows : List (Row A)) (more : Bool) → keys_rise (page_data rows more) ≡ true
 page_in_order rows more = both _ _ (next_in_order rows more) (both _ _ (all_in_order row_data (λ r. refl) rows) refl)
 
-pub reply_in_order : {A : Type 0} (r : Reply A) → in_order (reply_data r) ≡ true
+pub reply_in_order : {A : Type 0} (r : Reply A) → keys_rise (reply_data r) ≡ true
 reply_in_order Reply.Accepted = refl
 reply_in_order (Reply.Who account) = account_in_order account
 reply_in_order (Reply.Tables tables) = listing_in_order (codes "tables") table_data (λ t. refl) tables
 reply_in_order (Reply.Users users) = listing_in_order (codes "users") string (λ s. refl) users
-reply_in_order (Reply.Grants grants) = listing_in_order (codes "grants") given_data given_in_order grants
+reply_in_order (Reply.Grants grants) = listing_in_order (codes "grants") grantee_data grantee_in_order grants
 reply_in_order (Reply.Normal label) = refl
 reply_in_order (Reply.Rows rows) = listing_in_order (codes "rows") row_data (λ r. refl) rows
 reply_in_order (Reply.Page rows more) = page_in_order rows more

@@ -1,4 +1,4 @@
-pub mod Adds
 pub mod Refusals
 pub mod Replies
 pub mod Order
+pub mod inner

@@ -17,14 +17,14 @@ use Rattle.st_policy.specs.Periods.{period_name}
 use Rattle.st_policy.specs.declared.entry.Entry.{Entry}
 use Rattle.st_policy.specs.declared.reply.Reply.{Reply}
 use Rattle.st_policy.specs.declared.reply.Reply.TheVariants as replies
-use Rattle.st_json_reply.specs.Refusals.{of, nat, refusal_data}
+use Rattle.st_json_reply.specs.Refusals.{object_of, nat, refusal_data}
 
 abbrev pub list : List Data → Data
 list items = array (items_of items)
 
--- an object of a list alone
+-- an object with a list alone
 abbrev pub listing : Text → List Data → Data
-listing name items = of ((name, list items) ∷ [])
+listing name items = object_of ((name, list items) ∷ [])
 
 -- ---- users, tables, permissions and changes
 
@@ -38,16 +38,22 @@ abbrev pub permissions_data : List Permission → Data
 permissions_data permissions = list (map permission_data permissions)
 
 abbrev pub account_data : {A : Type 0} → Account A → Data
-account_data a = of ((codes "auths", texts_data a.auths) ∷ (codes "permissions", permissions_data a.permissions) ∷ (codes "user", string a.user) ∷ [])
+account_data a =
+    object_of ((codes "auths", texts_data a.auths)
+    ∷ (codes "permissions", permissions_data a.permissions) ∷ (codes "user", string a.user) ∷ [])
 
 abbrev pub table_data : TableInfo → Data
-table_data t = of ((codes "constraint", boolean t.constraint) ∷ (codes "period", string (period_name t.period)) ∷ (codes "table", string t.table) ∷ [])
+table_data t =
+    object_of ((codes "constraint", boolean t.constraint)
+    ∷ (codes "period", string (period_name t.period)) ∷ (codes "table", string t.table) ∷ [])
 
-abbrev pub given_data : {A : Type 0} → Grantee A → Data
-given_data g = of ((codes "permissions", permissions_data g.permissions) ∷ (codes "user", string g.user) ∷ [])
+abbrev pub grantee_data : {A : Type 0} → Grantee A → Data
+grantee_data g = object_of ((codes "permissions", permissions_data g.permissions) ∷ (codes "user", string g.user) ∷ [])
 
 abbrev pub entry_data : Entry → Data
-entry_data e = of ((codes "request", string e.request) ∷ (codes "result", nat e.result) ∷ (codes "target", string e.target) ∷ (codes "user", string e.user) ∷ [])
+entry_data e =
+    object_of ((codes "request", string e.request) ∷ (codes "result", nat e.result)
+    ∷ (codes "target", string e.target) ∷ (codes "user", string e.user) ∷ [])
 
 -- ---- rows and ranges
 
@@ -55,43 +61,45 @@ abbrev pub point_data : Point → Data
 point_data p = list (nat p.x ∷ nat p.y ∷ nat p.t ∷ [])
 
 abbrev pub row_data : {A : Type 0} → Row A → Data
-row_data r = of ((codes "id", string r.id) ∷ (codes "label", string r.label) ∷ (codes "note", string r.note) ∷ (codes "point", point_data r.point) ∷ [])
+row_data r =
+    object_of ((codes "id", string r.id) ∷ (codes "label", string r.label)
+    ∷ (codes "note", string r.note) ∷ (codes "point", point_data r.point) ∷ [])
 
 -- the place of a row
 abbrev pub place_data : {A : Type 0} → Row A → Data
-place_data r = of ((codes "id", string r.id) ∷ (codes "label", string r.label) ∷ (codes "point", point_data r.point) ∷ [])
+place_data r = object_of ((codes "id", string r.id) ∷ (codes "label", string r.label) ∷ (codes "point", point_data r.point) ∷ [])
 
 abbrev pub place_or_null : {A : Type 0} → Option (Row A) → Data
 place_or_null None = null
 place_or_null (Some r) = place_data r
 
--- the place after which the next page begins: that of the last row, where more rows follow it
+-- the place after which the next page begins: that of the last row, if more rows follow
 abbrev pub next_data : {A : Type 0} → List (Row A) → Bool → Data
 next_data rows false = null
 next_data rows true = place_or_null (slice_get rows (length rows - 1))
 
 abbrev pub page_data : {A : Type 0} → List (Row A) → Bool → Data
-page_data rows more = of ((codes "next", next_data rows more) ∷ (codes "rows", list (map row_data rows)) ∷ [])
+page_data rows more = object_of ((codes "next", next_data rows more) ∷ (codes "rows", list (map row_data rows)) ∷ [])
 
 abbrev pub range_data : Range → Data
 range_data r = list (nat r.lo ∷ nat r.hi ∷ boolean r.exact ∷ [])
 
 -- the bins of a part of a query's span, and the ranges of addresses in each of them
 abbrev pub part_data : {A : Type 0} → PartPlan A → Data
-part_data p = of ((codes "bins", list (nat p.bin_lo ∷ nat p.bin_hi ∷ [])) ∷ (codes "ranges", list (map range_data p.ranges)) ∷ [])
+part_data p = object_of ((codes "bins", list (nat p.bin_lo ∷ nat p.bin_hi ∷ [])) ∷ (codes "ranges", list (map range_data p.ranges)) ∷ [])
 
 -- ---- replies
 
 abbrev pub reply_data : {A : Type 0} → Reply A → Data
-reply_data replies.Accepted = of ((codes "ok", boolean true) ∷ [])
+reply_data replies.Accepted = object_of ((codes "ok", boolean true) ∷ [])
 reply_data (replies.Who account) = account_data account
 reply_data (replies.Tables tables) = listing (codes "tables") (map table_data tables)
 reply_data (replies.Users users) = listing (codes "users") (map string users)
-reply_data (replies.Grants grants) = listing (codes "grants") (map given_data grants)
-reply_data (replies.Normal label) = of ((codes "normal", string label) ∷ [])
+reply_data (replies.Grants grants) = listing (codes "grants") (map grantee_data grants)
+reply_data (replies.Normal label) = object_of ((codes "normal", string label) ∷ [])
 reply_data (replies.Rows rows) = listing (codes "rows") (map row_data rows)
 reply_data (replies.Page rows more) = page_data rows more
-reply_data (replies.Count n) = of ((codes "count", nat n) ∷ [])
+reply_data (replies.Count n) = object_of ((codes "count", nat n) ∷ [])
 reply_data (replies.Grid counts) = listing (codes "grid") (map nat counts)
 reply_data (replies.Plan parts) = listing (codes "parts") (map part_data parts)
 reply_data (replies.Audit entries) = listing (codes "entries") (map entry_data entries)

@@ -1,9 +1,9 @@
-//! Users, tables, permissions and changes as JSON.
+//! Accounts, tables, grants and audit entries as JSON.
 ghost use Rattle.std.specs.Prelude.{◌≡◌, OnOk};
 ghost use Rattle.serde_json.specs.Data.{string};
 ghost use Rattle.st_policy.specs.Periods.{period_name};
-ghost use Rattle.st_json_reply.specs.Adds.{tokens_of, Adds};
-ghost use Rattle.st_json_reply.specs.Replies.{permission_data, account_data, table_data, given_data, entry_data};
+ghost use Rattle.st_json_reply.specs.inner.Adds.{tokens_of, Adds};
+ghost use Rattle.st_json_reply.specs.Replies.{permission_data, account_data, table_data, grantee_data, entry_data};
 
 use crate::member::{write_boolean, write_number, write_text};
 use crate::written::{WriteJson, write_list};
@@ -38,7 +38,7 @@ impl WriteJson for Permission {
     }
 }
 
-/// A user's account.
+// A user's account.
 pub(crate) fn write_account<A: Allocator, B: Allocator>(
     out: &mut Writer<A>,
     account: &Account<B>,
@@ -75,7 +75,7 @@ impl WriteJson for TableInfo {
 }
 
 impl<B: Allocator> WriteJson for Grantee<B> {
-    ghost written = { given_data };
+    ghost written = { grantee_data };
 
     fn write_json<A: Allocator>(&self, out: &mut Writer<A>) -> Result<(), AllocError> {
         out.begin_object()?;

@@ -1,12 +1,12 @@
-//! Members of objects: a key, and a value that has no parts.
-ghost use Rattle.std.specs.Prelude.{◌≡◌, ◌∷◌, [], OnOk, decimal};
+//! Members of objects: a key and a plain value.
+ghost use Rattle.std.specs.Prelude.{◌∷◌, [], OnOk, decimal};
 ghost use Rattle.json.specs.Token as token;
-ghost use Rattle.st_json_reply.specs.Adds.{Adds};
+ghost use Rattle.st_json_reply.specs.inner.Adds.{Adds};
 
 use json::Writer;
 use std::alloc::{AllocError, Allocator};
 
-/// A key and a text.
+// A key and a text.
 pub(crate) fn write_text<A: Allocator>(
     out: &mut Writer<A>,
     name: &str,
@@ -18,7 +18,7 @@ pub(crate) fn write_text<A: Allocator>(
     out.string(text)
 }
 
-/// A key and a number.
+// A key and a number.
 pub(crate) fn write_number<A: Allocator>(
     out: &mut Writer<A>,
     name: &str,
@@ -30,7 +30,7 @@ pub(crate) fn write_number<A: Allocator>(
     out.u64(n)
 }
 
-/// A key and a truth value.
+// A key and a Boolean.
 pub(crate) fn write_boolean<A: Allocator>(
     out: &mut Writer<A>,
     name: &str,

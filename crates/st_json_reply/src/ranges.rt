@@ -1,7 +1,7 @@
 //! Counts and ranges of addresses as JSON.
-ghost use Rattle.std.specs.Prelude.{◌≡◌, ◌∷◌, [], OnOk, codes};
+ghost use Rattle.std.specs.Prelude.{◌∷◌, [], OnOk, codes};
 ghost use Rattle.json.specs.Token as token;
-ghost use Rattle.st_json_reply.specs.Adds.{tokens_of, Adds};
+ghost use Rattle.st_json_reply.specs.inner.Adds.{tokens_of, Adds};
 ghost use Rattle.st_json_reply.specs.Refusals.{nat};
 ghost use Rattle.st_json_reply.specs.Replies.{list, range_data, part_data};
 

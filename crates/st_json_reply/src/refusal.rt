@@ -1,8 +1,8 @@
 //! The status and the body of a refusal.
 ghost use Rattle.std.specs.Prelude.{◌≡◌, ◌∷◌, [], OnOk, codes};
 ghost use Rattle.serde_json.specs.Data.{string};
-ghost use Rattle.st_json_reply.specs.Adds.{tokens_of, Adds};
-ghost use Rattle.st_json_reply.specs.Refusals.{status_of, status_of_denial, of, nat, refusal_data, denial_data};
+ghost use Rattle.st_json_reply.specs.inner.Adds.{tokens_of, Adds};
+ghost use Rattle.st_json_reply.specs.Refusals.{refusal_status, denial_status, object_of, nat, refusal_data, denial_data};
 
 use crate::member::{write_number, write_text};
 use http::StatusCode;
@@ -10,8 +10,8 @@ use json::Writer;
 use st_policy::{Denial, Refusal};
 use std::alloc::{AllocError, Allocator};
 
-fn status_of_denial(denial: &Denial) -> StatusCode
-    ensures { result ≡ status_of_denial denial.now }
+fn denial_status(denial: &Denial) -> StatusCode
+    ensures { result ≡ denial_status denial.now }
 {
     match denial {
         Denial::Token => StatusCode::UNAUTHORIZED,
@@ -23,9 +23,9 @@ fn status_of_denial(denial: &Denial) -> StatusCode
     }
 }
 
-/// The status code of the reply that tells a refusal (RFC 9110, "Client Error 4xx").
+/// The status code of the reply to a refused request (RFC 9110, "Client Error 4xx").
 pub fn status(refusal: &Refusal) -> StatusCode
-    ensures { result ≡ status_of refusal.now }
+    ensures { result ≡ refusal_status refusal.now }
 {
     match refusal {
         Refusal::Json
@@ -33,28 +33,29 @@ pub fn status(refusal: &Refusal) -> StatusCode
         | Refusal::BadBox
         | Refusal::BadLabel { .. }
         | Refusal::BadName { .. } => StatusCode::BAD_REQUEST,
-        Refusal::Denied(denial) => status_of_denial(denial),
+        Refusal::Denied(denial) => denial_status(denial),
         Refusal::NoTable { .. } | Refusal::NoUser { .. } => StatusCode::NOT_FOUND,
         Refusal::TableExists { .. } | Refusal::UserExists { .. } => StatusCode::CONFLICT,
     }
 }
 
-// An object of an error alone.
+// An object with an error alone.
 fn write_error<A: Allocator>(out: &mut Writer<A>, error: &str) -> Result<(), AllocError>
-    ensures { OnOk result (Adds out.old out.new (tokens_of (of ((codes "error", string error.now) ∷ [])))) }
+    ensures { OnOk result (Adds out.old out.new (tokens_of (object_of ((codes "error", string error.now) ∷ [])))) }
 {
     out.begin_object()?;
     write_text(out, "error", error)?;
     out.end_object()
 }
 
-// An object of two texts.
+// An object with two texts.
 fn write_two<A: Allocator>(
     out: &mut Writer<A>,
     first: (&str, &str),
     second: (&str, &str),
 ) -> Result<(), AllocError>
-    ensures { OnOk result (Adds out.old out.new (tokens_of (of ((first.entry.0.now, string first.entry.1.now) ∷ (second.entry.0.now, string second.entry.1.now) ∷ [])))) }
+    ensures { OnOk result (Adds out.old out.new
+        (tokens_of (object_of ((first.entry.0.now, string first.entry.1.now) ∷ (second.entry.0.now, string second.entry.1.now) ∷ [])))) }
 {
     out.begin_object()?;
     write_text(out, first.0, first.1)?;
@@ -62,7 +63,7 @@ fn write_two<A: Allocator>(
     out.end_object()
 }
 
-// An object of three texts.
+// An object with three texts.
 fn write_three<A: Allocator>(
     out: &mut Writer<A>,
     first: (&str, &str),
@@ -70,7 +71,7 @@ fn write_three<A: Allocator>(
     third: (&str, &str),
 ) -> Result<(), AllocError>
     ensures { OnOk result (Adds out.old out.new
-        (tokens_of (of ((first.entry.0.now, string first.entry.1.now) ∷ (second.entry.0.now, string second.entry.1.now)
+        (tokens_of (object_of ((first.entry.0.now, string first.entry.1.now) ∷ (second.entry.0.now, string second.entry.1.now)
         ∷ (third.entry.0.now, string third.entry.1.now) ∷ [])))) }
 {
     out.begin_object()?;
@@ -80,9 +81,10 @@ fn write_three<A: Allocator>(
     out.end_object()
 }
 
-// An object of the place at which a text is no label.
+// An object with the place at which a text is not a label.
 fn write_bad_label<A: Allocator>(out: &mut Writer<A>, at: u64) -> Result<(), AllocError>
-    ensures { OnOk result (Adds out.old out.new (tokens_of (of ((codes "at", nat at) ∷ (codes "error", string (codes "label")) ∷ [])))) }
+    ensures { OnOk result (Adds out.old out.new
+        (tokens_of (object_of ((codes "at", nat at) ∷ (codes "error", string (codes "label")) ∷ [])))) }
 {
     out.begin_object()?;
     write_number(out, "at", at)?;
@@ -127,7 +129,7 @@ fn write_denial<A: Allocator>(out: &mut Writer<A>, denial: &Denial) -> Result<()
     }
 }
 
-/// Writes the body of the reply that tells a refusal.
+// Writes the body of the reply to a refused request.
 pub(crate) fn write_refusal<A: Allocator>(
     out: &mut Writer<A>,
     refusal: &Refusal,

@@ -1,8 +1,8 @@
 //! Replies as text.
 ghost use Rattle.std.specs.Prelude.{◌≡◌, ◌∷◌, ◌++◌, [], OnOk, IfOk, codes, true};
 ghost use Rattle.serde_json.specs.Data.{boolean, string};
-ghost use Rattle.st_json_reply.specs.Adds.{tokens_of, Adds};
-ghost use Rattle.st_json_reply.specs.Refusals.{of, nat};
+ghost use Rattle.st_json_reply.specs.inner.Adds.{tokens_of, Adds};
+ghost use Rattle.st_json_reply.specs.Refusals.{object_of, nat};
 ghost use Rattle.st_json_reply.specs.Replies.{reply_data, text_of};
 
 use crate::listing::write_account;
@@ -15,7 +15,7 @@ use st_policy::Reply;
 use std::alloc::{AllocError, Allocator};
 
 fn write_accepted<A: Allocator>(out: &mut Writer<A>) -> Result<(), AllocError>
-    ensures { OnOk result (Adds out.old out.new (tokens_of (of ((codes "ok", boolean true) ∷ [])))) }
+    ensures { OnOk result (Adds out.old out.new (tokens_of (object_of ((codes "ok", boolean true) ∷ [])))) }
 {
     out.begin_object()?;
     write_boolean(out, "ok", true)?;
@@ -23,7 +23,7 @@ fn write_accepted<A: Allocator>(out: &mut Writer<A>) -> Result<(), AllocError>
 }
 
 fn write_count<A: Allocator>(out: &mut Writer<A>, count: u64) -> Result<(), AllocError>
-    ensures { OnOk result (Adds out.old out.new (tokens_of (of ((codes "count", nat count) ∷ [])))) }
+    ensures { OnOk result (Adds out.old out.new (tokens_of (object_of ((codes "count", nat count) ∷ [])))) }
 {
     out.begin_object()?;
     write_number(out, "count", count)?;
@@ -31,7 +31,7 @@ fn write_count<A: Allocator>(out: &mut Writer<A>, count: u64) -> Result<(), Allo
 }
 
 fn write_normal<A: Allocator>(out: &mut Writer<A>, label: &str) -> Result<(), AllocError>
-    ensures { OnOk result (Adds out.old out.new (tokens_of (of ((codes "normal", string label.now) ∷ [])))) }
+    ensures { OnOk result (Adds out.old out.new (tokens_of (object_of ((codes "normal", string label.now) ∷ [])))) }
 {
     out.begin_object()?;
     write_text(out, "normal", label)?;
@@ -61,8 +61,8 @@ fn write_reply<A: Allocator, B: Allocator>(
     }
 }
 
-/// Writes the body of a reply behind what the list holds: compact JSON (RFC 8259) whose keys stand
-/// in byte order. Where memory is wanting the list is lost.
+/// Appends the body of a reply: compact JSON (RFC 8259) whose keys are in byte order. If memory runs
+/// out, the list is lost.
 pub fn encode_into<A: Allocator, B: Allocator>(
     out: Vec<u8, A>,
     reply: &Reply<B>,
@@ -74,7 +74,7 @@ pub fn encode_into<A: Allocator, B: Allocator>(
     Ok(out.into_inner())
 }
 
-/// The body of a reply: compact JSON (RFC 8259) whose keys stand in byte order.
+/// The body of a reply: compact JSON (RFC 8259) whose keys are in byte order.
 pub fn encode<A: Allocator, B: Allocator>(
     alloc: A,
     reply: &Reply<B>,

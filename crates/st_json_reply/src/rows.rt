@@ -1,7 +1,7 @@
 //! Rows, and pages of them, as JSON.
-ghost use Rattle.std.specs.Prelude.{◌≡◌, ◌∷◌, OnOk, codes, option_copied};
+ghost use Rattle.std.specs.Prelude.{◌∷◌, OnOk, codes, option_copied};
 ghost use Rattle.json.specs.Token as token;
-ghost use Rattle.st_json_reply.specs.Adds.{tokens_of, Adds};
+ghost use Rattle.st_json_reply.specs.inner.Adds.{tokens_of, Adds};
 ghost use Rattle.st_json_reply.specs.Replies.{point_data, row_data, place_data, place_or_null, next_data, page_data};
 
 use crate::member::write_text;
@@ -74,7 +74,7 @@ fn write_next<A: Allocator, B: Allocator>(
     }
 }
 
-/// A page of a scan.
+// A page of a scan.
 pub(crate) fn write_page<A: Allocator, B: Allocator>(
     out: &mut Writer<A>,
     rows: &[Row<B>],

@@ -1,14 +1,14 @@
-//! Lists of what has a value of JSON.
-ghost use Rattle.std.specs.Prelude.{◌≡◌, ◌∷◌, [], OnOk, map};
+//! Lists of values that are written as JSON.
+ghost use Rattle.std.specs.Prelude.{◌∷◌, OnOk, map};
 ghost use Rattle.json.specs.Token as token;
 ghost use Rattle.serde_json.specs.Data.{Data};
-ghost use Rattle.st_json_reply.specs.Adds.{tokens_of, Adds};
+ghost use Rattle.st_json_reply.specs.inner.Adds.{tokens_of, Adds};
 ghost use Rattle.st_json_reply.specs.Replies.{list, listing};
 
 use json::Writer;
 use std::alloc::{AllocError, Allocator};
 
-/// What is written as a value of JSON.
+// A value that is written as JSON.
 pub(crate) trait WriteJson {
     ghost written: { Self → Data };
 
@@ -16,7 +16,7 @@ pub(crate) trait WriteJson {
         ensures { OnOk result (Adds out.old out.new (tokens_of (written self.now))) };
 }
 
-/// A key and a list.
+// A key and a list.
 pub(crate) fn write_list<A: Allocator, T: WriteJson>(
     out: &mut Writer<A>,
     name: &str,
@@ -32,7 +32,7 @@ pub(crate) fn write_list<A: Allocator, T: WriteJson>(
     out.end_array()
 }
 
-/// An object of a list alone.
+// An object with a list alone.
 pub(crate) fn write_listing<A: Allocator, T: WriteJson>(
     out: &mut Writer<A>,
     name: &str,

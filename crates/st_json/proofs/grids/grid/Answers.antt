@@ -1,8 +1,8 @@
 use Rattle.std.proofs.Common.{refl}
 use Rattle.std.proofs.lemmas.Result.{err_from_is_err_and}
 use Rattle.serde_json.specs.View.{items_view}
-use Rattle.st_json.specs.Fields.{texts_among}
 use Rattle.st_json.specs.Needs.{given}
+use Rattle.st_json.specs.inner.Parts.{texts_among}
 use Rattle.st_json.proofs.Chosen.{given_then, denied_then}
 use Rattle.st_json.proofs.grids.grid.Goals as goal
 

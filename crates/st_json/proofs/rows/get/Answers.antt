@@ -1,10 +1,10 @@
 use Rattle.std.proofs.Common.{refl}
 use Rattle.std.proofs.lemmas.Result.{err_from_is_err_and}
 use Rattle.serde_json.specs.View.{view, items_view}
-use Rattle.st_json.specs.Fields.{texts_among}
 use Rattle.st_http.specs.declared.routes.Endpoint.TheVariants as endpoints
 use Rattle.st_json.specs.Needs.{given}
 use Rattle.st_json.specs.Bodies.{Made}
+use Rattle.st_json.specs.inner.Parts.{texts_among}
 use Rattle.st_json.proofs.Chosen.{given_then, denied_then, no_memory}
 use Rattle.st_json.proofs.rows.get.Goals as goal
 

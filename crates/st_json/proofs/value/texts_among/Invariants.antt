@@ -1,7 +1,7 @@
 use Rattle.std.proofs.Common.{◌≡◌, ◌++◌, map, drop}
 use Rattle.serde_json.specs.View.{items_view}
-use Rattle.st_json.specs.Fields.{texts_among}
 use Rattle.st_json.proofs.value.texts_among.Given as goal
+use Rattle.st_json.specs.inner.Parts.{texts_among}
 
 -- what is left gives the rest of the texts
 abbrev pub invariant-loop-item : goal.invariant-loop-item

@@ -2,7 +2,7 @@ use Rattle.std.proofs.Common.{◌≡◌, [], ◌∷◌, OnOk, codes, ap, sym, su
 use Rattle.std.specs.Option.{option_copied}
 use Rattle.json.specs.Token.{key, null as null_token}
 use Rattle.serde_json.specs.Data.{null}
-use Rattle.st_json_reply.specs.Adds.{Adds, tokens_of}
+use Rattle.st_json_reply.specs.inner.Adds.{Adds, tokens_of}
 use Rattle.st_json_reply.specs.Replies.{next_data, place_or_null}
 use Rattle.st_json_reply.proofs.Added.{added, last_token, then_adds}
 use Rattle.st_json_reply.proofs.rows.write_next.Goals as goal
