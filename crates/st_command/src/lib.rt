@@ -1,4 +1,4 @@
-//! The stores that a command line opens, and the run of one connection over such a store.
+//! Opens the stores that a command line names, and serves one connection from such a store.
 #![tactic(auto)]
 
 mod opening;

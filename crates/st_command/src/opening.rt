@@ -31,7 +31,8 @@ fn digest_of(text: &str) -> Result<[u8; 32], Fault>
 fn store_for(alloc: Global, digest: [u8; 32], names: &[&str]) -> Result<Store, Fault>
     ensures ok { IfOk result (λ store. store ≡ first_state digest (map (λ name. name.now) names.now)) }
     ensures good { OnOk result (first_bad (map (λ name. name.now) names.now) ≡ None) }
-    ensures err { IfErr result (λ fault. (fault ≡ NoMemory) ⊎ ((fault ≡ BadName) × (place : ℕ) × (first_bad (map (λ name. name.now) names.now) ≡ Some place))) }
+    ensures err { IfErr result (λ fault. (fault ≡ NoMemory)
+        ⊎ ((fault ≡ BadName) × (place : ℕ) × (first_bad (map (λ name. name.now) names.now) ≡ Some place))) }
 {
     match Store::open(alloc, digest, names) {
         Ok(store) => Ok(store),
@@ -40,8 +41,8 @@ fn store_for(alloc: Global, digest: [u8; 32], names: &[&str]) -> Result<Store, F
     }
 }
 
-/// The service over a store of the state that a text of 64 hexadecimal digits and names open. The digest is
-/// judged first.
+/// The service over a store of the state that 64 hexadecimal digits and names open. An invalid digest is
+/// reported before an invalid name.
 pub fn service_for(alloc: Global, digits: &str, names: &[&str]) -> Result<Service, Fault>
     ensures ok { IfOk result (Opens digits.now (map (λ name. name.now) names.now)) }
     ensures err { IfErr result (λ fault. (app : App) (words : List Text)
@@ -52,7 +53,8 @@ pub fn service_for(alloc: Global, digits: &str, names: &[&str]) -> Result<Servic
     Ok(Service::new(alloc, alloc, store)?)
 }
 
-/// Two stores of the state that a text of 64 hexadecimal digits and names open. The digest is judged first.
+/// Two stores of the state that 64 hexadecimal digits and names open. An invalid digest is reported before an
+/// invalid name.
 pub fn stores_for(alloc: Global, digits: &str, names: &[&str]) -> Result<(Store, Store), Fault>
     ensures alike { IfOk result (λ both. both.1 ≡ both.0) }
     ensures ok { IfOk result (λ both. Opens digits.now (map (λ name. name.now) names.now) both.0) }

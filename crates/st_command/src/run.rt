@@ -1,4 +1,4 @@
-//! One connection from a reader to a writer, by the words of a command line.
+//! Serves one connection from a reader to a writer, by the arguments of a command line.
 ghost use Rattle.std.specs.Prelude.{◌≡◌, false, map, string_bytes};
 ghost use Rattle.st_command.specs.Running.{Serves, Ran};
 ghost use Rattle.st_command_line.specs.Status.{exit_status_after};
@@ -17,7 +17,8 @@ fn converse<R: Source, W: Sink>(
 ) -> Result<(), Fault>
     requires reader_sound { R.has_failed reader.old ≡ false }
     requires writer_sound { W.has_failed writer.old ≡ false }
-    ensures { Serves service.old service.new (R.left reader.old) (R.left reader.new) (W.held writer.old) (W.held writer.new) (R.has_failed reader.new) (exit_status_after result) }
+    ensures { Serves service.old service.new (R.left reader.old) (R.left reader.new) (W.held writer.old) (W.held writer.new)
+        (R.has_failed reader.new) (exit_status_after result) }
 {
     match service.serve(reader, writer) {
         Ok(Ended::Clean | Ended::Closed) => Ok(()),
@@ -27,7 +28,7 @@ fn converse<R: Source, W: Sink>(
     }
 }
 
-// Serves the connection by the words.
+// Serves the connection from the state that the arguments open.
 fn run<R: Source, W: Sink>(
     alloc: Global,
     words: &[String],
@@ -36,19 +37,20 @@ fn run<R: Source, W: Sink>(
 ) -> Result<(), Fault>
     requires reader_sound { R.has_failed reader.old ≡ false }
     requires writer_sound { W.has_failed writer.old ≡ false }
-    ensures { Ran (map string_bytes words.now) (R.left reader.old) (R.left reader.new) (W.held writer.old) (W.held writer.new) (R.has_failed reader.new) (exit_status_after result) }
+    ensures { Ran (map string_bytes words.now) (R.left reader.old) (R.left reader.new) (W.held writer.old) (W.held writer.new)
+        (R.has_failed reader.new) (exit_status_after result) }
 {
     let said = RunArguments::read(alloc, words)?;
     let mut service = service_for(alloc, said.digest, &said.names)?;
     converse(&mut service, reader, writer)
 }
 
-/// Opens a store by the words, the program's own name first among them, serves the reader to the
-/// writer as one connection, and gives the status: 0 where the input ended between messages or a
-/// reply closed the connection; 2 where the words are no command line, the digest is not 64
-/// hexadecimal digits, or a name is no authorization; 3 where the input ended inside a message; 4
-/// after a million reads; 5 where a read or a write failed; 6 where there was no memory. Each but 0
-/// has its text in `faults`.
+/// Opens the store that the arguments name (the program's own name is the first word), serves one
+/// connection from the reader to the writer, and returns the exit status: 0 if the input ended
+/// between messages or a reply closed the connection; 2 for invalid arguments, a digest that is not
+/// 64 hexadecimal digits, or an invalid authorization; 3 if the input ended inside a message; 4
+/// after a million reads; 5 if a read or a write failed; 6 if memory ran out. For each but 0 it
+/// writes a message to `faults`.
 pub fn run_words<R: Source, W: Sink, F: Write>(
     alloc: Global,
     words: &[String],
@@ -58,7 +60,8 @@ pub fn run_words<R: Source, W: Sink, F: Write>(
 ) -> u8
     requires reader_sound { R.has_failed reader.old ≡ false }
     requires writer_sound { W.has_failed writer.old ≡ false }
-    ensures { Ran (map string_bytes words.now) (R.left reader.old) (R.left reader.new) (W.held writer.old) (W.held writer.new) (R.has_failed reader.new) result }
+    ensures { Ran (map string_bytes words.now) (R.left reader.old) (R.left reader.new) (W.held writer.old) (W.held writer.new)
+        (R.has_failed reader.new) result }
 {
     match run(alloc, words, reader, writer) {
         Ok(()) => 0,

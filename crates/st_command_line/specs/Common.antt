@@ -1,4 +1,4 @@
--- What both command lines have, `--root DIGEST` and `[NAME]...`: what words say by it, and why words are refused.
+-- What both command lines have, `--root DIGEST` and `[NAME]...`: what the words say by it, and why they are refused.
 use Rattle.std.specs.Prelude.{◌≡◌, ℕ, List, [], Some, Ok, IsErr, codes, true, unwrap_or}
 use Rattle.hex.specs.Hex.{decode_sized}
 use Rattle.clap.specs.Words.{App, Rule, IsAmong, all_of, fault_of, first_of, found_of, kind_of, matches_of, new_rule, rows_of}
@@ -40,7 +40,7 @@ pub record HasBadDigest (app : App) (words : List Text) : Type 0 where
   pub says : SaysRoot app words digits names
   pub bad : IsErr (decode_sized digits 32)
 
--- the digest is one, and a name is no authorization
+-- the digest is valid, and a name is not an authorization
 pub record HasBadName (app : App) (words : List Text) : Type 0 where
   pub digits : Text
   pub names : List Text
@@ -50,7 +50,7 @@ pub record HasBadName (app : App) (words : List Text) : Type 0 where
   pub place : ℕ
   pub bad : first_bad names ≡ Some place
 
--- why the words are refused; where memory is wanting, nothing is said of them
+-- why the words are refused; nothing is said of them if memory runs out
 abbrev pub RefusesWords : App → List Text → Fault → Type 0
 RefusesWords app words (Usage error) = IsAmong (kind_of error) (fault_of app words)
 RefusesWords app words BadDigest = HasBadDigest app words

@@ -40,7 +40,9 @@ timeout_option = record (new_rule (codes "timeout")) {
 }
 
 abbrev pub served_command : App
-served_command = with_rule (with_rule (with_rule (with_rule (with_rule (new_app (codes "st_served")) root_option) port_option) connections_option) timeout_option) name_operand
+served_command =
+    with_rule (with_rule (with_rule (with_rule (with_rule (new_app (codes "st_served")) root_option) port_option)
+    connections_option) timeout_option) name_operand
 
 -- the text writes a number below 2^16 in decimal digits
 pub record Writes (text : Text) (number : ℕ) : Type 0 where
@@ -48,7 +50,7 @@ pub record Writes (text : Text) (number : ℕ) : Type 0 where
   pub fits : digits_value 10 (without_leading_plus text) < 2 ^ 16
   pub is : number ≡ digits_value 10 (without_leading_plus text)
 
--- what a number that may be left out is given as
+-- the number that an optional text writes
 abbrev pub Gives : Option Text → Option ℕ → Type 0
 Gives None None = Unit {0}
 Gives (Some text) (Some number) = Writes text number
@@ -66,12 +68,12 @@ pub record SaysServed (words : List Text) (digits : Text) (port : ℕ) (connecti
   pub connections_are : Gives (number_text (codes "connections") words) connections
   pub timeout_is : Gives (number_text (codes "timeout") words) timeout
 
--- the text is there, and writes no number below 2^16
+-- the text is there, and does not write a number below 2^16
 abbrev pub IsUnread : Option Text → Type 0
 IsUnread None = ⊥
 IsUnread (Some text) = IsNumeral 10 (without_leading_plus text) × (digits_value 10 (without_leading_plus text) < 2 ^ 16) → ⊥
 
--- no port is there, or the text of a number writes none
+-- the port is missing, or the text of a number does not write one
 pub record HasBadNumber (words : List Text) : Type 0 where
   pub whole : fault_of served_command words ≡ []
   pub bad : (number_text (codes "port") words ≡ None) ⊎ ((id : Text) × IsUnread (number_text id words))

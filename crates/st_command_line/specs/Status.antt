@@ -1,10 +1,11 @@
--- The status that a program ends with, and what an error of a command line comes to.
+-- The exit status of a program, and the fault that an error of its command line is.
 use Rattle.std.specs.Prelude.{ℕ, Result, Ok, Err}
 use Rattle.clap.specs.declared.error.Error.{Error}
 use Rattle.clap.specs.declared.error.kind.ErrorKind.{ErrorKind}
 use Rattle.clap.specs.declared.error.kind.ErrorKind.TheVariants.{OutOfMemory}
 use Rattle.st_command_line.specs.declared.fault.Fault.{Fault}
-use Rattle.st_command_line.specs.declared.fault.Fault.TheVariants.{Usage, NotText, BadNumber, BadDigest, BadName, Cut, TurnsSpent, Io, Bind, Accept, Write, NoMemory, NoPlace, NoThread}
+use Rattle.st_command_line.specs.declared.fault.Fault.TheVariants.{Usage, NotText, BadNumber, BadDigest, BadName, Cut, TurnsSpent}
+use Rattle.st_command_line.specs.declared.fault.Fault.TheVariants.{Io, Bind, Accept, Write, NoMemory, NoPlace, NoThread}
 
 abbrev pub exit_status_of : Fault → ℕ
 exit_status_of (Usage error) = 2
@@ -22,12 +23,12 @@ exit_status_of NoMemory = 6
 exit_status_of NoPlace = 6
 exit_status_of NoThread = 6
 
--- the status after a run
+-- the exit status after a run
 abbrev pub exit_status_after : Result Unit Fault → ℕ
 exit_status_after (Ok done) = 0
 exit_status_after (Err fault) = exit_status_of fault
 
--- what an error of this kind comes to
+-- the fault that an error of this kind is
 abbrev pub as_fault : ErrorKind → Error → Fault
 as_fault OutOfMemory error = NoMemory
 as_fault _ error = Usage error

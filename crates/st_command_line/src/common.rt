@@ -34,7 +34,7 @@ pub fn names<'a>(alloc: Global) -> Arg<'a>
     Arg::new(alloc, "NAME").action(ArgAction::Append)
 }
 
-/// The words of the process's command line, the program's own name first.
+/// The words of the process's command line; the first is the program's own name. `NotText` if one is not UTF-8.
 pub fn words_of<R: Env + AllocGlobal>(rt: &R) -> Result<Vec<String>, Fault>
     ensures { IfErr result (λ fault. (fault ≡ NotText) ⊎ (fault ≡ NoMemory)) }
 {

@@ -1,4 +1,4 @@
-//! Why a program did not end well.
+//! Why a program failed.
 ghost use Rattle.std.specs.Prelude.{◌≡◌};
 ghost use Rattle.st_command_line.specs.Status.{exit_status_of};
 
@@ -7,55 +7,55 @@ use std::alloc::AllocError;
 use std::io::Write;
 use thiserror::Error;
 
-/// Why a program did not end well.
+/// Why a program failed.
 #[derive(Debug, Drop, Error)]
 pub enum Fault {
-    /// The words are no command line.
+    /// The command line is invalid, or asks for help.
     #[error("{0}")]
     Usage(clap::Error),
     /// A word of the command line is not UTF-8.
     #[error("bad word")]
     NotText,
-    /// A number is none, though the command line let it pass.
+    /// A number that the parser let pass is not one below 2^16.
     #[error("bad number")]
     BadNumber,
     /// The digest is not 64 hexadecimal digits.
     #[error("bad digest")]
     BadDigest,
-    /// A name is no authorization.
+    /// A name is not a valid authorization.
     #[error("bad name")]
     BadName,
     /// The input ended inside a message.
     #[error("cut")]
     Cut,
-    /// A million reads were made.
+    /// The connection took a million reads.
     #[error("turns spent")]
     TurnsSpent,
     /// A read or a write of the connection failed.
     #[error("read or write failed")]
     Io,
-    /// The port was not bound.
+    /// The port could not be bound.
     #[error("bind failed")]
     Bind,
-    /// A connection was not accepted.
+    /// A connection could not be accepted.
     #[error("accept failed")]
     Accept,
     /// Standard output took no more.
     #[error("write failed")]
     Write,
-    /// Memory was refused.
+    /// Memory ran out.
     #[error("no memory")]
     NoMemory,
-    /// A reader's place in the hall was refused.
+    /// The hall had no place for a reader.
     #[error("no place")]
     NoPlace,
-    /// A thread was refused.
+    /// A thread could not be started.
     #[error("no thread")]
     NoThread,
 }
 
 impl Fault {
-    /// The status that a program ends with.
+    /// The exit status: 2, 3, 4, 5 or 6.
     pub fn status(&self) -> u8
         ensures { result ≡ exit_status_of self.now }
     {
@@ -99,8 +99,8 @@ impl From<clap::Error> for Fault {
     }
 }
 
-/// Tells of a fault by a program's name and its text, but of words that are no command line by that text
-/// alone, and gives the status that the program ends with. A text that is not taken is dropped.
+/// Writes a fault's message, behind the program's name unless it is the parser's own, and returns the exit
+/// status. A message that cannot be written is dropped.
 pub fn give_up<F: Write>(program: &str, fault: Fault, faults: &mut F) -> u8
     ensures { result ≡ exit_status_of fault }
 {

@@ -4,21 +4,21 @@ ghost use Rattle.clap.specs.Words.{first_value, found_of};
 ghost use Rattle.st_command_line.specs.Common.{IsParsed, SaysRoot, RefusesWords};
 ghost use Rattle.st_command_line.specs.RunArguments.{run_command};
 
-use crate::fault::Fault;
 use crate::common::{names, root};
+use crate::fault::Fault;
 use clap::{ArgMatches, Command};
 use std::alloc::Global;
 
-/// What a command line says.
+/// The arguments of `st_run`.
 #[derive(Drop)]
 pub struct RunArguments<'a> {
-    /// Meant to be the 64 hexadecimal digits of the hash of root's secret.
+    /// The SHA-256 of root's secret in 64 hexadecimal digits; not checked here.
     pub digest: &'a str,
-    /// Meant to be root's authorizations.
+    /// Root's authorizations; not checked here.
     pub names: Vec<&'a str>,
 }
 
-// Reads the words by what a command line may have.
+// Parses the words.
 fn parse<'a>(alloc: Global, words: &'a [String]) -> Result<ArgMatches<'a>, Fault>
     ensures ok { IfOk result (IsParsed run_command (map string_bytes words.now)) }
     ensures root { IfOk result (λ matches. IsSome (first_value (found_of matches) (codes "root"))) }
@@ -31,9 +31,10 @@ fn parse<'a>(alloc: Global, words: &'a [String]) -> Result<ArgMatches<'a>, Fault
 }
 
 impl<'a> RunArguments<'a> {
-    /// Reads a command line, the program's own name first among its words.
+    /// Parses a command line, whose first word is the program's own name.
     pub fn read(alloc: Global, words: &'a [String]) -> Result<RunArguments<'a>, Fault>
-        ensures ok { IfOk result (λ said. SaysRoot run_command (map string_bytes words.now) said.digest.now (map (λ name. name.now) said.names.items)) }
+        ensures ok { IfOk result (λ said. SaysRoot run_command (map string_bytes words.now) said.digest.now
+            (map (λ name. name.now) said.names.items)) }
         ensures err { IfErr result (λ fault. RefusesWords run_command (map string_bytes words.now) fault) }
     {
         let matches = parse(alloc, words)?;

@@ -6,31 +6,32 @@ ghost use Rattle.std.specs.Duration.{as_nanos};
 ghost use Rattle.clap.specs.Built.{FitsChain};
 ghost use Rattle.clap.specs.Words.{first_value, found_of, one_text, rule_of};
 ghost use Rattle.st_command_line.specs.Common.{IsParsed};
-ghost use Rattle.st_command_line.specs.ServedArguments.{Gives, IsUnread, SaysServed, RefusesServedWords, served_command, port_option, connections_option, timeout_option};
+ghost use Rattle.st_command_line.specs.ServedArguments.{Gives, IsUnread, SaysServed, RefusesServedWords};
+ghost use Rattle.st_command_line.specs.ServedArguments.{served_command, port_option, connections_option, timeout_option};
 ghost use Rattle.st_command_line.specs.declared.fault.Fault.TheVariants.{BadNumber};
 
-use crate::fault::Fault;
 use crate::common::{names, root};
+use crate::fault::Fault;
 use clap::{Arg, ArgAction, ArgMatches, Command};
 use std::alloc::Global;
 use std::net::{Ipv4Addr, SocketAddrV4};
 use std::time::Duration;
 
-// So many seconds a read or a write of a connection may wait, where the words do not say.
+// How many seconds a read or a write of a connection may wait, without `--timeout`.
 const SECONDS: u16 = 30;
 
-/// What a command line says.
+/// The arguments of `st_served`.
 #[derive(Drop)]
 pub struct ServedArguments<'a> {
-    /// Meant to be the 64 hexadecimal digits of the hash of root's secret.
+    /// The SHA-256 of root's secret in 64 hexadecimal digits; not checked here.
     pub digest: &'a str,
-    /// The port of 127.0.0.1 that is listened at, 1 to 65535.
+    /// The port of 127.0.0.1 to listen at, 1 to 65,535.
     pub port: u16,
-    /// How many connections are served. All that come, where it is not given.
+    /// How many connections to serve, 0 to 1,000; without it, all that come.
     pub connections: Option<u16>,
-    /// How many seconds a read or a write of a connection may wait.
+    /// How many seconds a read or a write of a connection may wait, 1 to 3,600.
     pub timeout: Option<u16>,
-    /// Meant to be root's authorizations.
+    /// Root's authorizations; not checked here.
     pub names: Vec<&'a str>,
 }
 
@@ -74,7 +75,7 @@ fn timeout<'a>(alloc: Global) -> Arg<'a>
         .value_parser(clap::value_parser!(u16).range(1..=3600))
 }
 
-// Reads the words by what a command line may have.
+// Parses the words.
 fn parse<'a>(alloc: Global, words: &'a [String]) -> Result<ArgMatches<'a>, Fault>
     ensures ok { IfOk result (IsParsed served_command (map string_bytes words.now)) }
     ensures root { IfOk result (λ matches. IsSome (first_value (found_of matches) (codes "root"))) }
@@ -89,7 +90,7 @@ fn parse<'a>(alloc: Global, words: &'a [String]) -> Result<ArgMatches<'a>, Fault
     Ok(command.try_get_matches_from(words)?)
 }
 
-// The number of an option that may be left out.
+// The number of an optional option.
 fn number(matches: &ArgMatches<'_>, id: &str) -> Result<Option<u16>, Fault>
     ensures ok { IfOk result (Gives (one_text (found_of matches.now) id.now)) }
     ensures err { IfErr result (λ fault. (fault ≡ BadNumber) × IsUnread (one_text (found_of matches.now) id.now)) }
@@ -101,9 +102,10 @@ fn number(matches: &ArgMatches<'_>, id: &str) -> Result<Option<u16>, Fault>
 }
 
 impl<'a> ServedArguments<'a> {
-    /// Reads a command line, the program's own name first among its words.
+    /// Parses a command line, whose first word is the program's own name.
     pub fn read(alloc: Global, words: &'a [String]) -> Result<ServedArguments<'a>, Fault>
-        ensures ok { IfOk result (λ said. SaysServed (map string_bytes words.now) said.digest.now said.port said.connections said.timeout (map (λ name. name.now) said.names.items)) }
+        ensures ok { IfOk result (λ said. SaysServed (map string_bytes words.now) said.digest.now said.port said.connections
+            said.timeout (map (λ name. name.now) said.names.items)) }
         ensures err { IfErr result (λ fault. RefusesServedWords (map string_bytes words.now) fault) }
     {
         let matches = parse(alloc, words)?;
@@ -125,7 +127,7 @@ impl<'a> ServedArguments<'a> {
         })
     }
 
-    /// The port of the loopback interface, 127.0.0.1.
+    /// The address to listen at: the port of the loopback interface, 127.0.0.1.
     pub fn address(&self) -> SocketAddrV4
         ensures ip { ipv4_octets (v4_ip result) ≡ 127 ∷ 0 ∷ 0 ∷ 1 ∷ [] }
         ensures port { v4_port result ≡ self.now.port }
@@ -133,7 +135,7 @@ impl<'a> ServedArguments<'a> {
         SocketAddrV4::new(Ipv4Addr::LOCALHOST, self.port)
     }
 
-    /// How long a read or a write of a connection may wait: 30 seconds, where the words do not say.
+    /// How long a read or a write of a connection may wait: 30 seconds without `--timeout`.
     pub fn limit(&self) -> Duration
         ensures { as_nanos result ≡ unwrap_or self.now.timeout 30 * 1000000000 }
     {
