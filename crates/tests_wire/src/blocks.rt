@@ -1,4 +1,4 @@
-//! Answers that are held back in a block, and are settled before they are written.
+//! Answers that wait in a block until they are settled.
 ghost use Rattle.std.specs.Prelude.{false};
 
 use st_connection::connection::{ROOM, serve_connection};
@@ -11,9 +11,9 @@ use std::convert::AsSlice;
 
 // The end of a line.
 #[derive(Drop)]
-struct Line([u8; 2]);
+struct LineEnd([u8; 2]);
 
-impl AsSlice<u8> for Line {
+impl AsSlice<u8> for LineEnd {
     ghost items = { λ l. l.0 };
 
     fn as_slice(&self) -> &[u8] {
@@ -21,7 +21,7 @@ impl AsSlice<u8> for Line {
     }
 }
 
-// Answers each message by an empty line. The settling of this number fails.
+// Answers each message with an empty line, and fails to settle when it is asked for the time of this number.
 #[derive(Drop)]
 struct Unsettled {
     calls: u32,
@@ -30,7 +30,7 @@ struct Unsettled {
 }
 
 impl Replies for Unsettled {
-    type Reply = Line;
+    type Reply = LineEnd;
 
     ghost State = { Unit {0} };
 
@@ -44,8 +44,8 @@ impl Replies for Unsettled {
 
     ghost faults = { λ _ _ _. tt };
 
-    fn reply(&mut self, _message: &Message<'_>) -> Line {
-        Line(*b"\r\n")
+    fn reply(&mut self, _message: &Message<'_>) -> LineEnd {
+        LineEnd(*b"\r\n")
     }
 
     fn settle(&mut self) -> Result<(), Failed> {
@@ -68,8 +68,8 @@ fn input(alloc: Global) -> Option<Vec<u8>> {
     Some(text)
 }
 
-// How a connection ends whose answers wait in a block of 100 bytes, and how many bytes are written, where
-// the settling of this number fails.
+// How a connection ends whose answers wait in a block of 100 bytes, and how many bytes it writes, if the settling of this
+// number fails.
 fn served(alloc: Global, fails_at: u32) -> Option<(Result<Ended, IoFault>, usize)> {
     let routes = Routes::new(alloc).ok()?;
     let mut buffer = vec![in alloc; 0u8; ROOM].ok()?;

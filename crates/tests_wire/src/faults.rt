@@ -1,4 +1,4 @@
-//! Messages that are no requests, and what is told of them. Nothing after one is read.
+//! Texts that are not messages, and the replies to them. Nothing behind one is read.
 
 use crate::pieces::ended;
 use st_service::{Ended, IoFault};
@@ -11,13 +11,16 @@ const HOST: &str =
     "HTTP/1.1 400 Bad Request\r\nContent-Type: application/json\r\nContent-Length: 16\r\nConnection: close\r\n\r\n{\"error\":\"host\"}";
 
 const LENGTH: &str =
-    "HTTP/1.1 411 Length Required\r\nContent-Type: application/json\r\nContent-Length: 18\r\nConnection: close\r\n\r\n{\"error\":\"length\"}";
+    "HTTP/1.1 411 Length Required\r\nContent-Type: application/json\r\nContent-Length: 18\r\n\
+Connection: close\r\n\r\n{\"error\":\"length\"}";
 
 const SIZE: &str =
-    "HTTP/1.1 413 Payload Too Large\r\nContent-Type: application/json\r\nContent-Length: 16\r\nConnection: close\r\n\r\n{\"error\":\"size\"}";
+    "HTTP/1.1 413 Payload Too Large\r\nContent-Type: application/json\r\nContent-Length: 16\r\n\
+Connection: close\r\n\r\n{\"error\":\"size\"}";
 
 const HEADERS: &str =
-    "HTTP/1.1 431 Request Header Fields Too Large\r\nContent-Type: application/json\r\nContent-Length: 19\r\nConnection: close\r\n\r\n{\"error\":\"headers\"}";
+    "HTTP/1.1 431 Request Header Fields Too Large\r\nContent-Type: application/json\r\nContent-Length: 19\r\n\
+Connection: close\r\n\r\n{\"error\":\"headers\"}";
 
 // Two hosts; a coding beside a length; lengths that are a list, have a sign or stand twice; a length of 21 digits.
 const FAULTS: [(&str, &str); 8] = [
@@ -37,7 +40,7 @@ const FAULTS: [(&str, &str); 8] = [
     ("Host : a", HEAD),
 ];
 
-// How a service of a message with these fields and a second message ends, if this is all that it writes.
+// How a service of a message with these fields and a second message ends; none if it writes anything but this answer.
 fn ended_at(alloc: Global, fields: &str, answer: &str) -> Option<Result<Ended, IoFault>> {
     let text = format!(in alloc;
         "POST /label HTTP/1.1\r\n{fields}\r\n\r\n12345GET /label HTTP/1.1\r\nHost: a\r\n\r\n"
@@ -60,7 +63,7 @@ fn begun(alloc: Global, count: usize) -> Option<Vec<u8>> {
     Some(text)
 }
 
-// How a service of the first bytes of a head without an end ends, if this is all that it writes.
+// How a service of the first bytes of a head without an end ends; none if it writes anything but this answer.
 fn ended_begun(alloc: Global, count: usize, answer: &str) -> Option<Result<Ended, IoFault>> {
     ended(alloc, begun(alloc, count)?.as_slice(), answer.as_bytes())
 }

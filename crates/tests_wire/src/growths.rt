@@ -1,4 +1,4 @@
-//! Requests to a service whose growths are refused, each in turn.
+//! Requests to a service whose allocations fail, each in turn.
 
 use crate::serving::opened;
 use refusing_alloc::Refusing;
@@ -17,7 +17,7 @@ pub const U: &str = "u.000000000000000000000000000000000000000000000000000000000
 /// The token of a user v with the same secret.
 pub const V: &str = "v.0000000000000000000000000000000000000000000000000000000000000000";
 
-/// What is told of a change.
+/// The body of the answer to an accepted change.
 pub const DONE: &str = "{\"ok\":true}";
 
 /// The body of a new user u. The digest is that of 32 zero bytes.
@@ -54,7 +54,7 @@ fn written<A: Allocator + Copy>(
     Some(writer.into_inner())
 }
 
-// Whether a service tells what a request is to be told, or that there was no memory. None where it tells anything else.
+// Whether a service gives the right answer, or answers that memory ran out. None if it answers anything else.
 fn is_told<A: Allocator + Copy>(
     global: Global,
     service: &mut Service<A>,
@@ -70,8 +70,8 @@ fn is_told<A: Allocator + Copy>(
     }
 }
 
-// How many of the requests, asked one after another, were told first that there was no memory. None where one was told
-// anything else but what it is to be told, or was told that twice.
+// How many of the requests, asked one after another, are answered first that memory ran out, and then right. None if one
+// gets any other answer, or that one twice.
 fn busy_turns<A: Allocator + Copy>(
     global: Global,
     service: &mut Service<A>,
@@ -89,8 +89,8 @@ fn busy_turns<A: Allocator + Copy>(
     Some(busy)
 }
 
-// That of a service to which some requests were made with ample memory, and of whose growths from there on this one is
-// refused. None where one of those was told that there was no memory.
+// That of a service which got some requests with ample memory, and of whose allocations from there on this one fails. None
+// if one of those is answered that memory ran out.
 fn busy_turns_after<A: Allocator + Copy>(
     heap: &Refusing<Global>,
     global: Global,
@@ -120,8 +120,8 @@ fn busy_turns_at(
     busy
 }
 
-/// Asks requests of a service one after another, each growth refused in turn. A request that is told that there was no memory
-/// is asked again. Gives how often one was told so; none where any was told anything but what it is to be told.
+/// Asks requests of a service one after another, while each allocation fails in turn. A request that is answered that memory ran
+/// out is asked again. Gives how often that happened; none if a request got any other answer than the right one.
 pub fn busy_runs(global: Global, before: &[Turn<'_>], turns: &[Turn<'_>]) -> Option<u64> {
     let heap = Refusing::new(global);
     let mut runs = 0u64;

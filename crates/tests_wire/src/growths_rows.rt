@@ -1,4 +1,4 @@
-//! Requests of rows whose growths are refused, each in turn: at the end the rows are those of ample memory.
+//! Requests about rows whose allocations fail, each in turn: at the end the rows are those of ample memory.
 
 use crate::growths::{DONE, ROOT, Turn, busy_runs};
 
@@ -58,7 +58,8 @@ const TWO_LABELS: [Turn<'static>; 6] = [
         ROOT,
         GET,
         "{\"auths\":[\"B\",\"A\"],\"id\":\"p\"}",
-        "{\"rows\":[{\"id\":\"p\",\"label\":\"A\",\"note\":\"\",\"point\":[0,0,0]},{\"id\":\"p\",\"label\":\"B\",\"note\":\"\",\"point\":[0,0,0]}]}",
+        "{\"rows\":[{\"id\":\"p\",\"label\":\"A\",\"note\":\"\",\"point\":[0,0,0]},{\"id\":\"p\",\"label\":\"B\",\"note\":\"\",\
+\"point\":[0,0,0]}]}",
     ),
     (ROOT, DELETE, "{\"id\":\"p\",\"label\":\"A\"}", DONE),
     (ROOT, DELETE, "{\"id\":\"p\",\"label\":\"A\"}", DONE),
@@ -127,8 +128,10 @@ const SHOWN: [Turn<'static>; 7] = [
     (
         ROOT,
         SCAN,
-        "{\"after\":{\"id\":\"a\",\"label\":\"A\",\"point\":[0,0,0]},\"auths\":[\"A\"],\"box\":[0,2097151,0,2097151,0,19818086399],\"limit\":1}",
-        "{\"next\":{\"id\":\"b\",\"label\":\"A\",\"point\":[1,0,0]},\"rows\":[{\"id\":\"b\",\"label\":\"A\",\"note\":\"\",\"point\":[1,0,0]}]}",
+        "{\"after\":{\"id\":\"a\",\"label\":\"A\",\"point\":[0,0,0]},\"auths\":[\"A\"],\
+\"box\":[0,2097151,0,2097151,0,19818086399],\"limit\":1}",
+        "{\"next\":{\"id\":\"b\",\"label\":\"A\",\"point\":[1,0,0]},\"rows\":[{\"id\":\"b\",\"label\":\"A\",\"note\":\"\",\
+\"point\":[1,0,0]}]}",
     ),
     (
         ROOT,
@@ -150,7 +153,7 @@ const SHOWN: [Turn<'static>; 7] = [
     ),
 ];
 
-// Rows that are put and deleted, with each growth refused in turn, are those that were put and not deleted.
+// Rows that are put and deleted, while each allocation fails in turn, are those that were put and not deleted.
 #[test]
 fn changes_of_rows(rt: HostRuntime) {
     for (turns, least) in [(&LABELLED[..], 4), (&TWO_LABELS[..], 6), (&MOVED[..], 5)] {

@@ -1,4 +1,4 @@
-//! Changes of tables whose growths are refused, each in turn: at the end tables, grants and rows are those of ample memory.
+//! Changes of tables whose allocations fail, each in turn: at the end tables, grants and rows are those of ample memory.
 
 use crate::growths::{DONE, ROOT, Turn, U, USER_U, USER_V, V, busy_runs};
 
@@ -7,10 +7,12 @@ const ALL: &str = "{\"auths\":[],\"box\":[0,2097151,0,2097151,0,19818086399]}";
 const SCAN: &str = "{\"auths\":[],\"box\":[0,2097151,0,2097151,0,19818086399],\"limit\":10}";
 
 const BY_WEEK: &str =
-    "{\"next\":null,\"rows\":[{\"id\":\"p\",\"label\":\"\",\"note\":\"\",\"point\":[0,0,86400]},{\"id\":\"q\",\"label\":\"\",\"note\":\"\",\"point\":[2097151,0,0]}]}";
+    "{\"next\":null,\"rows\":[{\"id\":\"p\",\"label\":\"\",\"note\":\"\",\"point\":[0,0,86400]},{\"id\":\"q\",\"label\":\"\",\
+\"note\":\"\",\"point\":[2097151,0,0]}]}";
 
 const BY_DAY: &str =
-    "{\"next\":null,\"rows\":[{\"id\":\"q\",\"label\":\"\",\"note\":\"\",\"point\":[2097151,0,0]},{\"id\":\"p\",\"label\":\"\",\"note\":\"\",\"point\":[0,0,86400]}]}";
+    "{\"next\":null,\"rows\":[{\"id\":\"q\",\"label\":\"\",\"note\":\"\",\"point\":[2097151,0,0]},{\"id\":\"p\",\"label\":\"\",\
+\"note\":\"\",\"point\":[0,0,86400]}]}";
 
 // A user who makes tables, and one who makes none.
 const USERS: [Turn<'static>; 3] = [
@@ -53,7 +55,8 @@ const MADE_ANEW: [Turn<'static>; 9] = [
         V,
         "GET /tables",
         "",
-        "{\"tables\":[{\"constraint\":false,\"period\":\"week\",\"table\":\"points\"},{\"constraint\":false,\"period\":\"week\",\"table\":\"t\"}]}",
+        "{\"tables\":[{\"constraint\":false,\"period\":\"week\",\"table\":\"points\"},{\"constraint\":false,\"period\":\"week\",\
+\"table\":\"t\"}]}",
     ),
 ];
 
@@ -74,7 +77,8 @@ const KEPT_ANEW: [Turn<'static>; 7] = [
         ROOT,
         "GET /tables",
         "",
-        "{\"tables\":[{\"constraint\":false,\"period\":\"week\",\"table\":\"points\"},{\"constraint\":true,\"period\":\"week\",\"table\":\"t\"}]}",
+        "{\"tables\":[{\"constraint\":false,\"period\":\"week\",\"table\":\"points\"},{\"constraint\":true,\"period\":\"week\",\
+\"table\":\"t\"}]}",
     ),
 ];
 
@@ -138,7 +142,8 @@ const GRANTS: [Turn<'static>; 9] = [
         U,
         "GET /tables/points/grants",
         "",
-        "{\"grants\":[{\"permissions\":[\"READ\",\"WRITE\",\"ALTER_TABLE\",\"DROP_TABLE\"],\"user\":\"root\"},{\"permissions\":[\"WRITE\"],\"user\":\"u\"}]}",
+        "{\"grants\":[{\"permissions\":[\"READ\",\"WRITE\",\"ALTER_TABLE\",\"DROP_TABLE\"],\"user\":\"root\"},\
+{\"permissions\":[\"WRITE\"],\"user\":\"u\"}]}",
     ),
 ];
 

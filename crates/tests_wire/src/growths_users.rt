@@ -1,4 +1,4 @@
-//! Changes of users whose growths are refused, each in turn: at the end the directory is that of ample memory.
+//! Changes of users whose allocations fail, each in turn: at the end the directory is that of ample memory.
 
 use crate::growths::{DONE, ROOT, Turn, U, USER_U, USER_V, V, busy_runs};
 

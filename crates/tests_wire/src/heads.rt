@@ -5,7 +5,7 @@ use refusing_alloc::Refusing;
 use st_http::reply::push_head;
 use std::alloc::Global;
 
-// Whether a head is written behind one byte with this growth refused, and whether the byte is still alone.
+// Whether a head is written behind one byte while this allocation fails, and whether the byte is still alone.
 fn pushed(heap: &Refusing<Global>, n: u64) -> Option<(bool, bool)> {
     let mut out = Vec::new(heap);
     out.push(b'x').ok()?;

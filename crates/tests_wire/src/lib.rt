@@ -1,5 +1,5 @@
-//! Tests of HTTP that no exchange shows, and of the service of a connection: narrow reads and writes, hostile input, requests
-//! whose growths are refused, and the server's state.
+//! Tests of HTTP and of the service of a connection that no exchange can show: short reads and writes, hostile input, requests
+//! that run out of memory, and the server's state.
 #![tactic(auto)]
 
 #[cfg(test)]

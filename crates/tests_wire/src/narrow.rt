@@ -6,7 +6,7 @@ use st_service::{Ended, Failed, IoFault, Sink, Source};
 use std::alloc::Global;
 use std::cell::Cell;
 
-// Where the messages of the input begin, but the first, and where the last ends.
+// Where each message of the input ends.
 const ENDS: [usize; 3] = [214, 420, 637];
 
 const _: () = prove!(INPUT.len() == ENDS[2]);
@@ -16,7 +16,7 @@ const ANSWER: usize = 82;
 
 const _: () = prove!(ZERO.len() == ANSWER && DONE.len() == ANSWER && ONE.len() == ANSWER);
 
-// A writer that takes one byte per call up to its room, and then fails. It tells how many bytes it took.
+// A writer that takes one byte per call up to its room, and then fails. It counts the bytes.
 #[derive(Drop)]
 struct Narrow<'a> {
     taken: Vec<u8>,
@@ -40,8 +40,8 @@ impl Sink for Narrow<'_> {
     }
 }
 
-// A reader that gives the input one byte per read, up to a place where it fails. It fails too where a message begins, or the
-// input ends, before the answers to the messages before it are out.
+// A reader that gives the input one byte per read, up to a place where it fails. It also fails where a message begins, or the
+// input ends, if the answers to the messages before are not out yet.
 #[derive(Drop)]
 struct Careful<'a> {
     place: usize,

@@ -52,7 +52,7 @@ pub fn served(
     Some((ended, writer.into_inner()))
 }
 
-/// How a service of an input ends that comes at once, if it writes this.
+/// How a service of an input ends that comes at once; none if it writes anything but this.
 pub fn ended(alloc: Global, input: &[u8], output: &[u8]) -> Option<Result<Ended, IoFault>> {
     let (ended, written) = served(alloc, input, input.len())?;
     if written.as_slice() == output {

@@ -1,4 +1,4 @@
-//! What the server's state tells a list of requests.
+//! What the server's state answers to a list of requests.
 
 use crate::serving::DIGEST;
 use st_core::{Asked, Call, Reply, Store, Token, run};
@@ -22,7 +22,7 @@ fn bad(token: Option<Token>) -> Asked {
     }
 }
 
-// How many replies there are, and whether the first tells of the token, and the second of the body.
+// How many replies there are, and whether the first is about the token, and the second about the body.
 fn told_in(replies: &[Reply]) -> (usize, bool, bool) {
     let first = matches!(
         replies.first(),
@@ -32,7 +32,7 @@ fn told_in(replies: &[Reply]) -> (usize, bool, bool) {
     (replies.len(), first, second)
 }
 
-// What a fresh store's state tells these requests.
+// What a fresh store's state answers to these requests.
 fn told_to(alloc: Global, asked: &[Asked]) -> Option<(usize, bool, bool)> {
     let mut store = Store::open(alloc, DIGEST, &["A"]).ok()?;
     let replies = run(&mut store, asked);
