@@ -94,10 +94,12 @@ class Shell:
             data += piece
 
     def close(self) -> None:
-        """Ends the shell and what it left running."""
+        """Ends the shell and what it left running: processes that a file names, in whose folder they are."""
         for file in self._home.glob("storms/*.pid"):
-            with contextlib.suppress(ProcessLookupError):
-                os.kill(int(file.read_text()), signal.SIGTERM)
+            pid = int(file.read_text())
+            with contextlib.suppress(OSError):  # it has ended
+                if Path(f"/proc/{pid}/cwd").readlink() == file.parent.resolve():
+                    os.kill(pid, signal.SIGTERM)
         os.killpg(self._bash.pid, signal.SIGTERM)
         self._bash.wait(10)
         self._input.close()
