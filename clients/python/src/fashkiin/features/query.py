@@ -117,7 +117,7 @@ def read_parameters(text: str, known: tuple[str, ...]) -> dict[str, str]:
 
 def read_limit(text: str) -> int:
     """How many features a page has at most; a number beyond the largest stands for that."""
-    if not re.fullmatch(r"[0-9]{1,9}", text) or int(text) < LEAST_LIMIT:
+    if not re.fullmatch(r"[0-9]{1,18}", text) or int(text) < LEAST_LIMIT:
         raise ParameterError("limit", f"an integer from {LEAST_LIMIT} on")
     return min(int(text), LARGEST_LIMIT)
 
