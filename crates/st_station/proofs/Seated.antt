@@ -19,7 +19,8 @@ use Rattle.st_policy.specs.Policy.{refusal_of}
 use Rattle.st_core.specs.declared.asked.Call.{Call}
 use Rattle.st_policy.specs.declared.reply.Reply.{Reply}
 use Rattle.st_core.specs.Reads.{shown}
-use Rattle.st_core.specs.Step.{Heard, asker_of, asks_for_change, calls_for_change, judge_call, settle}
+use Rattle.st_core.specs.Step.{asker_of, asks_for_change, calls_for_change, judge_call, settle}
+use Rattle.st_core.specs.declared.judged.Judged.TheVariants.{Heard}
 use Rattle.st_connection.specs.Connection.{Replied}
 use Rattle.st_connection.specs.Render.{busy_text}
 use Rattle.st_service.specs.Answers.{Asks, AsksBy, IsFound, reply_text, close_of, Answers as ServiceAnswers}
