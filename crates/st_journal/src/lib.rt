@@ -1,0 +1,12 @@
+//! The journal of a store: the records of its changes, in order, from which its state is computed.
+#![tactic(auto)]
+
+mod journal;
+mod memory;
+mod record;
+mod replay;
+
+pub use journal::{AppendError, Journal};
+pub use memory::MemoryJournal;
+pub use record::Record;
+pub use replay::{Replay, ReplayError};

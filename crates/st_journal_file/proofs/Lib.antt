@@ -1,0 +1,6 @@
+mod ViewLemmas
+mod RowLemmas
+mod CommitLemmas
+mod Reading
+mod FileLemmas
+mod Opened

@@ -1,0 +1,59 @@
+use Rattle.std.proofs.Common.{◌≡◌, ◌⊎◌, inl, inr, ◌++◌, ◌+◌, length, arith, sym, ap, ◌∙◌}
+use Rattle.sqlite_trees.specs.Tree.{Trees}
+use Rattle.sqlite_trees.specs.View.{IsClean}
+use Rattle.st_journal_file.specs.Table.{changes_in}
+use Rattle.st_journal_file.proofs.CommitLemmas.{records_of, added, committed, length_added, changes_added}
+use Rattle.st_journal_file.proofs.journal.FileJournalJournal.append.Goals as goal
+
+pub returns-in_err-finish-clause-crash : goal.returns-in_err-finish-clause-crash
+returns-in_err-finish-clause-crash g c clean left leaves =
+    let s = g.S.Store in
+    let old = s.view c.args.self.now.store in
+    let middle = s.view c.put_all-written.new.store in
+    let mid : IsClean middle = omega (arith, clean, c.finish.ensures.clean) in
+    let was : IsClean old = omega (arith, mid, c.put_all-written.ensures.quiet.clean) in
+    let ready = c.requires.ready was in
+    elim (c.finish.ensures.crash leaves.0 leaves.1) [
+      | inl new ↦ inr (leaves.2 ∙ ap changes_in new.2 ∙ changes_added old c.args.self.now.count c.args.records.now middle.trees ready
+          (records_of middle _ (added old middle c.args.self.now.count c.args.records.now ready ((rw new.0 at c.put_all-written.ensures.added) mid))))
+      | inr same ↦ inl (leaves.2 ∙ ap changes_in (g.met.S.Store.settled c.args.self.now.store leaves.0 ready.is_open (c.put_all-written.ensures.quiet.outcomes leaves.0 same)))
+    ]
+
+pub returns-clause-crash : goal.returns-clause-crash
+returns-clause-crash g c clean left leaves =
+    let s = g.S.Store in
+    let old = s.view c.args.self.now.store in
+    let middle = s.view c.put_all-written.new.store in
+    let mid : IsClean middle = omega (arith, clean, c.finish.ensures.clean) in
+    let was : IsClean old = omega (arith, mid, c.put_all-written.ensures.quiet.clean) in
+    let ready = c.requires.ready was in
+    elim (c.finish.ensures.crash leaves.0 leaves.1) [
+      | inl new ↦ inr (leaves.2 ∙ ap changes_in new.2 ∙ changes_added old c.args.self.now.count c.args.records.now middle.trees ready
+          (records_of middle _ (added old middle c.args.self.now.count c.args.records.now ready ((rw new.0 at c.put_all-written.ensures.added) mid))))
+      | inr same ↦ inl (leaves.2 ∙ ap changes_in (g.met.S.Store.settled c.args.self.now.store leaves.0 ready.is_open (c.put_all-written.ensures.quiet.outcomes leaves.0 same)))
+    ]
+
+pub returns-clause-ready : goal.returns-clause-ready
+returns-clause-ready g c kept clean =
+    let s = g.S.Store in
+    let old = s.view c.args.self.now.store in
+    let middle = s.view c.put_all-written.new.store in
+    let new = s.view c.finish.new.store in
+    let mid : IsClean middle = omega (arith, clean, c.finish.ensures.clean) in
+    let was : IsClean old = omega (arith, mid, c.put_all-written.ensures.quiet.clean) in
+    let ready = c.requires.ready was in
+    let has = added old middle c.args.self.now.count c.args.records.now ready ((rw c.in_ok-finish.ensures.done at c.put_all-written.ensures.added) mid) in
+    committed middle new _ (c.args.self.now.count + length c.args.records.now) has (length_added old c.args.self.now.count c.args.records.now ready) (omega (arith, ready.some)) (g.met.S.Store.broken_if_shut c.finish.new.store) (c.in_ok-finish.ensures.ok clean)
+
+pub returns-clause-kept : goal.returns-clause-kept
+returns-clause-kept g c clean =
+    let s = g.S.Store in
+    let old = s.view c.args.self.now.store in
+    let middle = s.view c.put_all-written.new.store in
+    let new = s.view c.finish.new.store in
+    let mid : IsClean middle = omega (arith, clean, c.finish.ensures.clean) in
+    let was : IsClean old = omega (arith, mid, c.put_all-written.ensures.quiet.clean) in
+    let ready = c.requires.ready was in
+    let has = added old middle c.args.self.now.count c.args.records.now ready ((rw c.in_ok-finish.ensures.done at c.put_all-written.ensures.added) mid) in
+    let commits = c.in_ok-finish.ensures.ok clean in
+    ap changes_in (ap (λ v. v.committed) commits.is) ∙ changes_added old c.args.self.now.count c.args.records.now middle.trees ready (records_of middle _ has)

@@ -1,0 +1,40 @@
+-- What the two files of a journal, the log and the database file, stand for.
+use Rattle.std.specs.Prelude.{◌≡◌, ◌⊎◌, ℕ, List, true, [], ◌∷◌, codes}
+use Rattle.sqlite_value.specs.declared.value.Value.TheVariants.{Text}
+use Rattle.sqlite_wal.specs.Recovery.{Image}
+use Rattle.sqlite_pages.specs.PageMap.{PageMap}
+use Rattle.sqlite_pool.specs.Stored.{Recovers}
+use Rattle.sqlite_pool.specs.Opening.{IsBlankFile}
+use Rattle.sqlite_pool.specs.File.{in_use}
+use Rattle.sqlite_trees.specs.declared.store.Shape.TheVariants.{Table}
+use Rattle.sqlite_trees.specs.Tree.{Trees}
+use Rattle.sqlite_store.specs.declared.catalog.Wanted.{Wanted}
+use Rattle.sqlite_store.specs.Db.{rows_at}
+use Rattle.sqlite_store.specs.Listing.{IsOurs, file_trees}
+use Rattle.st_journal_file.specs.Table.{table_tree}
+
+-- the table, as SQL makes it
+abbrev pub table_text : List ℕ
+table_text = codes "CREATE TABLE changes (number INTEGER PRIMARY KEY, time INTEGER NOT NULL, user TEXT NOT NULL, method TEXT NOT NULL, path TEXT NOT NULL, body TEXT NOT NULL, result TEXT NOT NULL) STRICT"
+
+-- the schema of the database: this table alone
+abbrev pub schema : List Wanted
+schema = record {
+  shape = Table;
+  reals = 0;
+  row = Text (codes "table") ∷ Text (codes "changes") ∷ Text (codes "changes") ∷ Text table_text ∷ [];
+} ∷ []
+
+-- the files recover to a database of this schema, with pages of 4,096 bytes, which reads as these trees
+abbrev pub HoldTrees : Image → Trees → Type 0
+HoldTrees image trees =
+    (pages : PageMap) × Recovers 4096 image pages × ∥ IsOurs 4096 true schema pages ∥₁ × (trees ≡ file_trees 4096 schema pages)
+
+-- there is no database yet, or one whose schema has no row
+abbrev pub HoldNothing : Image → Type 0
+HoldNothing image =
+    IsBlankFile 4096 image ⊎ ((pages : PageMap) × Recovers 4096 image pages × (rows_at 4096 (in_use 4096 pages) Table 1 ≡ []))
+
+-- what an opening finds in the files
+abbrev pub Finds : Image → Trees → Type 0
+Finds image trees = HoldTrees image trees ⊎ (HoldNothing image × (trees table_tree ≡ []))

@@ -1,0 +1,5 @@
+pub mod Table
+pub mod Files
+pub mod Opening
+pub mod Laws
+pub mod inner

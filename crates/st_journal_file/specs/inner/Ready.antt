@@ -1,0 +1,28 @@
+-- An invariant of a representation, which no reader has to believe: a store that has the table.
+use Rattle.std.specs.Prelude.{◌≡◌, ◌≢◌, ◌<◌, ℕ, false, List, ◌++◌, length, IsTrue}
+use Rattle.sqlite_trees.specs.declared.store.Shape.TheVariants.{Table}
+use Rattle.sqlite_trees.specs.View.{View, OnlyWrites}
+use Rattle.st_journal.specs.declared.record.Record.{Record}
+use Rattle.st_journal_file.specs.Table.{table_tree, rows_from, records_in}
+
+-- Only the table differs. Where it had so many rows of records, it has these behind them.
+pub record Adds (old new : View) (count : ℕ) (more : List Record) : Type 0 where
+  pub frame : OnlyWrites old new
+  pub others : (t : ℕ) → t ≢ table_tree → new.trees t ≡ old.trees t
+  pub rows : (records : List Record) → length records ≡ count → old.trees table_tree ≡ rows_from 0 records
+      → new.trees table_tree ≡ rows_from 0 (records ++ more)
+
+-- the transaction sees these records
+pub record HasRows (v : View) (records : List Record) : Type 0 where
+  pub sound : v.is_broken ≡ false
+  pub shape : v.shape table_tree ≡ Table
+  pub rows : v.trees table_tree ≡ rows_from 0 records
+
+-- The store is open, nothing is under way, and it has so many records.
+pub record IsReady (v : View) (count : ℕ) : Type 0 where
+  pub is_open : IsTrue v.is_open
+  pub settled : v.trees ≡ v.committed
+  pub shapes : v.shape ≡ v.committed_shape
+  pub rows : HasRows v (records_in v.trees)
+  pub counted : count ≡ length (records_in v.trees)
+  pub some : 0 < count

@@ -1,0 +1,48 @@
+//! The journal of an open file.
+ghost use Rattle.std.specs.Prelude.{◌≡◌, IsTrue};
+ghost use Rattle.sqlite_trees.specs.Tree.{Trees};
+ghost use Rattle.sqlite_trees.specs.View.{doubt, IsClean};
+ghost use Rattle.st_journal_file.specs.Table.{changes_in};
+ghost use Rattle.st_journal_file.specs.inner.Ready.{IsReady};
+
+use crate::finish::finish;
+use crate::table::MOST;
+use crate::write::put_all;
+use sqlite_trees::store::Store;
+use st_journal::{AppendError, Journal, Record};
+use std::alloc::Global;
+
+/// A journal in the table of a store. An append is one transaction, whose commit is synced once
+/// (`Unknown`) or twice (`Wary`), as the store was opened.
+#[derive(Drop)]
+pub struct FileJournal<S: Store> {
+    pub(crate) store: S,
+    // How many rows the table has: the records of the changes, and the first.
+    pub(crate) count: u64,
+    pub(crate) alloc: Global,
+}
+
+impl<S: Store + Drop> Journal for FileJournal<S> {
+    ghost list = { λ j. changes_in (S.view j.store).committed };
+
+    ghost misreads = { λ j. doubt (S.view j.store).is_clean };
+
+    ghost is_ready = { λ j. IsClean (S.view j.store) → IsReady (S.view j.store) j.count };
+
+    ghost may_leave = { λ j left. (db : Trees) × S.recovers j.store db × (left ≡ changes_in db) };
+
+    ghost use Rattle.st_journal_file.specs.Laws.{settled_at};
+
+    ghost settled = { λ j left clean ready leaves. settled_at (S.view j.store).committed leaves.0 left (S.settled j.store leaves.0 (ready clean).is_open leaves.1) leaves.2 };
+
+    fn append(&mut self, records: &[Record]) -> Result<(), AppendError> {
+        let added = records.len() as u64;
+        if self.count > MOST || added > MOST {
+            return Err(AppendError::NotKept);
+        }
+        let written = put_all(&mut self.store, self.alloc, self.count, records);
+        finish(&mut self.store, written)?;
+        self.count += added;
+        Ok(())
+    }
+}

@@ -1,0 +1,15 @@
+//! A journal in a SQLite file (https://www.sqlite.org/fileformat2.html): one table, which `sqlite3` reads.
+#![tactic(auto)]
+
+mod begin;
+mod error;
+mod files;
+mod finish;
+mod journal;
+mod open;
+mod read;
+mod table;
+mod write;
+
+pub use error::OpenError;
+pub use journal::FileJournal;
