@@ -1,4 +1,5 @@
--- What `wrk` asks of a server whose root has the secret of 32 zero bytes: `wrk .. -s bench/served.lua URL -- count` or `-- put`.
+-- What `wrk` asks of a server: `wrk .. -s bench/served.lua URL -- count [TOKEN]` or `-- put [TOKEN]`. Without a token, root's
+-- secret is 32 zero bytes.
 local kind, number, name = "count", 0, ""
 local threads = 0
 
@@ -10,7 +11,7 @@ end
 function init(args)
   kind = args[1] or kind
   wrk.method = "POST"
-  wrk.headers["Authorization"] = "Bearer root." .. string.rep("0", 64)
+  wrk.headers["Authorization"] = "Bearer " .. (args[2] or "root." .. string.rep("0", 64))
 end
 
 function request()

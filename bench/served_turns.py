@@ -1,83 +1,101 @@
 #!/usr/bin/env python3
-"""No client behind the edge sees that st_served ends a connection after a million reads.
+"""More requests through the edge than two connections of st_served take, which end after a million reads each: no client sees the
+end of one, and each put is made once, by the list of changes that `GET /audit` shows.
 
-    served_turns.py
+    served_turns.py [REQUESTS]
 
-runs the built st_served, HAProxy before it by deploy/haproxy.cfg, and `wrk` with 64 clients until 3,100,000 requests went over the
-two connections, and reads HAProxy's own counts. First build the program: (cd crates/st_served && rt run -- $(cat args)). It needs
-haproxy and wrk.
+3,100,000 counts where it is left out, by 64 clients of `wrk`, beside one that puts without pause. It needs the built st_served,
+haproxy, nginx and wrk. Run it with /usr/bin/python3.
 """
-import contextlib
-import csv
-import os
+from __future__ import annotations
+
 import re
-import socket
 import subprocess
 import sys
 import tempfile
-import time
+import threading
+from datetime import UTC, datetime, timedelta
+from pathlib import Path
+from urllib.request import urlopen
 
-DIGEST = "66687aadf862bd776c8fc18b8e9f8e20089714856ee233b3902a591d0d5f2925"
-SERVED = ["crates/st_served/out/st_served", "--root", DIGEST, "--port", "47001", "--timeout", "60"]
-TURNS = 1_000_000
+TOP = Path(__file__).resolve().parent.parent
+for folder in ("tests", "clients/map/tests", "clients/python/src"):
+    sys.path.insert(0, str(TOP / folder))
+
+from served import token  # noqa: E402
+from stack import Stack  # noqa: E402
+
+from fashkiin import Client, Row  # noqa: E402
+
 REQUESTS = 3_100_000
+GROUP = 1_000  # so that the last 1,024 changes have all of them
+START = datetime(2024, 5, 1, tzinfo=UTC)
 
 
-@contextlib.contextmanager
-def running(port, *words):
-    """Runs a program that listens at the port."""
-    program = subprocess.Popen(words, stdout=subprocess.DEVNULL, stderr=subprocess.DEVNULL)
-    try:
-        for _ in range(100):
-            with contextlib.suppress(ConnectionRefusedError), socket.create_connection(("127.0.0.1", port)):
-                break
-            time.sleep(0.1)
-        yield
-    finally:
-        program.kill()
-        program.wait()
+class Puts(threading.Thread):
+    """A client that puts group after group, each behind a change of another table, and counts what was made of each."""
+
+    def __init__(self, url: str) -> None:
+        super().__init__()
+        self.done = threading.Event()
+        self.put = 0
+        self.wrong: list[str] = []
+        self._url = url
+
+    def run(self) -> None:
+        with Client(self._url, token("root")) as client:
+            client.tables.create("turns.marks")
+            client.tables.create("turns.rows")
+            while not self.done.is_set():
+                client.table("turns.marks").put(Row("mark", 0.0, 0.0, START, "", {}))
+                rows = [Row(f"r{at}", at / 10, 0.0, START + timedelta(seconds=self.put + at), "", {}) for at in range(GROUP)]
+                refused = [it.error for it in client.table("turns.rows").put_many(rows) if it.error]
+                made = [it.target for it in client.audit()]
+                made = made[len(made) - made[::-1].index("turns.marks") :]
+                if refused or made != ["turns.rows"] * GROUP:
+                    self.wrong.append(f"{len(refused)} refused, {len(made)} made")
+                self.put += GROUP
 
 
-def counts(path):
-    """What HAProxy counted of the server, by the names of its statistics."""
-    with socket.socket(socket.AF_UNIX) as client:
-        client.connect(path)
-        client.sendall(b"show stat\n")
-        text = b"".join(iter(lambda: client.recv(65536), b"")).decode()
-    rows = csv.DictReader(text.lstrip("# ").splitlines())
-    return next(it for it in rows if it["svname"] == "st_served")
-
-
-def drive():
-    """How many requests `wrk` made in half a minute, and whether it tells of a reply that was no 200 or of an error of a socket."""
-    words = ["wrk", "-t", "2", "-c", "64", "-d", "30s", "--timeout", "30s", "-s", "bench/served.lua", "http://127.0.0.1:8080", "--", "count"]
+def counted(url: str) -> tuple[int, str]:
+    """How many counts `wrk` got in half a minute, and what it tells of replies that were no 200 and of errors of a socket."""
+    script: list[str | Path] = ["-s", TOP / "bench/served.lua", url, "--", "count", token("root")]
+    words: list[str | Path] = ["wrk", "-t", "2", "-c", "64", "-d", "30s", "--timeout", "30s", *script]
     told = subprocess.run(words, check=True, stdout=subprocess.PIPE, text=True).stdout
-    is_wrong = "Non-2xx" in told or "Socket errors" in told
-    if is_wrong:
-        print(told, end="")
-    return int(re.search(r"(\d+) requests in", told)[1]), is_wrong
+    found = re.search(r"(\d+) requests in", told)
+    assert found
+    return int(found[1]), " ".join(re.findall(r"(?:Non-2xx|Socket errors).*", told))
 
 
-def main():
-    os.chdir(f"{os.path.dirname(os.path.abspath(__file__))}/..")
-    with tempfile.TemporaryDirectory() as folder:
-        with open("deploy/haproxy.cfg", encoding="utf-8") as it:
-            lines = [line for line in it if "8443" not in line]
-        lines.insert(lines.index("global\n") + 1, f"    stats socket {folder}/stats level user\n")
-        with open(f"{folder}/haproxy.cfg", "w", encoding="utf-8") as it:
-            it.writelines(lines)
-        with running(47001, *SERVED), running(8080, "haproxy", "-f", f"{folder}/haproxy.cfg"):
-            made, wrong = 0, False
-            while made < REQUESTS:
-                more, is_wrong = drive()
-                made, wrong = made + more, wrong or is_wrong
-            found = counts(f"{folder}/stats")
-    opened, again = int(found["connect"]), int(found["wretr"])
-    print(f"{made} requests, {opened} connections to st_served, {again} requests asked again, {found['hrsp_5xx']} replies of 5xx")
-    # two connections stand at a time, so one of so many requests was ended, and each further one took the place of such a one
-    right = not wrong and made > 2 * TURNS and opened > 2 and found["hrsp_5xx"] == "0"
-    print("ok" if right else "WRONG")
+def number(text: str, name: str) -> int:
+    """One of HAProxy's numbers of the server."""
+    found = re.search(rf'^haproxy_server_{name}{{proxy="served",server="st_served".*}} (\d+)$', text, re.M)
+    assert found, name
+    return int(found[1])
+
+
+def main() -> None:
+    wanted = int(sys.argv[1]) if len(sys.argv) > 1 else REQUESTS
+    with tempfile.TemporaryDirectory() as folder, Stack(Path(folder)) as stack:
+        puts = Puts(stack.url)
+        puts.start()
+        made, errors = 0, ""
+        while made < wanted:
+            more, error = counted(stack.url)
+            made, errors = made + more, errors + error
+        puts.done.set()
+        puts.join()
+        with urlopen(f"http://127.0.0.1:{stack.metrics}/metrics") as reply:
+            numbers = reply.read().decode()
+    opened = number(numbers, "connection_attempts_total")
+    again, failed = number(numbers, "retry_warnings_total"), number(numbers, "response_errors_total")
+    print(f"{made:,} counts and {puts.put:,} puts over {opened:,} connections, {again} tried again, {failed} failed {errors}")
+    for it in puts.wrong:
+        print(it)
+    right = not errors and not puts.wrong and puts.put > 0 and failed == 0 and opened > made / 2_000
+    print("ok: no client saw an end, and each put was made once" if right else "WRONG")
     sys.exit(not right)
 
 
-main()
+if __name__ == "__main__":
+    main()

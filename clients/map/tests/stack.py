@@ -33,6 +33,27 @@ def until_open(port: int, process: subprocess.Popen[bytes]) -> None:
     raise TimeoutError(f"nothing listens at {port}")
 
 
+def configured(name: str, folder: Path, ports: dict[int, int]) -> Path:
+    """A copy of a file of deploy/ in a folder, with other ports and the folder's certificate."""
+    text = (TOP / "deploy" / name).read_text().replace("crt edge.pem", f"crt {folder}/edge.pem")
+    text = re.sub(r"127\.0\.0\.1:(\d+)", lambda found: f"127.0.0.1:{ports[int(found[1])]}", text)
+    file = folder / name
+    file.write_text(text)
+    return file
+
+
+@contextmanager
+def running(folder: Path, name: str, *words: object) -> Iterator[subprocess.Popen[bytes]]:
+    """A program, with its output in a file of its name in the folder."""
+    with open(folder / f"{name}.log", "wb") as log:
+        process = subprocess.Popen([name, *map(str, words)], stdin=subprocess.DEVNULL, stdout=log, stderr=log)
+    try:
+        yield process
+    finally:
+        process.terminate()
+        process.wait(10)
+
+
 class Stack:
     """st_served, HAProxy and nginx; `url` is the edge, `log` the file of HAProxy's log."""
 
@@ -51,8 +72,8 @@ class Stack:
             if os.geteuid() == 0:  # whose folders nginx's own user may not read
                 words += " user root;"
             page = ["-p", TOP / "clients/map", "-c", self._write("nginx.conf"), "-e", "stderr", "-g", words]
-            nginx = opening.enter_context(self._running("nginx", *page))
-            haproxy = opening.enter_context(self._running("haproxy", "-f", self._write("haproxy.cfg")))
+            nginx = opening.enter_context(running(self.folder, "nginx", *page))
+            haproxy = opening.enter_context(running(self.folder, "haproxy", "-f", self._write("haproxy.cfg")))
             until_open(self.page, nginx)
             until_open(self.edge, haproxy)
             self._open = opening.pop_all()
@@ -63,12 +84,8 @@ class Stack:
 
     def _write(self, name: str) -> Path:
         """A file of deploy/ with the ports and the certificate of this stack."""
-        text = (TOP / "deploy" / name).read_text().replace("crt edge.pem", f"crt {self.folder}/edge.pem")
         ports = {8080: self.edge, 8443: self.tls, 8081: self.page, 8404: self.metrics, 47001: self.served}
-        text = re.sub(r"127\.0\.0\.1:(\d+)", lambda found: f"127.0.0.1:{ports[int(found[1])]}", text)
-        file = self.folder / name
-        file.write_text(text)
-        return file
+        return configured(name, self.folder, ports)
 
     def _make_certificate(self) -> None:
         file = self.folder / "edge.pem"
@@ -76,17 +93,6 @@ class Stack:
         subprocess.run([*words, "-keyout", file, "-out", self.folder / "certificate"], check=True, stderr=subprocess.DEVNULL)
         with file.open("a") as pem:
             pem.write((self.folder / "certificate").read_text())
-
-    @contextmanager
-    def _running(self, name: str, *words: object) -> Iterator[subprocess.Popen[bytes]]:
-        """The program, with its output in a file of its name."""
-        with open(self.folder / f"{name}.log", "wb") as log:
-            process = subprocess.Popen([name, *map(str, words)], stdin=subprocess.DEVNULL, stdout=log, stderr=log)
-        try:
-            yield process
-        finally:
-            process.terminate()
-            process.wait(10)
 
     def ask(self, user: str, method: str, path: str, body: object = None, timeout: float = 10) -> Any:
         """One request through the edge, on a connection of its own."""
