@@ -11,16 +11,19 @@ use st_text::Words;
 use std::alloc::{AllocError, AllocFailed, Allocator, Global};
 use std::cmp::Ordering;
 use std::marker::Model;
+use thiserror::Error;
 
 /// The greatest length of an authorization's name, in bytes.
 pub const MAX_NAME: usize = 256;
 
 /// Why a list of texts is refused as a set of authorizations.
-#[derive(Clone, Copy, PartialEq, Eq, Debug)]
+#[derive(Clone, Copy, PartialEq, Eq, Debug, Error)]
 pub enum AuthsFault {
     /// The text at this index, the first such, is empty or longer than [`MAX_NAME`] bytes.
+    #[error("the name at index {index} is empty or longer than {MAX_NAME} bytes")]
     BadName { index: usize },
     /// Out of memory.
+    #[error("no memory")]
     NoMemory,
 }
 
@@ -122,8 +125,7 @@ impl<A: Allocator> Auths<A> {
         first_lacked(self, names)
     }
 
-    /// Whether this set has every name of the other. It walks once over both, which is cheaper than
-    /// looking up each of many names.
+    /// Whether this set has every name of the other. It walks once over both, which is cheaper than looking up each of many names.
     pub fn has_all<B: Allocator>(&self, other: &Auths<B>) -> bool
         ensures { result ≡ list_all (is_among self.now) other.now }
     {

@@ -5,9 +5,11 @@ use crate::part::Part;
 use crate::zbox::ZBox;
 use arrayvec::ArrayVec;
 use st_key::{Key, Period, Point};
+use thiserror::Error;
 
 /// The six numbers are not a query: one is out of range, or a pair is reversed.
-#[derive(Clone, Copy, Debug, PartialEq, Eq)]
+#[derive(Clone, Copy, Debug, PartialEq, Eq, Error)]
+#[error("a bound of the box is out of range, or a pair of bounds is reversed")]
 pub struct BadBox;
 
 /// A box and a span of time, both ends included: x and y are 0 to 2,097,151, t is 0 to

@@ -15,21 +15,26 @@ use crate::truth::judge;
 use st_text::CompactText;
 use std::alloc::{AllocError, Allocator, Global};
 use std::marker::Model;
+use thiserror::Error;
 
 /// The greatest length of a label's text, in bytes.
 pub const MAX_LEN: usize = 256;
 
 /// Why a text is not a label. `at` is an index of a byte of the text.
-#[derive(Clone, Copy, PartialEq, Eq, Debug)]
+#[derive(Clone, Copy, PartialEq, Eq, Debug, Error)]
 pub enum LabelFault {
     /// The first byte that no label continues with, whatever its depth, or the text's length when the
     /// text begins a label but is not one.
+    #[error("no label: it fails at byte {at}")]
     BadLabel { at: usize },
     /// The text is longer than [`MAX_LEN`] bytes.
+    #[error("the label is longer than {MAX_LEN} bytes")]
     TooLong,
     /// The parenthesis that opens one level more than allowed.
+    #[error("the parenthesis at byte {at} opens too many levels")]
     TooDeep { at: usize },
     /// Out of memory.
+    #[error("no memory")]
     NoMemory,
 }
 

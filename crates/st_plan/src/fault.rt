@@ -1,13 +1,16 @@
 //! Faults of plans.
 
 use std::alloc::AllocError;
+use thiserror::Error;
 
 /// Why a query was not planned.
-#[derive(Clone, Copy, PartialEq, Eq, Debug)]
+#[derive(Clone, Copy, PartialEq, Eq, Debug, Error)]
 pub enum PlanFault {
     /// The budget is not 1 to 64.
+    #[error("the budget is not 1 to 64")]
     BadBudget,
     /// Out of memory.
+    #[error("no memory")]
     NoMemory,
 }
 

@@ -22,7 +22,8 @@ pub struct PartPlan<A: Allocator = Global> {
 /// The plan of a query: the ranges of its keys, for each part of its span.
 #[derive(Drop)]
 pub struct Plan<A: Allocator = Global> {
-    pub(crate) parts: Items<PartPlan<A>, A>,
+    /// In rising order.
+    pub parts: Items<PartPlan<A>, A>,
 }
 
 impl<A: Allocator> Model for Plan<A> {

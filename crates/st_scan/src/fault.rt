@@ -1,14 +1,19 @@
 //! Why a scan shows nothing.
 
 use std::alloc::{AllocError, AllocFailed};
+use thiserror::Error;
 
 /// Why a scan shows nothing.
-#[derive(Clone, Copy, PartialEq, Eq, Debug)]
+#[derive(Clone, Copy, PartialEq, Eq, Debug, Error)]
 pub enum ScanFault {
     /// The limit of a page is not 1 to 1,000.
+    #[error("the limit is not 1 to 1,000")]
     BadLimit,
     /// A grid has not 1 to 32 columns and 1 to 32 lines.
+    #[error("the grid has not 1 to 32 columns and 1 to 32 lines")]
     BadGrid,
+    /// Out of memory.
+    #[error("no memory")]
     NoMemory,
 }
 
