@@ -2,8 +2,7 @@
 use Rattle.std.proofs.Common.{◌≡◌, ℕ, ◌+◌, ◌≤◌, List, [], ◌∷◌, ◌++◌, length, filter, Bool, true, false, take, sym, ap, ◌∙◌, arith, append_assoc, append-nil, length-append}
 use Rattle.std.proofs.lemmas.Bool.{lt-ltb, le-ltb}
 use Rattle.std.proofs.lemmas.List.{take_all, take-append-le}
-use Rattle.std.specs.Prelude.{Result, Ok, Err, IfOk, IfErr}
-use Rattle.st_scan.specs.Pages.{IsPage}
+use Rattle.std.specs.Prelude.{Result, Ok, Err, IfOk, IfErr, nat_lt}
 use Rattle.st_scan.proofs.Visible.{keep, omit}
 
 -- the rows of the page so far, and those that may follow, are all that are to be shown
@@ -22,21 +21,34 @@ module _ {X : Type 0} (p : X → Bool) (limit : ℕ) where
   }
 
   -- all that are to be shown, where one more is
-  pub fill_more : (rows left all : List X) (x : X) → Fills p limit rows (x ∷ left) all → p x ≡ true → length rows ≡ limit → IsPage limit all rows true
-  fill_more rows left all x f shown full =
-      let whole : all ≡ rows ++ x ∷ filter p left = sym f.is ∙ ap (λ ys. rows ++ ys) (keep p x left shown) in
-      let some : limit ≤ length rows = omega (arith, full) in
-      let count : length all ≡ length rows + length (x ∷ filter p left) = ap length whole ∙ length-append rows (x ∷ filter p left) in
-      record {
-        first = sym (ap (take limit) whole ∙ take-append-le limit rows (x ∷ filter p left) some ∙ take_all limit rows (omega (arith, full)));
-        follow = sym (lt-ltb limit (length all) (omega (arith, count, full)));
-      }
+  whole_more : (rows left all : List X) (x : X) → Fills p limit rows (x ∷ left) all → p x ≡ true → all ≡ rows ++ x ∷ filter p left
+  whole_more rows left all x f shown = sym f.is ∙ ap (λ ys. rows ++ ys) (keep p x left shown)
 
-  pub fill_end : (rows all : List X) → Fills p limit rows [] all → IsPage limit all rows false
-  fill_end rows all f =
-      let whole : all ≡ rows = sym f.is ∙ append-nil rows in
-      let few : length all ≤ limit = omega (arith, ap length whole, f.few) in
-      record { first = sym (take_all limit all few ∙ whole); follow = sym (le-ltb limit (length all) few) }
+  pub rows_more : (rows left all : List X) (x : X) → Fills p limit rows (x ∷ left) all → p x ≡ true → length rows ≡ limit
+      → rows ≡ take limit all
+  rows_more rows left all x f shown full =
+      let some : limit ≤ length rows = omega (arith, full) in
+      sym (ap (take limit) (whole_more rows left all x f shown) ∙ take-append-le limit rows (x ∷ filter p left) some
+      ∙ take_all limit rows (omega (arith, full)))
+
+  pub more_more : (rows left all : List X) (x : X) → Fills p limit rows (x ∷ left) all → p x ≡ true → length rows ≡ limit
+      → true ≡ nat_lt limit (length all)
+  more_more rows left all x f shown full =
+      let count = ap length (whole_more rows left all x f shown) ∙ length-append rows (x ∷ filter p left) in
+      sym (lt-ltb limit (length all) (omega (arith, count, full)))
+
+  -- and where none is left
+  whole_end : (rows all : List X) → Fills p limit rows [] all → all ≡ rows
+  whole_end rows all f = sym f.is ∙ append-nil rows
+
+  few_end : (rows all : List X) → Fills p limit rows [] all → length all ≤ limit
+  few_end rows all f = omega (arith, ap length (whole_end rows all f), f.few)
+
+  pub rows_end : (rows all : List X) → Fills p limit rows [] all → rows ≡ take limit all
+  rows_end rows all f = sym (take_all limit all (few_end rows all f) ∙ whole_end rows all f)
+
+  pub more_end : (rows all : List X) → Fills p limit rows [] all → false ≡ nat_lt limit (length all)
+  more_end rows all f = sym (le-ltb limit (length all) (few_end rows all f))
 
 pub if_ok : {T E : Type 0} (P Q : T → Type 0) (r : Result T E) → ((x : T) → P x → Q x) → IfOk r P → IfOk r Q
 if_ok P Q (Ok x) h p = h x p

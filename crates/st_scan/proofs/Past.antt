@@ -115,3 +115,11 @@ module _ {A B : Type 0} (w : Period) (q : Query) (auths : List Text) (after : Op
       filter_twice (is_shown w after auths) (has_row_from w q (rank k)) content
       ∙ filter_same _ _ content (λ i d l. one_row k start (get_or content i d))
       ∙ sym (filter_twice (is_past w after) (is_visible_inside q auths) content)
+
+  -- the same for what a page finds: its period, the authorizations of its verdicts, and what its walk gives
+  pub shown_on : (p : Period) (names : List Text) (k : Key) (content left : List (Row A)) → p ≡ w → IsStart p after k
+      → left ≡ filter (has_row_from w q (rank k)) content → names ≡ auths
+      → filter (is_shown p after names) left ≡ visible_after w q auths after content
+  shown_on p names k content left period start walked asked =
+      ap (λ v. filter (is_shown v after names) left) period ∙ ap (λ xs. filter (is_shown w after xs) left) asked
+      ∙ ap (filter (is_shown w after auths)) walked ∙ shown_after k (subst (λ v. IsStart v after k) period start) content

@@ -1,5 +1,5 @@
 -- Pages of a scan.
-use Rattle.std.specs.Prelude.{ℕ, ◌≡◌, List, [], ◌∷◌, length, take, filter, Bool, true, nat_lt, Option, Some, None}
+use Rattle.std.specs.Prelude.{List, [], ◌∷◌, filter, Bool, true, Option, Some, None}
 use Rattle.st_text.specs.Texts.{Text, comes_before}
 use Rattle.st_key.specs.declared.period.Period.{Period}
 use Rattle.st_key.specs.declared.place.Place.{Place}
@@ -21,8 +21,3 @@ is_past period (Some place) row = comes_before (place_key period place) (scan_ke
 -- the seen rows that come after a place
 abbrev pub visible_after : {A B : Type 0} → Period → Query → List Text → Option (Place B) → List (Row A) → List (Row A)
 visible_after period q auths after content = filter (is_past period after) (visible_rows q auths content)
-
--- the first rows of a list, and whether more follow
-pub record IsPage {X : Type 0} (limit : ℕ) (all rows : List X) (more : Bool) : Type 0 where
-  pub first : rows ≡ take limit all
-  pub follow : more ≡ nat_lt limit (length all)

@@ -1,7 +1,7 @@
 //! Pages of a scan.
-ghost use Rattle.std.specs.Prelude.{◌≡◌, ◌↔◌, ◌<◌, ◌≤◌, ◌⊎◌, filter, map, option_copied, IsOk, IfOk, IfErr};
+ghost use Rattle.std.specs.Prelude.{◌≡◌, ◌↔◌, ◌<◌, ◌≤◌, ◌⊎◌, filter, length, map, nat_lt, option_copied, take, IsOk, IfOk, IfErr};
 ghost use Rattle.st_scan.specs.declared.fault.ScanFault.TheVariants.{BadGrid, BadLimit, NoMemory};
-ghost use Rattle.st_scan.specs.Pages.{IsPage, visible_after};
+ghost use Rattle.st_scan.specs.Pages.{visible_after};
 ghost use Rattle.st_scan.specs.inner.Starts.{is_shown};
 
 use crate::after::{is_past, start_of};
@@ -27,9 +27,10 @@ fn fill<'a, I: RowIndex, B: Allocator, C: Allocator + Copy>(
     after: Option<&Place<C>>,
     limit: usize,
 ) -> Result<Page<'a, I::Alloc>, ScanFault>
-    ensures page { IfOk result
-        (λ page. IsPage limit (filter (is_shown period (option_copied after.entry) verdicts.old) walk.old.left)
-        (map (λ row. row.now) page.rows.items) page.more) }
+    ensures rows { IfOk result (λ page. map (λ row. row.now) page.rows.items
+        ≡ take limit (filter (is_shown period (option_copied after.entry) verdicts.old) walk.old.left)) }
+    ensures more { IfOk result (λ page. page.more
+        ≡ nat_lt limit (length (filter (is_shown period (option_copied after.entry) verdicts.old) walk.old.left))) }
     ensures no_memory { IfErr result (λ fault. fault ≡ NoMemory) }
 {
     let mut rows = Vec::new(alloc);
@@ -55,9 +56,10 @@ pub fn page<'a, I: RowIndex, B: Allocator, C: Allocator + Copy>(
     after: Option<&Place<C>>,
     limit: usize,
 ) -> Result<Page<'a, I::Alloc>, ScanFault>
-    ensures page { IfOk result
-        (λ page. IsPage limit (visible_after (I.period_of index.now) query.now auths.now (option_copied after.entry) (I.content index.now))
-        (map (λ row. row.now) page.rows.items) page.more) }
+    ensures rows { IfOk result (λ page. map (λ row. row.now) page.rows.items
+        ≡ take limit (visible_after (I.period_of index.now) query.now auths.now (option_copied after.entry) (I.content index.now))) }
+    ensures more { IfOk result (λ page. page.more ≡ nat_lt limit (length
+        (visible_after (I.period_of index.now) query.now auths.now (option_copied after.entry) (I.content index.now)))) }
     ensures limit { IsOk result → (1 ≤ limit) × (limit ≤ 1000) }
     ensures bad_limit { IfErr result (λ fault. fault ≡ BadLimit ↔ ((limit ≡ 0) ⊎ (1000 < limit))) }
     ensures no_grid { IfErr result (λ fault. fault ≡ BadGrid → ⊥) }

@@ -1,11 +1,11 @@
 //! Tables.
-ghost use Rattle.std.specs.Prelude.{◌≡◌, ◌↔◌, ◌<◌, ◌≤◌, ◌⊎◌, [], length, map, option_copied, OnOk, OnErr, IsOk, IfOk, IfErr};
+ghost use Rattle.std.specs.Prelude.{◌≡◌, ◌↔◌, ◌<◌, ◌≤◌, ◌⊎◌, [], length, map, nat_lt, option_copied, take, OnOk, OnErr, IsOk, IfOk, IfErr};
 ghost use Rattle.st_key.specs.declared.period.Period.{Period};
 ghost use Rattle.st_text.specs.Texts.{in_order};
 ghost use Rattle.st_index.specs.Order.{InScanOrder, scan_key};
 ghost use Rattle.st_index.specs.Rows.{name_of};
 ghost use Rattle.st_scan.specs.Grids.{grid_of};
-ghost use Rattle.st_scan.specs.Pages.{IsPage, visible_after};
+ghost use Rattle.st_scan.specs.Pages.{visible_after};
 ghost use Rattle.st_scan.specs.Visible.{is_visible, visible_rows};
 ghost use Rattle.st_scan.specs.declared.fault.ScanFault.TheVariants.{BadGrid, BadLimit};
 ghost use Rattle.st_table.specs.Table.{HasEachOnce, rows_by_label, with_row, without_named};
@@ -165,9 +165,10 @@ impl<I: RowIndex> Table<I> {
         after: Option<&Place<C>>,
         limit: usize,
     ) -> Result<Page<'_, I::Alloc>, ScanFault>
-        ensures page { IfOk result
-            (λ page. IsPage limit (visible_after self.now.period query.now auths.now (option_copied after.entry) self.now.rows)
-            (map (λ row. row.now) page.rows.items) page.more) }
+        ensures rows { IfOk result (λ page. map (λ row. row.now) page.rows.items
+            ≡ take limit (visible_after self.now.period query.now auths.now (option_copied after.entry) self.now.rows)) }
+        ensures more { IfOk result (λ page. page.more
+            ≡ nat_lt limit (length (visible_after self.now.period query.now auths.now (option_copied after.entry) self.now.rows))) }
         ensures limit { IsOk result → (1 ≤ limit) × (limit ≤ 1000) }
         ensures bad_limit { IfErr result (λ fault. fault ≡ BadLimit ↔ ((limit ≡ 0) ⊎ (1000 < limit))) }
         ensures no_grid { IfErr result (λ fault. fault ≡ BadGrid → ⊥) }

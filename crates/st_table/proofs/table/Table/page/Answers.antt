@@ -1,4 +1,7 @@
 use Rattle.st_table.proofs.table.Table.page.Goals as goal
 
-pub returns-clause-page : goal.returns-clause-page
-returns-clause-page g c = rw (← c.self.view_is) c.page.ensures.page
+pub returns-clause-rows : goal.returns-clause-rows
+returns-clause-rows g c = rw (← c.self.view_is) c.page.ensures.rows
+
+pub returns-clause-more : goal.returns-clause-more
+returns-clause-more g c = rw (← c.self.view_is) c.page.ensures.more
