@@ -1,6 +1,7 @@
 """The three packages, as `packaging/build` makes them from the built programs: what they hold, unpacked, does its work.
 
 They are not installed here, and systemd does not run: the server runs under the unit's filter of system calls alone.
+`tools/fresh_debian` installs them.
 """
 
 from __future__ import annotations
