@@ -237,7 +237,8 @@ def kinds():
     yield "put again among 10,000 of a point", [put("crowd", "r05000", "A", "7,7,7", note) for note in ("n", "")], False
     yield "count among 10,000 of a point", [ask("POST /tables/crowd/count", f'{{"auths":["A"],"box":{ALL}}}')], True
     place = '{"id":"r09998","label":"A","point":[7,7,7]}'
-    yield "scan after 10,000 of a point", [ask("POST /tables/crowd/scan", f'{{"after":{place},"auths":["A"],"box":{ALL},"limit":1}}')], False
+    after = ask("POST /tables/crowd/scan", f'{{"after":{place},"auths":["A"],"box":{ALL},"limit":1}}')
+    yield "scan after 10,000 of a point", [after], False
     yield "get of 2,000 rows", [ask("POST /tables/same/get", '{"id":"p","auths":["A"]}')], True
     yield "audit", [ask("GET /audit")], True
     yield "period of 100,000 rows", [ask("POST /tables/weeks/period", f'{{"period":"{it}"}}') for it in ("day", "week")], True

@@ -55,7 +55,8 @@ def main():
     for share in ("0.02", "0.1", "0.4"):
         asked = [attack.ask("POST /tables/points/count", f'{{{HELD},"box":[{",".join(it)}]}}') for size, *it in boxes if size == share]
         print(f"count of a box of {share} of a side: {told(server, asked * 3):,.1f} us")
-    pages = [attack.ask("POST /tables/points/scan", f'{{{HELD},"box":[{",".join(it)}],"limit":100}}') for size, *it in boxes if size == "0.4"]
+    large = [",".join(it) for size, *it in boxes if size == "0.4"]
+    pages = [attack.ask("POST /tables/points/scan", f'{{{HELD},"box":[{it}],"limit":100}}') for it in large]
     print(f"page of 100 rows: {told(server, pages * 3):,.1f} us")
     print(f"put of a new row: {told(server, points[count:]):,.1f} us")
     print(f"whoami, for what any request costs: {told(server, [attack.ask('GET /whoami')] * 1_000):,.1f} us")

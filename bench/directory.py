@@ -12,14 +12,14 @@ PERMISSIONS = ("READ", "WRITE", "ALTER_TABLE", "GRANT", "DROP_TABLE")
 COUNT = '{"auths":[],"box":[0,2097151,0,2097151,0,19818086399]}'
 
 
-def request(user, path, body):
+def request(user: str, path: str, body: str) -> bytes:
     return (
         f"POST {path} HTTP/1.1\r\nHost: a\r\nAuthorization: Bearer {user}.{SECRET}\r\n"
         f"Content-Length: {len(body)}\r\n\r\n{body}"
     ).encode()
 
 
-def main():
+def main() -> None:
     users, grants, counts = map(int, sys.argv[1:])
     out = sys.stdout.buffer
     names = [f"u{i:05}" for i in range(users)]

@@ -146,7 +146,7 @@ def ogr2ogr(connection: str, file: Path, table: str, copy: str) -> float:
     """The seconds that ogr2ogr takes to load the file into a table with its index."""
     columns = ["-oo", "X_POSSIBLE_NAMES=lon", "-oo", "Y_POSSIBLE_NAMES=lat", "-oo", "AUTODETECT_TYPE=YES", "-a_srs", "EPSG:4326"]
     start = time.monotonic()
-    words = ["ogr2ogr", "-f", "PostgreSQL", connection, file, "-nln", table, *columns, "--config", "PG_USE_COPY", copy]
+    words: list[str | Path] = ["ogr2ogr", "-f", "PostgreSQL", connection, file, "-nln", table, *columns, "--config", "PG_USE_COPY", copy]
     subprocess.run(words, check=True)
     return time.monotonic() - start
 
@@ -157,8 +157,8 @@ def say(what: str, rows: int, seconds: float, more: str = "") -> None:
 
 def read_words() -> tuple[int, int]:
     """How many rows and kills."""
-    given = [int(word) for word in sys.argv[1:3]]
-    return (*given, *(1_000_000, 10)[len(given) :])
+    rows = int(sys.argv[1]) if len(sys.argv) > 1 else 1_000_000
+    return rows, int(sys.argv[2]) if len(sys.argv) > 2 else 10
 
 
 def compare(loads: Loads, stack: Stack, folder: Path, kills: int) -> bool:

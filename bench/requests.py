@@ -9,14 +9,14 @@ SECRET = "0" * 64
 BOX = "[0,2097151,0,2097151,0,19818086399]"
 
 
-def request(line, body):
+def request(line: str, body: str) -> bytes:
     return (
         f"POST /tables/points/{line} HTTP/1.1\r\nHost: a\r\nAuthorization: Bearer root.{SECRET}\r\n"
         f"Content-Length: {len(body)}\r\n\r\n{body}"
     ).encode()
 
 
-def main():
+def main() -> None:
     count = int(sys.argv[1])
     puts = [
         request("put", '{"id":"p%d","label":"A&(B|C)","note":"","point":[%d,%d,%d]}' % (i, i, 2 * i, 3 * i))

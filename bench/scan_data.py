@@ -4,12 +4,13 @@
 16 labels. A box has a share of each side: 0.02 and a day, 0.1 and a week, 0.4 and all of the time."""
 import random
 import sys
+from collections.abc import Iterator
 
 TOP, DAY, WEEK = 2097151, 86400, 604800
 LABELS = ["", "A", "B", "C", "A&B", "A|B", "A&(B|C)", "D", "D&E", "D|(E&F)", "(A|D)&(B|E)", "G", "G&H", "A&B&C&D", "F|G|H", "E"]
 
 
-def points(count):
+def points(count: int) -> Iterator[tuple[str, int, int, int, str]]:
     numbers = random.Random(7)
     centres = [(numbers.randrange(TOP), numbers.randrange(TOP), numbers.randrange(4 * WEEK)) for _ in range(200)]
     spreads = [(20000, TOP), (20000, TOP), (40000, 4 * WEEK - 1)]
@@ -19,10 +20,11 @@ def points(count):
             place = [min(max(int(numbers.gauss(middle, spread)), 0), top) for middle, (spread, top) in zip(centre, spreads)]
         else:
             place = [numbers.randrange(TOP + 1), numbers.randrange(TOP + 1), numbers.randrange(4 * WEEK)]
-        yield f"p{number}", *place, LABELS[numbers.randrange(16)]
+        x, y, t = place
+        yield f"p{number}", x, y, t, LABELS[numbers.randrange(16)]
 
 
-def boxes():
+def boxes() -> Iterator[tuple[float, int, int, int, int, int, int]]:
     numbers = random.Random(11)
     for share, span in ((0.02, DAY), (0.1, WEEK), (0.4, 4 * WEEK - 1)):
         for _ in range(20):

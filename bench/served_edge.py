@@ -20,11 +20,11 @@ REQUEST = (
 ).encode() + BODY
 
 
-def connect():
+def connect() -> socket.socket:
     return socket.create_connection(("127.0.0.1", PORT), timeout=30 + LIMIT)
 
 
-def count():
+def count() -> tuple[bytes, float]:
     """The status of a count on a connection of its own, and how long it takes."""
     start = time.time()
     with connect() as client:
@@ -33,12 +33,12 @@ def count():
     return status, time.time() - start
 
 
-def said(name, held, more):
+def said(name: str, held: bool, more: str) -> bool:
     print(f"{'ok' if held else 'WRONG'}: {name} {more}", flush=True)
     return held
 
 
-def main():
+def main() -> None:
     slow = [connect() for _ in range(20)]
     answered, slowest = True, 0.0
     for turn in range(int(LIMIT) - 1):
@@ -48,7 +48,8 @@ def main():
         answered &= status == b"200"
         slowest = max(slowest, took)
         time.sleep(1)
-    right = said("counts beside twenty clients that send a byte a second", answered and slowest < 1, f"the slowest in {1000 * slowest:.1f} ms")
+    slowest_told = f"the slowest in {1000 * slowest:.1f} ms"
+    right = said("counts beside twenty clients that send a byte a second", answered and slowest < 1, slowest_told)
     ended = [client.recv(65536)[:12] for client in slow]
     right &= said("the twenty clients", all(it == b"HTTP/1.1 408" for it in ended), f"{len(ended)} ended by 408")
     sys.exit(not right)

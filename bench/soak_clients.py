@@ -55,7 +55,8 @@ def count(pick):
 
 
 def scan(pick):
-    return "POST", "/tables/points/scan", {"after": None, "auths": pick.choice(SETS), "box": box(pick, 2), "limit": pick.choice([1, 10, 100])}
+    body = {"after": None, "auths": pick.choice(SETS), "box": box(pick, 2), "limit": pick.choice([1, 10, 100])}
+    return "POST", "/tables/points/scan", body
 
 
 def grid(pick):
@@ -126,7 +127,8 @@ def main():
         clients[1].join(1)
         answered, wrong, ended = (sum(each[at].value for each in counts) for at in range(3))
         now = time.time()
-        print(f"{now - start:6.0f} s {(answered - before) / (now - last):8.0f} a second {memory(process):8.1f} MiB, {answered} answers, {wrong} no 200, {ended} connections ended", flush=True)
+        speed = f"{now - start:6.0f} s {(answered - before) / (now - last):8.0f} a second {memory(process):8.1f} MiB"
+        print(f"{speed}, {answered} answers, {wrong} no 200, {ended} connections ended", flush=True)
         last, before = now, answered
     sys.exit(wrong > 0 or any(it.exitcode for it in clients))
 

@@ -13,7 +13,7 @@ from types import ModuleType
 from typing import Any
 
 import pytest
-from jsonschema import Draft4Validator, Draft202012Validator, RefResolver  # type: ignore[import]
+from jsonschema import Draft4Validator, Draft202012Validator, RefResolver
 from served import TOP, served, token
 
 DOCUMENT = json.loads((TOP / "docs/openapi.json").read_text())

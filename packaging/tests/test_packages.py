@@ -36,7 +36,7 @@ def root(tmp_path_factory: pytest.TempPathFactory) -> Path:
 
 
 def test_programs_are_those_of_the_changelog(root: Path) -> None:
-    words = ["zcat", root / "usr/share/doc/fashkiin-server/changelog.gz"]
+    words: list[str | Path] = ["zcat", root / "usr/share/doc/fashkiin-server/changelog.gz"]
     changelog = subprocess.run(words, check=True, capture_output=True, text=True).stdout
     for name in ("st_run", "st_served"):
         program = root / "usr/bin" / name
@@ -55,7 +55,7 @@ def test_edge_takes_its_configuration(root: Path) -> None:
 
 
 def test_unit_exposes_little() -> None:
-    words = ["systemd-analyze", "security", "--offline=true", "--threshold=20", TOP / "deploy/fashkiin.service"]
+    words: list[str | Path] = ["systemd-analyze", "security", "--offline=true", "--threshold=20", TOP / "deploy/fashkiin.service"]
     subprocess.run(words, check=True, stdout=subprocess.DEVNULL)
 
 
@@ -88,7 +88,7 @@ def test_server_serves_under_the_filter_of_the_unit(root: Path) -> None:
     port = free_port()
     variables = {"ROOT_DIGEST": digest("root"), "PORT": str(port), "TIMEOUT": "5"}
     line = re.findall(r"^ExecStart=(.*) \$ROOT_AUTHS$", UNIT, re.M)[0]
-    words = [*re.sub(r"\$\{(\w+)\}", lambda found: variables[found[1]], line).split(), "coast"]
+    words = [*re.sub(r"\$\{(\w+)\}", lambda found: variables[str(found[1])], line).split(), "coast"]
     words[0] = f"{root}{words[0]}"
     with subprocess.Popen(words, stdout=subprocess.PIPE, preexec_fn=filter_of_the_unit().load) as server:
         assert server.stdout is not None
