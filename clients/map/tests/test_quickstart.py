@@ -20,6 +20,7 @@ from typing import NamedTuple
 import pytest
 
 from page import Page, chromium
+from postgres import SUPERUSER, postgres
 from served import PROGRAM, TOP, free_port
 
 PORTS = {it: free_port() for it in ("47001", "8080", "8081", "8404")}
@@ -56,13 +57,14 @@ def steps() -> list[Step]:
 class Shell:
     """A shell that runs commands one after another, as at a terminal."""
 
-    def __init__(self, folder: Path, home: Path) -> None:
+    def __init__(self, folder: Path, home: Path, database: Path) -> None:
         self._home = home
         apt = home / "apt.conf"  # which waits for another apt-get
         apt.write_text('DPkg::Lock::Timeout "100";')
         environment = {
             "HOME": str(home), "PATH": "/usr/sbin:/usr/bin:/sbin:/bin", "LANG": "C.UTF-8",
             "APT_CONFIG": str(apt), "DEBIAN_FRONTEND": "noninteractive",
+            "PGHOST": str(database), "PGUSER": SUPERUSER,
             "FASHKIIN_URL": f"http://127.0.0.1:{PORTS['8080']}",  # the command's own default, at this test's port
         }
         self._bash = subprocess.Popen(
@@ -119,9 +121,10 @@ def shell(tmp_path: Path) -> Iterator[Shell]:
     if os.geteuid() == 0:  # whose folders nginx's own user may not read
         page = top / "deploy/nginx.conf"
         page.write_text("user root;\n" + page.read_text())
-    made = Shell(top, home)
-    yield made
-    made.close()
+    with postgres() as database:
+        made = Shell(top, home, database)
+        yield made
+        made.close()
 
 
 def test_every_command_does_what_the_page_says(shell: Shell) -> None:
