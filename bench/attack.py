@@ -12,6 +12,8 @@ to others makes single askings slow, so a request is judged by its median. Kinds
 so: their time is in proportion. Build the server first: (cd crates/st_run && rt run < stdin > /dev/null). Begun with
 GLIBC_TUNABLES=glibc.malloc.hugetlb=1, the server has huge pages, as the unit under deploy/ asks for.
 """
+from __future__ import annotations
+
 import fcntl
 import os
 import pathlib
@@ -21,6 +23,7 @@ import subprocess
 import sys
 import time
 from collections import defaultdict
+from collections.abc import Iterable, Iterator
 
 TOP = pathlib.Path(__file__).resolve().parent.parent
 DIGEST = "66687aadf862bd776c8fc18b8e9f8e20089714856ee233b3902a591d0d5f2925"
@@ -28,43 +31,46 @@ TOKEN = "Bearer root." + "0" * 64
 ALL = "[0,2097151,0,2097151,0,19818086399]"
 ROWS = 100_000
 LIMIT = 5_000  # microseconds
+# Of each kind and each of its requests, the times of its askings.
+Askings = defaultdict[str, defaultdict[int, list[float]]]
 LABELS = ["", "A", "A|B", "(A&B)|C", "B&C", "S", "A&(B|C)", "(A|B)&(B|C)&(A|C)"]
 
 
-def head(line, fields, size):
+def head(line: str, fields: str, size: int) -> str:
     return f"{line} HTTP/1.1\r\nHost: a\r\nAuthorization: {TOKEN}\r\n{fields}Content-Length: {size}\r\n\r\n"
 
 
-def ask(line, body="", fields=""):
-    body = body.encode()
-    return head(line, fields, len(body)).encode() + body
+def ask(line: str, body: str = "", fields: str = "") -> bytes:
+    data = body.encode()
+    return head(line, fields, len(data)).encode() + data
 
 
-def put(table, row, label, point, note=""):
+def put(table: str, row: str, label: str, point: str, note: str = "") -> bytes:
     return ask(f"POST /tables/{table}/put", f'{{"id":"{row}","label":"{label}","note":"{note}","point":[{point}]}}')
 
 
 class Server:
     """The program, asked over two pipes."""
 
-    def __init__(self, program):
+    def __init__(self, program: str | pathlib.Path) -> None:
         words = [program, "--root", DIGEST, "A", "B", "C"]
         self.process = subprocess.Popen(words, stdin=subprocess.PIPE, stdout=subprocess.PIPE, bufsize=0)
+        assert self.process.stdin is not None and self.process.stdout is not None
         self.to, self.back = self.process.stdin.fileno(), self.process.stdout.fileno()
         for pipe in (self.to, self.back):
             fcntl.fcntl(pipe, fcntl.F_SETPIPE_SZ, 1 << 20)
         self.schedule = os.open(f"/proc/{self.process.pid}/schedstat", os.O_RDONLY)
 
-    def processor(self):
+    def processor(self) -> int:
         """Nanoseconds of the processor that the server had."""
         return int(os.pread(self.schedule, 100, 0).split()[0])
 
-    def memory(self):
+    def memory(self) -> float:
         """The resident memory, in MiB."""
         pages = pathlib.Path(f"/proc/{self.process.pid}/statm").read_text().split()[1]
         return int(pages) * os.sysconf("SC_PAGE_SIZE") / (1 << 20)
 
-    def reply(self):
+    def reply(self) -> tuple[str, bytes]:
         text = b""
         while b"\r\n\r\n" not in text:
             piece = os.read(self.back, 1 << 20)
@@ -77,18 +83,18 @@ class Server:
             body += os.read(self.back, 1 << 20)
         return first[9:12].decode(), body
 
-    def tell(self, request):
+    def tell(self, request: bytes) -> tuple[str, bytes]:
         os.write(self.to, request)
         return self.reply()
 
-    def tell_all(self, requests):
+    def tell_all(self, requests: Iterable[bytes]) -> None:
         """Asks what only prepares."""
         for request in requests:
             status, body = self.tell(request)
             if status != "200":
-                sys.exit(f"{request[:200]}: {status} {body[:200]}")
+                sys.exit(f"{request[:200]!r}: {status} {body[:200]!r}")
 
-    def settled(self):
+    def settled(self) -> int:
         """Waits until the server waits for what comes next, so that its processor time stands."""
         before = self.processor()
         while True:
@@ -98,7 +104,7 @@ class Server:
                 return after
             before = after
 
-    def time(self, request):
+    def time(self, request: bytes) -> tuple[float, float, str, int]:
         """Microseconds of processor and clock, the status and the size of the reply."""
         processor, clock = self.settled(), time.perf_counter_ns()
         status, body = self.tell(request)
@@ -106,7 +112,7 @@ class Server:
         return (self.settled() - processor) / 1e3, clock / 1e3, status, len(body)
 
 
-def rows():
+def rows() -> Iterator[bytes]:
     """100,000 rows at random points and times; and as many in one week, in 100 seconds."""
     random.seed(3)
     for table in ("weeks", "days"):
@@ -118,7 +124,7 @@ def rows():
         yield put("weeks", f"r{i}", label, f"{x},{y},{random.randrange(100)}")
 
 
-def crowds():
+def crowds() -> Iterator[bytes]:
     """10,000 rows of one point; 2,000 rows of one id."""
     for table in ("crowd", "same"):
         yield ask("POST /tables", f'{{"table":"{table}"}}')
@@ -128,20 +134,20 @@ def crowds():
         yield put("same", "p", f"A|B{i:04}", f"{i},7,7")
 
 
-def names(count):
+def names(count: int) -> list[str]:
     return [f"{i:x}" for i in range(count)]
 
 
-def texts(items):
+def texts(items: Iterable[str]) -> str:
     return "[" + ",".join(f'"{it}"' for it in items) + "]"
 
 
-def filled(front, middle, tail, size=65_536):
+def filled(front: str, middle: str, tail: str, size: int = 65_536) -> str:
     """A body of a front, a middle as often as there is room, and a tail."""
     return front + middle * ((size - len(front) - len(tail)) // len(middle)) + tail
 
 
-def deep(seed):
+def deep(seed: int) -> str:
     """A label of 256 bytes whose groups stand in 16 parentheses, of names of one letter."""
     pick = random.Random(seed)
     letters = "ABCDEFGHIJKLMNOPQRSTUVWXYZabcdefghijklmnopqrstuvwxyz0123456789"
@@ -162,11 +168,11 @@ LABELS_ASKED = {
 }
 
 
-def box_of(*bounds):
+def box_of(*bounds: int) -> str:
     return "[" + ",".join(map(str, bounds)) + "]"
 
 
-def kinds():
+def kinds() -> Iterator[tuple[str, list[bytes], bool]]:
     """The name of each kind, its requests, and whether its time is in proportion to the rows that it shows, counts or sorts."""
     fields = "".join(f"a{i}: b\r\n" for i in range(61))
     yield "64 fields", [ask("GET /whoami", fields=fields)], False
@@ -214,17 +220,17 @@ def kinds():
         x, y = pick.randrange(1 << 21), pick.randrange(1 << 21)
         thin += [box_of(x, x, y, y, 0, 19818086399), box_of(x, x, 0, 2097151, 0, 19818086399), box_of(0, 2097151, y, y, 0, 19818086399)]
     for table in ("points", "weeks"):
-        asked = f"POST /tables/{table}"
+        line = f"POST /tables/{table}"
         auths = '"auths":["A","B","C"]'
-        yield f"count of a line, {table}", [ask(f"{asked}/count", f'{{{auths},"box":{box}}}') for box in thin], False
-        yield f"scan of a line, {table}", [ask(f"{asked}/scan", f'{{{auths},"box":{box},"limit":1000}}') for box in thin], False
-        yield f"grid of a line, {table}", [ask(f"{asked}/grid", f'{{{auths},"box":{box},"nx":32,"ny":32}}') for box in thin], False
+        yield f"count of a line, {table}", [ask(f"{line}/count", f'{{{auths},"box":{box}}}') for box in thin], False
+        yield f"scan of a line, {table}", [ask(f"{line}/scan", f'{{{auths},"box":{box},"limit":1000}}') for box in thin], False
+        yield f"grid of a line, {table}", [ask(f"{line}/grid", f'{{{auths},"box":{box},"nx":32,"ny":32}}') for box in thin], False
         inner = box_of(1, 2097150, 1, 2097150, 1, 19818086398)
-        yield f"count of all, {table}", [ask(f"{asked}/count", f'{{{auths},"box":{inner}}}')], True
-        yield f"grid of all, {table}", [ask(f"{asked}/grid", f'{{{auths},"box":{inner},"nx":32,"ny":32}}')], True
-        yield f"scan of 1,000 rows, {table}", [ask(f"{asked}/scan", f'{{{auths},"box":{inner},"limit":1000}}')], True
+        yield f"count of all, {table}", [ask(f"{line}/count", f'{{{auths},"box":{inner}}}')], True
+        yield f"grid of all, {table}", [ask(f"{line}/grid", f'{{{auths},"box":{inner},"nx":32,"ny":32}}')], True
+        yield f"scan of 1,000 rows, {table}", [ask(f"{line}/scan", f'{{{auths},"box":{inner},"limit":1000}}')], True
         place = '{"id":"","label":"","point":[1048576,1048576,50]}'
-        yield f"scan after a place, {table}", [ask(f"{asked}/scan", f'{{{auths},"after":{place},"box":{inner},"limit":1}}')], False
+        yield f"scan after a place, {table}", [ask(f"{line}/scan", f'{{{auths},"after":{place},"box":{inner},"limit":1}}')], False
     yield "scan of rows unseen", [ask("POST /tables/weeks/scan", f'{{"auths":[],"box":{ALL},"limit":1000}}')], True
     long = "é" * 2_048
     yield "put of a long note", [put("points", "r7", LABELS[7], "1,1,1", long), put("points", "r7", LABELS[7], "1,1,1")], False
@@ -244,15 +250,15 @@ def kinds():
     yield "period of 100,000 rows", [ask("POST /tables/weeks/period", f'{{"period":"{it}"}}') for it in ("day", "week")], True
 
 
-def main():
+def main() -> None:
     count, rounds = (int(word) for word in (sys.argv[1:3] + ["100", "5"][len(sys.argv[1:3]):]))
     word = sys.argv[3] if len(sys.argv) > 3 else ""
     server = Server(os.environ.get("PROGRAM", TOP / "crates/st_run/out/st_run"))
     server.tell_all(rows())
     server.tell_all(crowds())
     print(f"{server.memory():.1f} MiB with {ROWS:,} rows in each of two tables")
-    askings = defaultdict(lambda: defaultdict(list))
-    proportional = set()
+    askings: Askings = defaultdict(lambda: defaultdict(list))
+    proportional: set[str] = set()
     for round in range(rounds):
         for name, requests, is_proportional in kinds():
             if word not in name:
@@ -274,9 +280,9 @@ def main():
     tell_slowest(askings, proportional)
 
 
-def tell_slowest(askings, proportional):
+def tell_slowest(askings: Askings, proportional: set[str]) -> None:
     """Prints of each kind its slowest request by the median of its askings, and how many askings took more than the limit."""
-    slow = []
+    slow: list[str] = []
     print("\nthe slowest request of each kind, by the median of its askings:")
     for name, requests in askings.items():
         worst = max(statistics.median(it) for it in requests.values())

@@ -7,6 +7,8 @@ usage: bytes.py [ROWS]
 Processor time is that of Linux's scheduler (/proc/PID/schedstat), so that a busy machine does not spoil it; it holds the reading
 and the writing of a pipe. Each figure is the middle one. Build the server first: (cd crates/st_run && rt run < stdin > /dev/null).
 """
+from __future__ import annotations
+
 import os
 import statistics
 import subprocess
@@ -18,16 +20,16 @@ DATA = [sys.executable, str(attack.TOP / "bench/scan_data.py")]
 HELD = '"auths":["A","B","D","G"]'
 
 
-def lines(*words):
+def lines(*words: str) -> list[str]:
     return subprocess.run([*DATA, *words], stdout=subprocess.PIPE, text=True, check=True).stdout.splitlines()
 
 
-def put(line):
+def put(line: str) -> bytes:
     row, x, y, t, label = line.split(",")
     return attack.put("points", row, label, f"{x},{y},{t}")
 
 
-def fill(server, requests, each=64):
+def fill(server: attack.Server, requests: list[bytes], each: int = 64) -> None:
     """Puts rows, so many at a time: a connection ends after a million reads."""
     for start in range(0, len(requests), each):
         batch, back = requests[start : start + each], b""
@@ -36,14 +38,14 @@ def fill(server, requests, each=64):
             back += os.read(server.back, 1 << 20)
 
 
-def told(server, requests):
+def told(server: attack.Server, requests: list[bytes]) -> float:
     """The middle one of the microseconds that requests take, all of which are answered 200."""
     found = [server.time(request) for request in requests]
     assert {status for _, _, status, _ in found} == {"200"}
     return statistics.median(processor for processor, *_ in found)
 
 
-def main():
+def main() -> None:
     count = int(sys.argv[1]) if len(sys.argv) > 1 else 1_000_000
     points = [put(line) for line in lines(str(count + 1_000))]
     server = attack.Server(attack.TOP / "crates/st_run/out/st_run")

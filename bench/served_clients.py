@@ -5,18 +5,21 @@
 
 with `st_served --timeout SECONDS` at PORT, without --connections, whose root has the secret of 32 zero bytes.
 """
+from __future__ import annotations
+
 import json
 import socket
 import struct
 import sys
 import time
+from typing import Any
 
 PORT, LIMIT = int(sys.argv[1]), float(sys.argv[2])
 TOKEN = "root." + "0" * 64
 ALL = [0, 2097151, 0, 2097151, 0, 19818086399]
 
 
-def request(method, path, body=None, close=False):
+def request(method: str, path: str, body: object = None, close: bool = False) -> bytes:
     text = json.dumps(body, separators=(",", ":")).encode() if body is not None else b""
     fields = [f"{method} {path} HTTP/1.1", "Host: points", f"Authorization: Bearer {TOKEN}", f"Content-Length: {len(text)}"]
     if close:
@@ -24,13 +27,13 @@ def request(method, path, body=None, close=False):
     return "\r\n".join(fields).encode() + b"\r\n\r\n" + text
 
 
-def connect():
+def connect() -> socket.socket:
     client = socket.create_connection(("127.0.0.1", PORT), timeout=30 + 2 * LIMIT)
     client.setsockopt(socket.IPPROTO_TCP, socket.TCP_NODELAY, 1)
     return client
 
 
-def reply(client, held=b""):
+def reply(client: socket.socket, held: bytes = b"") -> tuple[int, bytes, bytes]:
     """The status and the body of the next reply."""
     while b"\r\n\r\n" not in held:
         piece = client.recv(65536)
@@ -51,13 +54,13 @@ def reply(client, held=b""):
     return int(head.split()[1]), rest[:length], rest[length:]
 
 
-def ask(client, *parts, **named):
-    client.sendall(request(*parts, **named))
-    status, body, _ = reply(client)
-    return status, json.loads(body)
+def ask(client: socket.socket, method: str, path: str, body: object = None, close: bool = False) -> tuple[int, Any]:
+    client.sendall(request(method, path, body, close))
+    status, told, _ = reply(client)
+    return status, json.loads(told)
 
 
-def ends_within(client, low, high):
+def ends_within(client: socket.socket, low: float, high: float) -> tuple[bool, str]:
     """Whether the connection ends after so many seconds."""
     start = time.time()
     try:
@@ -69,7 +72,7 @@ def ends_within(client, low, high):
     return low <= took <= high, f"ended after {took:.1f} s"
 
 
-def serves():
+def serves() -> tuple[bool, float]:
     """Whether a connection is served, and how long it takes."""
     start = time.time()
     client = connect()
@@ -78,13 +81,13 @@ def serves():
     return status == 200, time.time() - start
 
 
-def stalled():
+def stalled() -> socket.socket:
     client = connect()
     client.sendall(request("GET", "/whoami")[:40])
     return client
 
 
-def unread():
+def unread() -> socket.socket:
     """A client that asks for more than its buffers hold, and reads none of it."""
     client = connect()
     page = request("POST", "/tables/points/scan", {"auths": [], "box": ALL, "limit": 1000})
@@ -98,7 +101,7 @@ def unread():
     return client
 
 
-def closes_inside():
+def closes_inside() -> None:
     """A client that closes while a reply comes."""
     client = connect()
     page = request("POST", "/tables/points/scan", {"auths": [], "box": ALL, "limit": 1000})
@@ -108,7 +111,7 @@ def closes_inside():
     client.close()
 
 
-def fill():
+def fill() -> None:
     client = connect()
     for number in range(300):
         row = {"id": f"r{number}", "label": "", "note": "x" * 4000, "point": [number, 0, 0]}
@@ -117,12 +120,12 @@ def fill():
     client.close()
 
 
-def said(name, held, more=""):
+def said(name: str, held: bool, more: str = "") -> bool:
     print(f"{'ok' if held else 'WRONG'}: {name} {more}", flush=True)
     return held
 
 
-def main():
+def main() -> None:
     right = True
     fill()
     right &= said("a client that stalls inside a message", *ends_within(stalled(), LIMIT - 0.5, LIMIT + 2))

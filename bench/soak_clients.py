@@ -7,6 +7,8 @@ with a server at PORT, whose process is PID and whose root has the secret of 32 
 minute: the answers a second since the last line, the resident memory, how many answers were no 200, and how many connections
 were ended by the server (after a million reads).
 """
+from __future__ import annotations
+
 import json
 import multiprocessing
 import os
@@ -14,19 +16,23 @@ import random
 import socket
 import sys
 import time
+from ctypes import c_longlong
+from io import BufferedReader
+from typing import Any
 
 TOKEN = "root." + "0" * 64
 ROWS = 20_000
 LABELS = ["", "A", "A&B", "A|(B&C)", "C&(A|B)"]
 SETS = [[], ["A"], ["A", "B"], ["A", "B", "C"]]
 BATCH = 32
+Request = tuple[str, str, Any]
 
 
-def point(pick):
+def point(pick: random.Random) -> list[int]:
     return [pick.randrange(2097152), pick.randrange(2097152), pick.randrange(19818086400)]
 
 
-def box(pick, share):
+def box(pick: random.Random, share: int) -> list[int]:
     """A box that has so small a share of each axis."""
     sides = []
     for end in (2097152, 2097152, 19818086400):
@@ -35,55 +41,55 @@ def box(pick, share):
     return sides
 
 
-def put(pick):
+def put(pick: random.Random) -> Request:
     number = pick.randrange(ROWS)
     row = {"id": f"r{number}", "label": LABELS[number % len(LABELS)], "note": "n" * pick.choice([0, 0, 0, 20]), "point": point(pick)}
     return "POST", "/tables/points/put", row
 
 
-def delete(pick):
+def delete(pick: random.Random) -> Request:
     number = pick.randrange(ROWS)
     return "POST", "/tables/points/delete", {"id": f"r{number}", "label": LABELS[number % len(LABELS)]}
 
 
-def get(pick):
+def get(pick: random.Random) -> Request:
     return "POST", "/tables/points/get", {"auths": pick.choice(SETS), "id": f"r{pick.randrange(ROWS)}"}
 
 
-def count(pick):
+def count(pick: random.Random) -> Request:
     return "POST", "/tables/points/count", {"auths": pick.choice(SETS), "box": box(pick, pick.choice([1, 2, 4, 16]))}
 
 
-def scan(pick):
+def scan(pick: random.Random) -> Request:
     body = {"after": None, "auths": pick.choice(SETS), "box": box(pick, 2), "limit": pick.choice([1, 10, 100])}
     return "POST", "/tables/points/scan", body
 
 
-def grid(pick):
+def grid(pick: random.Random) -> Request:
     return "POST", "/tables/points/grid", {"auths": pick.choice(SETS), "box": box(pick, 2), "nx": 4, "ny": 4}
 
 
-def plan(pick):
+def plan(pick: random.Random) -> Request:
     return "POST", "/tables/points/plan", {"box": box(pick, 64), "budget": 16}
 
 
-def label(pick):
+def label(pick: random.Random) -> Request:
     return "POST", "/label", {"label": pick.choice(LABELS[1:])}
 
 
-def whoami(_):
+def whoami(_: random.Random) -> Request:
     return "GET", "/whoami", None
 
 
 KINDS = [put] * 12 + [get] * 4 + [delete] * 3 + [whoami] * 3 + [count, scan, grid, plan, label]
 
 
-def text_of(method, path, body):
+def text_of(method: str, path: str, body: object) -> bytes:
     text = json.dumps(body, separators=(",", ":")) if body is not None else ""
     return f"{method} {path} HTTP/1.1\r\nHost: a\r\nAuthorization: Bearer {TOKEN}\r\nContent-Length: {len(text)}\r\n\r\n{text}".encode()
 
 
-def status(stream):
+def status(stream: BufferedReader) -> bytes | None:
     """The status of the next reply, which is read whole; none where the connection has ended."""
     first = stream.readline()
     if not first:
@@ -95,7 +101,7 @@ def status(stream):
     return first.split()[1] if len(stream.read(length)) == length else None
 
 
-def client(port, seed, until, answered, others, ended):
+def client(port: int, seed: int, until: float, answered: c_longlong, others: c_longlong, ended: c_longlong) -> None:
     pick = random.Random(seed)
     while time.time() < until:
         with socket.create_connection(("127.0.0.1", port), timeout=60) as connection, connection.makefile("rb") as stream:
@@ -109,12 +115,12 @@ def client(port, seed, until, answered, others, ended):
                     break
 
 
-def memory(process):
+def memory(process: int) -> float:
     with open(f"/proc/{process}/statm", encoding="ascii") as file:
         return int(file.read().split()[1]) * os.sysconf("SC_PAGE_SIZE") / (1 << 20)
 
 
-def main():
+def main() -> None:
     port, process, seconds = map(int, sys.argv[1:4])
     start = time.time()
     counts = [[multiprocessing.Value("q", 0, lock=False) for _ in range(3)] for _ in range(2)]
