@@ -13,5 +13,5 @@ pub use asked::{Asked, Call, Token};
 pub use decision::Decision;
 pub use judged::{Judged, JudgedRef, judge};
 pub use runs::run;
-pub use st_policy::{Entry, Reply};
+pub use st_policy::{Denial, Entry, Refusal, Reply, Request};
 pub use store::Store;

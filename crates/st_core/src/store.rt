@@ -1,6 +1,7 @@
 //! The store: the state, and the requests on it.
 ghost use Rattle.std.specs.Prelude.{◌≡◌, None, codes, ◌++◌, ◌∷◌, [], map, IfOk, IfErr, OnOk, OnErr};
 ghost use Rattle.st_auth.specs.Names.{RefusesNames, first_bad};
+ghost use Rattle.st_auth.specs.declared.auths.AuthsFault.TheVariants.{NoMemory};
 ghost use Rattle.circular_buffer.specs.Buffer.{keep_last};
 ghost use Rattle.st_key.specs.declared.period.Period.TheVariants.{Week};
 ghost use Rattle.st_policy.specs.Entries.{entry_of};
@@ -91,6 +92,7 @@ impl<A: Allocator + Copy> Store<A> {
         ensures ok { IfOk result (λ store. store ≡ first_state digest (map (λ name. name.now) auths.now)) }
         ensures good { OnOk result (first_bad (map (λ name. name.now) auths.now) ≡ None) }
         ensures fault { IfErr result (λ fault. RefusesNames (map (λ name. name.now) auths.now) fault) }
+        ensures no_memory { IfErr result (λ fault. fault ≡ NoMemory → first_bad (map (λ name. name.now) auths.now) ≡ None) }
     {
         let auths = Auths::from_list(alloc, auths)?;
         let directory = Directory::new(alloc, digest, auths)?;

@@ -4,7 +4,7 @@ ghost use Rattle.st_dir.specs.Directory.{is_table};
 ghost use Rattle.st_dir.specs.Listings.{grants_on};
 ghost use Rattle.st_dir.specs.declared.grant.Scope.TheVariants.{OnTable};
 ghost use Rattle.st_policy.specs.Policy.{refusal_of};
-ghost use Rattle.st_policy.specs.Requests.{is_change};
+ghost use Rattle.st_policy.specs.Requests.{is_change, table_of};
 ghost use Rattle.st_core.specs.Reads.{account, shown};
 ghost use Rattle.st_policy.specs.declared.reply.Reply as Reply;
 ghost use Rattle.st_core.specs.Step.{asks_for_change, step};
@@ -45,10 +45,10 @@ fn grants<A: Allocator + Copy>(
 }
 
 impl<A: Allocator + Copy> Store<A> {
-    // What a read shows to whom it is allowed.
-    fn show(&self, asker: &Name, request: &Request<A>) -> Result<Reply<A>, AllocError>
+    // What a read of no table shows to whom it is allowed.
+    fn show_without_table(&self, asker: &Name, request: &Request<A>) -> Result<Reply<A>, AllocError>
         requires read { is_change request.now ≡ false }
-        requires allowed { refusal_of self.now.directory asker.now request.now ≡ None }
+        requires no_table { table_of request.now ≡ None }
         ensures { IfOk result (λ reply. reply ≡ shown self.now asker.now request.now) }
     {
         match request {
@@ -56,7 +56,6 @@ impl<A: Allocator + Copy> Store<A> {
             Request::Tables => Ok(Reply::Tables(self.directory.tables()?)),
             Request::Users => Ok(Reply::Users(self.directory.users()?)),
             Request::User { user } => account(&self.directory, user),
-            Request::Grants { table } => grants(&self.directory, table),
             Request::NamespaceGrants { namespace } => Ok(Reply::Grants(
                 self.directory.namespace_grants(namespace)?,
             )),
@@ -64,6 +63,18 @@ impl<A: Allocator + Copy> Store<A> {
                 label: label.normal()?,
             }),
             Request::Audit => Ok(Reply::Audit(audit::listing(self.allocator(), &self.audit)?)),
+            _ => unreachable!(),
+        }
+    }
+
+    // What a read shows to whom it is allowed.
+    fn show(&self, asker: &Name, request: &Request<A>) -> Result<Reply<A>, AllocError>
+        requires read { is_change request.now ≡ false }
+        requires allowed { refusal_of self.now.directory asker.now request.now ≡ None }
+        ensures { IfOk result (λ reply. reply ≡ shown self.now asker.now request.now) }
+    {
+        match request {
+            Request::Grants { table } => grants(&self.directory, table),
             Request::Get { table, id, auths } => {
                 Ok(Reply::Rows(self.get(table, id.as_str(), auths)?))
             }
@@ -91,7 +102,7 @@ impl<A: Allocator + Copy> Store<A> {
                 query,
                 budget,
             } => Ok(Reply::Plan(self.plan(table, query, *budget)?)),
-            _ => unreachable!(),
+            _ => self.show_without_table(asker, request),
         }
     }
 
