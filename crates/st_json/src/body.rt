@@ -12,8 +12,8 @@ use st_http::routes::Endpoint;
 use st_policy::Request;
 use std::alloc::{Allocator, Global};
 
-// Whether the endpoint's body is read.
-fn has_body(endpoint: Endpoint) -> bool
+/// Whether the endpoint's body is read. The bodies of GET and DELETE are not.
+pub fn has_body(endpoint: Endpoint) -> bool
     ensures { result ≡ has_body endpoint }
 {
     match endpoint {

@@ -17,5 +17,5 @@ mod tables;
 mod users;
 mod value;
 
-pub use body::decode;
+pub use body::{decode, has_body};
 pub use fault::DecodeFault;
