@@ -10,6 +10,7 @@ use Rattle.st_box.specs.declared.query.Query.{Query}
 use Rattle.st_box.specs.inner.Coordinates.{query_of}
 use Rattle.st_index.specs.declared.row.Row.{Row}
 use Rattle.st_dir.specs.declared.permission.Permission.{Permission}
+use Rattle.st_dir.specs.declared.table_permission.TablePermission.{TablePermission}
 use Rattle.st_policy.specs.declared.denial.Denial.{Denial}
 use Rattle.st_policy.specs.declared.refusal.Refusal.{Refusal}
 use Rattle.st_policy.specs.declared.request.Request.{Request}
@@ -81,10 +82,10 @@ make_table user table = asks user (Request.CreateTable (codes table) Period.Week
 abbrev pub drop_table : String → String → Said
 drop_table user table = asks user (Request.DropTable (codes table))
 
-abbrev pub grant : String → String → Permission → Said
+abbrev pub grant : String → String → TablePermission → Said
 grant table user p = asks "root" (Request.GrantTable (codes table) (codes user) p)
 
-abbrev pub grant_namespace : String → String → String → Permission → Said
+abbrev pub grant_namespace : String → String → String → TablePermission → Said
 grant_namespace asker namespace user p = asks asker (Request.GrantNamespace (codes namespace) (codes user) p)
 
 abbrev pub lacks : Permission → String → Reply ℕ

@@ -6,6 +6,8 @@ use Rattle.st_label.specs.inner.Machine.{class_of}
 use Rattle.st_label.specs.Reading.{reading}
 use Rattle.st_dir.specs.Permissions.{system_permissions, table_permissions}
 use Rattle.st_dir.specs.declared.permission.Permission.{Permission}
+use Rattle.st_dir.specs.declared.system_permission.SystemPermission.{SystemPermission}
+use Rattle.st_dir.specs.declared.table_permission.TablePermission.{TablePermission}
 use Rattle.st_policy.specs.declared.denial.Denial.{Denial}
 use Rattle.st_policy.specs.declared.refusal.Refusal.{Refusal}
 use Rattle.st_policy.specs.declared.request.Request.{Request}
@@ -24,7 +26,7 @@ first_listings : map (told (fresh ("B" ∷ "A" ∷ "B" ∷ []))) (asks "root" Re
 first_listings = refl
 
 -- users, tables and grants are listed by name, whatever the order in which they were made
-listed_by_name : map (told (after (fresh []) (make_user "v" [] ∷ make_user "a" [] ∷ make_table "root" "b" ∷ make_table "root" "a" ∷ grant "points" "v" Permission.Write ∷ grant "points" "v" Permission.Read ∷ [])))
+listed_by_name : map (told (after (fresh []) (make_user "v" [] ∷ make_user "a" [] ∷ make_table "root" "b" ∷ make_table "root" "a" ∷ grant "points" "v" TablePermission.Write ∷ grant "points" "v" TablePermission.Read ∷ [])))
     (asks "a" Request.Users ∷ asks "a" Request.Tables ∷ asks "a" (Request.Grants (codes "points")) ∷ [])
     ≡ Reply.Users (texts ("a" ∷ "root" ∷ "v" ∷ []))
     ∷ Reply.Tables (record { table = codes "a"; constraint = false; period = Period.Week } ∷ record { table = codes "b"; constraint = false; period = Period.Week } ∷ record { table = codes "points"; constraint = false; period = Period.Week } ∷ [])
@@ -33,7 +35,7 @@ listed_by_name = refl
 
 -- ---- users
 
-nobody_there : map (told (fresh [])) (asks "root" (Request.User (codes "zoe")) ∷ asks "root" (Request.DropUser (codes "zoe")) ∷ asks "root" (Request.GrantTable (codes "points") (codes "zoe") Permission.Read) ∷ asks "root" (Request.GrantNamespace (codes "n") (codes "zoe") Permission.Read) ∷ [])
+nobody_there : map (told (fresh [])) (asks "root" (Request.User (codes "zoe")) ∷ asks "root" (Request.DropUser (codes "zoe")) ∷ asks "root" (Request.GrantTable (codes "points") (codes "zoe") TablePermission.Read) ∷ asks "root" (Request.GrantNamespace (codes "n") (codes "zoe") TablePermission.Read) ∷ [])
     ≡ Reply.Refused (Refusal.NoUser (codes "zoe")) ∷ Reply.Refused (Refusal.NoUser (codes "zoe")) ∷ Reply.Refused (Refusal.NoUser (codes "zoe")) ∷ Reply.Refused (Refusal.NoUser (codes "zoe")) ∷ []
 nobody_there = refl
 
@@ -54,24 +56,24 @@ auths_set : told (after (fresh []) (make_user "v" ("A" ∷ []) ∷ asks "root" (
 auths_set = refl
 
 -- with a user go the grants to it, and a user of the same name made later has none of them
-made_again : all_told (after (fresh []) (make_user "v" [] ∷ grant "points" "v" Permission.Read ∷ asks "root" (Request.DropUser (codes "v")) ∷ [])) (make_user "v" [] ∷ count_in "v" "points" [] ∷ make_user "v" [] ∷ [])
+made_again : all_told (after (fresh []) (make_user "v" [] ∷ grant "points" "v" TablePermission.Read ∷ asks "root" (Request.DropUser (codes "v")) ∷ [])) (make_user "v" [] ∷ count_in "v" "points" [] ∷ make_user "v" [] ∷ [])
     ≡ Reply.Accepted ∷ lacks Permission.Read "points" ∷ Reply.Refused (Refusal.UserExists (codes "v")) ∷ []
 made_again = refl
 
 -- granting what is held and revoking what is not change nothing but the audit listing
-granted_twice : (after (fresh []) (asks "root" (Request.GrantSystem (codes "root") Permission.System) ∷ grant "points" "root" Permission.Read ∷ asks "root" (Request.RevokeNamespace (codes "n") (codes "root") Permission.Read) ∷ [])).directory ≡ (fresh []).directory
+granted_twice : (after (fresh []) (asks "root" (Request.GrantSystem (codes "root") SystemPermission.System) ∷ grant "points" "root" TablePermission.Read ∷ asks "root" (Request.RevokeNamespace (codes "n") (codes "root") TablePermission.Read) ∷ [])).directory ≡ (fresh []).directory
 granted_twice = refl
 
 -- who lets go of GRANT can't take it again
-let_go : all_told (fresh []) (asks "root" (Request.RevokeSystem (codes "root") Permission.Grant) ∷ asks "root" (Request.GrantSystem (codes "root") Permission.Grant) ∷ asks "root" (Request.RevokeTable (codes "points") (codes "root") Permission.Read) ∷ [])
+let_go : all_told (fresh []) (asks "root" (Request.RevokeSystem (codes "root") SystemPermission.Grant) ∷ asks "root" (Request.GrantSystem (codes "root") SystemPermission.Grant) ∷ asks "root" (Request.RevokeTable (codes "points") (codes "root") TablePermission.Read) ∷ [])
     ≡ Reply.Accepted ∷ denied (Denial.Permission Permission.Grant None) ∷ Reply.Accepted ∷ []
 let_go = refl
 
 -- ---- tables
 
 -- a table that is dropped loses its rows and its grants, and one made again under its name has none of them
-table_made_again : all_told (after (fresh []) (make_user "u" [] ∷ make_user "v" [] ∷ asks "root" (Request.GrantSystem (codes "u") Permission.CreateTable) ∷ []))
-    (make_table "u" "t" ∷ asks "u" (Request.GrantTable (codes "t") (codes "v") Permission.Read) ∷ put_in "u" "t" "p" "" ∷ count_in "v" "t" []
+table_made_again : all_told (after (fresh []) (make_user "u" [] ∷ make_user "v" [] ∷ asks "root" (Request.GrantSystem (codes "u") SystemPermission.CreateTable) ∷ []))
+    (make_table "u" "t" ∷ asks "u" (Request.GrantTable (codes "t") (codes "v") TablePermission.Read) ∷ put_in "u" "t" "p" "" ∷ count_in "v" "t" []
     ∷ drop_table "u" "t" ∷ make_table "u" "t" ∷ count_in "v" "t" [] ∷ count_in "u" "t" [] ∷ [])
     ≡ Reply.Accepted ∷ Reply.Accepted ∷ Reply.Accepted ∷ Reply.Count 1
     ∷ Reply.Accepted ∷ Reply.Accepted ∷ lacks Permission.Read "t" ∷ Reply.Count 0 ∷ []
@@ -89,7 +91,7 @@ period_set : told (after (fresh []) (asks "root" (Request.Period (codes "points"
 period_set = refl
 
 -- the constraint is on, and off again; a delete is not tested
-constraint_on_and_off : all_told (after (fresh ("S" ∷ [])) (make_user "u" [] ∷ grant "points" "u" Permission.Write ∷ []))
+constraint_on_and_off : all_told (after (fresh ("S" ∷ [])) (make_user "u" [] ∷ grant "points" "u" TablePermission.Write ∷ []))
     (asks "root" (Request.Constraint (codes "points") true) ∷ put_in "u" "points" "p" "S" ∷ count ("S" ∷ []) ∷ asks "u" (Request.Delete (codes "points") (codes "p") (codes "S"))
     ∷ asks "root" (Request.Constraint (codes "points") false) ∷ put_in "u" "points" "p" "S" ∷ count ("S" ∷ []) ∷ [])
     ≡ Reply.Accepted ∷ denied (Denial.Constraint (codes "S")) ∷ Reply.Count 0 ∷ Reply.Accepted
@@ -106,6 +108,6 @@ audit_shown : all_told (after (fresh []) (make_user "v" [] ∷ [])) (put_in "v" 
 audit_shown = refl
 
 -- what an entry names: the table, the namespace, the user, or the name that is made
-targets : map (λ entry. entry.target) (after (fresh []) (make_table "root" "t" ∷ make_user "v" [] ∷ grant "t" "v" Permission.Read ∷ asks "root" (Request.GrantNamespace (codes "n") (codes "v") Permission.Read) ∷ asks "root" (Request.DropUser (codes "v")) ∷ [])).audit
+targets : map (λ entry. entry.target) (after (fresh []) (make_table "root" "t" ∷ make_user "v" [] ∷ grant "t" "v" TablePermission.Read ∷ asks "root" (Request.GrantNamespace (codes "n") (codes "v") TablePermission.Read) ∷ asks "root" (Request.DropUser (codes "v")) ∷ [])).audit
     ≡ texts ("t" ∷ "v" ∷ "t" ∷ "n" ∷ "v" ∷ [])
 targets = refl

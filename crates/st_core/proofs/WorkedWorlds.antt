@@ -7,7 +7,7 @@ use Rattle.st_key.specs.Order.{bits_below}
 use Rattle.st_key.specs.declared.period.Period.{Period}
 use Rattle.st_label.specs.inner.Machine.{class_of}
 use Rattle.st_label.specs.Reading.{reading}
-use Rattle.st_dir.specs.declared.permission.Permission.{Permission}
+use Rattle.st_dir.specs.declared.table_permission.TablePermission.{TablePermission}
 use Rattle.st_policy.specs.declared.request.Request.{Request}
 use Rattle.st_core.specs.declared.asked.Asked.{Asked}
 use Rattle.st_core.specs.declared.asked.Call.{Call}
@@ -35,7 +35,7 @@ abbrev make_table : String → Asked ℕ
 make_table table = asks "root" (Request.CreateTable (codes table) Period.Week)
 
 abbrev let_read : String → Asked ℕ
-let_read table = asks "root" (Request.GrantTable (codes table) (codes "u") Permission.Read)
+let_read table = asks "root" (Request.GrantTable (codes table) (codes "u") TablePermission.Read)
 
 -- u holds A and reads points, and w may do nothing
 abbrev ready : State ℕ
@@ -94,10 +94,10 @@ told_later = refl
 -- READ that is given on a namespace later shows the rows of its tables
 abbrev opened : List (Asked ℕ)
 opened = make_table "geo.a" ∷ put "root" "geo.a" "p" "A" ∷ put "root" "geo.a" "s" "S"
-    ∷ asks "root" (Request.GrantNamespace (codes "geo") (codes "u") Permission.Read) ∷ count "u" "geo.a" ("A" ∷ []) ∷ []
+    ∷ asks "root" (Request.GrantNamespace (codes "geo") (codes "u") TablePermission.Read) ∷ count "u" "geo.a" ("A" ∷ []) ∷ []
 
 kept_for_readers : kept opened
-    ≡ make_table "geo.a" ∷ put "root" "geo.a" "p" "A" ∷ asks "root" (Request.GrantNamespace (codes "geo") (codes "u") Permission.Read) ∷ count "u" "geo.a" ("A" ∷ []) ∷ []
+    ≡ make_table "geo.a" ∷ put "root" "geo.a" "p" "A" ∷ asks "root" (Request.GrantNamespace (codes "geo") (codes "u") TablePermission.Read) ∷ count "u" "geo.a" ("A" ∷ []) ∷ []
 unfolding reading class_of sha256 digest_bytes hash_after compress rounds schedule first_words
 kept_for_readers = refl
 

@@ -4,6 +4,7 @@ use Rattle.st_text.specs.Texts.{Text}
 use Rattle.st_dir.specs.Directory.{Directory}
 use Rattle.st_dir.specs.Changes.{table_added, table_dropped, constraint_set, period_set, user_added, user_dropped, digest_set, auths_set}
 use Rattle.st_dir.specs.Changes.{system_granted, system_revoked, granted, revoked}
+use Rattle.st_dir.specs.Permissions.{table_permission, system_permission}
 use Rattle.st_dir.specs.declared.grant.Scope.TheVariants.{OnTable, OnNamespace}
 use Rattle.st_policy.specs.declared.request.Request.{Request}
 use Rattle.st_policy.specs.declared.request.Request.TheVariants.{Whoami, Tables, Users, User, Grants, NamespaceGrants, Label, Audit, Get}
@@ -73,9 +74,9 @@ directory_after asker (CreateUser user digest auths) d = user_added user digest 
 directory_after asker (DropUser user) d = user_dropped user d
 directory_after asker (Token user digest) d = digest_set user digest d
 directory_after asker (Auths user auths) d = auths_set user auths d
-directory_after asker (GrantSystem user permission) d = system_granted user permission d
-directory_after asker (RevokeSystem user permission) d = system_revoked user permission d
-directory_after asker (GrantTable table user permission) d = granted user (OnTable table) permission d
-directory_after asker (RevokeTable table user permission) d = revoked user (OnTable table) permission d
-directory_after asker (GrantNamespace namespace user permission) d = granted user (OnNamespace namespace) permission d
-directory_after asker (RevokeNamespace namespace user permission) d = revoked user (OnNamespace namespace) permission d
+directory_after asker (GrantSystem user permission) d = system_granted user (system_permission permission) d
+directory_after asker (RevokeSystem user permission) d = system_revoked user (system_permission permission) d
+directory_after asker (GrantTable table user permission) d = granted user (OnTable table) (table_permission permission) d
+directory_after asker (RevokeTable table user permission) d = revoked user (OnTable table) (table_permission permission) d
+directory_after asker (GrantNamespace namespace user permission) d = granted user (OnNamespace namespace) (table_permission permission) d
+directory_after asker (RevokeNamespace namespace user permission) d = revoked user (OnNamespace namespace) (table_permission permission) d

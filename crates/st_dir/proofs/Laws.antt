@@ -58,7 +58,7 @@ pub mapped_back : {X Y : Type 0} (f : X → Y) (g : Y → X) → ((x : X) → g 
 mapped_back f g is [] = refl
 mapped_back f g is (x ∷ xs) = ap (λ y. y ∷ map g (map f xs)) (is x) ∙ ap (λ ys. x ∷ ys) (mapped_back f g is xs)
 
-abbrev given_of : {A : Type 0} → Directory A → Scope → Text → Grantee A
+abbrev pub given_of : {A : Type 0} → Directory A → Scope → Text → Grantee A
 given_of d scope user = record { user = user; permissions = held_on d scope user }
 
 pub named_back : {A : Type 0} (d : Directory A) (scope : Scope) → map (λ (given : Grantee A). given.user) (grants_on d scope) ≡ granted_on d scope

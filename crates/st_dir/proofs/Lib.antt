@@ -4,3 +4,5 @@ mod First
 mod Sets
 mod Laws
 mod Order
+mod Listed
+mod Setting

@@ -42,7 +42,7 @@ among_once (x ∷ xs) n = at (is_among xs x) refl (same n x) refl (among_once xs
     at false e true f ih = simp (e, f)
     at false e false f ih = simp (e, f, ih)
 
-among_set : (xs : List Text) (n : Text) → is_among (set_of xs) n ≡ is_among xs n
+pub among_set : (xs : List Text) (n : Text) → is_among (set_of xs) n ≡ is_among xs n
 among_set xs n = any_order name_key (same n) (each_once xs) ∙ among_once xs n
 
 -- a set's texts rise
@@ -182,7 +182,7 @@ at_any_default [] i d e less = absurd (omega (less, arith))
 at_any_default (x ∷ xs) zero d e less = refl
 at_any_default (x ∷ xs) (suc i) d e less = at_any_default xs i d e (omega (less, arith))
 
-list_any-map : {X Y : Type 0} (p : Y → Bool) (f : X → Y) (xs : List X) → list_any p (map f xs) ≡ list_any (λ x. p (f x)) xs
+pub list_any-map : {X Y : Type 0} (p : Y → Bool) (f : X → Y) (xs : List X) → list_any p (map f xs) ≡ list_any (λ x. p (f x)) xs
 list_any-map p f [] = refl
 list_any-map p f (x ∷ xs) = ap (λ b. p (f x) || b) (list_any-map p f xs)
 

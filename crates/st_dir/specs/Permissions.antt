@@ -1,17 +1,46 @@
 -- Permissions, by the names of Apache Accumulo.
-use Rattle.std.specs.Prelude.{ℕ, Bool, nat_eq, List, [], ◌∷◌, codes, filter}
+use Rattle.std.specs.Prelude.{ℕ, Bool, nat_eq, List, [], ◌∷◌, codes, filter, find, map, Option}
 use Rattle.std.specs.List.{list_any}
+use Rattle.st_text.specs.Texts.{Text, same}
 use Rattle.st_dir.specs.declared.permission.Permission.{Permission}
+use Rattle.st_dir.specs.declared.system_permission.SystemPermission.{SystemPermission}
+use Rattle.st_dir.specs.declared.table_permission.TablePermission.{TablePermission}
 
--- the table permissions, in listing order
+-- what may be granted on a table or a namespace is one of the permissions
+abbrev pub table_permission : TablePermission → Permission
+table_permission TablePermission.Read = Permission.Read
+table_permission TablePermission.Write = Permission.Write
+table_permission TablePermission.AlterTable = Permission.AlterTable
+table_permission TablePermission.Grant = Permission.Grant
+table_permission TablePermission.DropTable = Permission.DropTable
+
+-- what may be granted on the system is one of the permissions
+abbrev pub system_permission : SystemPermission → Permission
+system_permission SystemPermission.CreateTable = Permission.CreateTable
+system_permission SystemPermission.DropTable = Permission.DropTable
+system_permission SystemPermission.AlterTable = Permission.AlterTable
+system_permission SystemPermission.CreateUser = Permission.CreateUser
+system_permission SystemPermission.DropUser = Permission.DropUser
+system_permission SystemPermission.AlterUser = Permission.AlterUser
+system_permission SystemPermission.Grant = Permission.Grant
+system_permission SystemPermission.System = Permission.System
+
+-- all that may be granted on a table or a namespace, in listing order
+abbrev pub grantable_on_tables : List TablePermission
+grantable_on_tables =
+    TablePermission.Read ∷ TablePermission.Write ∷ TablePermission.AlterTable ∷ TablePermission.Grant ∷ TablePermission.DropTable ∷ []
+
+-- all that may be granted on the system, in listing order
+abbrev pub grantable_on_system : List SystemPermission
+grantable_on_system =
+    SystemPermission.CreateTable ∷ SystemPermission.DropTable ∷ SystemPermission.AlterTable ∷ SystemPermission.CreateUser
+    ∷ SystemPermission.DropUser ∷ SystemPermission.AlterUser ∷ SystemPermission.Grant ∷ SystemPermission.System ∷ []
+
 abbrev pub table_permissions : List Permission
-table_permissions = Permission.Read ∷ Permission.Write ∷ Permission.AlterTable ∷ Permission.Grant ∷ Permission.DropTable ∷ []
+table_permissions = map table_permission grantable_on_tables
 
--- the system permissions, in listing order
 abbrev pub system_permissions : List Permission
-system_permissions =
-    Permission.CreateTable ∷ Permission.DropTable ∷ Permission.AlterTable ∷ Permission.CreateUser
-    ∷ Permission.DropUser ∷ Permission.AlterUser ∷ Permission.Grant ∷ Permission.System ∷ []
+system_permissions = map system_permission grantable_on_system
 
 -- each permission has a rank of its own
 abbrev pub place_of : Permission → ℕ
@@ -34,7 +63,7 @@ abbrev pub listed : List Permission → List Permission
 listed permissions = filter (λ p. list_any (same_permission p) permissions) system_permissions
 
 -- its name in requests and replies
-abbrev pub permission_name : Permission → List ℕ
+abbrev pub permission_name : Permission → Text
 permission_name Permission.Read = codes "READ"
 permission_name Permission.Write = codes "WRITE"
 permission_name Permission.AlterTable = codes "ALTER_TABLE"
@@ -45,3 +74,10 @@ permission_name Permission.CreateUser = codes "CREATE_USER"
 permission_name Permission.DropUser = codes "DROP_USER"
 permission_name Permission.AlterUser = codes "ALTER_USER"
 permission_name Permission.System = codes "SYSTEM"
+
+-- the one of this name
+abbrev pub table_permission_named : Text → Option TablePermission
+table_permission_named name = find (λ p. same (permission_name (table_permission p)) name) grantable_on_tables
+
+abbrev pub system_permission_named : Text → Option SystemPermission
+system_permission_named name = find (λ p. same (permission_name (system_permission p)) name) grantable_on_system

@@ -1,7 +1,8 @@
 //! The directory.
 ghost use Rattle.std.specs.Prelude.{◌≡◌, IfOk, option_map};
 ghost use Rattle.st_dir.specs.declared.grant.Scope.TheVariants.{OnNamespace};
-ghost use Rattle.st_dir.specs.Directory.{user_named, table_named, auths_of, has_secret, has_system, has_table, is_user, is_table, is_granted, constraint_of, first_directory};
+ghost use Rattle.st_dir.specs.Directory.{user_named, table_named, auths_of, has_secret, has_system, has_table};
+ghost use Rattle.st_dir.specs.Directory.{is_user, is_table, is_granted, constraint_of, first_directory};
 
 mod first;
 mod grant_changes;

@@ -10,8 +10,9 @@ use Rattle.st_key.specs.declared.period.Period.{Period}
 use Rattle.st_key.specs.declared.period.Period.TheVariants.{Day, Week}
 use Rattle.st_key.specs.declared.place.Place.{Place}
 use Rattle.st_text.specs.Texts.{Text, same}
-use Rattle.st_dir.specs.Permissions.{permission_name}
-use Rattle.st_dir.specs.declared.permission.Permission.{Permission}
+use Rattle.st_dir.specs.Permissions.{table_permission_named, system_permission_named}
+use Rattle.st_dir.specs.declared.system_permission.SystemPermission.{SystemPermission}
+use Rattle.st_dir.specs.declared.table_permission.TablePermission.{TablePermission}
 use Rattle.st_policy.specs.Periods.{period_name}
 use Rattle.st_json.specs.declared.value.Bounds.{Bounds}
 
@@ -85,9 +86,13 @@ digest_in d = option_and_then (λ s. result_ok (decode_sized s 32)) (text_in (co
 abbrev pub on_in : Data → Option Bool
 on_in d = option_and_then as_bool (get (codes "on") d)
 
--- the permission of the list that the text names
-abbrev pub permission_in : List Permission → Data → Option Permission
-permission_in listed d = option_and_then (λ s. find (λ p. same (permission_name p) s) listed) (text_in (codes "permission") d)
+-- the permission on tables of this name
+abbrev pub table_permission_in : Data → Option TablePermission
+table_permission_in d = option_and_then table_permission_named (text_in (codes "permission") d)
+
+-- the permission on the system of this name
+abbrev pub system_permission_in : Data → Option SystemPermission
+system_permission_in d = option_and_then system_permission_named (text_in (codes "permission") d)
 
 abbrev pub period_of : Data → Option Period
 period_of d = option_and_then (λ s. find (λ p. same (period_name p) s) (Day ∷ Week ∷ [])) (as_str d)

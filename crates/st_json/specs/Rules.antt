@@ -14,8 +14,8 @@ use Rattle.st_label.specs.Reading.{IsLabel}
 use Rattle.st_label.specs.Refusals.{max_len}
 use Rattle.st_label.specs.Faults.{RefusesLabel}
 use Rattle.st_label.specs.declared.label.LabelFault.TheVariants as fault
-use Rattle.st_dir.specs.Permissions.{table_permissions, system_permissions}
-use Rattle.st_dir.specs.declared.permission.Permission.{Permission}
+use Rattle.st_dir.specs.declared.system_permission.SystemPermission.{SystemPermission}
+use Rattle.st_dir.specs.declared.table_permission.TablePermission.{TablePermission}
 use Rattle.st_policy.specs.Refusals.{field_text}
 use Rattle.st_policy.specs.declared.field_name.FieldName.{FieldName}
 use Rattle.st_policy.specs.declared.field_name.FieldName.TheVariants as names
@@ -23,7 +23,7 @@ use Rattle.st_policy.specs.declared.refusal.Refusal.{Refusal}
 use Rattle.st_policy.specs.declared.refusal.Refusal.TheVariants.{Json, Field, BadBox, BadLabel, BadName}
 use Rattle.st_json.specs.declared.value.Bounds.{Bounds}
 use Rattle.st_json.specs.Fields.{HasBox, HasPoint, text_in, auths_in, id_in, note_in, digest_in, on_in}
-use Rattle.st_json.specs.Fields.{permission_in, period_in, new_period_in, limit_in, side_in, budget_in, HasAfter}
+use Rattle.st_json.specs.Fields.{table_permission_in, system_permission_in, period_in, new_period_in, limit_in, side_in, budget_in, HasAfter}
 use Rattle.st_json.specs.Needs.{Rule, Has}
 
 -- the body is UTF-8 and reads as this object
@@ -60,12 +60,12 @@ abbrev pub OnField : Data → Rule Bool
 OnField d = Has (Field names.On) (λ on. on_in d ≡ Some on)
 
 -- a permission on tables
-abbrev pub TablePermissionField : Data → Rule Permission
-TablePermissionField d = Has (Field names.Permission) (λ p. permission_in table_permissions d ≡ Some p)
+abbrev pub TablePermissionField : Data → Rule TablePermission
+TablePermissionField d = Has (Field names.Permission) (λ p. table_permission_in d ≡ Some p)
 
 -- a permission on the system
-abbrev pub SystemPermissionField : Data → Rule Permission
-SystemPermissionField d = Has (Field names.Permission) (λ p. permission_in system_permissions d ≡ Some p)
+abbrev pub SystemPermissionField : Data → Rule SystemPermission
+SystemPermissionField d = Has (Field names.Permission) (λ p. system_permission_in d ≡ Some p)
 
 abbrev pub PeriodField : Data → Rule Period
 PeriodField d = Has (Field names.Period) (λ period. period_in d ≡ Some period)

@@ -1,16 +1,14 @@
 //! The fields of a body. Each function gives the value of a field, or refuses a body in which it is missing, of another
 //! type or out of range.
-ghost use Rattle.std.specs.Prelude.{◌≡◌, ◌≤◌, IfOk, IfSome, length, find, option_map, None};
+ghost use Rattle.std.specs.Prelude.{◌≡◌, ◌≤◌, IfOk, IfSome, length, option_map, None};
 ghost use Rattle.std.specs.Result.{result_ok};
 ghost use Rattle.hex.specs.Hex.{decode_sized};
 ghost use Rattle.serde_json.specs.Find.{as_str};
 ghost use Rattle.serde_json.specs.View.{view, items_view};
-ghost use Rattle.st_text.specs.Texts.{same};
 ghost use Rattle.st_index.specs.Texts.{IsId, IsNote};
-ghost use Rattle.st_dir.specs.Permissions.{permission_name};
 ghost use Rattle.st_policy.specs.declared.refusal.Refusal.TheVariants.{Field as OfField};
-ghost use Rattle.st_json.specs.Fields.{sized, id_in, note_in, digest_in, on_in, permission_in};
-ghost use Rattle.st_json.specs.Fields.{period_of, period_in, new_period_in};
+ghost use Rattle.st_json.specs.Fields.{sized, id_in, note_in, digest_in, on_in};
+ghost use Rattle.st_json.specs.Fields.{table_permission_in, system_permission_in, period_of, period_in, new_period_in};
 ghost use Rattle.st_json.specs.Needs.{Has, Obeys};
 ghost use Rattle.st_json.specs.Rules.{TextField, IdField, NoteField, PointField, BoxField, AuthsField, DigestField, OnField};
 ghost use Rattle.st_json.specs.Rules.{TablePermissionField, SystemPermissionField, PeriodField, NewPeriodField};
@@ -20,32 +18,11 @@ use crate::fault::DecodeFault::{self, Refused};
 use crate::value::{self, Bounds};
 use hex::FromHex;
 use serde_json::Value;
-use st_dir::Permission;
+use st_dir::{SystemPermission, TablePermission};
 use st_index::{MAX_ID, MAX_NOTE};
 use st_key::{Period, Point};
 use st_policy::FieldName;
 use st_policy::Refusal::Field;
-
-// The permissions on a table, in the order of listings.
-const TABLE_PERMISSIONS: [Permission; 5] = [
-    Permission::Read,
-    Permission::Write,
-    Permission::AlterTable,
-    Permission::Grant,
-    Permission::DropTable,
-];
-
-// The permissions on the system, in the order of listings.
-const SYSTEM_PERMISSIONS: [Permission; 8] = [
-    Permission::CreateTable,
-    Permission::DropTable,
-    Permission::AlterTable,
-    Permission::CreateUser,
-    Permission::DropUser,
-    Permission::AlterUser,
-    Permission::Grant,
-    Permission::System,
-];
 
 // A field's value, or its refusal.
 pub(crate) fn required<T: Drop>(name: FieldName, found: Option<T>) -> Result<T, DecodeFault>
@@ -188,38 +165,32 @@ pub(crate) fn on(object: &Value) -> Result<bool, DecodeFault>
     required(FieldName::On, on_in(object))
 }
 
-// The permission of the list that the text names.
-fn named<'a>(listed: &'a [Permission], text: &str) -> Option<&'a Permission>
-    ensures { option_map (λ p. p.now) result ≡ find (λ p. same (permission_name p) text.now) listed.now }
+// The permission on tables that the field names.
+fn table_permission_in(object: &Value) -> Option<TablePermission>
+    ensures { result ≡ table_permission_in (view object.now) }
 {
-    listed.iter().find(|p| p.name() == text)
+    TablePermission::named(value::text(object, "permission")?)
 }
 
-// The permission of the list that the field names.
-fn permission_in(listed: &[Permission], object: &Value) -> Option<Permission>
-    ensures { result ≡ permission_in listed.now (view object.now) }
+// The permission on the system that the field names.
+fn system_permission_in(object: &Value) -> Option<SystemPermission>
+    ensures { result ≡ system_permission_in (view object.now) }
 {
-    named(listed, value::text(object, "permission")?).copied()
+    SystemPermission::named(value::text(object, "permission")?)
 }
 
-// The field `permission`, where it is one on a table.
-pub(crate) fn table_permission(object: &Value) -> Result<Permission, DecodeFault>
+// The field `permission`, where it is one on tables.
+pub(crate) fn table_permission(object: &Value) -> Result<TablePermission, DecodeFault>
     ensures { Obeys (TablePermissionField (view object.now)) result }
 {
-    required(
-        FieldName::Permission,
-        permission_in(&TABLE_PERMISSIONS, object),
-    )
+    required(FieldName::Permission, table_permission_in(object))
 }
 
 // The field `permission`, where it is one on the system.
-pub(crate) fn system_permission(object: &Value) -> Result<Permission, DecodeFault>
+pub(crate) fn system_permission(object: &Value) -> Result<SystemPermission, DecodeFault>
     ensures { Obeys (SystemPermissionField (view object.now)) result }
 {
-    required(
-        FieldName::Permission,
-        permission_in(&SYSTEM_PERMISSIONS, object),
-    )
+    required(FieldName::Permission, system_permission_in(object))
 }
 
 // The period that a value names.

@@ -1,5 +1,6 @@
 -- Whether a request is allowed. The directory alone decides.
-use Rattle.std.specs.Prelude.{List, [], ◌∷◌, Bool, ◌||◌, not, if◌then◌else◌, Option, Some, None, find, option_map, Result, Ok, Err}
+use Rattle.std.specs.Prelude.{List, [], ◌∷◌, Bool, ◌||◌, not, if◌then◌else◌}
+use Rattle.std.specs.Prelude.{Option, Some, None, find, option_map, Result, Ok, Err}
 use Rattle.st_text.specs.Texts.{Text, same}
 use Rattle.st_label.specs.Reading.{is_true}
 use Rattle.st_dir.specs.Directory.{Directory, is_table, is_user, is_granted, has_auth, has_system, has_table, is_constrained}
@@ -9,7 +10,10 @@ use Rattle.st_policy.specs.declared.denial.Denial.{Denial}
 use Rattle.st_policy.specs.declared.refusal.Refusal.{Refusal}
 use Rattle.st_policy.specs.declared.refusal.Refusal.TheVariants.{NoTable, NoUser, TableExists, UserExists, Denied}
 use Rattle.st_policy.specs.declared.request.Request.{Request}
-use Rattle.st_policy.specs.declared.request.Request.TheVariants.{Whoami, Tables, Users, User, Grants, NamespaceGrants, Label, Audit, Get, Scan, Count, Grid, Plan, Put, Delete, CreateTable, DropTable, Constraint, Period, CreateUser, DropUser, Token, Auths, GrantSystem, RevokeSystem, GrantTable, RevokeTable, GrantNamespace, RevokeNamespace}
+use Rattle.st_policy.specs.declared.request.Request.TheVariants.{Whoami, Tables, Users, User, Grants, NamespaceGrants, Label, Audit}
+use Rattle.st_policy.specs.declared.request.Request.TheVariants.{Get, Scan, Count, Grid, Plan, Put, Delete, CreateTable, DropTable}
+use Rattle.st_policy.specs.declared.request.Request.TheVariants.{Constraint, Period, CreateUser, DropUser, Token, Auths, GrantSystem, RevokeSystem}
+use Rattle.st_policy.specs.declared.request.Request.TheVariants.{GrantTable, RevokeTable, GrantNamespace, RevokeNamespace}
 use Rattle.st_policy.specs.Requests.{table_of, user_of, auths_of}
 
 abbrev pub first_of : List (Option Refusal) → Option Refusal
@@ -89,7 +93,8 @@ abbrev pub meets : {A : Type 0} → Directory A → Text → Need → Option Ref
 meets d asker Nothing = None
 meets d asker (Table table p) = unless (has_table d asker table p) (Denied (Denial.Permission p (Some table)))
 meets d asker (System p) = unless (has_system d asker p) (Denied (Denial.Permission p None))
-meets d asker (TableOrSystem table p) = unless (has_table d asker table p || has_system d asker p) (Denied (Denial.Permission p (Some table)))
+meets d asker (TableOrSystem table p) =
+    unless (has_table d asker table p || has_system d asker p) (Denied (Denial.Permission p (Some table)))
 meets d asker (NamespaceOrSystem namespace p) =
     unless (is_granted d asker (OnNamespace namespace) p || has_system d asker p) (Denied (Denial.NamespacePermission p namespace))
 meets d asker (OneselfOrSystem user p) = unless (same user asker || has_system d asker p) (Denied (Denial.Permission p None))
@@ -98,12 +103,14 @@ meets d asker (OneselfOrSystem user p) = unless (same user asker || has_system d
 
 -- each authorization that is named is the asker's own, or the first that isn't is refused
 abbrev pub auths_are_held : {A : Type 0} → Directory A → Text → List Text → Option Refusal
-auths_are_held d asker auths = option_map (λ name. Denied (Denial.Authorization name)) (find (λ name. not (has_auth d asker name)) auths)
+auths_are_held d asker auths =
+    option_map (λ name. Denied (Denial.Authorization name)) (find (λ name. not (has_auth d asker name)) auths)
 
 -- in a table with a constraint a put's label is true for all authorizations of the writer (the
 -- visibility constraint of Apache Accumulo); a delete is not tested
 abbrev pub label_is_met : {A : Type 0} → Directory A → Text → Request A → Option Refusal
-label_is_met d asker (Put table row) = unless (not (is_constrained d table) || is_true (has_auth d asker) row.label) (Denied (Denial.Constraint row.label))
+label_is_met d asker (Put table row) =
+    unless (not (is_constrained d table) || is_true (has_auth d asker) row.label) (Denied (Denial.Constraint row.label))
 label_is_met d asker _ = None
 
 -- nobody drops oneself

@@ -1,6 +1,6 @@
 //! Equal requests.
 ghost use Rattle.std.specs.Prelude.{◌≡◌, IfOk, true};
-ghost use Rattle.st_policy.specs.Requests.{is_change};
+ghost use Rattle.st_policy.specs.inner.Kinds.{shows_rows, shows_numbers, changes_tables, changes_users, is_grant, is_revoke};
 
 use crate::request::Request;
 use st_key::Place;
@@ -20,9 +20,78 @@ fn copy_place<A: Allocator + Copy>(place: &Option<Place<A>>) -> Result<Option<Pl
     }))
 }
 
-// An equal change.
-fn copy_change<A: Allocator + Copy>(request: &Request<A>) -> Result<Request<A>, AllocError>
-    requires { is_change request.now ≡ true }
+// An equal request that shows rows.
+fn copy_of_rows<A: Allocator + Copy>(request: &Request<A>) -> Result<Request<A>, AllocError>
+    requires { shows_rows request.now ≡ true }
+    ensures { IfOk result (λ other. other ≡ request.now) }
+{
+    Ok(match request {
+        Request::Get { table, id, auths } => Request::Get {
+            table: table.copy(),
+            id: id.copy()?,
+            auths: auths.copy()?,
+        },
+        Request::Scan {
+            table,
+            query,
+            auths,
+            limit,
+            after,
+        } => Request::Scan {
+            table: table.copy(),
+            query: *query,
+            auths: auths.copy()?,
+            limit: *limit,
+            after: copy_place(after)?,
+        },
+        _ => unreachable!(),
+    })
+}
+
+// An equal request that shows numbers.
+fn copy_of_numbers<A: Allocator + Copy>(request: &Request<A>) -> Result<Request<A>, AllocError>
+    requires { shows_numbers request.now ≡ true }
+    ensures { IfOk result (λ other. other ≡ request.now) }
+{
+    Ok(match request {
+        Request::Count {
+            table,
+            query,
+            auths,
+        } => Request::Count {
+            table: table.copy(),
+            query: *query,
+            auths: auths.copy()?,
+        },
+        Request::Grid {
+            table,
+            query,
+            auths,
+            columns,
+            lines,
+        } => Request::Grid {
+            table: table.copy(),
+            query: *query,
+            auths: auths.copy()?,
+            columns: *columns,
+            lines: *lines,
+        },
+        Request::Plan {
+            table,
+            query,
+            budget,
+        } => Request::Plan {
+            table: table.copy(),
+            query: *query,
+            budget: *budget,
+        },
+        _ => unreachable!(),
+    })
+}
+
+// An equal change of a table or of its rows.
+fn copy_of_table_change<A: Allocator + Copy>(request: &Request<A>) -> Result<Request<A>, AllocError>
+    requires { changes_tables request.now ≡ true }
     ensures { IfOk result (λ other. other ≡ request.now) }
 {
     Ok(match request {
@@ -50,6 +119,16 @@ fn copy_change<A: Allocator + Copy>(request: &Request<A>) -> Result<Request<A>, 
             table: table.copy(),
             period: *period,
         },
+        _ => unreachable!(),
+    })
+}
+
+// An equal change of a user.
+fn copy_of_user_change<A: Allocator + Copy>(request: &Request<A>) -> Result<Request<A>, AllocError>
+    requires { changes_users request.now ≡ true }
+    ensures { IfOk result (λ other. other ≡ request.now) }
+{
+    Ok(match request {
         Request::CreateUser {
             user,
             digest,
@@ -68,11 +147,17 @@ fn copy_change<A: Allocator + Copy>(request: &Request<A>) -> Result<Request<A>, 
             user: user.copy(),
             auths: auths.copy()?,
         },
+        _ => unreachable!(),
+    })
+}
+
+// An equal grant.
+fn copy_of_grant<A: Allocator>(request: &Request<A>) -> Request<A>
+    requires { is_grant request.now ≡ true }
+    ensures { result ≡ request.now }
+{
+    match request {
         Request::GrantSystem { user, permission } => Request::GrantSystem {
-            user: user.copy(),
-            permission: *permission,
-        },
-        Request::RevokeSystem { user, permission } => Request::RevokeSystem {
             user: user.copy(),
             permission: *permission,
         },
@@ -81,15 +166,6 @@ fn copy_change<A: Allocator + Copy>(request: &Request<A>) -> Result<Request<A>, 
             user,
             permission,
         } => Request::GrantTable {
-            table: table.copy(),
-            user: user.copy(),
-            permission: *permission,
-        },
-        Request::RevokeTable {
-            table,
-            user,
-            permission,
-        } => Request::RevokeTable {
             table: table.copy(),
             user: user.copy(),
             permission: *permission,
@@ -103,6 +179,29 @@ fn copy_change<A: Allocator + Copy>(request: &Request<A>) -> Result<Request<A>, 
             user: user.copy(),
             permission: *permission,
         },
+        _ => unreachable!(),
+    }
+}
+
+// An equal revoke.
+fn copy_of_revoke<A: Allocator>(request: &Request<A>) -> Request<A>
+    requires { is_revoke request.now ≡ true }
+    ensures { result ≡ request.now }
+{
+    match request {
+        Request::RevokeSystem { user, permission } => Request::RevokeSystem {
+            user: user.copy(),
+            permission: *permission,
+        },
+        Request::RevokeTable {
+            table,
+            user,
+            permission,
+        } => Request::RevokeTable {
+            table: table.copy(),
+            user: user.copy(),
+            permission: *permission,
+        },
         Request::RevokeNamespace {
             namespace,
             user,
@@ -113,79 +212,49 @@ fn copy_change<A: Allocator + Copy>(request: &Request<A>) -> Result<Request<A>, 
             permission: *permission,
         },
         _ => unreachable!(),
-    })
+    }
 }
 
 impl<A: Allocator + Copy> Request<A> {
-    /// An equal request, or an error where there is no memory for it.
+    /// An equal request. `AllocError` when out of memory.
     pub fn copy(&self) -> Result<Request<A>, AllocError>
         ensures { IfOk result (λ other. other ≡ self.now) }
     {
-        Ok(match self {
-            Request::Whoami => Request::Whoami,
-            Request::Tables => Request::Tables,
-            Request::Users => Request::Users,
-            Request::User { user } => Request::User { user: user.copy() },
-            Request::Grants { table } => Request::Grants {
+        match self {
+            Request::Whoami => Ok(Request::Whoami),
+            Request::Tables => Ok(Request::Tables),
+            Request::Users => Ok(Request::Users),
+            Request::User { user } => Ok(Request::User { user: user.copy() }),
+            Request::Grants { table } => Ok(Request::Grants {
                 table: table.copy(),
-            },
-            Request::NamespaceGrants { namespace } => Request::NamespaceGrants {
+            }),
+            Request::NamespaceGrants { namespace } => Ok(Request::NamespaceGrants {
                 namespace: namespace.copy(),
-            },
-            Request::Label { label } => Request::Label {
+            }),
+            Request::Label { label } => Ok(Request::Label {
                 label: label.copy()?,
-            },
-            Request::Audit => Request::Audit,
-            Request::Get { table, id, auths } => Request::Get {
-                table: table.copy(),
-                id: id.copy()?,
-                auths: auths.copy()?,
-            },
-            Request::Scan {
-                table,
-                query,
-                auths,
-                limit,
-                after,
-            } => Request::Scan {
-                table: table.copy(),
-                query: *query,
-                auths: auths.copy()?,
-                limit: *limit,
-                after: copy_place(after)?,
-            },
-            Request::Count {
-                table,
-                query,
-                auths,
-            } => Request::Count {
-                table: table.copy(),
-                query: *query,
-                auths: auths.copy()?,
-            },
-            Request::Grid {
-                table,
-                query,
-                auths,
-                columns,
-                lines,
-            } => Request::Grid {
-                table: table.copy(),
-                query: *query,
-                auths: auths.copy()?,
-                columns: *columns,
-                lines: *lines,
-            },
-            Request::Plan {
-                table,
-                query,
-                budget,
-            } => Request::Plan {
-                table: table.copy(),
-                query: *query,
-                budget: *budget,
-            },
-            _ => copy_change(self)?,
-        })
+            }),
+            Request::Audit => Ok(Request::Audit),
+            Request::Get { .. } | Request::Scan { .. } => copy_of_rows(self),
+            Request::Count { .. } | Request::Grid { .. } | Request::Plan { .. } => copy_of_numbers(
+                self,
+            ),
+            Request::Put { .. }
+            | Request::Delete { .. }
+            | Request::CreateTable { .. }
+            | Request::DropTable { .. }
+            | Request::Constraint { .. }
+            | Request::Period { .. } => copy_of_table_change(self),
+            Request::CreateUser { .. }
+            | Request::DropUser { .. }
+            | Request::Token { .. }
+            | Request::Auths { .. } => copy_of_user_change(self),
+            Request::GrantSystem { .. }
+            | Request::GrantTable { .. }
+            | Request::GrantNamespace { .. } => Ok(copy_of_grant(self)),
+            Request::RevokeSystem { .. }
+            | Request::RevokeTable { .. }
+            | Request::RevokeNamespace { .. } => Ok(copy_of_revoke(self)),
+        }
     }
 }

@@ -1,6 +1,7 @@
 //! The policy.
 ghost use Rattle.std.specs.Prelude.{◌≡◌};
-ghost use Rattle.st_policy.specs.Policy.{refusal_of, decision, need_of, meets, table_exists, user_exists, name_is_free, auths_are_held, label_is_met, is_not_oneself};
+ghost use Rattle.st_policy.specs.Policy.{refusal_of, decision, need_of, meets, table_exists, user_exists, name_is_free};
+ghost use Rattle.st_policy.specs.Policy.{auths_are_held, label_is_met, is_not_oneself};
 ghost use Rattle.st_policy.specs.Requests.{table_of, user_of, auths_of};
 
 use crate::asker_auths::{lacking, sees, text_of_label};

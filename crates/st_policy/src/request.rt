@@ -2,7 +2,7 @@
 use crate::limits::{Budget, Limit, Side};
 use st_auth::Auths;
 use st_box::Query;
-use st_dir::{Name, Permission, TableName};
+use st_dir::{Name, SystemPermission, TableName, TablePermission};
 use st_index::{Id, Row};
 use st_key::{Period, Place};
 use st_label::Label;
@@ -125,36 +125,36 @@ pub enum Request<A: Allocator = Global> {
     /// Gives a user a permission on the system.
     GrantSystem {
         user: Name,
-        permission: Permission,
+        permission: SystemPermission,
     },
     /// Takes a permission on the system from a user.
     RevokeSystem {
         user: Name,
-        permission: Permission,
+        permission: SystemPermission,
     },
     /// Gives a user a permission on a table.
     GrantTable {
         table: TableName,
         user: Name,
-        permission: Permission,
+        permission: TablePermission,
     },
     /// Takes a permission on a table from a user.
     RevokeTable {
         table: TableName,
         user: Name,
-        permission: Permission,
+        permission: TablePermission,
     },
     /// Gives a user a permission on each table of a namespace.
     GrantNamespace {
         namespace: Name,
         user: Name,
-        permission: Permission,
+        permission: TablePermission,
     },
     /// Takes a permission on the tables of a namespace from a user.
     RevokeNamespace {
         namespace: Name,
         user: Name,
-        permission: Permission,
+        permission: TablePermission,
     },
 }
 

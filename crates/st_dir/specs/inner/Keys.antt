@@ -1,5 +1,6 @@
 -- Proofs, which no reader has to believe: keys tell names and grants apart, and what is taken out is not left.
-use Rattle.std.proofs.Common.{arith, ◌≡◌, List, [], ◌∷◌, Bool, true, false, not, ◌&&◌, filter, refl, sym, ap, ◌∙◌, subst}
+use Rattle.std.proofs.Common.{arith, ◌≡◌, List, [], ◌∷◌, Bool, true, false, not, ◌&&◌, filter}
+use Rattle.std.proofs.Common.{refl, sym, ap, ◌∙◌, subst}
 use Rattle.std.specs.Prelude.{slice_index_or}
 use Rattle.std.proofs.lemmas.Bool.{eqb-true, eq-eqb}
 use Rattle.st_text.specs.Texts.{Text, same}
@@ -68,9 +69,12 @@ and_third false b c e = absurd (let f : false ≡ true = e in cc)
 
 pub grant_exact : (g h : Grant) → same_grant g h ≡ true → grant_key h ≡ grant_key g
 grant_exact g h e =
-    let user = sym (same-eq g.user h.user (and_left (same g.user h.user) (same_scope g.scope h.scope) (same_permission g.permission h.permission) e)) in
-    let scope = and_second (same g.user h.user) (same_scope g.scope h.scope) (same_permission g.permission h.permission) e in
-    let place = sym (eqb-true (place_of g.permission) (place_of h.permission) (and_third (same g.user h.user) (same_scope g.scope h.scope) (same_permission g.permission h.permission) e)) in
+    let users = same g.user h.user in
+    let scopes = same_scope g.scope h.scope in
+    let permissions = same_permission g.permission h.permission in
+    let user = sym (same-eq g.user h.user (and_left users scopes permissions e)) in
+    let scope = and_second users scopes permissions e in
+    let place = sym (eqb-true (place_of g.permission) (place_of h.permission) (and_third users scopes permissions e)) in
     let kind = scopes_kind g.scope h.scope scope in
     let name = scopes_name g.scope h.scope scope in
     λ i. kind i ∷ name i ∷ user i ∷ (place i ∷ []) ∷ []

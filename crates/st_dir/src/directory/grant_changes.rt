@@ -2,6 +2,7 @@
 ghost use Rattle.std.specs.Prelude.{◌≡◌, true, false, Err, IfErr, IsOk, OnOk, OnErr};
 ghost use Rattle.st_dir.specs.Changes.{granted, revoked};
 ghost use Rattle.st_dir.specs.Directory.{is_user, is_table};
+ghost use Rattle.st_dir.specs.Permissions.{table_permission};
 ghost use Rattle.st_dir.specs.declared.fault.DirectoryFault.TheVariants.{NoUser, NoTable, NoMemory};
 ghost use Rattle.st_dir.specs.declared.grant.Scope.TheVariants.{OnTable, OnNamespace};
 
@@ -11,6 +12,7 @@ use crate::grant::{Grant, Scope};
 use crate::name::Name;
 use crate::permission::Permission;
 use crate::table_name::TableName;
+use crate::table_permission::TablePermission;
 use std::alloc::Allocator;
 
 impl<A: Allocator> Directory<A> {
@@ -65,19 +67,19 @@ impl<A: Allocator> Directory<A> {
         &mut self,
         table: &TableName,
         user: &Name,
-        permission: Permission,
+        permission: TablePermission,
     ) -> Result<(), DirectoryFault>
         ensures no_table { is_table self.old table.now ≡ false → result ≡ Err NoTable }
         ensures no_user { is_table self.old table.now ≡ true → is_user self.old user.now ≡ false → result ≡ Err NoUser }
         ensures fault { is_table self.old table.now ≡ true → is_user self.old user.now ≡ true
             → IfErr result (λ fault. fault ≡ NoMemory) }
-        ensures ok { OnOk result (self.new ≡ granted user.now (OnTable table.now) permission self.old) }
+        ensures ok { OnOk result (self.new ≡ granted user.now (OnTable table.now) (table_permission permission) self.old) }
         ensures err { OnErr result (self.new ≡ self.old) }
     {
         if !self.has_table(table) {
             return Err(DirectoryFault::NoTable);
         }
-        self.grant(user, Scope::OnTable(table.copy()), permission)
+        self.grant(user, Scope::OnTable(table.copy()), permission.permission())
     }
 
     /// Takes a permission on the table itself from the user; grants on its namespace stay. `NoTable`
@@ -86,18 +88,18 @@ impl<A: Allocator> Directory<A> {
         &mut self,
         table: &TableName,
         user: &Name,
-        permission: Permission,
+        permission: TablePermission,
     ) -> Result<(), DirectoryFault>
         ensures no_table { is_table self.old table.now ≡ false → result ≡ Err NoTable }
         ensures no_user { is_table self.old table.now ≡ true → is_user self.old user.now ≡ false → result ≡ Err NoUser }
         ensures there { is_table self.old table.now ≡ true → is_user self.old user.now ≡ true → IsOk result }
-        ensures ok { OnOk result (self.new ≡ revoked user.now (OnTable table.now) permission self.old) }
+        ensures ok { OnOk result (self.new ≡ revoked user.now (OnTable table.now) (table_permission permission) self.old) }
         ensures err { OnErr result (self.new ≡ self.old) }
     {
         if !self.has_table(table) {
             return Err(DirectoryFault::NoTable);
         }
-        self.revoke(user, Scope::OnTable(table.copy()), permission)
+        self.revoke(user, Scope::OnTable(table.copy()), permission.permission())
     }
 
     /// Gives the user a permission on each table of the namespace, also on those made later. `NoUser`
@@ -106,14 +108,15 @@ impl<A: Allocator> Directory<A> {
         &mut self,
         namespace: &Name,
         user: &Name,
-        permission: Permission,
+        permission: TablePermission,
     ) -> Result<(), DirectoryFault>
         ensures no_user { is_user self.old user.now ≡ false → result ≡ Err NoUser }
         ensures fault { is_user self.old user.now ≡ true → IfErr result (λ fault. fault ≡ NoMemory) }
-        ensures ok { OnOk result (self.new ≡ granted user.now (OnNamespace namespace.now) permission self.old) }
+        ensures ok { OnOk result (self.new ≡ granted user.now (OnNamespace namespace.now) (table_permission permission) self.old) }
         ensures err { OnErr result (self.new ≡ self.old) }
     {
-        self.grant(user, Scope::OnNamespace(namespace.copy()), permission)
+        let scope = Scope::OnNamespace(namespace.copy());
+        self.grant(user, scope, permission.permission())
     }
 
     /// Takes a permission on the namespace from the user; grants on its tables stay. `NoUser` if
@@ -122,13 +125,14 @@ impl<A: Allocator> Directory<A> {
         &mut self,
         namespace: &Name,
         user: &Name,
-        permission: Permission,
+        permission: TablePermission,
     ) -> Result<(), DirectoryFault>
         ensures no_user { is_user self.old user.now ≡ false → result ≡ Err NoUser }
         ensures there { is_user self.old user.now ≡ true → IsOk result }
-        ensures ok { OnOk result (self.new ≡ revoked user.now (OnNamespace namespace.now) permission self.old) }
+        ensures ok { OnOk result (self.new ≡ revoked user.now (OnNamespace namespace.now) (table_permission permission) self.old) }
         ensures err { OnErr result (self.new ≡ self.old) }
     {
-        self.revoke(user, Scope::OnNamespace(namespace.copy()), permission)
+        let scope = Scope::OnNamespace(namespace.copy());
+        self.revoke(user, scope, permission.permission())
     }
 }

@@ -2,12 +2,13 @@
 ghost use Rattle.std.specs.Prelude.{◌≡◌, [], true, false, Err, IfErr, IsOk, OnOk, OnErr};
 ghost use Rattle.st_dir.specs.Changes.{user_added, user_dropped, digest_set, auths_set, system_granted, system_revoked};
 ghost use Rattle.st_dir.specs.Directory.{is_user};
+ghost use Rattle.st_dir.specs.Permissions.{system_permission};
 ghost use Rattle.st_dir.specs.declared.fault.DirectoryFault.TheVariants.{NoUser, UserExists, NoMemory};
 
 use crate::directory::Directory;
 use crate::fault::DirectoryFault;
 use crate::name::Name;
-use crate::permission::Permission;
+use crate::system_permission::SystemPermission;
 use crate::system_permissions::SystemPermissions;
 use crate::user::User;
 use st_auth::Auths;
@@ -99,17 +100,17 @@ impl<A: Allocator> Directory<A> {
     pub fn grant_system(
         &mut self,
         user: &Name,
-        permission: Permission,
+        permission: SystemPermission,
     ) -> Result<(), DirectoryFault>
         ensures no_user { is_user self.old user.now ≡ false → result ≡ Err NoUser }
         ensures there { is_user self.old user.now ≡ true → IsOk result }
-        ensures ok { OnOk result (self.new ≡ system_granted user.now permission self.old) }
+        ensures ok { OnOk result (self.new ≡ system_granted user.now (system_permission permission) self.old) }
         ensures err { OnErr result (self.new ≡ self.old) }
     {
         if !self.has_user(user.as_str()) {
             return Err(DirectoryFault::NoUser);
         }
-        self.users.grant(user.as_str(), permission);
+        self.users.grant(user.as_str(), permission.permission());
         Ok(())
     }
 
@@ -117,17 +118,17 @@ impl<A: Allocator> Directory<A> {
     pub fn revoke_system(
         &mut self,
         user: &Name,
-        permission: Permission,
+        permission: SystemPermission,
     ) -> Result<(), DirectoryFault>
         ensures no_user { is_user self.old user.now ≡ false → result ≡ Err NoUser }
         ensures there { is_user self.old user.now ≡ true → IsOk result }
-        ensures ok { OnOk result (self.new ≡ system_revoked user.now permission self.old) }
+        ensures ok { OnOk result (self.new ≡ system_revoked user.now (system_permission permission) self.old) }
         ensures err { OnErr result (self.new ≡ self.old) }
     {
         if !self.has_user(user.as_str()) {
             return Err(DirectoryFault::NoUser);
         }
-        self.users.revoke(user.as_str(), permission);
+        self.users.revoke(user.as_str(), permission.permission());
         Ok(())
     }
 }

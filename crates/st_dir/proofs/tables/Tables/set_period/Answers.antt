@@ -1,30 +1,24 @@
-use Rattle.std.proofs.Common.{sym, ◌∙◌, ap, subst, refl}
-use Rattle.std.specs.Prelude.{slice_set}
+use Rattle.std.proofs.Common.{sym, ◌∙◌, ap, refl}
 use Rattle.st_text.specs.Texts.{same}
 use Rattle.st_dir.specs.Changes.{with_table}
 use Rattle.st_dir.specs.Order.{table_key}
-use Rattle.st_sorted.specs.Sorted.{Rises}
 use Rattle.st_dir.specs.declared.table.TableInfo.{TableInfo}
-use Rattle.st_sorted.proofs.Sorted.{changed, none_changed, rises_changed}
+use Rattle.st_dir.proofs.Setting.{set_there, set_rises}
+use Rattle.st_sorted.proofs.Sorted.{none_changed}
 use Rattle.st_dir.proofs.tables.Tables.set_period.Goals as goal
 
 pub invariant_of-self : goal.invariant_of-self
 invariant_of-self g c =
-    let value = c.deref.ensures.value in
-    let d = c.index_mut.result.now in
-    let items = c.self.inside.tables.items in
     let f = λ (info : TableInfo). record info { period = c.args.period } in
-    let done = ap (λ u. slice_set items c.in-Some.place (f u)) c.index_mut.ensures.value ∙ changed table_key (λ info. same info.table c.args.name.now) f items c.in-Some.place d (rw value at c.in-Some.ensures.alone) (rw value at c.in-Some.ensures.some) (rw value at (c.in-Some.ensures.found d)) in
-    subst (Rises table_key) (sym done) (rises_changed table_key (λ info. same info.table c.args.name.now) f (λ info. refl) items c.self.invariant)
+    set_rises table_key (λ info. same info.table c.args.name.now) f c.self.inside.tables.items _ c.in-Some.place c.index_mut.result.now
+    c.deref.ensures.value c.in-Some.ensures.alone c.in-Some.ensures.some c.in-Some.ensures.found c.index_mut.ensures.value
+    (λ info. refl) c.self.invariant
 
 pub returns-in-Some : goal.returns-in-Some
 returns-in-Some g c =
-    let value = c.deref.ensures.value in
-    let d = c.index_mut.result.now in
-    let items = c.self.inside.tables.items in
     let f = λ (info : TableInfo). record info { period = c.args.period } in
-    ap (λ u. slice_set items c.in-Some.place (f u)) c.index_mut.ensures.value
-    ∙ changed table_key (λ info. same info.table c.args.name.now) f items c.in-Some.place d (rw value at c.in-Some.ensures.alone) (rw value at c.in-Some.ensures.some) (rw value at (c.in-Some.ensures.found d))
+    set_there table_key (λ info. same info.table c.args.name.now) f c.self.inside.tables.items _ c.in-Some.place c.index_mut.result.now
+    c.deref.ensures.value c.in-Some.ensures.alone c.in-Some.ensures.some c.in-Some.ensures.found c.index_mut.ensures.value
     ∙ ap (with_table c.args.name.now f) c.self.view_is
 
 pub returns-in-None : goal.returns-in-None

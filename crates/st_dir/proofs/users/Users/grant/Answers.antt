@@ -4,28 +4,25 @@ use Rattle.st_text.specs.Texts.{same}
 use Rattle.st_dir.specs.Changes.{with_user}
 use Rattle.st_dir.specs.Order.{user_key}
 use Rattle.st_dir.specs.Permissions.{listed}
-use Rattle.st_sorted.specs.Sorted.{Rises}
 use Rattle.st_dir.specs.declared.user.User.{User}
-use Rattle.st_sorted.proofs.Sorted.{changed, none_changed, rises_changed}
+use Rattle.st_sorted.specs.Sorted.{Rises}
+use Rattle.st_dir.proofs.Setting.{set_there, set_rises}
+use Rattle.st_sorted.proofs.Sorted.{none_changed}
 use Rattle.st_dir.proofs.users.Users.grant.Goals as goal
 
 pub invariant_of-self : goal.invariant_of-self
 invariant_of-self g c =
-    let value = c.deref.ensures.value in
-    let d = c.index_mut.result.now in
-    let items = c.self.inside.users.items in
     let f = λ (user : User g.row.A.Denot). record user { permissions = listed (c.args.permission ∷ user.permissions) } in
-    let done = ap (λ ps. slice_set items c.in-Some.place (record c.index_mut.result.now { permissions = ps })) c.add.ensures ∙ ap (λ u. slice_set items c.in-Some.place (f u)) c.index_mut.ensures.value ∙ changed user_key (λ user. same user.name c.args.name.now) f items c.in-Some.place d (rw value at c.in-Some.ensures.alone) (rw value at c.in-Some.ensures.some) (rw value at (c.in-Some.ensures.found d)) in
-    subst (Rises user_key) (sym done) (rises_changed user_key (λ user. same user.name c.args.name.now) f (λ user. refl) items c.self.invariant)
+    subst (Rises user_key) (sym (ap (λ held. slice_set c.self.inside.users.items c.in-Some.place (record c.index_mut.result.now { permissions = held })) c.add.ensures))
+    (set_rises user_key (λ user. same user.name c.args.name.now) f c.self.inside.users.items _ c.in-Some.place c.index_mut.result.now
+    c.deref.ensures.value c.in-Some.ensures.alone c.in-Some.ensures.some c.in-Some.ensures.found c.index_mut.ensures.value (λ user. refl) c.self.invariant)
 
 pub returns-in-Some : goal.returns-in-Some
 returns-in-Some g c =
-    let value = c.deref.ensures.value in
-    let d = c.index_mut.result.now in
-    let items = c.self.inside.users.items in
     let f = λ (user : User g.row.A.Denot). record user { permissions = listed (c.args.permission ∷ user.permissions) } in
-    ap (λ ps. slice_set items c.in-Some.place (record c.index_mut.result.now { permissions = ps })) c.add.ensures ∙ ap (λ u. slice_set items c.in-Some.place (f u)) c.index_mut.ensures.value
-    ∙ changed user_key (λ user. same user.name c.args.name.now) f items c.in-Some.place d (rw value at c.in-Some.ensures.alone) (rw value at c.in-Some.ensures.some) (rw value at (c.in-Some.ensures.found d))
+    ap (λ held. slice_set c.self.inside.users.items c.in-Some.place (record c.index_mut.result.now { permissions = held })) c.add.ensures
+    ∙ set_there user_key (λ user. same user.name c.args.name.now) f c.self.inside.users.items _ c.in-Some.place c.index_mut.result.now
+    c.deref.ensures.value c.in-Some.ensures.alone c.in-Some.ensures.some c.in-Some.ensures.found c.index_mut.ensures.value
     ∙ ap (with_user c.args.name.now f) c.self.view_is
 
 pub returns-in-None : goal.returns-in-None
