@@ -11,10 +11,10 @@ pub struct Record {
     pub time: i64,
     /// The name of the user who asked.
     pub user: Words,
-    /// The method of the request.
-    pub method: Words,
-    /// The path of the request.
-    pub path: Words,
+    /// What was asked, as the audit listing calls it.
+    pub request: Words,
+    /// The name in the path of the request; empty where it has none.
+    pub name: Words,
     /// The body of the request, as it came; empty if the endpoint reads none.
     pub body: Words,
     /// The body of the reply.
@@ -27,15 +27,15 @@ impl Record {
         ensures { IfOk result (λ copy. copy ≡ self.now) }
     {
         let user = self.user.copy()?;
-        let method = self.method.copy()?;
-        let path = self.path.copy()?;
+        let request = self.request.copy()?;
+        let name = self.name.copy()?;
         let body = self.body.copy()?;
         let result = self.result.copy()?;
         Ok(Record {
             time: self.time,
             user,
-            method,
-            path,
+            request,
+            name,
             body,
             result,
         })

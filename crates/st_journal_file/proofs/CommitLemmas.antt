@@ -1,14 +1,13 @@
 -- A transaction that was committed, and one that a crash cut off.
-use Rattle.std.proofs.Common.{◌≡◌, ◌≢◌, ◌+◌, ◌<◌, Ok, Err, OnOk, Result, ◌⊎◌, inl, inr, ℕ, Bool, true, false, List, [], ◌∷◌, ◌++◌, map, drop, length, IsTrue, refl, sym, ap, subst, ◌∙◌, arith, length-append}
+use Rattle.std.proofs.Common.{◌≡◌, ◌≢◌, ◌+◌, ◌<◌, Ok, Err, OnOk, Result, ℕ, Bool, true, false, List, [], ◌∷◌, ◌++◌, map, drop, length, IsTrue, refl, sym, ap, subst, ◌∙◌, arith, length-append}
 use Rattle.std.proofs.lemmas.Bool.Decides.{nat_tests}
 use Rattle.sqlite_value.specs.Order.{Row}
-use Rattle.sqlite_trees.specs.declared.store.Shape.TheVariants.{Table}
 use Rattle.sqlite_trees.specs.Tree.{Trees, with_tree}
-use Rattle.sqlite_trees.specs.Objects.{version_tree}
+use Rattle.sqlite_trees.specs.Objects.{catalog_tree, version_tree}
 use Rattle.sqlite_trees.specs.View.{View, Commits, SetsTree}
 use Rattle.st_journal.specs.declared.record.Record.{Record}
 use Rattle.st_journal_file.specs.Table.{table_tree, rows_from, record_in, records_in, changes_in}
-use Rattle.st_journal_file.specs.inner.Ready.{Adds, HasRows, IsReady}
+use Rattle.st_journal_file.specs.inner.Ready.{Adds, ListsTable, HasTable, HasRows, IsReady}
 use Rattle.st_journal_file.proofs.RowLemmas.{listed}
 
 pub records_of : (v : View) (records : List Record) → HasRows v records → records_in v.trees ≡ records
@@ -18,6 +17,8 @@ records_of v records has = ap (map record_in) has.rows ∙ listed 0 records
 pub added : (old mid : View) (count : ℕ) (more : List Record) → IsReady old count → Adds old mid count more → HasRows mid (records_in old.trees ++ more)
 added old mid count more ready adds = record {
   sound = ap (λ (v : View). v.is_broken) adds.frame ∙ ready.rows.sound;
+  numbered = subst IsTrue (sym (ap (λ (v : View). v.is_numbered) adds.frame)) ready.rows.numbered;
+  listed = adds.others catalog_tree (λ e. absurd (omega (arith, e))) ∙ ready.rows.listed;
   shape = ap (λ (v : View). v.shape table_tree) adds.frame ∙ ready.rows.shape;
   rows = adds.rows (records_in old.trees) (sym ready.counted) ready.rows.rows;
 }
@@ -39,6 +40,8 @@ committed mid new records count has counted some law commits =
       shapes = ap (λ (v : View). v.shape) commits.is ∙ sym (ap (λ (v : View). v.committed_shape) commits.is);
       rows = record {
         sound = sound;
+        numbered = subst IsTrue (sym (ap (λ (v : View). v.is_numbered) commits.is)) has.numbered;
+        listed = ap (λ (t : Trees). t catalog_tree) trees ∙ has.listed;
         shape = ap (λ (v : View). v.shape table_tree) commits.is ∙ has.shape;
         rows = rows ∙ ap (rows_from 0) (sym same);
       };
@@ -70,14 +73,31 @@ unless : (trees : Trees) (rows : List Row) (t tree : ℕ) → t ≢ tree → wit
 unless trees rows t tree other = grind (arith, nat_tests, other)
 
 -- the first record of an empty table, behind the number of the format
-pub written : (old mid new : View) (edit : List Row → List Row) (first : Record) → old.shape table_tree ≡ Table → old.trees table_tree ≡ []
-    → SetsTree old mid version_tree edit → Adds mid new 0 (first ∷ []) → HasRows new (first ∷ [])
-written old mid new edit first table none sets adds = record {
+pub written : (old mid new : View) (edit : List Row → List Row) (first : Record) → HasRows old [] → SetsTree old mid version_tree edit
+    → Adds mid new 0 (first ∷ []) → HasRows new (first ∷ [])
+written old mid new edit first empty sets adds = record {
   sound = ap (λ (v : View). v.is_broken) adds.frame ∙ ap (λ (v : View). v.is_broken) sets.is ∙ sets.sound;
-  shape = ap (λ (v : View). v.shape table_tree) adds.frame ∙ ap (λ (v : View). v.shape table_tree) sets.is ∙ table;
+  numbered = subst IsTrue (sym (ap (λ (v : View). v.is_numbered) adds.frame ∙ ap (λ (v : View). v.is_numbered) sets.is)) empty.numbered;
+  listed = adds.others catalog_tree (λ e. absurd (omega (arith, e))) ∙ ap (λ (v : View). v.trees catalog_tree) sets.is
+      ∙ unless old.trees (edit (old.trees version_tree)) catalog_tree version_tree (λ e. absurd (omega (arith, e))) ∙ empty.listed;
+  shape = ap (λ (v : View). v.shape table_tree) adds.frame ∙ ap (λ (v : View). v.shape table_tree) sets.is ∙ empty.shape;
   rows = adds.rows [] refl (ap (λ (v : View). v.trees table_tree) sets.is
-      ∙ unless old.trees (edit (old.trees version_tree)) table_tree version_tree (λ e. absurd (omega (arith, e))) ∙ none);
+      ∙ unless old.trees (edit (old.trees version_tree)) table_tree version_tree (λ e. absurd (omega (arith, e))) ∙ empty.rows);
 }
+
+-- a database whose table has such rows
+has_table : (trees : Trees) (records : List Record) → ListsTable trees → trees table_tree ≡ rows_from 0 records → 0 < length records → HasTable trees
+has_table trees [] listed rows some = absurd (omega (arith, some))
+has_table trees (r ∷ records) listed rows some = record { listed = listed; some = omega (arith, ap length rows) }
+
+pub ready_table : (v : View) (count : ℕ) → IsReady v count → HasTable v.committed
+ready_table v count ready =
+    subst HasTable ready.settled (has_table v.trees (records_in v.trees) ready.rows.listed ready.rows.rows (omega (arith, ready.counted, ready.some)))
+
+-- the table with records behind those that it had
+pub added_table : (old mid : View) (count : ℕ) (more : List Record) → IsReady old count → HasRows mid (records_in old.trees ++ more) → HasTable mid.trees
+added_table old mid count more ready has =
+    has_table mid.trees (records_in old.trees ++ more) has.listed has.rows (omega (arith, ready.counted, ready.some, length-append (records_in old.trees) more))
 
 pub on_ok : {X E P Q : Type 0} (r : Result X E) → (P → Q) → OnOk r P → OnOk r Q
 on_ok (Ok x) so h = so h

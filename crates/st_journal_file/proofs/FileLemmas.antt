@@ -1,5 +1,5 @@
 -- The store of two files, and what these hold.
-use Rattle.std.proofs.Common.{◌≡◌, ℕ, ◌<◌, true, IsTrue, IfOk, Ok, Err, Result, List, [], ◌∷◌, length, refl, sym, ap, ap₂, subst, ◌∙◌, arith}
+use Rattle.std.proofs.Common.{◌≡◌, ℕ, ◌<◌, IsTrue, IfOk, Ok, Err, Result, List, [], ◌∷◌, length, refl, sym, ap, ap₂, subst, ◌∙◌, arith}
 use Rattle.std.proofs.Math.Logic.{∥∥₁_map}
 use Rattle.sqlite_disk.specs.declared.Disk.{Ghosts}
 use Rattle.sqlite_wal.specs.Recovery.{Image}
@@ -14,7 +14,8 @@ use Rattle.sqlite_trees.specs.View.{IsClean}
 use Rattle.sqlite_trees.proofs.Doubt.{clean_of}
 use Rattle.sqlite_store.specs.declared.store.FileStore.{FileStore}
 use Rattle.sqlite_store.specs.Saved.{kept_schema}
-use Rattle.sqlite_store.specs.Listing.{IsOurs, all_shapes, file_trees}
+use Rattle.sqlite_store.specs.Listing.{IsOurs, all_shapes, file_trees, listed_from}
+use Rattle.sqlite_store.specs.Listed.{catalog_rows}
 use Rattle.sqlite_store.specs.FileStore.{view, schema_of, IsReady}
 use Rattle.sqlite_store.specs.FileStore as store
 use Rattle.st_journal_file.specs.Files.{schema, HoldTrees}
@@ -37,9 +38,11 @@ module _ {D : Type 0} {g : Ghosts D} where
   pub seen_same : (log log_now db db_now : D) → OnlyReads g log log_now → OnlyReads g db db_now → seen_image g log_now db_now ≡ seen_image g log db
   seen_same log log_now db db_now reads_log reads_db = ap₂ (λ a b. let i : Image = record { log = a; db = b } in i) reads_log.seen reads_db.seen
 
-  pub rests : (it : FileStore D g) → IsReady it → IsClean (view it) → IsAtRest (view it)
-  rests it ready clean = record {
+  pub rests : (it : FileStore D g) → IsReady it → IsTrue (view it).is_numbered → schema_of it ≡ schema → IsClean (view it) → IsAtRest (view it)
+  rests it ready numbered schema_is clean = record {
     sound = ready.sound clean;
+    numbered = numbered;
+    listed = rw (clean_of (view it).is_clean clean) (catalog_rows _ it.schema.items _ ∙ ap (listed_from 0) schema_is);
     settled = ready.clean;
     shapes = sym (ap (λ saved. all_shapes (kept_schema saved it.schema.items)) ready.unaltered);
   }

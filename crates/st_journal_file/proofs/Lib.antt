@@ -4,3 +4,4 @@ mod CommitLemmas
 mod Reading
 mod FileLemmas
 mod Opened
+mod Restart

@@ -1,11 +1,10 @@
 -- What a journal that was opened was found as.
-use Rattle.std.proofs.Common.{◌≡◌, ◌⊎◌, inl, inr, ℕ, List, [], ◌∷◌, map, drop, refl, sym, ap, subst, ◌∙◌}
+use Rattle.std.proofs.Common.{◌≡◌, ◌⊎◌, inl, inr, ℕ, List, [], ◌∷◌, map, drop, sym, ap, subst, ◌∙◌}
 use Rattle.sqlite_wal.specs.Recovery.{Image}
 use Rattle.sqlite_trees.specs.View.{View}
 use Rattle.st_journal.specs.declared.record.Record.{Record}
-use Rattle.st_journal.specs.Replays.{Replays}
 use Rattle.st_journal_file.specs.Table.{table_tree, record_in, records_in, changes_in, opening_record}
-use Rattle.st_journal_file.specs.Files.{Finds, HoldTrees, HoldNothing}
+use Rattle.st_journal_file.specs.Files.{Finds}
 use Rattle.st_journal_file.specs.Opening.{HoldJournal, HoldNoJournal, Opens}
 use Rattle.st_journal_file.specs.inner.Begins.{Begins}
 

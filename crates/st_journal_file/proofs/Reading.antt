@@ -1,17 +1,18 @@
 -- The rows of the table, read one after another.
-use Rattle.std.proofs.Common.{◌≡◌, ◌⊎◌, inl, inr, ◌<◌, ◌+◌, ℕ, ℤ, pos, Bool, true, false, IsTrue, IfOk, OnOk, Ok, Err, Result, List, [], ◌∷◌, ◌++◌, map, length, Some, refl, sym, ap, subst, ◌∙◌, arith, length-append}
+use Rattle.std.proofs.Common.{◌≡◌, inl, inr, ◌<◌, ◌+◌, ℕ, ℤ, pos, true, false, IsTrue, IfOk, OnOk, Ok, Err, Result, List, [], ◌∷◌, ◌++◌, map, length, Some, refl, sym, ap, subst, ◌∙◌, arith, length-append}
 use Rattle.sqlite_value.specs.declared.value.Value.TheVariants.{Null, Int, Text}
 use Rattle.sqlite_value.specs.Order.{Row, column}
 use Rattle.sqlite_value.specs.Keys.{plain}
 use Rattle.sqlite_trees.specs.Tree.{from_key, sought, order_of}
 use Rattle.sqlite_trees.specs.declared.store.Direction.TheVariants.{Forward}
 use Rattle.sqlite_trees.specs.declared.store.Shape.TheVariants.{Table}
+use Rattle.sqlite_trees.specs.Objects.{catalog_tree}
 use Rattle.sqlite_trees.specs.View.{View, with_cursor, Advances}
 use Rattle.st_journal.specs.declared.record.Record.{Record}
 use Rattle.st_journal.specs.Replays.{Replays}
 use Rattle.st_journal_file.specs.Table.{table_tree, row_of, rows_from, opening_record}
 use Rattle.st_journal_file.specs.Table.{record_in, records_in}
-use Rattle.st_journal_file.specs.inner.Ready.{IsReady}
+use Rattle.st_journal_file.specs.inner.Ready.{HasRows, IsReady}
 use Rattle.st_journal_file.specs.inner.Begins.{IsAtRest, Takes, AreTaken, Reads, Begins}
 use Rattle.st_journal_file.proofs.RowLemmas.{listed}
 use Rattle.st_journal_file.proofs.CommitLemmas.{open_of}
@@ -31,11 +32,11 @@ eight (a ∷ b ∷ c ∷ d ∷ e ∷ f ∷ g ∷ []) is = absurd (omega (arith, 
 eight (a ∷ b ∷ c ∷ d ∷ e ∷ f ∷ g ∷ h ∷ i ∷ more) is = absurd (omega (arith, is))
 
 -- a row whose columns are those of a record
-pub record_read : (r : Row) (number : ℕ) (time : ℤ) (user method path body result : List ℕ) → length r ≡ 8
-    → column r 0 ≡ Int (pos number) → column r 1 ≡ Null → column r 2 ≡ Int time → column r 3 ≡ Text user → column r 4 ≡ Text method
-    → column r 5 ≡ Text path → column r 6 ≡ Text body → column r 7 ≡ Text result
-    → r ≡ row_of number (record { time = time; user = user; method = method; path = path; body = body; result = result })
-record_read r number time user method path body result len is0 is1 is2 is3 is4 is5 is6 is7 =
+pub record_read : (r : Row) (number : ℕ) (time : ℤ) (user request name body result : List ℕ) → length r ≡ 8
+    → column r 0 ≡ Int (pos number) → column r 1 ≡ Null → column r 2 ≡ Int time → column r 3 ≡ Text user → column r 4 ≡ Text request
+    → column r 5 ≡ Text name → column r 6 ≡ Text body → column r 7 ≡ Text result
+    → r ≡ row_of number (record { time = time; user = user; request = request; name = name; body = body; result = result })
+record_read r number time user request name body result len is0 is1 is2 is3 is4 is5 is6 is7 =
     eight r len ∙ rw (is0, is1, is2, is3, is4, is5, is6, is7) refl
 
 pub all_rows : (rows : List Row) → from_key plain [] rows ≡ rows
@@ -140,6 +141,8 @@ module _ {S : Type 0} (applies : S → Record → S → Type 0) where
               shapes = ap (λ (v : View). v.shape) read.same ∙ rest.shapes ∙ sym (ap (λ (v : View). v.committed_shape) read.same);
               rows = record {
                 sound = ap (λ (v : View). v.is_broken) read.same ∙ rest.sound;
+                numbered = subst IsTrue (sym (ap (λ (v : View). v.is_numbered) read.same)) rest.numbered;
+                listed = ap (λ t. t catalog_tree) trees ∙ rest.listed;
                 shape = ap (λ (v : View). v.shape table_tree) read.same ∙ table;
                 rows = ap (λ t. t table_tree) trees ∙ read.rows ∙ ap (rows_from 0) (sym same);
               };
@@ -170,9 +173,15 @@ module _ {S : Type 0} (applies : S → Record → S → Type 0) where
       }
 
   -- the table of which no record was read is empty
-  pub emptied : (opening : List ℕ) (old mid : View) (before after : S) → Reads applies opening old mid 0 before after
-      → (mid.shape ≡ old.shape) × (mid.trees table_tree ≡ [])
-  emptied opening old mid before after read = (ap (λ (v : View). v.shape) read.same, go read.records refl)
+  pub emptied : (opening : List ℕ) (old mid : View) (before after : S) → Reads applies opening old mid 0 before after → IsAtRest old
+      → old.shape table_tree ≡ Table → HasRows mid []
+  emptied opening old mid before after read rest table = record {
+    sound = ap (λ (v : View). v.is_broken) read.same ∙ rest.sound;
+    numbered = subst IsTrue (sym (ap (λ (v : View). v.is_numbered) read.same)) rest.numbered;
+    listed = ap (λ (v : View). v.trees catalog_tree) read.same ∙ rest.listed;
+    shape = ap (λ (v : View). v.shape table_tree) read.same ∙ table;
+    rows = go read.records refl;
+  }
     where
       go : (records : List Record) → read.records ≡ records → mid.trees table_tree ≡ []
       go (first ∷ changes) is = absurd (omega (arith, read.counted, ap length is))

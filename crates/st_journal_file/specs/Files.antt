@@ -5,7 +5,7 @@ use Rattle.sqlite_wal.specs.Recovery.{Image}
 use Rattle.sqlite_pages.specs.PageMap.{PageMap}
 use Rattle.sqlite_pool.specs.Stored.{Recovers}
 use Rattle.sqlite_pool.specs.Opening.{IsBlankFile}
-use Rattle.sqlite_pool.specs.File.{in_use}
+use Rattle.sqlite_pool.specs.File.{IsSoundFile, in_use}
 use Rattle.sqlite_trees.specs.declared.store.Shape.TheVariants.{Table}
 use Rattle.sqlite_trees.specs.Tree.{Trees}
 use Rattle.sqlite_store.specs.declared.catalog.Wanted.{Wanted}
@@ -15,7 +15,7 @@ use Rattle.st_journal_file.specs.Table.{table_tree}
 
 -- the table, as SQL makes it
 abbrev pub table_text : List ℕ
-table_text = codes "CREATE TABLE changes (number INTEGER PRIMARY KEY, time INTEGER NOT NULL, user TEXT NOT NULL, method TEXT NOT NULL, path TEXT NOT NULL, body TEXT NOT NULL, result TEXT NOT NULL) STRICT"
+table_text = codes "CREATE TABLE changes (number INTEGER PRIMARY KEY, time INTEGER NOT NULL, user TEXT NOT NULL, request TEXT NOT NULL, name TEXT NOT NULL, body TEXT NOT NULL, result TEXT NOT NULL) STRICT"
 
 -- the schema of the database: this table alone
 abbrev pub schema : List Wanted
@@ -30,10 +30,11 @@ abbrev pub HoldTrees : Image → Trees → Type 0
 HoldTrees image trees =
     (pages : PageMap) × Recovers 4096 image pages × ∥ IsOurs 4096 true schema pages ∥₁ × (trees ≡ file_trees 4096 schema pages)
 
--- there is no database yet, or one whose schema has no row
+-- there is no database yet, or one with a valid header and no row in its schema
 abbrev pub HoldNothing : Image → Type 0
 HoldNothing image =
-    IsBlankFile 4096 image ⊎ ((pages : PageMap) × Recovers 4096 image pages × (rows_at 4096 (in_use 4096 pages) Table 1 ≡ []))
+    IsBlankFile 4096 image
+    ⊎ ((pages : PageMap) × Recovers 4096 image pages × ∥ IsSoundFile 4096 pages ∥₁ × (rows_at 4096 (in_use 4096 pages) Table 1 ≡ []))
 
 -- what an opening finds in the files
 abbrev pub Finds : Image → Trees → Type 0

@@ -19,6 +19,7 @@ abbrev pub HoldNoJournal : Image → Type 0
 HoldNoJournal image = HoldNothing image ⊎ ((trees : Trees) × HoldTrees image trees × (trees table_tree ≡ []))
 
 -- The changes are those of the journal that the files hold, or none where they hold no journal. They were applied to the state.
-pub record Opens {S : Type 0} (applies : S → Record → S → Type 0) (image : Image) (opening : List ℕ) (changes : List Record) (before after : S) : Type 0 where
+pub record Opens {S : Type 0} (applies : S → Record → S → Type 0) (image : Image) (opening : List ℕ) (changes : List Record)
+    (before after : S) : Type 0 where
   pub found : HoldJournal image opening changes ⊎ (HoldNoJournal image × (changes ≡ []))
   pub made : Replays applies before changes after

@@ -1,7 +1,7 @@
 -- The records of a journal as the rows of one table.
-use Rattle.std.specs.Prelude.{◌≡◌, ◌+◌, ℕ, ℤ, pos, List, [], ◌∷◌, drop, length, map, codes}
+use Rattle.std.specs.Prelude.{◌+◌, ℕ, ℤ, pos, List, [], ◌∷◌, drop, map, codes}
 use Rattle.sqlite_value.specs.declared.value.Value.{Value}
-use Rattle.sqlite_value.specs.declared.value.Value.TheVariants.{Null, Int, Real, Text, Blob}
+use Rattle.sqlite_value.specs.declared.value.Value.TheVariants.{Null, Int, Text}
 use Rattle.sqlite_value.specs.Order.{Row, column, bytes}
 use Rattle.sqlite_trees.specs.Tree.{Trees}
 use Rattle.st_journal.specs.declared.record.Record.{Record}
@@ -10,11 +10,11 @@ use Rattle.st_journal.specs.declared.record.Record.{Record}
 abbrev pub table_tree : ℕ
 table_tree = 0
 
--- The columns are number, time, user, method, path, body and result. The number is the rowid, which a row of SQLite has before its
+-- The columns are number, time, user, request, name, body and result. The number is the rowid, which a row of SQLite has before its
 -- columns, and then there is NULL in its column.
 abbrev pub row_of : ℕ → Record → Row
 row_of number r =
-    Int (pos number) ∷ Null ∷ Int r.time ∷ Text r.user ∷ Text r.method ∷ Text r.path ∷ Text r.body ∷ Text r.result ∷ []
+    Int (pos number) ∷ Null ∷ Int r.time ∷ Text r.user ∷ Text r.request ∷ Text r.name ∷ Text r.body ∷ Text r.result ∷ []
 
 -- the rows of these records, numbered on from this number
 abbrev pub rows_from : ℕ → List Record → List Row
@@ -30,8 +30,8 @@ abbrev pub record_in : Row → Record
 record_in row = record {
   time = integer (column row 2);
   user = bytes (column row 3);
-  method = bytes (column row 4);
-  path = bytes (column row 5);
+  request = bytes (column row 4);
+  name = bytes (column row 5);
   body = bytes (column row 6);
   result = bytes (column row 7);
 }
@@ -43,7 +43,7 @@ records_in trees = map record_in (trees table_tree)
 -- The first record, number 0, is not a change: its body says what the store was opened with.
 abbrev pub opening_record : ℤ → List ℕ → Record
 opening_record time opening =
-    record { time = time; user = []; method = codes "OPEN"; path = []; body = opening; result = [] }
+    record { time = time; user = []; request = codes "open"; name = []; body = opening; result = [] }
 
 -- the records of the changes, which are numbered from 1
 abbrev pub changes_in : Trees → List Record

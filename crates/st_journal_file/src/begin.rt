@@ -24,15 +24,15 @@ fn first_record(alloc: Global, time: i64, opening: &str) -> Result<Record, Alloc
     ensures { IfOk result (λ first. first ≡ opening_record time opening.now) }
 {
     let user = Words::new(alloc, "")?;
-    let method = Words::new(alloc, "OPEN")?;
-    let path = Words::new(alloc, "")?;
+    let request = Words::new(alloc, "open")?;
+    let name = Words::new(alloc, "")?;
     let body = Words::new(alloc, opening)?;
     let result = Words::new(alloc, "")?;
     Ok(Record {
         time,
         user,
-        method,
-        path,
+        request,
+        name,
         body,
         result,
     })
@@ -40,8 +40,7 @@ fn first_record(alloc: Global, time: i64, opening: &str) -> Result<Record, Alloc
 
 // Writes the number of the format and the first record, without a commit.
 fn write_first<S: Alter>(store: &mut S, alloc: Global, first: &Record) -> Result<(), StoreError>
-    requires table { IsClean (S.Store.view store.old) → (S.Store.view store.old).shape table_tree ≡ Shape.Table }
-    requires none { IsClean (S.Store.view store.old) → (S.Store.view store.old).trees table_tree ≡ [] }
+    requires empty { IsClean (S.Store.view store.old) → HasRows (S.Store.view store.old) [] }
     ensures clean { doubt (S.Store.view store.old).is_clean ≤ doubt (S.Store.view store.new).is_clean }
     ensures written { OnOk result (IsClean (S.Store.view store.new) → HasRows (S.Store.view store.new) (first.now ∷ [])) }
 {
@@ -56,8 +55,7 @@ fn begin_new<S: Alter>(
     opening: &str,
     time: i64,
 ) -> Result<u64, OpenError>
-    requires table { IsClean (S.Store.view store.old) → (S.Store.view store.old).shape table_tree ≡ Shape.Table }
-    requires none { IsClean (S.Store.view store.old) → (S.Store.view store.old).trees table_tree ≡ [] }
+    requires empty { IsClean (S.Store.view store.old) → HasRows (S.Store.view store.old) [] }
     ensures clean { doubt (S.Store.view store.old).is_clean ≤ doubt (S.Store.view store.new).is_clean }
     ensures ready { IfOk result (λ count. IsClean (S.Store.view store.new) → IsReady (S.Store.view store.new) count) }
     ensures records { OnOk result (IsClean (S.Store.view store.new)

@@ -67,6 +67,7 @@ fn open_table<D: Disk + Drop>(files: Unopened<D>) -> Result<FileStore<D>, OpenEr
 // Makes the store in files that hold nothing.
 fn create<D: Disk + Drop>(files: Unopened<D>) -> Result<FileStore<D>, OpenError>
     requires usable { AreUsable files }
+    requires schema { wanted_by files ≡ schema }
     ensures rest { IfOk result (λ store. IsClean (view store) → IsAtRest (view store)) }
     ensures honest { IfOk result (λ store. IsClean (view store) → IsTrue (state_of files).is_clean) }
     ensures empty { IfOk result (λ store. IsClean (view store) → (view store).committed table_tree ≡ []) }

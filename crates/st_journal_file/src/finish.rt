@@ -14,6 +14,7 @@ pub(crate) fn finish<S: Store>(
     written: Result<(), StoreError>,
 ) -> Result<(), AppendError>
     ensures clean { doubt (S.view store.old).is_clean ≤ doubt (S.view store.new).is_clean }
+    ensures numbered { IsClean (S.view store.new) → (S.view store.new).is_numbered ≡ (S.view store.old).is_numbered }
     ensures done { OnOk result (written ≡ Ok tt) }
     ensures ok { OnOk result (IsClean (S.view store.new) → Commits (S.view store.old) (S.view store.new)) }
     ensures err { OnErr result (IsRolledBack (S.view store.old) (S.view store.new)) }

@@ -3,7 +3,7 @@ ghost use Rattle.std.specs.Prelude.{◌≡◌, IsTrue};
 ghost use Rattle.sqlite_trees.specs.Tree.{Trees};
 ghost use Rattle.sqlite_trees.specs.View.{doubt, IsClean};
 ghost use Rattle.st_journal_file.specs.Table.{changes_in};
-ghost use Rattle.st_journal_file.specs.inner.Ready.{IsReady};
+ghost use Rattle.st_journal_file.specs.inner.Ready.{HasTable, IsReady};
 
 use crate::finish::finish;
 use crate::table::MOST;
@@ -20,6 +20,9 @@ pub struct FileJournal<S: Store> {
     // How many rows the table has: the records of the changes, and the first.
     pub(crate) count: u64,
     pub(crate) alloc: Global,
+    ghost numbered: { IsClean (S.view store) → IsTrue (S.view store).is_numbered },
+    // What a crash leaves is a database that has the table.
+    ghost lasting: { IsClean (S.view store) → (db : Trees) → S.recovers store db → HasTable db },
 }
 
 impl<S: Store + Drop> Journal for FileJournal<S> {
@@ -33,7 +36,8 @@ impl<S: Store + Drop> Journal for FileJournal<S> {
 
     ghost use Rattle.st_journal_file.specs.Laws.{settled_at};
 
-    ghost settled = { λ j left clean ready leaves. settled_at (S.view j.store).committed leaves.0 left (S.settled j.store leaves.0 (ready clean).is_open leaves.1) leaves.2 };
+    ghost settled = { λ j left clean ready leaves. settled_at (S.view j.store).committed leaves.0 left
+        (S.settled j.store leaves.0 (ready clean).is_open leaves.1) leaves.2 };
 
     fn append(&mut self, records: &[Record]) -> Result<(), AppendError> {
         let added = records.len() as u64;

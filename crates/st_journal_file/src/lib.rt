@@ -6,6 +6,7 @@ mod error;
 mod files;
 mod finish;
 mod journal;
+pub mod law;
 mod open;
 mod read;
 mod table;

@@ -2,11 +2,7 @@
 ghost use Rattle.std.specs.Prelude.{◌≡◌, true, false, IsTrue, IfOk};
 ghost use Rattle.sqlite_std_file.specs.File.{file_is_usable, IsFresh};
 ghost use Rattle.sqlite_wal.specs.Files.{image_at};
-ghost use Rattle.sqlite_trees.specs.View.{IsClean};
-ghost use Rattle.sqlite_store.specs.FileStore.{view};
-ghost use Rattle.st_journal_file.specs.Table.{changes_in};
 ghost use Rattle.st_journal_file.specs.Opening.{Opens};
-ghost use Rattle.st_journal_file.specs.inner.Ready.{IsReady};
 
 use crate::begin::journal_of;
 use crate::error::OpenError;
@@ -15,7 +11,7 @@ use crate::journal::FileJournal;
 use sqlite_disk::{Files, Start};
 use sqlite_std_file::{FileFrom, OpenError as FileError};
 use sqlite_store::FileStore;
-use st_journal::Replay;
+use st_journal::{Journal, Replay};
 use std::hash::{BuildHasher, RandomState};
 use std::io::ErrorKind;
 
@@ -54,9 +50,10 @@ impl<S: Start> FileJournal<FileStore<FileFrom<S>>> {
         state: &mut R,
         start: S,
     ) -> Result<FileJournal<FileStore<FileFrom<S>>>, OpenError>
-        ensures ready { IfOk result (λ journal. IsClean (view journal.store) → IsReady (view journal.store) journal.count) }
-        ensures opened { IfOk result (λ journal. IsClean (view journal.store)
-            → Opens R.applies (image_at S.Start) opening.now (changes_in (view journal.store).committed) state.old state.new) }
+        ensures ready { IfOk result (λ journal. ⟦<FileJournal<FileStore<FileFrom<S>>> as Journal>⟧.is_ready journal) }
+        ensures opened { IfOk result (λ journal. ⟦<FileJournal<FileStore<FileFrom<S>>> as Journal>⟧.misreads journal ≡ 0
+            → Opens R.applies (image_at S.Start) opening.now (⟦<FileJournal<FileStore<FileFrom<S>>> as Journal>⟧.list journal)
+            state.old state.new) }
     {
         let files = open_files(rt, path, start)?;
         let Ok(random) = RandomState::new(rt) else {

@@ -60,15 +60,15 @@ fn read_row(alloc: Global, row: &Row, number: u64) -> Result<Record, OpenError>
         return Err(OpenError::Damaged);
     };
     let user = text_in(alloc, row, 3)?;
-    let method = text_in(alloc, row, 4)?;
-    let path = text_in(alloc, row, 5)?;
+    let request = text_in(alloc, row, 4)?;
+    let name = text_in(alloc, row, 5)?;
     let body = text_in(alloc, row, 6)?;
     let result = text_in(alloc, row, 7)?;
     Ok(Record {
         time,
         user,
-        method,
-        path,
+        request,
+        name,
         body,
         result,
     })
@@ -76,7 +76,7 @@ fn read_row(alloc: Global, row: &Row, number: u64) -> Result<Record, OpenError>
 
 // Whether the record is that of an opening, and of which does not matter.
 fn is_opening(change: &Record) -> bool {
-    change.user.is("") && change.method.is("OPEN") && change.path.is("") && change.result.is("")
+    change.user.is("") && change.request.is("open") && change.name.is("") && change.result.is("")
 }
 
 // Whether the record says this opening.
@@ -84,8 +84,8 @@ fn says(change: &Record, opening: &str) -> bool
     ensures { IsTrue result → change.now ≡ opening_record change.now.time opening.now }
 {
     change.user.is("")
-        && change.method.is("OPEN")
-        && change.path.is("")
+        && change.request.is("open")
+        && change.name.is("")
         && change.body.is(opening)
         && change.result.is("")
 }

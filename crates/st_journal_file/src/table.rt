@@ -20,8 +20,8 @@ pub(crate) const MOST: u64 = 0x4000_0000_0000_0000;
 const NAME: &str = "changes";
 
 const SQL: &str =
-    "CREATE TABLE changes (number INTEGER PRIMARY KEY, time INTEGER NOT NULL, user TEXT NOT NULL, method TEXT NOT NULL, \
-path TEXT NOT NULL, body TEXT NOT NULL, result TEXT NOT NULL) STRICT";
+    "CREATE TABLE changes (number INTEGER PRIMARY KEY, time INTEGER NOT NULL, user TEXT NOT NULL, request TEXT NOT NULL, \
+name TEXT NOT NULL, body TEXT NOT NULL, result TEXT NOT NULL) STRICT";
 
 // The table, as SQL makes it.
 pub(crate) fn table() -> Object<'static>

@@ -22,8 +22,8 @@ fn fill(row: &mut Row, number: u64, change: &Record) -> Result<(), AllocError>
     row.push(ValueRef::Null)?;
     row.push(ValueRef::Int(change.time))?;
     row.push(ValueRef::Text(change.user.as_str().as_bytes()))?;
-    row.push(ValueRef::Text(change.method.as_str().as_bytes()))?;
-    row.push(ValueRef::Text(change.path.as_str().as_bytes()))?;
+    row.push(ValueRef::Text(change.request.as_str().as_bytes()))?;
+    row.push(ValueRef::Text(change.name.as_str().as_bytes()))?;
     row.push(ValueRef::Text(change.body.as_str().as_bytes()))?;
     row.push(ValueRef::Text(change.result.as_str().as_bytes()))
 }

@@ -1,15 +1,16 @@
 -- A stage of the code, which no reader has to believe: what an opening reads and writes in the table.
 use Rattle.std.specs.Prelude.{◌≡◌, ◌⊎◌, ◌<◌, ℕ, ℤ, false, List, [], ◌∷◌, length, IsTrue}
-use Rattle.sqlite_trees.specs.declared.store.Shape.TheVariants.{Table}
 use Rattle.sqlite_trees.specs.View.{View}
 use Rattle.st_journal.specs.declared.record.Record.{Record}
 use Rattle.st_journal.specs.Replays.{Replays}
 use Rattle.st_journal_file.specs.Table.{table_tree, rows_from, records_in, opening_record}
-use Rattle.st_journal_file.specs.inner.Ready.{IsReady}
+use Rattle.st_journal_file.specs.inner.Ready.{ListsTable, IsReady}
 
--- nothing is under way
+-- nothing is under way, and the table is listed
 pub record IsAtRest (v : View) : Type 0 where
   pub sound : v.is_broken ≡ false
+  pub numbered : IsTrue v.is_numbered
+  pub listed : ListsTable v.trees
   pub settled : v.trees ≡ v.committed
   pub shapes : v.shape ≡ v.committed_shape
 

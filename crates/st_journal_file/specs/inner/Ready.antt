@@ -1,9 +1,13 @@
 -- An invariant of a representation, which no reader has to believe: a store that has the table.
 use Rattle.std.specs.Prelude.{◌≡◌, ◌≢◌, ◌<◌, ℕ, false, List, ◌++◌, length, IsTrue}
 use Rattle.sqlite_trees.specs.declared.store.Shape.TheVariants.{Table}
+use Rattle.sqlite_trees.specs.Tree.{Trees}
+use Rattle.sqlite_trees.specs.Objects.{catalog_tree}
 use Rattle.sqlite_trees.specs.View.{View, OnlyWrites}
+use Rattle.sqlite_store.specs.Listing.{listed_from}
 use Rattle.st_journal.specs.declared.record.Record.{Record}
 use Rattle.st_journal_file.specs.Table.{table_tree, rows_from, records_in}
+use Rattle.st_journal_file.specs.Files.{schema}
 
 -- Only the table differs. Where it had so many rows of records, it has these behind them.
 pub record Adds (old new : View) (count : ℕ) (more : List Record) : Type 0 where
@@ -12,9 +16,20 @@ pub record Adds (old new : View) (count : ℕ) (more : List Record) : Type 0 whe
   pub rows : (records : List Record) → length records ≡ count → old.trees table_tree ≡ rows_from 0 records
       → new.trees table_tree ≡ rows_from 0 (records ++ more)
 
+-- the database lists the table, and nothing else
+abbrev pub ListsTable : Trees → Type 0
+ListsTable trees = trees catalog_tree ≡ listed_from 0 schema
+
+-- the same, and the table has a row
+pub record HasTable (trees : Trees) : Type 0 where
+  pub listed : ListsTable trees
+  pub some : 0 < length (trees table_tree)
+
 -- the transaction sees these records
 pub record HasRows (v : View) (records : List Record) : Type 0 where
   pub sound : v.is_broken ≡ false
+  pub numbered : IsTrue v.is_numbered
+  pub listed : ListsTable v.trees
   pub shape : v.shape table_tree ≡ Table
   pub rows : v.trees table_tree ≡ rows_from 0 records
 

@@ -13,5 +13,5 @@ returns-clause-written g c = on_ok c.put_all.result (λ added clean.
     let mid_clean : IsClean mid = omega (arith, clean, c.put_all.ensures.quiet.clean) in
     let old_clean : IsClean old = omega (arith, mid_clean, c.set_version.ensures.quiet.clean) in
     let one : c.from_ref.result.now ≡ c.args.first.now ∷ [] = search rules in
-    written old mid new _ c.args.first.now (c.requires.table old_clean) (c.requires.none old_clean) (c.in_ok-set_version.ensures.ok mid_clean)
+    written old mid new _ c.args.first.now (c.requires.empty old_clean) (c.in_ok-set_version.ensures.ok mid_clean)
     (subst (Adds mid new 0) one (added clean))) c.put_all.ensures.added

@@ -1,4 +1,4 @@
-use Rattle.std.proofs.Common.{◌≡◌, IsTrue, inl, inr, sym, ap, subst, ◌∙◌}
+use Rattle.std.proofs.Common.{IsTrue, inl, inr, sym, ap, subst, ◌∙◌}
 use Rattle.sqlite_wal.specs.Files.{seen_image}
 use Rattle.sqlite_wal.specs.Reads.{are_clean}
 use Rattle.sqlite_pool.specs.Opening.{IsBlankFile}

@@ -1,4 +1,4 @@
-use Rattle.std.proofs.Common.{◌≡◌, [], ◌+◌, true, false, rules, arith}
+use Rattle.std.proofs.Common.{◌≡◌, [], true, false, rules, arith}
 use Rattle.sqlite_trees.specs.Tree.{sought, order_of}
 use Rattle.sqlite_trees.specs.declared.store.Direction.TheVariants.{Forward}
 use Rattle.sqlite_trees.specs.View.{IsClean, with_cursor, Advances}

@@ -1,8 +1,8 @@
-use Rattle.std.proofs.Common.{◌≡◌, ◌⊎◌, inl, inr, ◌++◌, ◌+◌, length, arith, sym, ap, ◌∙◌}
-use Rattle.sqlite_trees.specs.Tree.{Trees}
+use Rattle.std.proofs.Common.{inl, inr, ◌+◌, IsTrue, length, arith, sym, ap, subst, ◌∙◌}
 use Rattle.sqlite_trees.specs.View.{IsClean}
 use Rattle.st_journal_file.specs.Table.{changes_in}
-use Rattle.st_journal_file.proofs.CommitLemmas.{records_of, added, committed, length_added, changes_added}
+use Rattle.st_journal_file.specs.inner.Ready.{HasTable}
+use Rattle.st_journal_file.proofs.CommitLemmas.{records_of, added, added_table, committed, length_added, changes_added}
 use Rattle.st_journal_file.proofs.journal.FileJournalJournal.append.Goals as goal
 
 pub returns-in_err-finish-clause-crash : goal.returns-in_err-finish-clause-crash
@@ -57,3 +57,51 @@ returns-clause-kept g c clean =
     let has = added old middle c.args.self.now.count c.args.records.now ready ((rw c.in_ok-finish.ensures.done at c.put_all-written.ensures.added) mid) in
     let commits = c.in_ok-finish.ensures.ok clean in
     ap changes_in (ap (λ v. v.committed) commits.is) ∙ changes_added old c.args.self.now.count c.args.records.now middle.trees ready (records_of middle _ has)
+
+pub invariant_of-self : goal.invariant_of-self
+invariant_of-self g c = record {
+  numbered = λ clean.
+      let s = g.S.Store in
+      let old = s.view c.args.self.now.store in
+      let middle = s.view c.put_all-written.new.store in
+      let mid : IsClean middle = omega (arith, clean, c.finish.ensures.clean) in
+      let was : IsClean old = omega (arith, mid, c.put_all-written.ensures.quiet.clean) in
+      subst IsTrue (sym (c.finish.ensures.numbered clean ∙ (c.put_all-written.ensures.kept mid).numbered)) (c.args.self.now.numbered was);
+  lasting = λ clean db leaves.
+      let s = g.S.Store in
+      let old = s.view c.args.self.now.store in
+      let middle = s.view c.put_all-written.new.store in
+      let count = c.args.self.now.count in
+      let mid : IsClean middle = omega (arith, clean, c.finish.ensures.clean) in
+      let was : IsClean old = omega (arith, mid, c.put_all-written.ensures.quiet.clean) in
+      let ready = c.requires.ready was in
+      elim (c.finish.ensures.crash db leaves) [
+        | inl new ↦ subst HasTable (sym new.2) (added_table old middle count c.args.records.now ready
+            (added old middle count c.args.records.now ready ((rw new.0 at c.put_all-written.ensures.added) mid)))
+        | inr same ↦ c.args.self.now.lasting was db (c.put_all-written.ensures.quiet.outcomes db same)
+      ];
+}
+
+pub invariant_of-self-2 : goal.invariant_of-self-2
+invariant_of-self-2 g c = record {
+  numbered = λ clean.
+      let s = g.S.Store in
+      let old = s.view c.args.self.now.store in
+      let middle = s.view c.put_all-written.new.store in
+      let mid : IsClean middle = omega (arith, clean, c.finish.ensures.clean) in
+      let was : IsClean old = omega (arith, mid, c.put_all-written.ensures.quiet.clean) in
+      subst IsTrue (sym (c.finish.ensures.numbered clean ∙ (c.put_all-written.ensures.kept mid).numbered)) (c.args.self.now.numbered was);
+  lasting = λ clean db leaves.
+      let s = g.S.Store in
+      let old = s.view c.args.self.now.store in
+      let middle = s.view c.put_all-written.new.store in
+      let count = c.args.self.now.count in
+      let mid : IsClean middle = omega (arith, clean, c.finish.ensures.clean) in
+      let was : IsClean old = omega (arith, mid, c.put_all-written.ensures.quiet.clean) in
+      let ready = c.requires.ready was in
+      elim (c.finish.ensures.crash db leaves) [
+        | inl new ↦ subst HasTable (sym new.2) (added_table old middle count c.args.records.now ready
+            (added old middle count c.args.records.now ready ((rw new.0 at c.put_all-written.ensures.added) mid)))
+        | inr same ↦ c.args.self.now.lasting was db (c.put_all-written.ensures.quiet.outcomes db same)
+      ];
+}
