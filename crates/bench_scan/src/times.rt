@@ -94,13 +94,13 @@ impl Bench {
     // Puts in the row of a line.
     fn put_line(&mut self, rt: &HostRuntime, line: &str) -> io::Result<u64> {
         match row_in(self.alloc, line)? {
-            Some(row) => self.time_put(rt, &row),
+            Some(row) => self.time_put(rt, row),
             None => Ok(0),
         }
     }
 
     // Times the put of a row.
-    fn time_put(&mut self, rt: &HostRuntime, row: &Row) -> io::Result<u64> {
+    fn time_put(&mut self, rt: &HostRuntime, row: Row) -> io::Result<u64> {
         let start = Instant::now(rt)?;
         self.table.put(row)?;
         since(rt, start)

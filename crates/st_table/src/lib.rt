@@ -5,6 +5,7 @@ pub mod law;
 mod lookup;
 mod moving;
 mod names;
+mod own_name;
 mod row_name;
 mod table;
 

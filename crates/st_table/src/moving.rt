@@ -8,7 +8,7 @@ ghost use Rattle.st_table.specs.Table.{HasEachOnce};
 
 use crate::table::Table;
 use st_box::Query;
-use st_index::RowIndex;
+use st_index::{AsRow, RowIndex};
 use st_key::Point;
 use st_plan::plan;
 use st_scan::Walk;
@@ -25,14 +25,15 @@ fn everywhere() -> Query
     }
 }
 
-// Puts the rows that a walk still gives into a table of no rows.
+// Puts copies of the rows that a walk still gives into a table of no rows.
 fn put_all<I: RowIndex>(table: &mut Table<I>, walk: &mut Walk<'_, '_, I>) -> Result<(), AllocError>
     requires empty { table.old.rows ≡ [] }
     requires once { HasEachOnce walk.old.left }
     ensures { OnOk result (table.new ≡ record table.old { rows = in_order (scan_key table.old.period) walk.old.left }) }
 {
     'rows: while let Some(row) = walk.next() {
-        table.put(row)?;
+        let copy = I::Row::copy_of(row)?;
+        table.put(copy)?;
     }
     Ok(())
 }

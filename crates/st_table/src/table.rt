@@ -14,6 +14,7 @@ ghost use Rattle.st_table.specs.inner.Found.{IsFound};
 use crate::lookup::rows_under;
 use crate::moving::copy_rows;
 use crate::names::KeysByName;
+use crate::own_name::OwnName;
 use st_auth::Auths;
 use st_box::Query;
 use st_index::{AsRow, Row, RowIndex, order};
@@ -42,31 +43,25 @@ impl<I: RowIndex> Model for Table<I> {
 }
 
 // Puts a row into an index in place of the one of its name, which stands at this key, if there is one.
-fn put_at<I: RowIndex>(
-    index: &mut I,
-    before: Option<Key>,
-    row: &Row<I::Alloc>,
-    own: I::Row,
-    spare: I::Spare,
-)
-    requires same { I.Row.value own ≡ row.now }
-    requires room { I.has_room index.old row.now spare }
-    requires found { IsFound (I.period_of index.old) before (name_of row.now) (I.content index.old) }
-    ensures rows { I.content index.new ≡ with_row (I.period_of index.old) row.now (I.content index.old) }
+fn put_at<I: RowIndex>(index: &mut I, before: Option<Key>, row: I::Row, spare: I::Spare)
+    requires room { I.has_room index.old (I.Row.value row) spare }
+    requires found { IsFound (I.period_of index.old) before (name_of (I.Row.value row)) (I.content index.old) }
+    ensures rows { I.content index.new ≡ with_row (I.period_of index.old) (I.Row.value row) (I.content index.old) }
     ensures period { I.period_of index.new ≡ I.period_of index.old }
 {
-    let key = row.key(index.period());
+    let key = row.as_row().key(index.period());
     let Some(old) = before else {
-        index.insert(own, spare);
+        index.insert(row, spare);
         return;
     };
     match order::compare(old, key) {
         Ordering::Equal => {
-            let _ = index.replace(own);
+            let _ = index.replace(row);
         }
         _ => {
-            index.insert(own, spare);
-            let _ = index.remove(old, row.id.as_str(), row.label.text());
+            let name = OwnName::of(row.as_row());
+            index.insert(row, spare);
+            let _ = index.remove(old, name.id.as_str(), name.label.as_str());
         }
     }
 }
@@ -108,17 +103,17 @@ impl<I: RowIndex> Table<I> {
         self.index.period()
     }
 
-    /// Puts a copy of a row in place of the row of its id and its label's text, wherever that one stands. If memory runs out, nothing
-    /// is changed.
-    pub fn put(&mut self, row: &Row<I::Alloc>) -> Result<(), AllocError>
-        ensures ok { OnOk result (self.new ≡ record self.old { rows = with_row self.old.period row.now self.old.rows }) }
+    /// Puts a row in place of the row of its id and its label's text, wherever that one stands. If memory runs out, nothing is
+    /// changed.
+    pub fn put(&mut self, row: I::Row) -> Result<(), AllocError>
+        ensures ok { OnOk result (self.new ≡ record self.old { rows = with_row self.old.period (I.Row.value row) self.old.rows }) }
         ensures err { OnErr result (self.new ≡ self.old) }
     {
-        let key = row.key(self.index.period());
-        let own = I::Row::copy_of(row)?;
-        let spare = self.index.prepare(row)?;
-        let before = self.keys.put(row.id.as_str(), row.label.text(), key)?;
-        put_at(&mut self.index, before, row, own, spare);
+        let own = row.as_row();
+        let key = own.key(self.index.period());
+        let spare = self.index.prepare(own)?;
+        let before = self.keys.put(own.id.as_str(), own.label.text(), key)?;
+        put_at(&mut self.index, before, row, spare);
         Ok(())
     }
 

@@ -95,7 +95,7 @@ impl<A: Allocator + Copy> Shelf<A> {
         &self.table
     }
 
-    // Puts a row in place of the row of its name. When out of memory all stays as it was.
+    // Puts a copy of a row in place of the row of its name. When out of memory all stays as it was.
     fn put(&mut self, row: &Row<A>) -> Result<(), AllocError>
         ensures ok { OnOk result (self.new ≡ record self.old {
           table = record self.old.table { rows = with_row self.old.table.period row.now self.old.table.rows };
@@ -104,7 +104,7 @@ impl<A: Allocator + Copy> Shelf<A> {
         ensures in_order { InScanOrder self.old.table.period self.old.table.rows }
     {
         let _ = self.table.period();
-        self.table.put(row)
+        self.table.put(row.copy()?)
     }
 
     // Takes out the row of this id and this label's text, if there is one.
@@ -181,8 +181,8 @@ impl<A: Allocator + Copy> Tables<A> {
         self.shelves[place].rebuild(alloc, period)
     }
 
-    // Puts a row into the table of this name in place of the row of its id and its label's text. When out of memory all stays as it
-    // was.
+    // Puts a copy of a row into the table of this name in place of the row of its id and its label's text. When out of memory all
+    // stays as it was.
     pub(crate) fn put(&mut self, name: &str, row: &Row<A>) -> Result<(), AllocError>
         requires { is_some (heading_named name.now self.old.headings) ≡ true }
         ensures ok { OnOk result (self.new ≡ record self.old {
