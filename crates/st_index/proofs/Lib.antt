@@ -1,3 +1,4 @@
+pub mod Sums
 pub mod Climbing
 pub mod Rising
 pub mod Names

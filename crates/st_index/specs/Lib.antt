@@ -3,6 +3,7 @@ pub mod Notes
 pub mod Rows
 pub mod Order
 pub mod Index
+pub mod Counting
 pub mod ListValue
 pub mod RowViews
 pub mod inner

@@ -120,6 +120,7 @@ pub fn swap<A: Allocator + Copy>(
         → IsAbsent period (rank key) (name_of row) (rows_of entries.old.items)) }
     ensures rising { (period : Period) (lo hi : _) → rank key ≡ rank_of period row → Rises period lo hi entries.old.items
         → Rises period lo hi entries.new.items }
+    ensures err { OnErr result (entries.new.items ≡ entries.old.items) }
     ensures len { vec_len entries.new ≡ vec_len entries.old }
     ensures capacity { vec_capacity entries.new ≡ vec_capacity entries.old }
 {

@@ -5,10 +5,13 @@ ghost use Rattle.st_key.specs.declared.period.Period.{Period};
 ghost use Rattle.st_index.specs.declared.row.Row.{Row};
 ghost use Rattle.st_index.specs.Rows.{key_end, name_of, rank_of};
 ghost use Rattle.st_key.specs.Key.{rank};
+ghost use Rattle.st_index.specs.Counting.{count_of};
 ghost use Rattle.st_index.specs.Index.{Adds, Swaps, IsAbsent, Holds, Region, region, IsLawful, IsLeafAt};
 
 use crate::entry::Entry;
+use crate::judge::Judge;
 use crate::row::Row;
+use st_box::Query;
 use st_key::{Key, Period};
 use std::alloc::{AllocError, Allocator, Global};
 
@@ -78,6 +81,11 @@ pub trait RowIndex {
         ensures leaf { IsLeafAt (period_of self.now) (rank key) (content self.now)
             (region (rank result.first) (rank result.last)) result.entries.now }
         ensures of_regions { Contains (regions self.now) (region (rank result.first) (rank result.last)) };
+
+    /// How many rows of the content are inside the query and have a label that is found true. It takes no
+    /// memory of its own.
+    fn count<J: Judge<Self::Alloc>>(&self, query: &Query, judge: &mut J) -> u64
+        ensures { result ≡ count_of query.now (J.judges judge.old) (content self.now) };
 
     /// All the memory that it takes to put in this row now. An error if memory runs out, or if
     /// 2^64 - 1 rows are held.

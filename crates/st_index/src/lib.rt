@@ -1,10 +1,12 @@
 //! Rows in scan order, and what an index of them promises.
 #![tactic(auto)]
 
+pub mod counting;
 pub mod entries;
 mod entry;
 mod id;
 mod index;
+mod judge;
 pub mod law;
 mod list_index;
 mod note;
@@ -17,6 +19,7 @@ mod rows_view;
 pub use entry::Entry;
 pub use id::{Id, MAX_ID};
 pub use index::{AsRow, Leaf, RowIndex};
+pub use judge::Judge;
 pub use list_index::{ListIndex, ListSpare};
 pub use note::{MAX_NOTE, Note};
 pub use row::Row;

@@ -5,8 +5,10 @@ ghost use Rattle.st_index.specs.Index.{region};
 
 use crate::entry::Entry;
 use crate::index::{Leaf, RowIndex};
+use crate::judge::Judge;
 use crate::row::Row;
-use crate::{entries, room};
+use crate::{counting, entries, room};
+use st_box::Query;
 use st_key::{Key, Period};
 use std::alloc::{AllocError, Allocator, Global};
 use std::marker::Model;
@@ -79,6 +81,10 @@ impl<A: Allocator + Copy> RowIndex for ListIndex<A> {
             first: Key::FIRST,
             last: Key::last(self.period),
         }
+    }
+
+    fn count<J: Judge<A>>(&self, query: &Query, judge: &mut J) -> u64 {
+        counting::count(&self.entries, query, judge)
     }
 
     fn prepare(&self, row: &Row<A>) -> Result<ListSpare<A>, AllocError> {

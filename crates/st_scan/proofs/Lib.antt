@@ -9,4 +9,3 @@ pub mod Positions
 pub mod Fields
 pub mod Past
 pub mod Filling
-pub mod Counting

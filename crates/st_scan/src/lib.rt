@@ -11,6 +11,7 @@ mod pages;
 mod paging;
 mod part_ranges;
 mod position;
+mod sight;
 mod step;
 mod verdicts;
 mod walk;

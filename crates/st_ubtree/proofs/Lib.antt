@@ -12,3 +12,7 @@ pub mod Needing
 pub mod Counting
 pub mod Lawful
 pub mod Walking
+pub mod Summing
+pub mod Bounding
+pub mod Keeping
+pub mod Labels

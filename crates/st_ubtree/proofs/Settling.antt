@@ -7,17 +7,15 @@ use Rattle.st_index.proofs.Climbing.{all_left, all_right}
 use Rattle.st_ubtree.specs.Pages.{PageValue, NodeValue, IsFilled, IsWide}
 use Rattle.st_ubtree.specs.inner.Kids.{AreWide, IsKid, Starts, StartsAt, HeadAt, pages_of, widths_of}
 use Rattle.st_ubtree.specs.inner.Splits.{chains_of, chains_over, splits_with}
-use Rattle.st_ubtree.specs.inner.Growing.{AreBlank}
+use Rattle.st_ubtree.specs.declared.node.Blank.{Blank}
+use Rattle.st_ubtree.specs.inner.Growing.{AreBlank, IsBlank}
 
-pub blank_last : {A B : Type 0} → (vs : List (Vec B A)) (v : Vec B A) → AreBlank (vs ++ v ∷ []) → AreBlank vs × ((v.items ≡ []) × (33 ≤ vec_capacity v))
-blank_last {A} {B} vs v h =
-    let P : Vec B A → Type 0 = λ w. (w.items ≡ []) × (33 ≤ vec_capacity w) in
-    (all_left P vs (v ∷ []) h, All-head P v [] (all_right P vs (v ∷ []) h))
+pub blank_last : {A : Type 0} → (bs : List (Blank A)) (b : Blank A) → AreBlank (bs ++ b ∷ []) → AreBlank bs × IsBlank b
+blank_last bs b h = (all_left IsBlank bs (b ∷ []) h, All-head IsBlank b [] (all_right IsBlank bs (b ∷ []) h))
 
-pub blank_more : {A B : Type 0} (vs new : List (Vec B A)) (v : Vec B A) → AreBlank vs → v.items ≡ [] → 33 ≤ vec_capacity v → new ≡ vs ++ v ∷ [] → AreBlank new
-blank_more {A} {B} vs new v h empty room is =
-    let P : Vec B A → Type 0 = λ w. (w.items ≡ []) × (33 ≤ vec_capacity w) in
-    subst (All P) (sym is) (All-append P vs (v ∷ []) h (All-cons P v [] (empty, room) (λ k d l. absurd (omega (arith, l)))))
+pub blank_more : {A : Type 0} (bs new : List (Blank A)) (b : Blank A) → AreBlank bs → IsBlank b → new ≡ bs ++ b ∷ [] → AreBlank new
+blank_more bs new b h blank is =
+    subst (All IsBlank) (sym is) (All-append IsBlank bs (b ∷ []) h (All-cons IsBlank b [] blank (λ k d l. absurd (omega (arith, l)))))
 
 pub length_more : {X : Type 0} (xs new : List X) (x : X) (n : ℕ) → length xs ≡ n → new ≡ xs ++ x ∷ [] → length new ≡ n + 1
 length_more xs new x n len is = let a = ap length is in let b = length-append xs (x ∷ []) in omega (arith, a, b, len)

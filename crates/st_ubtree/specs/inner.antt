@@ -1,4 +1,5 @@
 -- Invariants of representations and stages of the code, which no reader has to believe.
+pub mod Sums
 pub mod Kids
 pub mod Tree
 pub mod Growing

@@ -1,29 +1,33 @@
 //! Pages, and the nodes over them.
-ghost use Rattle.std.specs.Prelude.{◌≡◌, ◌+◌, ◌<◌, ◌≤◌, ◌++◌, [], IfSome, IfNone, IfOk, OnErr, ◌^◌, length, vec_len, vec_capacity};
+ghost use Rattle.std.specs.Prelude.{◌≡◌, ◌+◌, ◌<◌, ◌≤◌, IfSome, IfNone, IfOk, OnErr, ◌^◌, length, vec_len, vec_capacity};
 ghost use Rattle.std.specs.List.{All};
 ghost use Rattle.st_key.specs.Key.{rank};
 ghost use Rattle.st_index.specs.Rows.{EntryValue, name_of};
 ghost use Rattle.st_ubtree.specs.Pages.{IsWide, NodeValue, entries_of_pages, AreFilled, page_node};
-ghost use Rattle.st_ubtree.specs.inner.Kids.{GrowsBy, IsKid};
 ghost use Rattle.st_ubtree.specs.inner.Trading.{Keeps, TradesIn};
 ghost use Rattle.st_ubtree.specs.inner.Shrinking.{HasNone, IsWorn, Joins, Shrinks};
-ghost use Rattle.st_ubtree.specs.inner.Growing.{AreAround, AreBlank, Grows, IsBlankPage, IsLeafIn, IsRoomFor};
-ghost use Rattle.st_ubtree.specs.inner.Splits.{made_nodes, split_nodes, splits};
+ghost use Rattle.st_ubtree.specs.inner.Growing.{AreAround, AreBlank, Grows, IsBlank, IsBlankPage, IsLeafIn, IsRoomFor};
+ghost use Rattle.st_ubtree.specs.inner.Splits.{split_nodes, splits};
 
 mod child;
+mod count;
 mod grow;
 mod join;
 mod needs;
+mod root;
+mod sums;
 
+use crate::label_counts::LabelCount;
+use crate::summary::{MAX_LABELS, Summary};
 use child::{child_for, count_up_to};
 use grow::{put_in_page, settle};
 use join::{join_kids, join_pages, mend};
 use needs::{Needs, count_node, page_needs};
 use st_index::{Entry, Leaf, Row, entries, order};
 use st_key::Key;
-use std::alloc::{Allocator, Global};
+use std::alloc::{AllocError, Allocator, Global};
 use std::marker::Model;
-use std::mem;
+use sums::{drop_row, renew, renew_if};
 
 /// A page of entries, or a node over others.
 #[cycle(node)]
@@ -31,6 +35,7 @@ use std::mem;
 pub struct Node<A: Allocator = Global> {
     first: Key,
     height: u64,
+    sum: Summary<A>,
     kids: Kids<A>,
 }
 
@@ -48,17 +53,37 @@ impl<A: Allocator> Model for Node<A> {
 
     ghost Value = { NodeValue A };
 
-    ghost use Rattle.st_ubtree.specs.inner.Nodes.{node_value, IsNode};
+    ghost use Rattle.st_ubtree.specs.inner.Nodes.{node_value, IsNode, rows_under};
+    ghost use Rattle.st_ubtree.specs.inner.Sums.{Sums};
 
     ghost view = { λ n. node_value (rank n.first) n.height n.kids };
 
-    ghost invariant = { λ n. IsNode (rank n.first) n.height n.kids };
+    ghost invariant = { λ n. IsNode (rank n.first) n.height n.kids × Sums n.sum (rows_under n.kids) };
 
     ghost size = { λ v. v.height };
 
     ghost use Rattle.st_ubtree.specs.inner.Falls.{node-falls};
 
-    ghost size_decreases = { λ a h. node-falls A.Allocator (rank a.first) a.height a.kids h };
+    ghost size_decreases = { λ a h. node-falls A.Allocator (rank a.first) a.height a.kids h.0 };
+}
+
+/// Lists for the children of a new node, and for their labels.
+#[derive(Drop)]
+pub struct Blank<A: Allocator = Global> {
+    kids: Vec<Node<A>, A>,
+    counts: Vec<LabelCount<A>, A>,
+}
+
+impl<A: Allocator + Copy> Blank<A> {
+    /// Lists with room for as many children as a node may have, and for as many labels as it counts.
+    pub fn new(alloc: A) -> Result<Blank<A>, AllocError>
+        ensures { IfOk result IsBlank }
+    {
+        Ok(Blank {
+            kids: Vec::with_capacity(alloc, 33)?,
+            counts: Vec::with_capacity(alloc, MAX_LABELS)?,
+        })
+    }
 }
 
 impl<A: Allocator + Copy> Node<A> {
@@ -68,9 +93,12 @@ impl<A: Allocator + Copy> Node<A> {
         requires room { 33 ≤ vec_capacity entries }
         ensures { result ≡ page_node (rank first) 0 entries.items }
     {
+        let mut sum = Summary::new(Vec::new(*entries.allocator()));
+        sum.add_entries(entries.as_slice());
         Node {
             first,
             height: 0,
+            sum,
             kids: Kids::Page(entries),
         }
     }
@@ -135,7 +163,7 @@ impl<A: Allocator + Copy> Node<A> {
         row: Row<A>,
         rows: Vec<Row<A>, A>,
         page: Option<Vec<Entry<A>, A>>,
-        inners: &mut Vec<Vec<Node<A>, A>, A>,
+        inners: &mut Vec<Blank<A>, A>,
     ) -> Option<Node<A>>
         requires rows { IsRoomFor (rank key) rows.items (vec_capacity rows) (entries_of_pages self.old.pages) }
         requires around { AreAround (rank key) self.old.pages }
@@ -147,9 +175,12 @@ impl<A: Allocator + Copy> Node<A> {
         ensures blank { AreBlank inners.new.items }
         ensures left { vec_len inners.old ≤ vec_len inners.new + self.old.height }
     {
+        self.sum.add(&row);
         match &mut self.kids {
             Kids::Page(entries) => {
-                return put_in_page(entries, key, row, rows, page);
+                let split = put_in_page(entries, key, row, rows, page);
+                renew_if(split.is_some(), &mut self.sum, &self.kids);
+                return split;
             }
             Kids::Inner(kids) => {
                 let at = child_for(kids, key);
@@ -158,7 +189,9 @@ impl<A: Allocator + Copy> Node<A> {
                 let Ok(()) = kids.insert(at + 1, right) else {
                     unreachable!()
                 };
-                settle(kids, self.height, inners)
+                let split = settle(kids, self.height, inners);
+                renew_if(split.is_some(), &mut self.sum, &self.kids);
+                split
             }
         }
     }
@@ -180,12 +213,19 @@ impl<A: Allocator + Copy> Node<A> {
         requires both { self.old.width + right.width ≤ 47 }
         ensures joins { Joins self.old.height self.old right self.new result }
     {
-        let Node { height, kids, .. } = right;
-        match (&mut self.kids, kids) {
+        let Node {
+            height,
+            sum,
+            kids,
+            ..
+        } = right;
+        let rest = match (&mut self.kids, kids) {
             (Kids::Page(left), Kids::Page(right)) => join_pages(left, right),
-            (Kids::Inner(left), Kids::Inner(right)) => join_kids(left, right, height),
+            (Kids::Inner(left), Kids::Inner(right)) => join_kids(left, right, height, sum),
             _ => unreachable!(),
-        }
+        };
+        renew(&mut self.sum, &self.kids);
+        rest
     }
 
     /// Takes out the row of a key and a name.
@@ -196,7 +236,7 @@ impl<A: Allocator + Copy> Node<A> {
         ensures none { IfNone result (self.new ≡ self.old) }
         ensures absent { IfNone result (HasNone (rank key) (record { id = id.now; label = label.now }) self.old.pages) }
     {
-        match &mut self.kids {
+        let taken = match &mut self.kids {
             Kids::Page(entries) => entries::take(entries, key, id, label),
             Kids::Inner(kids) => {
                 let at = child_for(kids, key);
@@ -205,7 +245,10 @@ impl<A: Allocator + Copy> Node<A> {
                 mend(kids, at);
                 Some(row)
             }
-        }
+        };
+        drop_row(&mut self.sum, &taken);
+        renew_if(self.sum.is_due(), &mut self.sum, &self.kids);
+        taken
     }
 
     /// Puts a row in the place of the one of its key and name. Hands the row itself back where there is none.
@@ -214,7 +257,9 @@ impl<A: Allocator + Copy> Node<A> {
         ensures named { IfOk result (λ out. name_of out ≡ name_of row) }
         ensures keeps { Keeps self.old self.new }
         ensures absent { OnErr result (HasNone (rank key) (name_of row) self.old.pages) }
+        ensures err { OnErr result (self.new.pages ≡ self.old.pages) }
     {
+        self.sum.widen(&row.point);
         match &mut self.kids {
             Kids::Page(entries) => entries::swap(entries, key, row),
             Kids::Inner(kids) => {
@@ -225,89 +270,11 @@ impl<A: Allocator + Copy> Node<A> {
         }
     }
 
-    /// Puts in a row. Where the node is split, it comes to stand over its halves.
-    pub fn put(
-        &mut self,
-        key: Key,
-        row: Row<A>,
-        rows: Vec<Row<A>, A>,
-        page: Option<Vec<Entry<A>, A>>,
-        mut inners: Vec<Vec<Node<A>, A>, A>,
-    )
-        requires rows { IsRoomFor (rank key) rows.items (vec_capacity rows) (entries_of_pages self.old.pages) }
-        requires around { AreAround (rank key) self.old.pages }
-        requires page { 1 ≤ splits self.old (rank key) → IsBlankPage page }
-        requires blank { AreBlank inners.items }
-        requires enough { made_nodes self.old.height (splits self.old (rank key)) ≤ vec_len inners }
-        requires wide { 1 ≤ self.old.height → 2 ≤ self.old.width }
-        ensures grows { GrowsBy (rank key) row self.old.pages self.new.pages }
-        ensures wide { 1 ≤ self.new.height → 2 ≤ self.new.width }
-    {
-        let Some(right) = self.insert(key, row, rows, page, &mut inners) else {
-            return;
-        };
-        let Some(blank) = inners.pop() else {
-            unreachable!()
-        };
-        self.raise(right, blank);
-    }
-
     /// Where the node's memory comes from.
     pub fn allocator(&self) -> A {
         match &self.kids {
             Kids::Page(entries) => *entries.allocator(),
             Kids::Inner(kids) => *kids.allocator(),
-        }
-    }
-
-    /// Puts the node, and one beside it, under a node in its place.
-    pub fn raise(&mut self, right: Node<A>, mut blank: Vec<Node<A>, A>)
-        requires kids { IsKid self.old.height self.old × IsKid self.old.height right }
-        requires empty { blank.items ≡ [] }
-        requires room { 33 ≤ vec_capacity blank }
-        requires height { self.old.height + 1 < 2 ^ 64 }
-        ensures first { self.new.first ≡ self.old.first }
-        ensures height { self.new.height ≡ self.old.height + 1 }
-        ensures width { self.new.width ≡ 2 }
-        ensures pages { self.new.pages ≡ self.old.pages ++ right.pages }
-    {
-        let kids = mem::replace(&mut self.kids, Kids::Inner(Vec::new(*blank.allocator())));
-        let left = Node {
-            first: self.first,
-            height: self.height,
-            kids,
-        };
-        let Ok(()) = blank.push(left) else {
-            unreachable!()
-        };
-        let Ok(()) = blank.push(right) else {
-            unreachable!()
-        };
-        self.kids = Kids::Inner(blank);
-        self.height += 1;
-    }
-
-    /// Puts the only child of a node in the node's place.
-    pub fn lower(&mut self)
-        ensures pages { self.new.pages ≡ self.old.pages }
-        ensures first { self.new.first ≡ self.old.first }
-        ensures wide { 1 ≤ self.new.height → 2 ≤ self.new.width }
-        ensures lower { self.new.height ≤ self.old.height }
-    {
-        if let Kids::Inner(kids) = &mut self.kids
-            && kids.len() == 1
-        {
-            let Some(only) = kids.pop() else {
-                unreachable!()
-            };
-            let Node {
-                first,
-                height,
-                kids,
-            } = only;
-            self.first = first;
-            self.height = height;
-            self.kids = kids;
         }
     }
 

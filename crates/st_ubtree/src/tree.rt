@@ -9,8 +9,9 @@ ghost use Rattle.st_ubtree.specs.Trees.{regions_of};
 ghost use Rattle.st_ubtree.specs.inner.Tree.{HasTreeRoom};
 ghost use Rattle.st_ubtree.specs.Ranges.{region_in};
 
-use crate::node::Node;
-use st_index::{Entry, Leaf, Row, RowIndex, entries};
+use crate::node::{Blank, Node};
+use st_box::Query;
+use st_index::{Entry, Judge, Leaf, Row, RowIndex, entries};
 use st_key::{Key, Period};
 use std::alloc::{AllocError, Allocator, Global};
 use std::marker::Model;
@@ -47,7 +48,7 @@ pub struct KeyRange {
 pub struct UbSpare<A: Allocator = Global> {
     rows: Vec<Row<A>, A>,
     page: Option<Vec<Entry<A>, A>>,
-    inners: Vec<Vec<Node<A>, A>, A>,
+    inners: Vec<Blank<A>, A>,
 }
 
 // A page, where one is split.
@@ -76,16 +77,13 @@ fn count_made(inners: Option<u64>, height: u64) -> Result<u64, AllocError>
 }
 
 // So many empty lists of children.
-fn blank_nodes<A: Allocator + Copy>(
-    alloc: A,
-    count: u64,
-) -> Result<Vec<Vec<Node<A>, A>, A>, AllocError>
+fn blank_nodes<A: Allocator + Copy>(alloc: A, count: u64) -> Result<Vec<Blank<A>, A>, AllocError>
     ensures blank { IfOk result (λ blanks. AreBlank blanks.items) }
     ensures count { IfOk result (λ blanks. length blanks.items ≡ count) }
 {
     let mut blanks = Vec::new(alloc);
     for _ in 0..count {
-        blanks.push(Vec::with_capacity(alloc, 33)?)?;
+        blanks.push(Blank::new(alloc)?)?;
     }
     Ok(blanks)
 }
@@ -158,6 +156,10 @@ impl<A: Allocator + Copy> RowIndex for UbTree<A> {
 
     fn leaf_at(&self, key: Key) -> Leaf<'_, A> {
         self.root.leaf_at(key, Key::last(self.period))
+    }
+
+    fn count<J: Judge<A>>(&self, query: &Query, judge: &mut J) -> u64 {
+        self.root.count(query, judge)
     }
 
     fn prepare(&self, row: &Row<A>) -> Result<UbSpare<A>, AllocError> {

@@ -2,7 +2,7 @@
 
 use crate::putting::put_at;
 use st_box::Query;
-use st_index::{Leaf, Row, RowIndex};
+use st_index::{Judge, Leaf, Row, RowIndex};
 use st_key::{Key, Period};
 use st_plan::plan;
 use st_scan::Walk;
@@ -39,6 +39,10 @@ impl<I: RowIndex> RowIndex for Counted<I> {
     fn leaf_at(&self, key: Key) -> Leaf<'_, I::Alloc> {
         self.calls.set(self.calls.get().saturating_add(1));
         self.index.leaf_at(key)
+    }
+
+    fn count<J: Judge<I::Alloc>>(&self, query: &Query, judge: &mut J) -> u64 {
+        self.index.count(query, judge)
     }
 
     fn prepare(&self, row: &Row<I::Alloc>) -> Result<I::Spare, AllocError> {

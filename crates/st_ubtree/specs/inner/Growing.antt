@@ -6,6 +6,7 @@ use Rattle.std.specs.List.Sorted.{IsPartitionedBy, IsPartitionPoint}
 use Rattle.st_key.specs.declared.period.Period.{Period}
 use Rattle.st_index.specs.declared.row.Row.{Row}
 use Rattle.st_index.specs.Rows.{EntryValue, Rises}
+use Rattle.st_ubtree.specs.declared.node.Blank.{Blank}
 use Rattle.st_ubtree.specs.Pages.{PageValue, NodeValue}
 use Rattle.st_ubtree.specs.inner.Kids.{Spans, GrowsBy, AreWide, IsKid, Starts, pages_of}
 
@@ -19,9 +20,12 @@ abbrev pub IsBlankPage : {A B : Type 0} → Option (Vec B A) → Type 0
 IsBlankPage None = ⊥
 IsBlankPage (Some v) = (v.items ≡ []) × (33 ≤ vec_capacity v)
 
--- empty lists of children, each with room
-abbrev pub AreBlank : {A B : Type 0} → List (Vec B A) → Type 0
-AreBlank {A} {B} vs = All (λ (v : Vec B A). (v.items ≡ []) × (33 ≤ vec_capacity v)) vs
+-- an empty list of children with room
+abbrev pub IsBlank : {A : Type 0} → Blank A → Type 0
+IsBlank b = (b.kids.items ≡ []) × (33 ≤ vec_capacity b.kids)
+
+abbrev pub AreBlank : {A : Type 0} → List (Blank A) → Type 0
+AreBlank bs = All IsBlank bs
 
 -- the pages follow each other between some bounds, and the key stands between these
 pub record AreAround {A : Type 0} (key : ℕ) (pages : List (PageValue A)) : Type 0 where

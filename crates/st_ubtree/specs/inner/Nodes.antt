@@ -1,9 +1,11 @@
 -- An invariant of a representation, which no reader has to believe: what a node is seen as, and what holds of it.
 use Rattle.std.specs.Prelude.{◌≡◌, ℕ, ◌+◌, ◌≤◌, List, [], ◌∷◌, length, vec_capacity}
 use Rattle.std.specs.List.{All}
+use Rattle.st_index.specs.declared.row.Row.{Row}
+use Rattle.st_index.specs.Rows.{rows_of}
 use Rattle.st_ubtree.specs.declared.node.Kids.{Kids}
 use Rattle.st_ubtree.specs.declared.node.Kids.TheVariants.{Page, Inner}
-use Rattle.st_ubtree.specs.Pages.{PageValue, NodeValue}
+use Rattle.st_ubtree.specs.Pages.{PageValue, NodeValue, rows_of_pages}
 use Rattle.st_ubtree.specs.inner.Kids.{IsKid, pages_of, widths_of, HeadAt}
 use Rattle.st_ubtree.specs.inner.Splits.{chains_of}
 
@@ -18,6 +20,11 @@ widths_under (Inner kids) = widths_of kids.items
 abbrev pub pages_under : {A : Type 0} → ℕ → Kids A → List (PageValue A)
 pages_under first (Page entries) = record { first = first; entries = entries.items } ∷ []
 pages_under first (Inner kids) = pages_of kids.items
+
+-- the rows below it
+abbrev pub rows_under : {A : Type 0} → Kids A → List (Row A)
+rows_under (Page entries) = rows_of entries.items
+rows_under (Inner kids) = rows_of_pages (pages_of kids.items)
 
 abbrev pub chains_under : {A : Type 0} → Kids A → List ℕ
 chains_under (Page entries) = 1 ∷ []

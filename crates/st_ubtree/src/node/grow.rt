@@ -4,8 +4,10 @@ ghost use Rattle.st_key.specs.Key.{rank};
 ghost use Rattle.st_ubtree.specs.inner.Growing.{AreBlank, AreKids, DoRise, IsBlankPage, IsRoomFor, PageGrows, Settles};
 ghost use Rattle.st_ubtree.specs.inner.Splits.{splits_page};
 
-use super::{Kids, Node};
+use super::sums::add_kids;
+use super::{Blank, Kids, Node};
 use crate::split::split_at;
+use crate::summary::Summary;
 use st_index::{Entry, Row, entries};
 use st_key::Key;
 use std::alloc::Allocator;
@@ -42,7 +44,7 @@ pub(super) fn put_in_page<A: Allocator + Copy>(
 pub(super) fn settle<A: Allocator + Copy>(
     kids: &mut Vec<Node<A>, A>,
     height: u64,
-    inners: &mut Vec<Vec<Node<A>, A>, A>,
+    inners: &mut Vec<Blank<A>, A>,
 ) -> Option<Node<A>>
     requires kids { AreKids height kids.old.items }
     requires not_more { length kids.old.items ≤ 33 }
@@ -59,12 +61,19 @@ pub(super) fn settle<A: Allocator + Copy>(
     let Some(blank) = inners.pop() else {
         unreachable!()
     };
+    let Blank {
+        kids: blank,
+        counts,
+    } = blank;
     let least = &kids[16];
     let first = least.first;
     let upper = split_at(kids, 16, blank);
+    let mut sum = Summary::new(counts);
+    add_kids(&mut sum, upper.as_slice());
     Some(Node {
         first,
         height,
+        sum,
         kids: Kids::Inner(upper),
     })
 }

@@ -3,8 +3,10 @@ ghost use Rattle.std.specs.Prelude.{◌+◌, ◌≤◌, ◌++◌, ℕ, length, v
 ghost use Rattle.st_ubtree.specs.inner.Shrinking.{AreWorn, KidsJoin, Mends, PagesJoin};
 ghost use Rattle.st_ubtree.specs.inner.Growing.{AreKids};
 
+use super::sums::add_kids;
 use super::{Kids, Node};
 use crate::split::share;
+use crate::summary::Summary;
 use st_index::Entry;
 use std::alloc::Allocator;
 
@@ -34,6 +36,7 @@ pub(super) fn join_kids<A: Allocator + Copy>(
     left: &mut Vec<Node<A>, A>,
     mut right: Vec<Node<A>, A>,
     height: u64,
+    mut sum: Summary<A>,
 ) -> Option<Node<A>>
     requires kids { AreKids height (left.old.items ++ right.items) }
     requires left { (15 ≤ vec_len left.old) × (vec_len left.old ≤ 32) }
@@ -49,9 +52,12 @@ pub(super) fn join_kids<A: Allocator + Copy>(
     }
     let least = &right[0];
     let first = least.first;
+    sum.clear();
+    add_kids(&mut sum, right.as_slice());
     Some(Node {
         first,
         height,
+        sum,
         kids: Kids::Inner(right),
     })
 }

@@ -54,3 +54,8 @@ returns-in-Err-swap-clause-rising g c = λ period lo hi key h.
 
 pub returns-in-Err-clause-rising : goal.returns-in-Err-clause-rising
 returns-in-Err-clause-rising g c = λ period lo hi key h. h
+
+pub returns-in-Err-swap-clause-err : goal.returns-in-Err-swap-clause-err
+returns-in-Err-swap-clause-err g c =
+    let es = c.args.entries.now.items in
+    ap (λ e. set es c.in-Ok.i e) (c.in-Err-swap.ensures.err ∙ c.index_mut-entry.ensures.value) ∙ set-get_or es c.in-Ok.i c.index_mut-entry.result.now

@@ -1,10 +1,15 @@
-use Rattle.std.proofs.Common.{◌∙◌, ap, length}
-use Rattle.st_scan.specs.Visible.{visible_rows}
+use Rattle.std.proofs.Common.{sym, ap, ◌∙◌}
+use Rattle.std.proofs.lemmas.List.Sums.{length-filter}
+use Rattle.st_label.specs.Reading.{is_true}
+use Rattle.st_text.specs.Texts.{is_among}
+use Rattle.st_index.specs.Counting.{count_of}
+use Rattle.st_scan.specs.Visible.{is_visible_inside}
 use Rattle.st_scan.proofs.counts.count.Goals as goal
 
 pub returns : goal.returns
 returns g c =
+    let q = c.args.query.now in
     let content = g.I.RowIndex.content c.args.index.now in
-    c.count_regions.ensures
-    ∙ ap (λ names. length (visible_rows c.new-test.result.query names content)) c.verdicts_for-verdicts.ensures
-    ∙ ap (λ q. length (visible_rows q c.args.auths.now content)) c.new-test.ensures.query
+    c.count.ensures
+    ∙ ap (λ names. count_of q (λ label. is_true (is_among names) label) content) c.new-sight.ensures
+    ∙ sym (length-filter (is_visible_inside q c.args.auths.now) content)

@@ -14,24 +14,31 @@ use Rattle.st_ubtree.specs.inner.Splits.{chains_of, splits, splits_in, splits_pa
 use Rattle.st_ubtree.proofs.Needing.{fewer_split, kid_around, kid_splits_by, left_below, left_over, lower_kid, one_left, page_around, some_split, splits_alone, whole_split, with_full, with_not_less}
 use Rattle.st_ubtree.proofs.Settling.{held_at}
 use Rattle.st_ubtree.proofs.Lifting.{settled_split}
+use Rattle.st_index.specs.Rows.{rows_of}
+use Rattle.st_ubtree.specs.Pages.{rows_of_pages}
+use Rattle.st_ubtree.specs.inner.Nodes.{rows_under}
+use Rattle.st_ubtree.specs.inner.Sums.{Sums}
+use Rattle.st_ubtree.proofs.Keeping.{kept_sums}
+use Rattle.st_ubtree.proofs.Splitting.{one_rows}
+use Rattle.st_ubtree.proofs.Summing.{sums_added}
 use Rattle.st_ubtree.proofs.node.Node.+insert.Goals as goal
 
 pub invariant_of-self : goal.invariant_of-self
 invariant_of-self g t c =
-    let good : IsPageNode c.self.inside.height (length c.in-Page.entries.items) (vec_capacity c.in-Page.entries) = subst (IsNode (rank c.self.inside.first) c.self.inside.height) c.in-Page.is c.self.invariant in
-    record { lowest = good.lowest; not_more = page_fits (rank c.args.key) c.args.row _ _ _ c.put_in_page.ensures.grows; room = c.put_in_page.ensures.room }
+    let good : IsPageNode c.self.inside.height (length c.in-Page.entries.items) (vec_capacity c.in-Page.entries) = subst (IsNode (rank c.self.inside.first) c.self.inside.height) c.in-Page.is c.self.invariant.0 in
+    (record { lowest = good.lowest; not_more = page_fits (rank c.args.key) c.args.row _ _ _ c.put_in_page-split.ensures.grows; room = c.put_in_page-split.ensures.room }, c.renew_if.ensures)
 
 pub returns-in-Page-clause-grows : goal.returns-in-Page-clause-grows
 returns-in-Page-clause-grows g t c =
-    let good : IsPageNode c.self.inside.height (length c.in-Page.entries.items) (vec_capacity c.in-Page.entries) = subst (IsNode (rank c.self.inside.first) c.self.inside.height) c.in-Page.is c.self.invariant in
+    let good : IsPageNode c.self.inside.height (length c.in-Page.entries.items) (vec_capacity c.in-Page.entries) = subst (IsNode (rank c.self.inside.first) c.self.inside.height) c.in-Page.is c.self.invariant.0 in
     let old : page_node (rank c.self.inside.first) c.self.inside.height c.in-Page.entries.items ≡ c.args.self.now =
     ap (node_value (rank c.self.inside.first) c.self.inside.height) (sym c.in-Page.is) ∙ c.self.view_is in
-    rw (← old) (page_node_grows (rank c.args.key) c.args.row (rank c.self.inside.first) c.self.inside.height c.in-Page.entries.items c.put_in_page.new.entries.items c.put_in_page.result good.lowest c.put_in_page.ensures.grows)
+    rw (← old) (page_node_grows (rank c.args.key) c.args.row (rank c.self.inside.first) c.self.inside.height c.in-Page.entries.items c.put_in_page-split.new.entries.items c.put_in_page-split.result good.lowest c.put_in_page-split.ensures.grows)
 
 pub insert-requires : goal.insert-requires
 insert-requires g t c κs within =
     let kids = c.in-Inner.kids.items in
-    let good : IsInnerNode (rank c.self.inside.first) c.self.inside.height kids (vec_capacity c.in-Inner.kids) = subst (IsNode (rank c.self.inside.first) c.self.inside.height) c.in-Inner.is c.self.invariant in
+    let good : IsInnerNode (rank c.self.inside.first) c.self.inside.height kids (vec_capacity c.in-Inner.kids) = subst (IsNode (rank c.self.inside.first) c.self.inside.height) c.in-Inner.is c.self.invariant.0 in
     let i = c.child_for-at.result in
     let chosen : IsChosen (rank c.args.key) kids i = rw c.deref.ensures.value at c.child_for-at.ensures in
     let l = chosen.within in
@@ -53,7 +60,7 @@ insert-requires g t c κs within =
 pub invariant_of-self-in_err-right-in-Inner : goal.invariant_of-self-in_err-right-in-Inner
 invariant_of-self-in_err-right-in-Inner g t c =
     let kids = c.in-Inner.kids.items in
-    let good : IsInnerNode (rank c.self.inside.first) c.self.inside.height kids (vec_capacity c.in-Inner.kids) = subst (IsNode (rank c.self.inside.first) c.self.inside.height) c.in-Inner.is c.self.invariant in
+    let good : IsInnerNode (rank c.self.inside.first) c.self.inside.height kids (vec_capacity c.in-Inner.kids) = subst (IsNode (rank c.self.inside.first) c.self.inside.height) c.in-Inner.is c.self.invariant.0 in
     let i = c.child_for-at.result in
     let chosen : IsChosen (rank c.args.key) kids i = rw c.deref.ensures.value at c.child_for-at.ensures in
     let l = chosen.within in
@@ -62,20 +69,24 @@ invariant_of-self-in_err-right-in-Inner g t c =
     let v = c.insert.new.self in
     let stays = kid_stays (rank c.args.key) c.args.row good.below kid v (that_kid good.below kids i kid l read good.each) c.in_err-right-in-Inner.ensures.grows in
     let e = set_split kids i v l in
-    record {
-      below = good.below;
-      higher = good.higher;
-      each = subst (All (IsKid good.below)) (sym e) (each_with good.below kids i kid l read good.each (v ∷ []) (alone good.below v stays));
-      head = subst (HeadAt (rank c.self.inside.first)) (sym e) (head_same (rank c.self.inside.first) kids i kid v (drop (suc i) kids) l read c.in_err-right-in-Inner.ensures.grows.first good.head);
-      not_less = let a = good.not_less in omega (arith, a, length-set kids i v);
-      not_more = let a = good.not_more in omega (arith, a, length-set kids i v);
-      room = good.room;
-    }
+    let grown = grows_alone (rank c.args.key) c.args.row (rank c.self.inside.first) c.self.inside.height good.below kids i chosen.upto kid good.each good.head chosen.found chosen.is l read v good.not_more c.in_err-right-in-Inner.ensures.grows in
+    let sums = c.add.ensures (rows_of_pages (pages_of kids)) (subst (λ k. Sums c.self.inside.sum (rows_under k)) c.in-Inner.is c.self.invariant.1) in (
+      record {
+        below = good.below;
+        higher = good.higher;
+        each = subst (All (IsKid good.below)) (sym e) (each_with good.below kids i kid l read good.each (v ∷ []) (alone good.below v stays));
+        head = subst (HeadAt (rank c.self.inside.first)) (sym e) (head_same (rank c.self.inside.first) kids i kid v (drop (suc i) kids) l read c.in_err-right-in-Inner.ensures.grows.first good.head);
+        not_less = let a = good.not_less in omega (arith, a, length-set kids i v);
+        not_more = let a = good.not_more in omega (arith, a, length-set kids i v);
+        room = good.room;
+      },
+      sums_added c.add.new.self c.args.row _ _ grown.by.adds sums,
+    )
 
 pub returns-in_err-right-in-Inner-clause-grows : goal.returns-in_err-right-in-Inner-clause-grows
 returns-in_err-right-in-Inner-clause-grows g t c =
     let kids = c.in-Inner.kids.items in
-    let good : IsInnerNode (rank c.self.inside.first) c.self.inside.height kids (vec_capacity c.in-Inner.kids) = subst (IsNode (rank c.self.inside.first) c.self.inside.height) c.in-Inner.is c.self.invariant in
+    let good : IsInnerNode (rank c.self.inside.first) c.self.inside.height kids (vec_capacity c.in-Inner.kids) = subst (IsNode (rank c.self.inside.first) c.self.inside.height) c.in-Inner.is c.self.invariant.0 in
     let i = c.child_for-at.result in
     let chosen : IsChosen (rank c.args.key) kids i = rw c.deref.ensures.value at c.child_for-at.ensures in
     let l = chosen.within in
@@ -88,7 +99,7 @@ returns-in_err-right-in-Inner-clause-grows g t c =
 pub returns-in_err-right-in-Inner-clause-left : goal.returns-in_err-right-in-Inner-clause-left
 returns-in_err-right-in-Inner-clause-left g t c =
     let kids = c.in-Inner.kids.items in
-    let good : IsInnerNode (rank c.self.inside.first) c.self.inside.height kids (vec_capacity c.in-Inner.kids) = subst (IsNode (rank c.self.inside.first) c.self.inside.height) c.in-Inner.is c.self.invariant in
+    let good : IsInnerNode (rank c.self.inside.first) c.self.inside.height kids (vec_capacity c.in-Inner.kids) = subst (IsNode (rank c.self.inside.first) c.self.inside.height) c.in-Inner.is c.self.invariant.0 in
     let i = c.child_for-at.result in
     let chosen : IsChosen (rank c.args.key) kids i = rw c.deref.ensures.value at c.child_for-at.ensures in
     let l = chosen.within in
@@ -98,10 +109,10 @@ returns-in_err-right-in-Inner-clause-left g t c =
     let low : kid.height ≡ good.below = (that_kid good.below kids i kid l read good.each).same_height in
     left_below kid.height good.below c.self.inside.height c.args.self.now.height low good.higher tall (vec_len c.args.inners.now) (vec_len c.insert.new.inners) c.insert.ensures.left
 
-pub settle-requires-clause-kids : goal.settle-requires-clause-kids
-settle-requires-clause-kids g t c =
+pub settle-split-requires-clause-kids : goal.settle-split-requires-clause-kids
+settle-split-requires-clause-kids g t c =
     let kids = c.in-Inner.kids.items in
-    let good : IsInnerNode (rank c.self.inside.first) c.self.inside.height kids (vec_capacity c.in-Inner.kids) = subst (IsNode (rank c.self.inside.first) c.self.inside.height) c.in-Inner.is c.self.invariant in
+    let good : IsInnerNode (rank c.self.inside.first) c.self.inside.height kids (vec_capacity c.in-Inner.kids) = subst (IsNode (rank c.self.inside.first) c.self.inside.height) c.in-Inner.is c.self.invariant.0 in
     let i = c.child_for-at.result in
     let chosen : IsChosen (rank c.args.key) kids i = rw c.deref.ensures.value at c.child_for-at.ensures in
     let l = chosen.within in
@@ -114,10 +125,10 @@ settle-requires-clause-kids g t c =
     let all : All (IsKid good.below) c.insert-in-Inner.new.self.items = subst (All (IsKid good.below)) (sym there) (each_with good.below kids i kid l read good.each (c.insert.new.self ∷ c.in_ok-right-in-Inner.right ∷ []) (both good.below c.insert.new.self c.in_ok-right-in-Inner.right pair.0 pair.1)) in
     record { below = good.below; higher = good.higher; each = all }
 
-pub settle-requires-clause-enough : goal.settle-requires-clause-enough
-settle-requires-clause-enough g t c =
+pub settle-split-requires-clause-enough : goal.settle-split-requires-clause-enough
+settle-split-requires-clause-enough g t c =
     let kids = c.in-Inner.kids.items in
-    let good : IsInnerNode (rank c.self.inside.first) c.self.inside.height kids (vec_capacity c.in-Inner.kids) = subst (IsNode (rank c.self.inside.first) c.self.inside.height) c.in-Inner.is c.self.invariant in
+    let good : IsInnerNode (rank c.self.inside.first) c.self.inside.height kids (vec_capacity c.in-Inner.kids) = subst (IsNode (rank c.self.inside.first) c.self.inside.height) c.in-Inner.is c.self.invariant.0 in
     let i = c.child_for-at.result in
     let chosen : IsChosen (rank c.args.key) kids i = rw c.deref.ensures.value at c.child_for-at.ensures in
     let l = chosen.within in
@@ -135,10 +146,10 @@ settle-requires-clause-enough g t c =
     λ long. let full = with_full (length kids) kid.height (splits kid (rank c.args.key)) (omega (arith, long, wide)) split in
     one_left (vec_len c.args.inners.now) (vec_len c.insert.new.inners) (splits c.args.self.now (rank c.args.key)) (splits kid (rank c.args.key)) kid.height c.insert.ensures.left c.requires.enough (same ∙ some ∙ full) split
 
-pub invariant_of-self-2 : goal.invariant_of-self-2
-invariant_of-self-2 g t c =
+pub invariant_of-self-in-Inner : goal.invariant_of-self-in-Inner
+invariant_of-self-in-Inner g t c =
     let kids = c.in-Inner.kids.items in
-    let good : IsInnerNode (rank c.self.inside.first) c.self.inside.height kids (vec_capacity c.in-Inner.kids) = subst (IsNode (rank c.self.inside.first) c.self.inside.height) c.in-Inner.is c.self.invariant in
+    let good : IsInnerNode (rank c.self.inside.first) c.self.inside.height kids (vec_capacity c.in-Inner.kids) = subst (IsNode (rank c.self.inside.first) c.self.inside.height) c.in-Inner.is c.self.invariant.0 in
     let i = c.child_for-at.result in
     let chosen : IsChosen (rank c.args.key) kids i = rw c.deref.ensures.value at c.child_for-at.ensures in
     let l = chosen.within in
@@ -153,12 +164,40 @@ invariant_of-self-2 g t c =
     let wide : length c.insert-in-Inner.new.self.items ≡ length kids + 1 = ap length there ∙ length-inserted kids i c.insert.new.self c.in_ok-right-in-Inner.right l in
     let room = good.room in
     let grown = c.in-Ok.ensures.capacity in
-    settled_inner good.below (rank c.self.inside.first) c.self.inside.height c.insert-in-Inner.new.self.items c.settle.new.kids.items (vec_capacity c.settle.new.kids) c.settle.result good.higher all at (omega (arith, wide)) (let same = c.settle.ensures.capacity in omega (arith, same, room, grown)) c.settle.ensures.settles
+    (settled_inner good.below (rank c.self.inside.first) c.self.inside.height c.insert-in-Inner.new.self.items c.settle-split.new.kids.items (vec_capacity c.settle-split.new.kids) c.settle-split.result good.higher all at (omega (arith, wide)) (let same = c.settle-split.ensures.capacity in omega (arith, same, room, grown)) c.settle-split.ensures.settles, c.renew_if-in-Inner.ensures)
+
+pub renew_if-requires : goal.renew_if-requires
+renew_if-requires g t c = λ none.
+    let good : IsPageNode c.self.inside.height (length c.in-Page.entries.items) (vec_capacity c.in-Page.entries) = subst (IsNode (rank c.self.inside.first) c.self.inside.height) c.in-Page.is c.self.invariant.0 in
+    let old = c.in-Page.entries.items in
+    let new = c.put_in_page-split.new.entries.items in
+    let first = rank c.self.inside.first in
+    let grown = page_node_grows (rank c.args.key) c.args.row first c.self.inside.height old new c.put_in_page-split.result good.lowest c.put_in_page-split.ensures.grows in
+    let sums = c.add.ensures (rows_of old) (subst (λ k. Sums c.self.inside.sum (rows_under k)) c.in-Page.is c.self.invariant.1) in
+    let before = subst (λ rows. Sums c.add.new.self (rows ++ c.args.row ∷ [])) (sym (one_rows first old)) sums in
+    let after = kept_sums c.add.new.self (rank c.args.key) c.args.row (page_node first c.self.inside.height old) (page_node first c.self.inside.height new) c.put_in_page-split.result grown (sym c.is_some.ensures ∙ none) before in
+    subst (Sums c.add.new.self) (one_rows first new) after
+
+pub renew_if-requires-in-Inner : goal.renew_if-requires-in-Inner
+renew_if-requires-in-Inner g t c = λ none.
+    let kids = c.in-Inner.kids.items in
+    let good : IsInnerNode (rank c.self.inside.first) c.self.inside.height kids (vec_capacity c.in-Inner.kids) = subst (IsNode (rank c.self.inside.first) c.self.inside.height) c.in-Inner.is c.self.invariant.0 in
+    let i = c.child_for-at.result in
+    let chosen : IsChosen (rank c.args.key) kids i = rw c.deref.ensures.value at c.child_for-at.ensures in
+    let l = chosen.within in
+    let kid = c.index_mut-kid.result.now in
+    let read = c.index_mut-kid.ensures.value in
+    let j : i + 1 ≡ suc i = omega arith in
+    let there : c.insert-in-Inner.new.self.items ≡ take i kids ++ c.insert.new.self ∷ c.in_ok-right-in-Inner.right ∷ drop (suc i) kids =
+    c.in-Ok.ensures.items ∙ inserted kids i c.insert.new.self c.in_ok-right-in-Inner.right _ l j in
+    let grown = (grows_settled (rank c.args.key) c.args.row (rank c.self.inside.first) c.self.inside.height good.below kids i chosen.upto kid good.each good.head chosen.found chosen.is l read c.insert.new.self c.in_ok-right-in-Inner.right c.in_ok-right-in-Inner.ensures.grows c.insert-in-Inner.new.self.items c.settle-split.new.kids.items c.settle-split.result there good.higher c.settle-split.ensures.settles) in
+    let sums = c.add.ensures (rows_of_pages (pages_of kids)) (subst (λ k. Sums c.self.inside.sum (rows_under k)) c.in-Inner.is c.self.invariant.1) in
+    kept_sums c.add.new.self (rank c.args.key) c.args.row (inner_node (rank c.self.inside.first) c.self.inside.height kids) (inner_node (rank c.self.inside.first) c.self.inside.height c.settle-split.new.kids.items) c.settle-split.result grown (sym c.is_some-in-Inner.ensures ∙ none) sums
 
 pub returns-clause-grows : goal.returns-clause-grows
 returns-clause-grows g t c =
     let kids = c.in-Inner.kids.items in
-    let good : IsInnerNode (rank c.self.inside.first) c.self.inside.height kids (vec_capacity c.in-Inner.kids) = subst (IsNode (rank c.self.inside.first) c.self.inside.height) c.in-Inner.is c.self.invariant in
+    let good : IsInnerNode (rank c.self.inside.first) c.self.inside.height kids (vec_capacity c.in-Inner.kids) = subst (IsNode (rank c.self.inside.first) c.self.inside.height) c.in-Inner.is c.self.invariant.0 in
     let i = c.child_for-at.result in
     let chosen : IsChosen (rank c.args.key) kids i = rw c.deref.ensures.value at c.child_for-at.ensures in
     let l = chosen.within in
@@ -169,12 +208,12 @@ returns-clause-grows g t c =
     let j : i + 1 ≡ suc i = omega arith in
     let there : c.insert-in-Inner.new.self.items ≡ take i kids ++ c.insert.new.self ∷ c.in_ok-right-in-Inner.right ∷ drop (suc i) kids =
     c.in-Ok.ensures.items ∙ inserted kids i c.insert.new.self c.in_ok-right-in-Inner.right _ l j in
-    rw (← old) (grows_settled (rank c.args.key) c.args.row (rank c.self.inside.first) c.self.inside.height good.below kids i chosen.upto kid good.each good.head chosen.found chosen.is l read c.insert.new.self c.in_ok-right-in-Inner.right c.in_ok-right-in-Inner.ensures.grows c.insert-in-Inner.new.self.items c.settle.new.kids.items c.settle.result there good.higher c.settle.ensures.settles)
+    rw (← old) (grows_settled (rank c.args.key) c.args.row (rank c.self.inside.first) c.self.inside.height good.below kids i chosen.upto kid good.each good.head chosen.found chosen.is l read c.insert.new.self c.in_ok-right-in-Inner.right c.in_ok-right-in-Inner.ensures.grows c.insert-in-Inner.new.self.items c.settle-split.new.kids.items c.settle-split.result there good.higher c.settle-split.ensures.settles)
 
 pub returns-clause-left : goal.returns-clause-left
 returns-clause-left g t c =
     let kids = c.in-Inner.kids.items in
-    let good : IsInnerNode (rank c.self.inside.first) c.self.inside.height kids (vec_capacity c.in-Inner.kids) = subst (IsNode (rank c.self.inside.first) c.self.inside.height) c.in-Inner.is c.self.invariant in
+    let good : IsInnerNode (rank c.self.inside.first) c.self.inside.height kids (vec_capacity c.in-Inner.kids) = subst (IsNode (rank c.self.inside.first) c.self.inside.height) c.in-Inner.is c.self.invariant.0 in
     let i = c.child_for-at.result in
     let chosen : IsChosen (rank c.args.key) kids i = rw c.deref.ensures.value at c.child_for-at.ensures in
     let l = chosen.within in
@@ -182,29 +221,29 @@ returns-clause-left g t c =
     let read = c.index_mut-kid.ensures.value in
     let tall : c.args.self.now.height ≡ c.self.inside.height = ap (λ (v : NodeValue g.row.A.Denot). v.height) (sym c.self.view_is) in
     let low : kid.height ≡ good.below = (that_kid good.below kids i kid l read good.each).same_height in
-    left_over kid.height good.below c.self.inside.height c.args.self.now.height low good.higher tall (vec_len c.args.inners.now) (vec_len c.insert.new.inners) (vec_len c.settle.new.inners) c.insert.ensures.left c.settle.ensures.left
+    left_over kid.height good.below c.self.inside.height c.args.self.now.height low good.higher tall (vec_len c.args.inners.now) (vec_len c.insert.new.inners) (vec_len c.settle-split.new.inners) c.insert.ensures.left c.settle-split.ensures.left
 
-pub put_in_page-requires-clause-rising : goal.put_in_page-requires-clause-rising
-put_in_page-requires-clause-rising g t c =
+pub put_in_page-split-requires-clause-rising : goal.put_in_page-split-requires-clause-rising
+put_in_page-split-requires-clause-rising g t c =
     let pages : c.args.self.now.pages ≡ page (rank c.self.inside.first) c.in-Page.entries.items ∷ [] = ap (λ (v : NodeValue g.row.A.Denot). v.pages) (sym c.self.view_is) ∙ ap (pages_under (rank c.self.inside.first)) c.in-Page.is in
     page_around (rank c.args.key) (rank c.self.inside.first) c.in-Page.entries.items (subst (AreAround (rank c.args.key)) pages c.requires.around)
 
-pub put_in_page-requires-clause-page : goal.put_in_page-requires-clause-page
-put_in_page-requires-clause-page g t c =
+pub put_in_page-split-requires-clause-page : goal.put_in_page-split-requires-clause-page
+put_in_page-split-requires-clause-page g t c =
     let same : splits c.args.self.now (rank c.args.key) ≡ splits_page c.in-Page.entries.items 1 (rank c.args.key) = ap (λ (v : NodeValue g.row.A.Denot). splits v (rank c.args.key)) (sym c.self.view_is) ∙ ap (λ k. splits (node_value (rank c.self.inside.first) c.self.inside.height k) (rank c.args.key)) c.in-Page.is ∙ splits_alone (rank c.args.key) (rank c.self.inside.first) c.self.inside.height c.in-Page.entries.items in
     λ s. c.requires.page (omega (arith, s, same))
 
 pub returns-in-Page-clause-split : goal.returns-in-Page-clause-split
 returns-in-Page-clause-split g t c =
-    let good : IsPageNode c.self.inside.height (length c.in-Page.entries.items) (vec_capacity c.in-Page.entries) = subst (IsNode (rank c.self.inside.first) c.self.inside.height) c.in-Page.is c.self.invariant in
+    let good : IsPageNode c.self.inside.height (length c.in-Page.entries.items) (vec_capacity c.in-Page.entries) = subst (IsNode (rank c.self.inside.first) c.self.inside.height) c.in-Page.is c.self.invariant.0 in
     let same : splits c.args.self.now (rank c.args.key) ≡ splits_page c.in-Page.entries.items 1 (rank c.args.key) = ap (λ (v : NodeValue g.row.A.Denot). splits v (rank c.args.key)) (sym c.self.view_is) ∙ ap (λ k. splits (node_value (rank c.self.inside.first) c.self.inside.height k) (rank c.args.key)) c.in-Page.is ∙ splits_alone (rank c.args.key) (rank c.self.inside.first) c.self.inside.height c.in-Page.entries.items in
     let tall : c.args.self.now.height ≡ 0 = ap (λ (v : NodeValue g.row.A.Denot). v.height) (sym c.self.view_is) ∙ good.lowest in
-    rw (same, tall) c.put_in_page.ensures.split
+    rw (same, tall) c.put_in_page-split.ensures.split
 
 pub returns-clause-split : goal.returns-clause-split
 returns-clause-split g t c =
     let kids = c.in-Inner.kids.items in
-    let good : IsInnerNode (rank c.self.inside.first) c.self.inside.height kids (vec_capacity c.in-Inner.kids) = subst (IsNode (rank c.self.inside.first) c.self.inside.height) c.in-Inner.is c.self.invariant in
+    let good : IsInnerNode (rank c.self.inside.first) c.self.inside.height kids (vec_capacity c.in-Inner.kids) = subst (IsNode (rank c.self.inside.first) c.self.inside.height) c.in-Inner.is c.self.invariant.0 in
     let i = c.child_for-at.result in
     let chosen : IsChosen (rank c.args.key) kids i = rw c.deref.ensures.value at c.child_for-at.ensures in
     let l = chosen.within in
@@ -221,28 +260,28 @@ returns-clause-split g t c =
     let there : c.insert-in-Inner.new.self.items ≡ take i kids ++ c.insert.new.self ∷ c.in_ok-right-in-Inner.right ∷ drop (suc i) kids =
     c.in-Ok.ensures.items ∙ inserted kids i c.insert.new.self c.in_ok-right-in-Inner.right _ l j in
     let wide : length c.insert-in-Inner.new.self.items ≡ length kids + 1 = ap length there ∙ length-inserted kids i c.insert.new.self c.in_ok-right-in-Inner.right l in
-    settled_split c.self.inside.height c.insert-in-Inner.new.self.items c.settle.new.kids.items c.settle.result (splits c.args.self.now (rank c.args.key) ≡ c.args.self.now.height + 1) c.settle.ensures.settles
+    settled_split c.self.inside.height c.insert-in-Inner.new.self.items c.settle-split.new.kids.items c.settle-split.result (splits c.args.self.now (rank c.args.key) ≡ c.args.self.now.height + 1) c.settle-split.ensures.settles
     (λ long. let full = with_full (length kids) kid.height (splits kid (rank c.args.key)) (omega (arith, long, wide)) split in whole_split kid.height good.below c.self.inside.height c.args.self.now.height low good.higher tall (splits c.args.self.now (rank c.args.key)) (splits kid (rank c.args.key)) (same ∙ some ∙ full) split)
 
-pub put_in_page-requires-clause-rows : goal.put_in_page-requires-clause-rows
-put_in_page-requires-clause-rows g t c =
+pub put_in_page-split-requires-clause-rows : goal.put_in_page-split-requires-clause-rows
+put_in_page-split-requires-clause-rows g t c =
     let pages : c.args.self.now.pages ≡ page (rank c.self.inside.first) c.in-Page.entries.items ∷ [] = ap (λ (v : NodeValue g.row.A.Denot). v.pages) (sym c.self.view_is) ∙ ap (pages_under (rank c.self.inside.first)) c.in-Page.is in
     subst (IsRoomFor (rank c.args.key) c.args.rows.items (vec_capacity c.args.rows)) (ap entries_of_pages pages ∙ append-nil c.in-Page.entries.items) c.requires.rows
 
-pub put_in_page-requires-clause-not_more : goal.put_in_page-requires-clause-not_more
-put_in_page-requires-clause-not_more g t c =
-    let good : IsPageNode c.self.inside.height (length c.in-Page.entries.items) (vec_capacity c.in-Page.entries) = subst (IsNode (rank c.self.inside.first) c.self.inside.height) c.in-Page.is c.self.invariant in
+pub put_in_page-split-requires-clause-not_more : goal.put_in_page-split-requires-clause-not_more
+put_in_page-split-requires-clause-not_more g t c =
+    let good : IsPageNode c.self.inside.height (length c.in-Page.entries.items) (vec_capacity c.in-Page.entries) = subst (IsNode (rank c.self.inside.first) c.self.inside.height) c.in-Page.is c.self.invariant.0 in
     good.not_more
 
-pub put_in_page-requires-clause-room : goal.put_in_page-requires-clause-room
-put_in_page-requires-clause-room g t c =
-    let good : IsPageNode c.self.inside.height (length c.in-Page.entries.items) (vec_capacity c.in-Page.entries) = subst (IsNode (rank c.self.inside.first) c.self.inside.height) c.in-Page.is c.self.invariant in
+pub put_in_page-split-requires-clause-room : goal.put_in_page-split-requires-clause-room
+put_in_page-split-requires-clause-room g t c =
+    let good : IsPageNode c.self.inside.height (length c.in-Page.entries.items) (vec_capacity c.in-Page.entries) = subst (IsNode (rank c.self.inside.first) c.self.inside.height) c.in-Page.is c.self.invariant.0 in
     good.room
 
 pub child_for-at-requires : goal.child_for-at-requires
 child_for-at-requires g t c =
     let kids = c.in-Inner.kids.items in
-    let good : IsInnerNode (rank c.self.inside.first) c.self.inside.height kids (vec_capacity c.in-Inner.kids) = subst (IsNode (rank c.self.inside.first) c.self.inside.height) c.in-Inner.is c.self.invariant in
+    let good : IsInnerNode (rank c.self.inside.first) c.self.inside.height kids (vec_capacity c.in-Inner.kids) = subst (IsNode (rank c.self.inside.first) c.self.inside.height) c.in-Inner.is c.self.invariant.0 in
     subst (λ ks. 1 ≤ length ks) (sym c.deref.ensures.value) good.not_less
 
 pub index_mut-kid-requires : goal.index_mut-kid-requires
@@ -264,16 +303,16 @@ insert-requires-in-Inner g t c =
 pub unreachable-requires : goal.unreachable-requires
 unreachable-requires g t c =
     let kids = c.in-Inner.kids.items in
-    let good : IsInnerNode (rank c.self.inside.first) c.self.inside.height kids (vec_capacity c.in-Inner.kids) = subst (IsNode (rank c.self.inside.first) c.self.inside.height) c.in-Inner.is c.self.invariant in
+    let good : IsInnerNode (rank c.self.inside.first) c.self.inside.height kids (vec_capacity c.in-Inner.kids) = subst (IsNode (rank c.self.inside.first) c.self.inside.height) c.in-Inner.is c.self.invariant.0 in
     let full : vec_capacity c.in-Inner.kids ≤ vec_len c.in-Inner.kids = c.in_default.ensures.full in
     let room = good.room in
     let fits = good.not_more in
     omega (arith, c.in-Inner.kids.ok.0, full, room, fits)
 
-pub settle-requires-clause-not_more : goal.settle-requires-clause-not_more
-settle-requires-clause-not_more g t c =
+pub settle-split-requires-clause-not_more : goal.settle-split-requires-clause-not_more
+settle-split-requires-clause-not_more g t c =
     let kids = c.in-Inner.kids.items in
-    let good : IsInnerNode (rank c.self.inside.first) c.self.inside.height kids (vec_capacity c.in-Inner.kids) = subst (IsNode (rank c.self.inside.first) c.self.inside.height) c.in-Inner.is c.self.invariant in
+    let good : IsInnerNode (rank c.self.inside.first) c.self.inside.height kids (vec_capacity c.in-Inner.kids) = subst (IsNode (rank c.self.inside.first) c.self.inside.height) c.in-Inner.is c.self.invariant.0 in
     let i = c.child_for-at.result in
     let chosen : IsChosen (rank c.args.key) kids i = rw c.deref.ensures.value at c.child_for-at.ensures in
     let l = chosen.within in
@@ -284,8 +323,20 @@ settle-requires-clause-not_more g t c =
     let fits = good.not_more in
     omega (arith, wide, fits)
 
-pub settle-requires-clause-blank : goal.settle-requires-clause-blank
-settle-requires-clause-blank g t c = c.insert.ensures.blank
+pub settle-split-requires-clause-blank : goal.settle-split-requires-clause-blank
+settle-split-requires-clause-blank g t c = c.insert.ensures.blank
 
 pub returns-clause-blank : goal.returns-clause-blank
-returns-clause-blank g t c = c.settle.ensures.blank
+returns-clause-blank g t c = c.settle-split.ensures.blank
+
+pub overflow_add-at : goal.overflow_add-at
+overflow_add-at g t c =
+    let kids = c.in-Inner.kids.items in
+    let good : IsInnerNode (rank c.self.inside.first) c.self.inside.height kids (vec_capacity c.in-Inner.kids) = subst (IsNode (rank c.self.inside.first) c.self.inside.height) c.in-Inner.is c.self.invariant.0 in
+    let chosen : IsChosen (rank c.args.key) kids c.child_for-at.result = rw c.deref.ensures.value at c.child_for-at.ensures in
+    let l = chosen.within in
+    let fits = good.not_more in
+    omega (arith, l, fits)
+
+pub unreachable-unreachable : goal.unreachable-unreachable
+unreachable-unreachable g t c = c.unreachable.result

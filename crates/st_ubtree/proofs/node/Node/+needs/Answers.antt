@@ -17,7 +17,7 @@ use Rattle.st_ubtree.proofs.node.Node.+needs.Goals as goal
 pub needs-needs-requires : goal.needs-needs-requires
 needs-needs-requires g t c κs within =
     let kids = c.in-Inner.kids.items in
-    let good : IsInnerNode (rank c.self.inside.first) c.self.inside.height kids (vec_capacity c.in-Inner.kids) = subst (IsNode (rank c.self.inside.first) c.self.inside.height) c.in-Inner.is c.self.invariant in
+    let good : IsInnerNode (rank c.self.inside.first) c.self.inside.height kids (vec_capacity c.in-Inner.kids) = subst (IsNode (rank c.self.inside.first) c.self.inside.height) c.in-Inner.is c.self.invariant.0 in
     let i = c.child_for-at.result in
     let chosen : IsChosen (rank c.args.key) kids i = rw c.deref-in-Inner.ensures.value at c.child_for-at.ensures in
     let l = chosen.within in
@@ -32,7 +32,7 @@ needs-needs-requires g t c κs within =
 
 pub count_node-requires : goal.count_node-requires
 count_node-requires g t c =
-    let good : IsInnerNode (rank c.self.inside.first) c.self.inside.height c.in-Inner.kids.items (vec_capacity c.in-Inner.kids) = subst (IsNode (rank c.self.inside.first) c.self.inside.height) c.in-Inner.is c.self.invariant in
+    let good : IsInnerNode (rank c.self.inside.first) c.self.inside.height c.in-Inner.kids.items (vec_capacity c.in-Inner.kids) = subst (IsNode (rank c.self.inside.first) c.self.inside.height) c.in-Inner.is c.self.invariant.0 in
     let higher = good.higher in
     omega (arith, higher)
 
@@ -50,7 +50,7 @@ returns-in-Page-clause-no_rows g t c = λ none.
 pub returns-in-Inner-clause-rows : goal.returns-in-Inner-clause-rows
 returns-in-Inner-clause-rows g t c =
     let kids = c.in-Inner.kids.items in
-    let good : IsInnerNode (rank c.self.inside.first) c.self.inside.height kids (vec_capacity c.in-Inner.kids) = subst (IsNode (rank c.self.inside.first) c.self.inside.height) c.in-Inner.is c.self.invariant in
+    let good : IsInnerNode (rank c.self.inside.first) c.self.inside.height kids (vec_capacity c.in-Inner.kids) = subst (IsNode (rank c.self.inside.first) c.self.inside.height) c.in-Inner.is c.self.invariant.0 in
     let i = c.child_for-at.result in
     let chosen : IsChosen (rank c.args.key) kids i = rw c.deref-in-Inner.ensures.value at c.child_for-at.ensures in
     let l = chosen.within in
@@ -62,7 +62,7 @@ returns-in-Inner-clause-rows g t c =
 pub returns-in-Inner-clause-no_rows : goal.returns-in-Inner-clause-no_rows
 returns-in-Inner-clause-no_rows g t c = λ none.
     let kids = c.in-Inner.kids.items in
-    let good : IsInnerNode (rank c.self.inside.first) c.self.inside.height kids (vec_capacity c.in-Inner.kids) = subst (IsNode (rank c.self.inside.first) c.self.inside.height) c.in-Inner.is c.self.invariant in
+    let good : IsInnerNode (rank c.self.inside.first) c.self.inside.height kids (vec_capacity c.in-Inner.kids) = subst (IsNode (rank c.self.inside.first) c.self.inside.height) c.in-Inner.is c.self.invariant.0 in
     let i = c.child_for-at.result in
     let chosen : IsChosen (rank c.args.key) kids i = rw c.deref-in-Inner.ensures.value at c.child_for-at.ensures in
     let l = chosen.within in
@@ -74,7 +74,7 @@ returns-in-Inner-clause-no_rows g t c = λ none.
 pub returns-in-Inner-clause-splits : goal.returns-in-Inner-clause-splits
 returns-in-Inner-clause-splits g t c =
     let kids = c.in-Inner.kids.items in
-    let good : IsInnerNode (rank c.self.inside.first) c.self.inside.height kids (vec_capacity c.in-Inner.kids) = subst (IsNode (rank c.self.inside.first) c.self.inside.height) c.in-Inner.is c.self.invariant in
+    let good : IsInnerNode (rank c.self.inside.first) c.self.inside.height kids (vec_capacity c.in-Inner.kids) = subst (IsNode (rank c.self.inside.first) c.self.inside.height) c.in-Inner.is c.self.invariant.0 in
     let i = c.child_for-at.result in
     let chosen : IsChosen (rank c.args.key) kids i = rw c.deref-in-Inner.ensures.value at c.child_for-at.ensures in
     let l = chosen.within in
@@ -100,7 +100,7 @@ returns-in-Page-clause-rows g t c =
 pub child_for-at-requires : goal.child_for-at-requires
 child_for-at-requires g t c =
     let kids = c.in-Inner.kids.items in
-    let good : IsInnerNode (rank c.self.inside.first) c.self.inside.height kids (vec_capacity c.in-Inner.kids) = subst (IsNode (rank c.self.inside.first) c.self.inside.height) c.in-Inner.is c.self.invariant in
+    let good : IsInnerNode (rank c.self.inside.first) c.self.inside.height kids (vec_capacity c.in-Inner.kids) = subst (IsNode (rank c.self.inside.first) c.self.inside.height) c.in-Inner.is c.self.invariant.0 in
     subst (λ ks. 1 ≤ length ks) (sym c.deref-in-Inner.ensures.value) good.not_less
 
 pub index-kid-requires : goal.index-kid-requires

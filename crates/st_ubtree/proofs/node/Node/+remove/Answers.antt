@@ -10,13 +10,20 @@ use Rattle.st_ubtree.proofs.Needing.{lower_kid}
 use Rattle.st_ubtree.proofs.Shrinking.{are_worn, none_in_kids, page_kept, page_named, page_taken, page_without, shrinks_inner, shrunk_inner}
 use Rattle.st_ubtree.proofs.Settling.{held_at}
 use Rattle.st_ubtree.proofs.Splitting.{page}
+use Rattle.std.specs.Prelude.{Some}
+use Rattle.st_index.specs.Rows.{Name}
+use Rattle.st_ubtree.specs.Pages.{rows_of_pages}
+use Rattle.st_ubtree.specs.inner.Nodes.{rows_under}
+use Rattle.st_ubtree.specs.inner.Sums.{Sums}
+use Rattle.st_ubtree.proofs.Keeping.{kept_taken}
+use Rattle.st_ubtree.proofs.Splitting.{one_rows}
 use Rattle.st_ubtree.proofs.node.Node.+remove.Goals as goal
 use Rattle.st_ubtree.proofs.node.Node.+remove.Goals.{in-Page, in-Inner+in_ok-row-in-Inner}
 
 pub returns-in_err-row-in-Inner-clause-absent : goal.returns-in_err-row-in-Inner-clause-absent
 returns-in_err-row-in-Inner-clause-absent g t c =
     let kids = c.in-Inner.kids.items in
-    let good : IsInnerNode (rank c.self.inside.first) c.self.inside.height kids (vec_capacity c.in-Inner.kids) = subst (IsNode (rank c.self.inside.first) c.self.inside.height) c.in-Inner.is c.self.invariant in
+    let good : IsInnerNode (rank c.self.inside.first) c.self.inside.height kids (vec_capacity c.in-Inner.kids) = subst (IsNode (rank c.self.inside.first) c.self.inside.height) c.in-Inner.is c.self.invariant.0 in
     let i = c.child_for-at.result in
     let chosen : IsChosen (rank c.args.key) kids i = rw c.deref.ensures.value at c.child_for-at.ensures in
     let l = chosen.within in
@@ -28,7 +35,7 @@ returns-in_err-row-in-Inner-clause-absent g t c =
 pub mend-requires-clause-worn : goal.mend-requires-clause-worn
 mend-requires-clause-worn g t c =
     let kids = c.in-Inner.kids.items in
-    let good : IsInnerNode (rank c.self.inside.first) c.self.inside.height kids (vec_capacity c.in-Inner.kids) = subst (IsNode (rank c.self.inside.first) c.self.inside.height) c.in-Inner.is c.self.invariant in
+    let good : IsInnerNode (rank c.self.inside.first) c.self.inside.height kids (vec_capacity c.in-Inner.kids) = subst (IsNode (rank c.self.inside.first) c.self.inside.height) c.in-Inner.is c.self.invariant.0 in
     let i = c.child_for-at.result in
     let chosen : IsChosen (rank c.args.key) kids i = rw c.deref.ensures.value at c.child_for-at.ensures in
     let l = chosen.within in
@@ -39,50 +46,52 @@ mend-requires-clause-worn g t c =
     (good.below, worn)
 
 pub invariant_of-self-2 : goal.invariant_of-self-2
-invariant_of-self-2 g t c =
-    elim c.match-self.branch [
-      | in-Page w ↦
-          let good : IsPageNode c.self.inside.height (length w.in-Page.entries.items) (vec_capacity w.in-Page.entries) = subst (IsNode (rank c.self.inside.first) c.self.inside.height) w.in-Page.is c.self.invariant in
-          let was = w.in-Page.entries.ok.0 in
-          let now = w.take.new.entries.ok.0 in
-          let shorter = w.take.ensures.shorter in
-          let fits = good.not_more in
-          let room = good.room in
-          rw w.self-inside-is (record { lowest = good.lowest; not_more = omega (arith, was, now, shorter, fits); room = omega (arith, room, w.take.ensures.capacity) })
-      | in-Inner+in_ok-row-in-Inner w ↦
-          let kids = w.in-Inner.kids.items in
-          let good : IsInnerNode (rank c.self.inside.first) c.self.inside.height kids (vec_capacity w.in-Inner.kids) = subst (IsNode (rank c.self.inside.first) c.self.inside.height) w.in-Inner.is c.self.invariant in
-          let i = w.child_for-at.result in
-          let chosen : IsChosen (rank c.args.key) kids i = rw w.deref.ensures.value at w.child_for-at.ensures in
-          let l = chosen.within in
-          let kid = w.index_mut-kid.result.now in
-          let read = w.index_mut-kid.ensures.value in
-          let tall : c.args.self.now.height ≡ c.self.inside.height = ap (λ (v : NodeValue g.row.A.Denot). v.height) (sym c.self.view_is) in
-          let broad : c.args.self.now.width ≡ length kids = ap (λ (v : NodeValue g.row.A.Denot). v.width) (sym c.self.view_is) ∙ ap width_of w.in-Inner.is in
-          let higher = good.higher in
-          let given : 1 ≤ c.args.self.now.height → 2 ≤ c.args.self.now.width = search (rules, c.requires) in
-          let two : 2 ≤ length kids = let t = given (omega (arith, tall, higher)) in omega (arith, t, broad) in
-          let fell = w.in_ok-row-in-Inner.ensures.some in
-          let worn = are_worn (rank c.args.key) good.below kids i kid l read good.each w.in_ok-row-in-Inner.row w.remove.new.self fell in
-          rw w.self-inside-is (shrunk_inner (rank c.args.key) good.below kids i kid l read good.each w.in_ok-row-in-Inner.row w.remove.new.self fell (rank c.self.inside.first) c.self.inside.height _ w.mend.new.kids.items good.higher good.head two good.not_more w.mend.ensures.room (w.mend.ensures.mends good.below worn))
-    ]
+invariant_of-self-2 g t c = (
+  elim c.match-self.branch [
+    | in-Page w ↦
+        let good : IsPageNode c.self.inside.height (length w.in-Page.entries.items) (vec_capacity w.in-Page.entries) = subst (IsNode (rank c.self.inside.first) c.self.inside.height) w.in-Page.is c.self.invariant.0 in
+        let was = w.in-Page.entries.ok.0 in
+        let now = w.take-taken.new.entries.ok.0 in
+        let shorter = w.take-taken.ensures.shorter in
+        let fits = good.not_more in
+        let room = good.room in
+        rw w.self-inside-is (record { lowest = good.lowest; not_more = omega (arith, was, now, shorter, fits); room = omega (arith, room, w.take-taken.ensures.capacity) })
+    | in-Inner+in_ok-row-in-Inner w ↦
+        let kids = w.in-Inner.kids.items in
+        let good : IsInnerNode (rank c.self.inside.first) c.self.inside.height kids (vec_capacity w.in-Inner.kids) = subst (IsNode (rank c.self.inside.first) c.self.inside.height) w.in-Inner.is c.self.invariant.0 in
+        let i = w.child_for-at.result in
+        let chosen : IsChosen (rank c.args.key) kids i = rw w.deref.ensures.value at w.child_for-at.ensures in
+        let l = chosen.within in
+        let kid = w.index_mut-kid.result.now in
+        let read = w.index_mut-kid.ensures.value in
+        let tall : c.args.self.now.height ≡ c.self.inside.height = ap (λ (v : NodeValue g.row.A.Denot). v.height) (sym c.self.view_is) in
+        let broad : c.args.self.now.width ≡ length kids = ap (λ (v : NodeValue g.row.A.Denot). v.width) (sym c.self.view_is) ∙ ap width_of w.in-Inner.is in
+        let higher = good.higher in
+        let given : 1 ≤ c.args.self.now.height → 2 ≤ c.args.self.now.width = search (rules, c.requires) in
+        let two : 2 ≤ length kids = let t = given (omega (arith, tall, higher)) in omega (arith, t, broad) in
+        let fell = w.in_ok-row-in-Inner.ensures.some in
+        let worn = are_worn (rank c.args.key) good.below kids i kid l read good.each w.in_ok-row-in-Inner.row w.remove.new.self fell in
+        rw w.self-inside-is (shrunk_inner (rank c.args.key) good.below kids i kid l read good.each w.in_ok-row-in-Inner.row w.remove.new.self fell (rank c.self.inside.first) c.self.inside.height _ w.mend.new.kids.items good.higher good.head two good.not_more w.mend.ensures.room (w.mend.ensures.mends good.below worn))
+  ],
+  c.renew_if.ensures,
+)
 
 pub returns-clause-some : goal.returns-clause-some
 returns-clause-some g t c =
     elim c.match-self.branch [
       | in-Page w ↦
-          let good : IsPageNode c.self.inside.height (length w.in-Page.entries.items) (vec_capacity w.in-Page.entries) = subst (IsNode (rank c.self.inside.first) c.self.inside.height) w.in-Page.is c.self.invariant in
+          let good : IsPageNode c.self.inside.height (length w.in-Page.entries.items) (vec_capacity w.in-Page.entries) = subst (IsNode (rank c.self.inside.first) c.self.inside.height) w.in-Page.is c.self.invariant.0 in
           let es = w.in-Page.entries.items in
           let was = w.in-Page.entries.ok.0 in
-          let now = w.take.new.entries.ok.0 in
-          let shorter = w.take.ensures.shorter in
-          let most = w.take.ensures.at_most_one in
+          let now = w.take-taken.new.entries.ok.0 in
+          let shorter = w.take-taken.ensures.shorter in
+          let most = w.take-taken.ensures.at_most_one in
           let old : page_node (rank c.self.inside.first) c.self.inside.height es ≡ c.args.self.now =
           ap (node_value (rank c.self.inside.first) c.self.inside.height) (sym w.in-Page.is) ∙ c.self.view_is in
-          rw (← old, w.self-inside-is, w.result-is) (page_taken (rank c.args.key) (record { id = c.args.id.now; label = c.args.label.now }) (rank c.self.inside.first) c.self.inside.height es w.take.new.entries.items w.take.result w.take.ensures.some w.take.ensures.placed w.take.ensures.rising (omega (arith, was, now, shorter)) (omega (arith, was, now, most)) good.not_more)
+          rw (← old, w.self-inside-is, w.taken-is) (page_taken (rank c.args.key) (record { id = c.args.id.now; label = c.args.label.now }) (rank c.self.inside.first) c.self.inside.height es w.take-taken.new.entries.items w.take-taken.result w.take-taken.ensures.some w.take-taken.ensures.placed w.take-taken.ensures.rising (omega (arith, was, now, shorter)) (omega (arith, was, now, most)) good.not_more)
       | in-Inner+in_ok-row-in-Inner w ↦
           let kids = w.in-Inner.kids.items in
-          let good : IsInnerNode (rank c.self.inside.first) c.self.inside.height kids (vec_capacity w.in-Inner.kids) = subst (IsNode (rank c.self.inside.first) c.self.inside.height) w.in-Inner.is c.self.invariant in
+          let good : IsInnerNode (rank c.self.inside.first) c.self.inside.height kids (vec_capacity w.in-Inner.kids) = subst (IsNode (rank c.self.inside.first) c.self.inside.height) w.in-Inner.is c.self.invariant.0 in
           let i = w.child_for-at.result in
           let chosen : IsChosen (rank c.args.key) kids i = rw w.deref.ensures.value at w.child_for-at.ensures in
           let l = chosen.within in
@@ -92,7 +101,7 @@ returns-clause-some g t c =
           ap (node_value (rank c.self.inside.first) c.self.inside.height) (sym w.in-Inner.is) ∙ c.self.view_is in
           let fell = w.in_ok-row-in-Inner.ensures.some in
           let worn = are_worn (rank c.args.key) good.below kids i kid l read good.each w.in_ok-row-in-Inner.row w.remove.new.self fell in
-          rw (← old, w.self-inside-is, w.result-is) (shrinks_inner (rank c.args.key) good.below kids i kid l read good.each w.in_ok-row-in-Inner.row w.remove.new.self fell (rank c.self.inside.first) c.self.inside.height w.mend.new.kids.items good.head (w.mend.ensures.mends good.below worn))
+          rw (← old, w.self-inside-is, w.taken-is) (shrinks_inner (rank c.args.key) good.below kids i kid l read good.each w.in_ok-row-in-Inner.row w.remove.new.self fell (rank c.self.inside.first) c.self.inside.height w.mend.new.kids.items good.head (w.mend.ensures.mends good.below worn))
     ]
 
 pub returns-clause-absent : goal.returns-clause-absent
@@ -101,15 +110,15 @@ returns-clause-absent g t c =
       | in-Page w ↦
           let es = w.in-Page.entries.items in
           let pages : c.args.self.now.pages ≡ page (rank c.self.inside.first) es ∷ [] = ap (λ (v : NodeValue g.row.A.Denot). v.pages) (sym c.self.view_is) ∙ ap (pages_under (rank c.self.inside.first)) w.in-Page.is in
-          rw (pages, w.result-is) (page_without (rank c.args.key) (record { id = c.args.id.now; label = c.args.label.now }) (rank c.self.inside.first) es w.take.result w.take.ensures.absent)
-      | in-Inner+in_ok-row-in-Inner w ↦ rw w.result-is tt
+          rw (pages, w.taken-is) (page_without (rank c.args.key) (record { id = c.args.id.now; label = c.args.label.now }) (rank c.self.inside.first) es w.take-taken.result w.take-taken.ensures.absent)
+      | in-Inner+in_ok-row-in-Inner w ↦ rw w.taken-is tt
     ]
 
 pub returns-clause-named : goal.returns-clause-named
 returns-clause-named g t c =
     elim c.match-self.branch [
-      | in-Page w ↦ rw w.result-is (page_named _ _ _ w.take.result w.take.ensures.some)
-      | in-Inner+in_ok-row-in-Inner w ↦ rw w.result-is w.in_ok-row-in-Inner.ensures.named
+      | in-Page w ↦ rw w.taken-is (page_named _ _ _ w.take-taken.result w.take-taken.ensures.some)
+      | in-Inner+in_ok-row-in-Inner w ↦ rw w.taken-is w.in_ok-row-in-Inner.ensures.named
     ]
 
 pub returns-clause-none : goal.returns-clause-none
@@ -119,14 +128,14 @@ returns-clause-none g t c =
           let es = w.in-Page.entries.items in
           let old : page_node (rank c.self.inside.first) c.self.inside.height es ≡ c.args.self.now =
           ap (node_value (rank c.self.inside.first) c.self.inside.height) (sym w.in-Page.is) ∙ c.self.view_is in
-          rw (← old, w.self-inside-is, w.result-is) (page_kept (rank c.self.inside.first) c.self.inside.height es w.take.new.entries.items w.take.result w.take.ensures.none)
-      | in-Inner+in_ok-row-in-Inner w ↦ rw w.result-is tt
+          rw (← old, w.self-inside-is, w.taken-is) (page_kept (rank c.self.inside.first) c.self.inside.height es w.take-taken.new.entries.items w.take-taken.result w.take-taken.ensures.none)
+      | in-Inner+in_ok-row-in-Inner w ↦ rw w.taken-is tt
     ]
 
 pub child_for-at-requires : goal.child_for-at-requires
 child_for-at-requires g t c =
     let kids = c.in-Inner.kids.items in
-    let good : IsInnerNode (rank c.self.inside.first) c.self.inside.height kids (vec_capacity c.in-Inner.kids) = subst (IsNode (rank c.self.inside.first) c.self.inside.height) c.in-Inner.is c.self.invariant in
+    let good : IsInnerNode (rank c.self.inside.first) c.self.inside.height kids (vec_capacity c.in-Inner.kids) = subst (IsNode (rank c.self.inside.first) c.self.inside.height) c.in-Inner.is c.self.invariant.0 in
     subst (λ ks. 1 ≤ length ks) (sym c.deref.ensures.value) good.not_less
 
 pub index_mut-kid-requires : goal.index_mut-kid-requires
@@ -139,7 +148,7 @@ index_mut-kid-requires g t c =
 pub remove-requires : goal.remove-requires
 remove-requires g t c κs within =
     let kids = c.in-Inner.kids.items in
-    let good : IsInnerNode (rank c.self.inside.first) c.self.inside.height kids (vec_capacity c.in-Inner.kids) = subst (IsNode (rank c.self.inside.first) c.self.inside.height) c.in-Inner.is c.self.invariant in
+    let good : IsInnerNode (rank c.self.inside.first) c.self.inside.height kids (vec_capacity c.in-Inner.kids) = subst (IsNode (rank c.self.inside.first) c.self.inside.height) c.in-Inner.is c.self.invariant.0 in
     let i = c.child_for-at.result in
     let chosen : IsChosen (rank c.args.key) kids i = rw c.deref.ensures.value at c.child_for-at.ensures in
     let l = chosen.within in
@@ -171,18 +180,18 @@ returns-in_err-row-in-Inner-clause-named g t c = rw c.from_residual.ensures tt
 pub invariant_of-self : goal.invariant_of-self
 invariant_of-self g t c =
     let kids = c.in-Inner.kids.items in
-    let good : IsInnerNode (rank c.self.inside.first) c.self.inside.height kids (vec_capacity c.in-Inner.kids) = subst (IsNode (rank c.self.inside.first) c.self.inside.height) c.in-Inner.is c.self.invariant in
+    let good : IsInnerNode (rank c.self.inside.first) c.self.inside.height kids (vec_capacity c.in-Inner.kids) = subst (IsNode (rank c.self.inside.first) c.self.inside.height) c.in-Inner.is c.self.invariant.0 in
     let i = c.child_for-at.result in
     let chosen : IsChosen (rank c.args.key) kids i = rw c.deref.ensures.value at c.child_for-at.ensures in
     let l = chosen.within in
     let kid = c.index_mut-kid.result.now in
     let read = c.index_mut-kid.ensures.value in
-    subst (λ ks. IsInnerNode (rank c.self.inside.first) c.self.inside.height ks (vec_capacity c.in-Inner.kids)) (sym (set_read kids i kid c.remove.new.self l read c.in_err-row-in-Inner.ensures.none)) good
+    (subst (λ ks. IsInnerNode (rank c.self.inside.first) c.self.inside.height ks (vec_capacity c.in-Inner.kids)) (sym (set_read kids i kid c.remove.new.self l read c.in_err-row-in-Inner.ensures.none)) good, subst (λ ks. Sums c.self.inside.sum (rows_of_pages (pages_of ks))) (sym (set_read kids i kid c.remove.new.self l read c.in_err-row-in-Inner.ensures.none)) (subst (λ k. Sums c.self.inside.sum (rows_under k)) c.in-Inner.is c.self.invariant.1))
 
 pub mend-requires-clause-two : goal.mend-requires-clause-two
 mend-requires-clause-two g t c =
     let kids = c.in-Inner.kids.items in
-    let good : IsInnerNode (rank c.self.inside.first) c.self.inside.height kids (vec_capacity c.in-Inner.kids) = subst (IsNode (rank c.self.inside.first) c.self.inside.height) c.in-Inner.is c.self.invariant in
+    let good : IsInnerNode (rank c.self.inside.first) c.self.inside.height kids (vec_capacity c.in-Inner.kids) = subst (IsNode (rank c.self.inside.first) c.self.inside.height) c.in-Inner.is c.self.invariant.0 in
     let tall : c.args.self.now.height ≡ c.self.inside.height = ap (λ (v : NodeValue g.row.A.Denot). v.height) (sym c.self.view_is) in
     let broad : c.args.self.now.width ≡ length kids = ap (λ (v : NodeValue g.row.A.Denot). v.width) (sym c.self.view_is) ∙ ap width_of c.in-Inner.is in
     let higher = good.higher in
@@ -193,12 +202,49 @@ mend-requires-clause-two g t c =
 pub mend-requires-clause-not_more : goal.mend-requires-clause-not_more
 mend-requires-clause-not_more g t c =
     let kids = c.in-Inner.kids.items in
-    let good : IsInnerNode (rank c.self.inside.first) c.self.inside.height kids (vec_capacity c.in-Inner.kids) = subst (IsNode (rank c.self.inside.first) c.self.inside.height) c.in-Inner.is c.self.invariant in
+    let good : IsInnerNode (rank c.self.inside.first) c.self.inside.height kids (vec_capacity c.in-Inner.kids) = subst (IsNode (rank c.self.inside.first) c.self.inside.height) c.in-Inner.is c.self.invariant.0 in
     let fits = good.not_more in
     omega (arith, fits, length-set kids c.child_for-at.result c.remove.new.self)
 
 pub mend-requires-clause-room : goal.mend-requires-clause-room
 mend-requires-clause-room g t c =
     let kids = c.in-Inner.kids.items in
-    let good : IsInnerNode (rank c.self.inside.first) c.self.inside.height kids (vec_capacity c.in-Inner.kids) = subst (IsNode (rank c.self.inside.first) c.self.inside.height) c.in-Inner.is c.self.invariant in
+    let good : IsInnerNode (rank c.self.inside.first) c.self.inside.height kids (vec_capacity c.in-Inner.kids) = subst (IsNode (rank c.self.inside.first) c.self.inside.height) c.in-Inner.is c.self.invariant.0 in
     good.room
+
+pub renew_if-requires : goal.renew_if-requires
+renew_if-requires g t c = λ no.
+    let first = rank c.self.inside.first in
+    let height = c.self.inside.height in
+    let key = rank c.args.key in
+    let name : Name = record { id = c.args.id.now; label = c.args.label.now } in
+    elim c.match-self.branch [
+      | in-Page w ↦
+          let good : IsPageNode c.self.inside.height (length w.in-Page.entries.items) (vec_capacity w.in-Page.entries) = subst (IsNode (rank c.self.inside.first) c.self.inside.height) w.in-Page.is c.self.invariant.0 in
+          let es = w.in-Page.entries.items in
+          let new = w.take-taken.new.entries.items in
+          let was = w.in-Page.entries.ok.0 in
+          let now = w.take-taken.new.entries.ok.0 in
+          let shorter = w.take-taken.ensures.shorter in
+          let most = w.take-taken.ensures.at_most_one in
+          let fell = page_taken key name first height es new w.take-taken.result w.take-taken.ensures.some w.take-taken.ensures.placed w.take-taken.ensures.rising (omega (arith, was, now, shorter)) (omega (arith, was, now, most)) good.not_more in
+          let kept = page_kept first height es new w.take-taken.result w.take-taken.ensures.none in
+          let drops = rw (w.taken-is, w.self-inside-is) at c.drop_row.ensures in
+          let sums = subst (λ k. Sums c.self.inside.sum (rows_under k)) w.in-Page.is c.self.invariant.1 in
+          rw w.self-inside-is (subst (Sums c.drop_row.new.sum) (one_rows first new)
+          (kept_taken c.self.inside.sum c.drop_row.new.sum key (page_node first height es) (page_node first height new) w.take-taken.result fell kept drops (subst (Sums c.self.inside.sum) (sym (one_rows first es)) sums)))
+      | in-Inner+in_ok-row-in-Inner w ↦
+          let kids = w.in-Inner.kids.items in
+          let good : IsInnerNode (rank c.self.inside.first) c.self.inside.height kids (vec_capacity w.in-Inner.kids) = subst (IsNode (rank c.self.inside.first) c.self.inside.height) w.in-Inner.is c.self.invariant.0 in
+          let i = w.child_for-at.result in
+          let chosen : IsChosen (rank c.args.key) kids i = rw w.deref.ensures.value at w.child_for-at.ensures in
+          let l = chosen.within in
+          let kid = w.index_mut-kid.result.now in
+          let read = w.index_mut-kid.ensures.value in
+          let fell = w.in_ok-row-in-Inner.ensures.some in
+          let worn = are_worn (rank c.args.key) good.below kids i kid l read good.each w.in_ok-row-in-Inner.row w.remove.new.self fell in
+          let shrinks = shrinks_inner (rank c.args.key) good.below kids i kid l read good.each w.in_ok-row-in-Inner.row w.remove.new.self fell (rank c.self.inside.first) c.self.inside.height w.mend.new.kids.items good.head (w.mend.ensures.mends good.below worn) in
+          let drops = rw (w.taken-is, w.self-inside-is) at c.drop_row.ensures in
+          let sums = subst (λ k. Sums c.self.inside.sum (rows_under k)) w.in-Inner.is c.self.invariant.1 in
+          rw w.self-inside-is (kept_taken c.self.inside.sum c.drop_row.new.sum key (inner_node first height kids) (inner_node first height w.mend.new.kids.items) (Some w.in_ok-row-in-Inner.row) shrinks tt drops sums)
+    ]

@@ -1,9 +1,11 @@
 use Rattle.std.proofs.Common.{◌≡◌, ◌≤◌, vec_len, vec_capacity, ◌+◌, ◌∷◌, ◌++◌, [], length, subst, sym, ap, ◌∙◌, arith}
 use Rattle.std.specs.List.{All}
 use Rattle.st_key.specs.Key.{rank}
-use Rattle.st_ubtree.specs.Pages.{NodeValue}
-use Rattle.st_ubtree.specs.inner.Kids.{HeadAt, IsKid}
-use Rattle.st_ubtree.specs.inner.Nodes.{node_value}
+use Rattle.st_ubtree.specs.Pages.{NodeValue, rows_of_pages}
+use Rattle.st_ubtree.specs.inner.Sums.{Sums}
+use Rattle.st_ubtree.specs.inner.Kids.{HeadAt, IsKid, pages_of}
+use Rattle.std.proofs.lemmas.List.{append-nil}
+use Rattle.st_ubtree.specs.inner.Nodes.{IsNode, node_value, rows_under}
 use Rattle.st_ubtree.proofs.Lifting.{both}
 use Rattle.st_ubtree.proofs.node.Node.raise.Goals as goal
 
@@ -20,16 +22,18 @@ invariant_of-self g c =
     let wide = ap length is in
     let a = c.in-Ok.ensures.capacity in
     let b = c.in-Ok-push.ensures.capacity in
-    let room = c.requires.room in
-    record {
-      below = c.args.self.now.height;
-      higher = ap (λ n. n + 1) (sym tall);
-      each = subst (All (IsKid c.args.self.now.height)) (sym is) each;
-      head = subst (HeadAt (rank c.self.inside.first)) (sym is) first;
-      not_less = omega (arith, wide);
-      not_more = omega (arith, wide);
-      room = omega (arith, a, b, room);
-    }
+    let room = c.requires.room in (
+      record {
+        below = c.args.self.now.height;
+        higher = ap (λ n. n + 1) (sym tall);
+        each = subst (All (IsKid c.args.self.now.height)) (sym is) each;
+        head = subst (HeadAt (rank c.self.inside.first)) (sym is) first;
+        not_less = omega (arith, wide);
+        not_more = omega (arith, wide);
+        room = omega (arith, a, b, room);
+      },
+      subst (λ ks. Sums c.add_kids.new.sum (rows_of_pages (pages_of ks))) c.as_slice.ensures.value (c.add_kids.ensures [] (subst (λ s. Sums s []) (sym c.replace-sum.ensures.after) c.new-none.ensures)),
+    )
 
 pub returns-clause-first : goal.returns-clause-first
 returns-clause-first g c = ap (λ (v : NodeValue g.row.A.Denot). v.first) c.self.view_is
@@ -50,10 +54,10 @@ overflow_add-self g c =
 
 pub unreachable-requires : goal.unreachable-requires
 unreachable-requires g c =
-    let full : vec_capacity c.args.blank ≤ vec_len c.args.blank = c.in_default.ensures.full in
+    let full : vec_capacity c.args.blank.kids ≤ vec_len c.args.blank.kids = c.in_default.ensures.full in
     let none = ap length c.requires.empty in
     let room = c.requires.room in
-    omega (arith, c.args.blank.ok.0, full, none, room)
+    omega (arith, c.args.blank.kids.ok.0, full, none, room)
 
 pub unreachable-requires-in_default-push : goal.unreachable-requires-in_default-push
 unreachable-requires-in_default-push g c =
@@ -62,4 +66,25 @@ unreachable-requires-in_default-push g c =
     let none = ap length c.requires.empty in
     let more = c.in-Ok.ensures.capacity in
     let room = c.requires.room in
-    omega (arith, c.args.blank.ok.0, full, one, none, more, room)
+    omega (arith, c.args.blank.kids.ok.0, full, one, none, more, room)
+
+pub invariant_of-left : goal.invariant_of-left
+invariant_of-left g c = (
+  subst (IsNode (rank c.self.inside.first) c.self.inside.height) (sym c.replace-kids.ensures.value) c.self.invariant.0,
+  subst (λ s. Sums s (rows_under c.replace-kids.result)) (sym c.replace-sum.ensures.value) (subst (λ k. Sums c.self.inside.sum (rows_under k)) (sym c.replace-kids.ensures.value) c.self.invariant.1),
+)
+
+pub unreachable-unreachable : goal.unreachable-unreachable
+unreachable-unreachable g c = c.unreachable.result
+
+pub unreachable-unreachable-in_default-push : goal.unreachable-unreachable-in_default-push
+unreachable-unreachable-in_default-push g c = c.unreachable-in_default-push.result
+
+pub returns-clause-pages : goal.returns-clause-pages
+returns-clause-pages g c =
+    let left : NodeValue g.row.A.Denot = node_value (rank c.self.inside.first) c.self.inside.height c.replace-kids.result in
+    let left_is : left ≡ c.args.self.now =
+    ap (node_value (rank c.self.inside.first) c.self.inside.height) c.replace-kids.ensures.value ∙ c.self.view_is in
+    let is : c.push-2.new.self.items ≡ c.args.self.now ∷ c.args.right ∷ [] =
+    c.in-Ok-push.ensures.items ∙ ap (λ t. t ++ c.args.right ∷ []) (c.in-Ok.ensures.items ∙ ap (λ t. t ++ left ∷ []) c.requires.empty) ∙ ap (λ v. v ∷ c.args.right ∷ []) left_is in
+    ap pages_of is ∙ ap (λ ps. c.args.self.now.pages ++ ps) (append-nil c.args.right.pages)

@@ -1,8 +1,9 @@
-use Rattle.std.proofs.Common.{◌≡◌, length, drop, refl, subst, sym, ap, ◌∙◌, arith}
+use Rattle.std.proofs.Common.{◌≡◌, [], length, drop, refl, subst, sym, ap, ◌∙◌, arith}
 use Rattle.std.proofs.lemmas.List.{length-take-le, length-drop}
 use Rattle.std.proofs.lemmas.List.Elements.{All-drop}
 use Rattle.st_key.specs.Key.{rank}
-use Rattle.st_ubtree.specs.Pages.{NodeValue}
+use Rattle.st_ubtree.specs.Pages.{NodeValue, rows_of_pages}
+use Rattle.st_ubtree.specs.inner.Sums.{Sums}
 use Rattle.st_ubtree.specs.inner.Kids.{AreWide, IsKid, HeadAt, Starts, pages_of, widths_of}
 use Rattle.st_ubtree.specs.inner.Splits.{chains_of}
 use Rattle.st_ubtree.specs.inner.Growing.{AreBlank}
@@ -19,15 +20,18 @@ invariant_of-result g c =
     let first : c.index-least.result.now.first ≡ rank c.least.inside.first = ap (λ (v : NodeValue g.row.A.Denot). v.first) (sym c.least.view_is) in
     let blank = (blank_last c.pop.new.self.items c.in-Some.blank (subst AreBlank c.in-Some.ensures.items c.requires.blank)).1 in
     let cap = c.split_at-upper.ensures.to_capacity in
-    rw c.split_at-upper.ensures.moved (record {
-      below = c.requires.kids.below;
-      higher = c.requires.kids.higher;
-      each = All-drop (IsKid c.requires.kids.below) 16 kids c.requires.kids.each;
-      head = subst (λ n. HeadAt n (drop 16 kids)) first least;
-      not_less = omega (arith, moved);
-      not_more = omega (arith, moved);
-      room = let b = blank.1 in omega (arith, b, cap);
-    })
+    rw c.split_at-upper.ensures.moved (
+      (record {
+        below = c.requires.kids.below;
+        higher = c.requires.kids.higher;
+        each = All-drop (IsKid c.requires.kids.below) 16 kids c.requires.kids.each;
+        head = subst (λ n. HeadAt n (drop 16 kids)) first least;
+        not_less = omega (arith, moved);
+        not_more = omega (arith, moved);
+        room = let b = blank.1 in omega (arith, b, cap);
+      }),
+      subst (λ ks. Sums c.add_kids.new.sum (rows_of_pages (pages_of ks))) (c.as_slice.ensures.value ∙ c.split_at-upper.ensures.moved) (c.add_kids.ensures [] c.new-sum.ensures),
+    )
 
 pub returns-clause-settles : goal.returns-clause-settles
 returns-clause-settles g c =
@@ -59,3 +63,6 @@ split_at-upper-requires-clause-room g c =
     let room = (blank_last c.pop.new.self.items c.in-Some.blank (subst AreBlank c.in-Some.ensures.items c.requires.blank)).1.1 in
     let fits = c.requires.not_more in
     omega (arith, c.args.kids.now.ok.0, fits, room)
+
+pub split_at-upper-requires-clause-within : goal.split_at-upper-requires-clause-within
+split_at-upper-requires-clause-within g c = omega (arith, c.if-len-le32.false, c.len.ensures)

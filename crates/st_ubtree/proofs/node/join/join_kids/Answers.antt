@@ -1,9 +1,10 @@
-use Rattle.std.proofs.Common.{◌≡◌, ◌≤◌, length, subst, sym, ap, refl, arith}
+use Rattle.std.proofs.Common.{◌≡◌, ◌≤◌, [], length, subst, sym, ap, refl, arith}
 use Rattle.std.specs.List.{All}
 use Rattle.st_key.specs.Key.{rank}
 use Rattle.st_index.proofs.Climbing.{all_right}
-use Rattle.st_ubtree.specs.Pages.{NodeValue}
-use Rattle.st_ubtree.specs.inner.Kids.{HeadAt, IsKid}
+use Rattle.st_ubtree.specs.Pages.{NodeValue, rows_of_pages}
+use Rattle.st_ubtree.specs.inner.Sums.{Sums}
+use Rattle.st_ubtree.specs.inner.Kids.{HeadAt, IsKid, pages_of}
 use Rattle.st_ubtree.proofs.Settling.{head_there, held_at, kids_start, kids_wide}
 use Rattle.st_ubtree.proofs.node.join.join_kids.Goals as goal
 
@@ -14,22 +15,24 @@ invariant_of-result g c =
     let wide : (16 ≤ length rest) × (length rest ≤ 32) = c.share.ensures.some c.if-not-share.false in
     let each : All (IsKid c.requires.kids.below) rest = all_right (IsKid c.requires.kids.below) left rest (subst (All (IsKid c.requires.kids.below)) (sym c.share.ensures.kept) c.requires.kids.each) in
     let least : HeadAt c.index-least.result.now.first rest = head_there rest 0 c.index-least.result.now (let a = wide.0 in omega (arith, a)) c.index-least.ensures in
-    let first : c.index-least.result.now.first ≡ rank c.least.inside.first = ap (λ (v : NodeValue g.row.A.Denot). v.first) (sym c.least.view_is) in
-    record {
-      below = c.requires.kids.below;
-      higher = c.requires.kids.higher;
-      each = each;
-      head = subst (λ n. HeadAt n rest) first least;
-      not_less = let a = wide.0 in omega (arith, a);
-      not_more = wide.1;
-      room = c.share.ensures.right_room;
-    }
+    let first : c.index-least.result.now.first ≡ rank c.least.inside.first = ap (λ (v : NodeValue g.row.A.Denot). v.first) (sym c.least.view_is) in (
+      record {
+        below = c.requires.kids.below;
+        higher = c.requires.kids.higher;
+        each = each;
+        head = subst (λ n. HeadAt n rest) first least;
+        not_less = let a = wide.0 in omega (arith, a);
+        not_more = wide.1;
+        room = c.share.ensures.right_room;
+      },
+      subst (λ ks. Sums c.add_kids.new.sum (rows_of_pages (pages_of ks))) c.as_slice.ensures.value (c.add_kids.ensures [] c.clear.ensures),
+    )
 
 pub returns-clause-joins : goal.returns-clause-joins
 returns-clause-joins g c =
     let left = c.share.new.left.items in
     let rest = c.share.new.right.items in
-    let i = invariant_of-result g c in
+    let i = (invariant_of-result g c).0 in
     let wide : (16 ≤ length rest) × (length rest ≤ 32) = c.share.ensures.some c.if-not-share.false in
     record {
       rest = rest;

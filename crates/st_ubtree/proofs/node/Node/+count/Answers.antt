@@ -1,0 +1,123 @@
+use Rattle.std.proofs.Common.{◌≡◌, ◌+◌, ◌<◌, ◌≤◌, length, get_or, take, sym, ap, subst, ◌∙◌, arith, rules, vec_capacity}
+use Rattle.std.proofs.lemmas.List.Sums.{count_by-le-length, sum_by-take-le}
+use Rattle.st_key.specs.Key.{rank}
+use Rattle.st_index.specs.Counting.{count_of, is_counted}
+use Rattle.st_index.specs.Rows.{rows_of}
+use Rattle.st_index.proofs.Sums.{sum_all, sum_one_more}
+use Rattle.st_ubtree.specs.Pages.{NodeValue, rows_of_pages}
+use Rattle.st_ubtree.specs.inner.Kids.{pages_of}
+use Rattle.st_ubtree.specs.inner.Nodes.{IsInnerNode, IsNode, rows_under}
+use Rattle.st_ubtree.proofs.Keeping.{count_of_kids, fewer_in_kid, rows_are}
+use Rattle.st_ubtree.proofs.Lifting.{that_kid}
+use Rattle.st_ubtree.proofs.Needing.{lower_kid}
+use Rattle.st_ubtree.proofs.node.Node.+count.Goals as goal
+
+pub returns-then-not-meets-clause-count : goal.returns-then-not-meets-clause-count
+returns-then-not-meets-clause-count g t c =
+    let rows : rows_of_pages c.args.self.now.pages ≡ rows_under c.self.inside.kids = ap (λ (v : NodeValue g.row.A.Denot). rows_of_pages v.pages) (sym c.self.view_is) ∙ sym (rows_are (rank c.self.inside.first) c.self.inside.kids) in
+    let judges = g.J.Judge.judges c.args.judge.now in
+    sym (ap (count_of c.args.query.now judges) rows ∙ c.meets.ensures (rows_under c.self.inside.kids) judges c.self.invariant.1 c.if-not-meets.true)
+
+pub count_inside-requires : goal.count_inside-requires
+count_inside-requires g t c =
+    let rows : rows_of_pages c.args.self.now.pages ≡ rows_under c.self.inside.kids = ap (λ (v : NodeValue g.row.A.Denot). rows_of_pages v.pages) (sym c.self.view_is) ∙ sym (rows_are (rank c.self.inside.first) c.self.inside.kids) in
+    (rows_under c.self.inside.kids, c.self.invariant.1, subst (λ xs. length xs < 18446744073709551616) rows c.requires)
+
+pub returns-in-Some-clause-count : goal.returns-in-Some-clause-count
+returns-in-Some-clause-count g t c =
+    let rows : rows_of_pages c.args.self.now.pages ≡ rows_under c.self.inside.kids = ap (λ (v : NodeValue g.row.A.Denot). rows_of_pages v.pages) (sym c.self.view_is) ∙ sym (rows_are (rank c.self.inside.first) c.self.inside.kids) in
+    c.in-Some.ensures.some (rows_under c.self.inside.kids) c.self.invariant.1 ∙ sym (ap (count_of c.args.query.now (g.J.Judge.judges c.args.judge.now)) rows)
+
+pub count-requires : goal.count-requires
+count-requires g t c =
+    let rows : rows_of_pages c.args.self.now.pages ≡ rows_under c.self.inside.kids = ap (λ (v : NodeValue g.row.A.Denot). rows_of_pages v.pages) (sym c.self.view_is) ∙ sym (rows_are (rank c.self.inside.first) c.self.inside.kids) in
+    subst (λ xs. length xs < 18446744073709551616) (rows ∙ ap rows_under c.in-Page.is ∙ ap rows_of (sym c.as_slice.ensures.value)) c.requires
+
+pub returns-in-Page-clause-count : goal.returns-in-Page-clause-count
+returns-in-Page-clause-count g t c =
+    let rows : rows_of_pages c.args.self.now.pages ≡ rows_under c.self.inside.kids = ap (λ (v : NodeValue g.row.A.Denot). rows_of_pages v.pages) (sym c.self.view_is) ∙ sym (rows_are (rank c.self.inside.first) c.self.inside.kids) in
+    let q = c.args.query.now in
+    c.count.ensures.count
+    ∙ ap (λ j. count_of q j (rows_of c.as_slice.result.now)) c.count_inside.ensures.same
+    ∙ ap (count_of q (g.J.Judge.judges c.args.judge.now)) (sym (rows ∙ ap rows_under c.in-Page.is ∙ ap rows_of (sym c.as_slice.ensures.value)))
+
+pub count-sum-requires : goal.count-sum-requires
+count-sum-requires g t c κs within =
+    let rows : rows_of_pages c.args.self.now.pages ≡ rows_under c.self.inside.kids = ap (λ (v : NodeValue g.row.A.Denot). rows_of_pages v.pages) (sym c.self.view_is) ∙ sym (rows_are (rank c.self.inside.first) c.self.inside.kids) in
+    let kids = c.in-Inner.kids.items in
+    let xs = c.as_slice-kid-items.result.now in
+    let good : IsInnerNode (rank c.self.inside.first) c.self.inside.height kids (vec_capacity c.in-Inner.kids) = subst (IsNode (rank c.self.inside.first) c.self.inside.height) c.in-Inner.is c.self.invariant.0 in
+    let all : rows_of_pages c.args.self.now.pages ≡ rows_of_pages (pages_of xs) = rows ∙ ap rows_under c.in-Inner.is ∙ ap (λ ks. rows_of_pages (pages_of ks)) (sym c.as_slice-kid-items.ensures.value) in
+    let judges = g.J.Judge.judges c.count_inside.new.judge in
+    let f = λ (v : NodeValue g.row.A.Denot). count_of c.args.query.now judges (rows_of_pages v.pages) in
+    let kid = c.kid-item.result in
+    let i = c.loop-kid.kid-index in
+    let below : i < length xs = omega arith in
+    let tall : c.args.self.now.height ≡ c.self.inside.height = ap (λ (v : NodeValue g.row.A.Denot). v.height) (sym c.self.view_is) in
+    let each = good.each in
+    let there = subst (λ ks. i < length ks) c.as_slice-kid-items.ensures.value below in
+    let read = subst (λ ks. kid ≡ get_or ks i kid) c.as_slice-kid-items.ensures.value c.kid-item.is in
+    let low : kid.height ≡ good.below = (that_kid good.below kids i kid there read good.each).same_height in
+    let lower = lower_kid kid.height good.below c.self.inside.height c.args.self.now.height low good.higher tall in
+    let fewer = fewer_in_kid xs i kid below c.kid-item.is in
+    let same = ap length all in
+    let few : length (rows_of_pages kid.pages) < 18446744073709551616 = let r = c.requires in omega (arith, fewer, same, r) in
+    (search (rules, lower), (search (rules, within), (search (rules, within), few)))
+
+pub overflow_add-sum : goal.overflow_add-sum
+overflow_add-sum g t c =
+    let rows : rows_of_pages c.args.self.now.pages ≡ rows_under c.self.inside.kids = ap (λ (v : NodeValue g.row.A.Denot). rows_of_pages v.pages) (sym c.self.view_is) ∙ sym (rows_are (rank c.self.inside.first) c.self.inside.kids) in
+    let kids = c.in-Inner.kids.items in
+    let xs = c.as_slice-kid-items.result.now in
+    let good : IsInnerNode (rank c.self.inside.first) c.self.inside.height kids (vec_capacity c.in-Inner.kids) = subst (IsNode (rank c.self.inside.first) c.self.inside.height) c.in-Inner.is c.self.invariant.0 in
+    let all : rows_of_pages c.args.self.now.pages ≡ rows_of_pages (pages_of xs) = rows ∙ ap rows_under c.in-Inner.is ∙ ap (λ ks. rows_of_pages (pages_of ks)) (sym c.as_slice-kid-items.ensures.value) in
+    let judges = g.J.Judge.judges c.count_inside.new.judge in
+    let f = λ (v : NodeValue g.row.A.Denot). count_of c.args.query.now judges (rows_of_pages v.pages) in
+    let kid = c.kid-item.result in
+    let i = c.loop-kid.kid-index in
+    let below : i < length xs = omega arith in
+    let here : c.count-sum.result ≡ f kid = c.count-sum.ensures.count ∙ ap (λ j. count_of c.args.query.now j (rows_of_pages kid.pages)) c.loop-kid.invariant.same in
+    let more = sum_one_more f xs i kid below c.kid-item.is in
+    let most = sum_by-take-le f xs (i + 1) in
+    let total = count_of_kids c.args.query.now judges xs in
+    let fits = count_by-le-length (is_counted c.args.query.now judges) (rows_of_pages (pages_of xs)) in
+    let same = ap length all in
+    let r = c.requires in
+    omega (arith, here, more, most, total, fits, same, r, c.loop-kid.invariant.sum)
+
+pub loop-kid-preserved : goal.loop-kid-preserved
+loop-kid-preserved g t c =
+    let rows : rows_of_pages c.args.self.now.pages ≡ rows_under c.self.inside.kids = ap (λ (v : NodeValue g.row.A.Denot). rows_of_pages v.pages) (sym c.self.view_is) ∙ sym (rows_are (rank c.self.inside.first) c.self.inside.kids) in
+    let kids = c.in-Inner.kids.items in
+    let xs = c.as_slice-kid-items.result.now in
+    let good : IsInnerNode (rank c.self.inside.first) c.self.inside.height kids (vec_capacity c.in-Inner.kids) = subst (IsNode (rank c.self.inside.first) c.self.inside.height) c.in-Inner.is c.self.invariant.0 in
+    let all : rows_of_pages c.args.self.now.pages ≡ rows_of_pages (pages_of xs) = rows ∙ ap rows_under c.in-Inner.is ∙ ap (λ ks. rows_of_pages (pages_of ks)) (sym c.as_slice-kid-items.ensures.value) in
+    let judges = g.J.Judge.judges c.count_inside.new.judge in
+    let f = λ (v : NodeValue g.row.A.Denot). count_of c.args.query.now judges (rows_of_pages v.pages) in
+    let kid = c.kid-item.result in
+    let i = c.loop-kid.kid-index in
+    let below : i < length xs = omega arith in
+    let here : c.count-sum.result ≡ f kid = c.count-sum.ensures.count ∙ ap (λ j. count_of c.args.query.now j (rows_of_pages kid.pages)) c.loop-kid.invariant.same in
+    let more = sum_one_more f xs i kid below c.kid-item.is in
+    record {
+      sum = omega (arith, here, more, c.loop-kid.invariant.sum);
+      same = c.count-sum.ensures.same ∙ c.loop-kid.invariant.same;
+    }
+
+pub returns-after-loop-kid-clause-count : goal.returns-after-loop-kid-clause-count
+returns-after-loop-kid-clause-count g t c =
+    let rows : rows_of_pages c.args.self.now.pages ≡ rows_under c.self.inside.kids = ap (λ (v : NodeValue g.row.A.Denot). rows_of_pages v.pages) (sym c.self.view_is) ∙ sym (rows_are (rank c.self.inside.first) c.self.inside.kids) in
+    let kids = c.in-Inner.kids.items in
+    let xs = c.as_slice-kid-items.result.now in
+    let good : IsInnerNode (rank c.self.inside.first) c.self.inside.height kids (vec_capacity c.in-Inner.kids) = subst (IsNode (rank c.self.inside.first) c.self.inside.height) c.in-Inner.is c.self.invariant.0 in
+    let all : rows_of_pages c.args.self.now.pages ≡ rows_of_pages (pages_of xs) = rows ∙ ap rows_under c.in-Inner.is ∙ ap (λ ks. rows_of_pages (pages_of ks)) (sym c.as_slice-kid-items.ensures.value) in
+    let judges = g.J.Judge.judges c.count_inside.new.judge in
+    let f = λ (v : NodeValue g.row.A.Denot). count_of c.args.query.now judges (rows_of_pages v.pages) in
+    c.loop-kid.invariant.sum
+    ∙ sum_all f xs c.loop-kid.kid-index c.loop-kid-test.false
+    ∙ sym (count_of_kids c.args.query.now judges xs)
+    ∙ ap (λ j. count_of c.args.query.now j (rows_of_pages (pages_of xs))) c.count_inside.ensures.same
+    ∙ sym (ap (count_of c.args.query.now (g.J.Judge.judges c.args.judge.now)) all)
+
+pub returns-after-loop-kid-clause-same : goal.returns-after-loop-kid-clause-same
+returns-after-loop-kid-clause-same g t c = c.loop-kid.invariant.same ∙ c.count_inside.ensures.same

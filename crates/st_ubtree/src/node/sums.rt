@@ -1,0 +1,66 @@
+//! Summaries of what lies below nodes.
+ghost use Rattle.std.specs.Prelude.{◌≡◌, ◌++◌, [], ◌∷◌, List, MatchOption, IsFalse};
+ghost use Rattle.st_index.specs.declared.row.Row.{Row as RowValue};
+ghost use Rattle.st_ubtree.specs.Pages.{rows_of_pages};
+ghost use Rattle.st_ubtree.specs.inner.Kids.{pages_of};
+ghost use Rattle.st_ubtree.specs.inner.Nodes.{rows_under};
+ghost use Rattle.st_ubtree.specs.inner.Sums.{Sums};
+
+use super::{Kids, Node};
+use crate::summary::Summary;
+use st_index::Row;
+use std::alloc::Allocator;
+
+impl<A: Allocator + Copy> Node<A> {
+    // Adds what lies below the node to a summary.
+    fn add_to(&self, sum: &mut Summary<A>)
+        ensures { (rows : List (RowValue A)) → Sums sum.old rows → Sums sum.new (rows ++ rows_of_pages self.now.pages) }
+    {
+        match &self.kids {
+            Kids::Page(entries) => sum.add_entries(entries.as_slice()),
+            Kids::Inner(_) => sum.add_all(&self.sum),
+        }
+    }
+}
+
+// Adds what lies below some nodes to a summary.
+pub(super) fn add_kids<A: Allocator + Copy>(sum: &mut Summary<A>, kids: &[Node<A>])
+    ensures { (rows : List (RowValue A)) → Sums sum.old rows → Sums sum.new (rows ++ rows_of_pages (pages_of kids.now)) }
+{
+    for kid in kids {
+        kid.add_to(sum);
+    }
+}
+
+// Sums up what lies below a node again.
+pub(super) fn renew<A: Allocator + Copy>(sum: &mut Summary<A>, kids: &Kids<A>)
+    ensures { Sums sum.new (rows_under kids.now) }
+{
+    sum.clear();
+    match kids {
+        Kids::Page(entries) => sum.add_entries(entries.as_slice()),
+        Kids::Inner(kids) => add_kids(sum, kids.as_slice()),
+    }
+}
+
+// Sums up what lies below a node again, if the summary may be another one or should be.
+pub(super) fn renew_if<A: Allocator + Copy>(due: bool, sum: &mut Summary<A>, kids: &Kids<A>)
+    requires { IsFalse due → Sums sum.old (rows_under kids.now) }
+    ensures { Sums sum.new (rows_under kids.now) }
+{
+    if !due {
+        return;
+    }
+    renew(sum, kids);
+}
+
+// Takes a row out of a summary, if there is one.
+pub(super) fn drop_row<A: Allocator + Copy>(sum: &mut Summary<A>, taken: &Option<Row<A>>)
+    ensures { (rows : List (RowValue A)) → MatchOption taken.now (Sums sum.old rows → Sums sum.new rows)
+        (λ row. Sums sum.old (rows ++ row ∷ []) → Sums sum.new rows) }
+{
+    let Some(row) = taken else {
+        return;
+    };
+    sum.take(row);
+}
