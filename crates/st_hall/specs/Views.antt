@@ -1,5 +1,5 @@
 -- What contracts see of a desk, a worker and a clerk.
-use Rattle.std.specs.Prelude.{ℕ, ◌≡◌, ◌≤◌, List, [], ◌∷◌, ◌++◌, length}
+use Rattle.std.specs.Prelude.{ℕ, ◌≡◌, ◌≤◌, List, [], ◌∷◌, ◌++◌, length, sum_by}
 use mathlib.Core.List.{IsPrefix}
 use Rattle.st_hall.specs.Steps.{Ask, State, Told, reply_of, state_after}
 
@@ -7,6 +7,14 @@ use Rattle.st_hall.specs.Steps.{Ask, State, Told, reply_of, state_after}
 pub record Seat : Type 0 where
   pub seen : List Ask
   pub made : ℕ
+
+-- a desk that has seen these changes, when no receipt was got with it
+abbrev pub opening_seat : List Ask → Seat
+opening_seat seen = record { seen = seen; made = 0 }
+
+-- how many receipts were got with some desks
+abbrev pub receipts : List Seat → ℕ
+receipts seats = sum_by (λ seat. seat.made) seats
 
 -- a worker's number, how often it has been asked (2^64 - 1 also where it was more often), and its desk
 pub record Post : Type 0 where

@@ -4,7 +4,7 @@ ghost use mathlib.Core.List.{IsPrefix};
 ghost use Rattle.st_core.specs.Judging.{judgement};
 ghost use Rattle.st_core.specs.Step.{asks_for_change};
 ghost use Rattle.st_hall.specs.Steps.{judged_in, reply_of, state_after};
-ghost use Rattle.st_hall.specs.Views.{Beside};
+ghost use Rattle.st_hall.specs.Views.{Beside, receipts};
 ghost use Rattle.st_hall.specs.inner.Editions.{Agrees};
 
 use crate::desk::Desk;
@@ -22,7 +22,7 @@ use st_dir::Directory;
 use std::alloc::AllocError;
 use std::marker::Model;
 use std::sync::Wait;
-use std::sync::ledger::Book;
+use std::sync::ledger::{Book, Share};
 
 /// Contracts see the one list of changes, and the part of it that is published. Its drop waits for the readers.
 pub struct Clerk<H: HallName, R: Wait + Drop>
@@ -69,6 +69,33 @@ fn count<H: HallName>(book: &mut Book<H>, desk: &mut Desk<H>)
     book.audit(&mut desk.share);
     book.add(&mut desk.share, 1);
     desk.made += 1;
+}
+
+// Adds up the receipts of desks to those that a share stands for. Each desk lends its share until the last is counted.
+fn add_up<H: HallName>(
+    book: &mut Book<H>,
+    desks: &mut [Desk<H>],
+    counted: &mut Share<H>,
+    made: u64,
+) -> u64
+    requires parts { counted.old.parts + length desks.old ≡ H.parts }
+    requires amount { counted.old.amount ≡ made }
+    requires fits { book.old.total < 2 ^ 64 }
+    ensures made { result ≡ made + receipts desks.old }
+    ensures total { (result ≡ book.old.total) × (book.new.total ≡ book.old.total) }
+    ensures desks { desks.new ≡ desks.old }
+    ensures counted { (counted.new.parts ≡ counted.old.parts) × (counted.new.amount ≡ counted.old.amount) }
+{
+    book.audit(counted);
+    let Some((desk, others)) = desks.split_first_mut() else {
+        return made;
+    };
+    let here = desk.made;
+    desk.share.give(counted, 1, here);
+    book.audit(counted);
+    let total = add_up(book, others, counted, made + here);
+    counted.give(&mut desk.share, 1, here);
+    total
 }
 
 // Makes what a decision does to the directory, and gives the reply.
@@ -251,18 +278,20 @@ impl<H: HallName, R: Wait + Drop> Clerk<H, R> {
         self.front.compare(front);
     }
 
-    /// The length of the list, which is how many receipts were got with the two desks.
-    pub fn total(&mut self, one: &mut Desk<H>, two: &mut Desk<H>) -> u64
-        requires { H.parts ≡ 2 }
+    /// The length of the list, which is how many receipts were got with all desks.
+    pub fn total(&mut self, desks: &mut [Desk<H>]) -> u64
+        requires all { (length desks.old ≡ H.parts) × (0 < H.parts) }
         ensures list { result ≡ length self.new.list }
-        ensures made { result ≡ one.old.made + two.old.made }
-        ensures same { (self.new ≡ self.old) × (one.new ≡ one.old) × (two.new ≡ two.old) }
+        ensures made { result ≡ receipts desks.old }
+        ensures same { (self.new ≡ self.old) × (desks.new ≡ desks.old) }
     {
-        let made = one.made;
-        one.share.give(&mut two.share, 1, made);
-        self.book.audit(&mut two.share);
-        two.share.give(&mut one.share, 1, made);
-        self.front.len()
+        let listed = self.front.len();
+        let first = &mut desks[0];
+        let mut none = first.share.empty();
+        let made = add_up(&mut self.book, desks, &mut none, 0);
+        let are_all = made == listed;
+        prove!(are_all);
+        made
     }
 }
 

@@ -1,9 +1,9 @@
 //! What opens a hall, and a change by any thread.
-ghost use Rattle.std.specs.Prelude.{◌≡◌, ◌+◌, [], drop, true, List, IfOk, IfSome, MatchResult};
+ghost use Rattle.std.specs.Prelude.{◌≡◌, ◌+◌, ◌<◌, [], drop, replicate, true, List, IfOk, IfSome, MatchResult};
 ghost use Rattle.st_core.specs.Step.{asks_for_change};
 ghost use Rattle.st_hall.specs.Steps.{Ask};
 ghost use Rattle.st_hall.specs.declared.hall.HallFault.TheVariants.{NoMemory};
-ghost use Rattle.st_hall.specs.Views.{EndsAfter, EndsWith};
+ghost use Rattle.st_hall.specs.Views.{EndsAfter, EndsWith, opening_seat};
 ghost use Rattle.st_hall.specs.inner.Editions.{Agrees};
 
 use crate::clerk::Clerk;
@@ -37,74 +37,110 @@ impl From<AllocError> for HallFault {
 }
 
 #[tactic(auto, using(crate::proofs::Following::after_none))]
-// What publishes two copies of a state.
+// What publishes two copies of a state to so many readers.
 fn writer_of<H: HallName>(
     alloc: Global,
     front: &Front<H>,
-    first: Store,
-    second: Store,
+    both: (Store, Store),
+    readers: u16,
 ) -> Result<EditionWriter<H>, AllocError>
     requires empty { front.now ≡ [] }
-    requires alike { (first ≡ H.start) × (second ≡ H.start) }
+    requires alike { (both.0 ≡ H.start) × (both.1 ≡ H.start) }
+    requires readers { 0 < readers }
     ensures state { IfOk result (λ writer. writer.desk.shown.value.state ≡ H.start) }
     ensures list { IfOk result (λ writer. writer.desk.shown.value.list ≡ []) }
     ensures queued { IfOk result (λ writer. drop writer.behind writer.log.items ≡ []) }
 {
-    let first = Edition::new(first, front.again());
-    let second = Edition::new(second, front.again());
-    Writer::new(alloc, first, second, 2)
+    let first = Edition::new(both.0, front.again());
+    let second = Edition::new(both.1, front.again());
+    Writer::new(alloc, first, second, readers as usize)
 }
 
-// A place for each of two readers.
-fn places<H: HallName>(writer: &EditionWriter<H>) -> Option<(EditionReader<H>, EditionReader<H>)> {
-    let one = writer.factory().reader().ok()?;
-    let two = writer.factory().reader().ok()?;
-    Some((one, two))
+// A place for a reader of the published state.
+fn place<H: HallName>(writer: &EditionWriter<H>) -> Result<EditionReader<H>, HallFault> {
+    match writer.factory().reader() {
+        Ok(reader) => Ok(reader),
+        Err(_) => Err(HallFault::NoPlace),
+    }
 }
 
-// The users of the published state, and a place for each of two readers.
-fn begun<H: HallName>(
+// A desk at a place of its own.
+fn desk_at<H: HallName>(
     writer: &EditionWriter<H>,
-) -> Result<(Directory, EditionReader<H>, EditionReader<H>), HallFault>
-    ensures { IfOk result (λ t. t.0 ≡ writer.now.desk.shown.value.state.directory) }
+    front: &Front<H>,
+    share: Share<H>,
+) -> Result<Desk<H>, HallFault>
+    requires { (share.parts ≡ 1) × (share.amount ≡ 0) }
+    ensures { IfOk result (λ desk. desk ≡ opening_seat front.now) }
+{
+    Ok(Desk::new(place(writer)?, front.again(), share))
+}
+
+// Desks at places of their own, one for each part of a share.
+fn desks_at<H: HallName>(
+    alloc: Global,
+    writer: &EditionWriter<H>,
+    front: &Front<H>,
+    mut share: Share<H>,
+    number: u16,
+) -> Result<Vec<Desk<H>>, HallFault>
+    requires { (share.parts ≡ number) × (share.amount ≡ 0) }
+    ensures { IfOk result (λ desks. desks.items ≡ replicate number (opening_seat front.now)) }
+{
+    let mut desks = Vec::with_capacity(alloc, number as usize)?;
+    for _ in 0..number {
+        let desk = desk_at(writer, front, share.split_off(1, 0))?;
+        desks.push(desk).map_err(|_| AllocError)?;
+    }
+    Ok(desks)
+}
+
+// The users of the published state, and its desks.
+fn begun<H: HallName>(
+    alloc: Global,
+    writer: &EditionWriter<H>,
+    front: &Front<H>,
+    share: Share<H>,
+    number: u16,
+) -> Result<(Directory, Vec<Desk<H>>), HallFault>
+    requires { (share.parts ≡ number) × (share.amount ≡ 0) }
+    ensures directory { IfOk result (λ t. t.0 ≡ writer.now.desk.shown.value.state.directory) }
+    ensures desks { IfOk result (λ t. t.1.items ≡ replicate number (opening_seat front.now)) }
 {
     let directory = writer.published().store.directory().copy()?;
-    match places(writer) {
-        Some((one, two)) => Ok((directory, one, two)),
-        None => {
+    match desks_at(alloc, writer, front, share, number) {
+        Ok(desks) => Ok((directory, desks)),
+        Err(fault) => {
             drop(directory);
-            Err(HallFault::NoPlace)
+            Err(fault)
         }
     }
 }
 
+type Begun<H> = (Directory, EditionWriter<H>, Vec<Desk<H>>);
+
 #[tactic(auto, using(crate::proofs::Following::after_none))]
-// The users of a state, what publishes its two copies, and a place for each of two readers.
+// The users of a state, what publishes its two copies, and its desks.
 fn copies<H: HallName, R: Wait + Drop>(
     rt: &R,
     alloc: Global,
     front: &Front<H>,
-    first: Store,
-    second: Store,
-) -> Result<
-    (
-        Directory,
-        EditionWriter<H>,
-        EditionReader<H>,
-        EditionReader<H>,
-    ),
-    HallFault,
->
+    both: (Store, Store),
+    share: Share<H>,
+    number: u16,
+) -> Result<Begun<H>, HallFault>
     requires empty { front.now ≡ [] }
-    requires alike { (first ≡ H.start) × (second ≡ H.start) }
+    requires alike { (both.0 ≡ H.start) × (both.1 ≡ H.start) }
+    requires share { (share.parts ≡ number) × (share.amount ≡ 0) × (0 < number) }
     ensures directory { IfOk result (λ t. t.0 ≡ H.start.directory) }
     ensures agrees { IfOk result (λ t. Agrees H.start t.1.desk.shown.value) }
     ensures shown { IfOk result (λ t. t.1.desk.shown.value.list ≡ []) }
     ensures queued { IfOk result (λ t. drop t.1.behind t.1.log.items ≡ []) }
+    ensures desks { IfOk result (λ t. t.2.items ≡ replicate number (opening_seat [])) }
 {
-    let writer = writer_of::<H>(alloc, front, first, second)?;
-    match begun(&writer) {
-        Ok((directory, one, two)) => Ok((directory, writer, one, two)),
+    let writer = writer_of::<H>(alloc, front, both, number)?;
+    match begun(alloc, &writer, front, share, number) {
+        Ok((directory, desks)) => Ok((directory, writer, desks)),
         Err(fault) => {
             drop(writer.take(rt));
             Err(fault)
@@ -112,22 +148,16 @@ fn copies<H: HallName, R: Wait + Drop>(
     }
 }
 
-// A desk at each of two places, with one of two shares.
-fn desks<H: HallName>(
-    one: EditionReader<H>,
-    two: EditionReader<H>,
-    front: &Front<H>,
-    mut share: Share<H>,
-) -> (Desk<H>, Desk<H>)
-    requires { (share.parts ≡ 2) × (share.amount ≡ 0) }
-    ensures one { (result.0.seen ≡ front.now) × (result.0.made ≡ 0) }
-    ensures two { (result.1.seen ≡ front.now) × (result.1.made ≡ 0) }
+// The two desks of a list of two.
+fn two_of<H: HallName>(mut desks: Vec<Desk<H>>) -> (Desk<H>, Desk<H>)
+    requires { desks.items ≡ replicate 2 (opening_seat []) }
+    ensures one { result.0 ≡ opening_seat [] }
+    ensures two { result.1 ≡ opening_seat [] }
 {
-    let other = share.split_off(1, 0);
-    (
-        Desk::new(one, front.again(), share),
-        Desk::new(two, front.again(), other),
-    )
+    let (Some(two), Some(one)) = (desks.pop(), desks.pop()) else {
+        unreachable!()
+    };
+    (one, two)
 }
 
 /// The calls of a hall that belong to no value of it.
@@ -136,7 +166,36 @@ pub struct Hall<H: HallName> {
 }
 
 impl<H: HallName> Hall<H> {
-    /// Opens a hall over two stores of one state. `NoPlace` where a reader's place was refused.
+    /// Opens a hall over two stores of one state, with a desk for each worker. `NoPlace` where a reader's place was refused.
+    pub fn open_for<R: Wait + Drop>(
+        rt: R,
+        alloc: Global,
+        name: Unnamed,
+        first: Store,
+        second: Store,
+        workers: u16,
+    ) -> Result<(Clerk<H, R>, Vec<Desk<H>>), HallFault>
+        requires named { (name.seen.book ≡ H.book) × (name.blank.name ≡ H.name) }
+        requires workers { (name.blank.parts ≡ workers) × (H.parts ≡ workers) × (0 < workers) }
+        requires alike { (first ≡ H.start) × (second ≡ H.start) }
+        ensures clerk { IfOk result (λ t. (t.0.list ≡ []) × (t.0.published ≡ [])) }
+        ensures desks { IfOk result (λ t. t.1.items ≡ replicate workers (opening_seat [])) }
+    {
+        let Unnamed { head, seen, blank } = name;
+        let (head, front) = begin::<H>(head, seen);
+        let (book, share) = blank.open::<H>();
+        let (directory, writer, desks) = copies(
+            &rt,
+            alloc,
+            &front,
+            (first, second),
+            share,
+            workers,
+        )?;
+        Ok((Clerk::new(writer, head, front, directory, book, rt), desks))
+    }
+
+    /// Opens a hall over two stores of one state, with two desks. `NoPlace` where a reader's place was refused.
     pub fn open<R: Wait + Drop>(
         rt: R,
         alloc: Global,
@@ -144,21 +203,14 @@ impl<H: HallName> Hall<H> {
         first: Store,
         second: Store,
     ) -> Result<(Clerk<H, R>, Desk<H>, Desk<H>), HallFault>
-        requires named { (name.seen.book ≡ H.book) × (name.blank.name ≡ H.name) × (H.parts ≡ 2) }
+        requires named { (name.seen.book ≡ H.book) × (name.blank.name ≡ H.name) × (name.blank.parts ≡ 2) × (H.parts ≡ 2) }
         requires alike { (first ≡ H.start) × (second ≡ H.start) }
         ensures clerk { IfOk result (λ t. (t.0.list ≡ []) × (t.0.published ≡ [])) }
-        ensures desks { IfOk result (λ t. (t.1.seen ≡ []) × (t.1.made ≡ 0) × (t.2.seen ≡ []) × (t.2.made ≡ 0)) }
+        ensures desks { IfOk result (λ t. (t.1 ≡ opening_seat []) × (t.2 ≡ opening_seat [])) }
     {
-        let Unnamed { head, seen, blank } = name;
-        let (head, front) = begin::<H>(head, seen);
-        let (directory, writer, one, two) = copies(&rt, alloc, &front, first, second)?;
-        let (book, share) = blank.open::<H>();
-        let (one, two) = desks(one, two, &front, share);
-        Ok((
-            Clerk::new(writer, head, front, directory, book, rt),
-            one,
-            two,
-        ))
+        let (clerk, desks) = Hall::open_for(rt, alloc, name, first, second, 2)?;
+        let (one, two) = two_of(desks);
+        Ok((clerk, one, two))
     }
 
     /// Makes a change in any thread.

@@ -1,4 +1,4 @@
-//! Two copies of a store, a clerk who changes them, and two desks that read them without waiting.
+//! Two copies of a store, a clerk who changes them, and desks that read them without waiting.
 #![tactic(auto)]
 
 mod clerk;

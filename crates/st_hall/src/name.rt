@@ -35,17 +35,25 @@ pub struct Unnamed {
     pub blank: Blank,
     pub ghost empty: { seen.log ≡ [] },
     pub ghost head_is: { head ≡ head_of seen.book },
-    pub ghost two: { blank.parts ≡ 2 },
 }
 
 impl Unnamed {
     /// An empty history, and an empty count of two shares.
-    pub fn new() -> Unnamed {
+    pub fn new() -> Unnamed
+        ensures { result.blank.parts ≡ 2 }
+    {
+        Unnamed::of(2)
+    }
+
+    /// An empty history, and an empty count of as many shares as there are workers.
+    pub fn of(workers: u16) -> Unnamed
+        ensures { result.blank.parts ≡ workers }
+    {
         let (seen, mut first, _second) = Seen::open(Start::alone(), 0, 0);
         Unnamed {
             head: Word::tracked(0, &mut first),
             seen,
-            blank: Blank::new(2),
+            blank: Blank::new(workers as u64),
         }
     }
 }

@@ -145,7 +145,7 @@ fn open_hall<
     said: &ServedArguments<'_>,
     output: &mut O,
 ) -> Result<(), Fault>
-    requires named { (name.seen.book ≡ H.book) × (name.blank.name ≡ H.name) × (H.parts ≡ 2) }
+    requires named { (name.seen.book ≡ H.book) × (name.blank.name ≡ H.name) × (name.blank.parts ≡ 2) × (H.parts ≡ 2) }
     requires alike { (both.0 ≡ H.start) × (both.1 ≡ H.start) }
     requires opens { Opens said.now.digest.now (map (λ name. name.now) said.now.names.items) both.0 }
     ensures { Tells said.now.port said.now.connections (O.contents output.old) (O.contents output.new) result }

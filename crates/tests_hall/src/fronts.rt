@@ -61,7 +61,7 @@ fn learnt<H: HallName, R: Wait>(
     name: Unnamed,
     both: (Store, Store),
 ) -> Option<[u64; 4]>
-    requires named { (name.seen.book ≡ H.book) × (name.blank.name ≡ H.name) × (H.parts ≡ 2) }
+    requires named { (name.seen.book ≡ H.book) × (name.blank.name ≡ H.name) × (name.blank.parts ≡ 2) × (H.parts ≡ 2) }
     requires alike { (both.0 ≡ H.start) × (both.1 ≡ H.start) }
 {
     let (mut clerk, mut one, mut two) = Hall::<H>::open(rt, alloc, name, both.0, both.1).ok()?;
@@ -112,7 +112,7 @@ fn late<H: HallName, R: Wait>(
     name: Unnamed,
     both: (Store, Store),
 ) -> Option<(u64, u64)>
-    requires named { (name.seen.book ≡ H.book) × (name.blank.name ≡ H.name) × (H.parts ≡ 2) }
+    requires named { (name.seen.book ≡ H.book) × (name.blank.name ≡ H.name) × (name.blank.parts ≡ 2) × (H.parts ≡ 2) }
     requires alike { (both.0 ≡ H.start) × (both.1 ≡ H.start) }
 {
     let (clerk, mut one, mut two) = Hall::<H>::open(rt, alloc, name, both.0, both.1).ok()?;

@@ -1,9 +1,11 @@
-//! Tests of two copies, a clerk and two desks, of the stations at these desks: messages that they answer, and connections that
+//! Tests of two copies, a clerk and desks, of the stations at these desks: messages that they answer, and connections that
 //! fail; and of what the two programs do by the words of their command lines.
 #![tactic(auto)]
 
 #[cfg(test)]
 mod asks;
+#[cfg(test)]
+mod desks;
 #[cfg(test)]
 mod faults;
 #[cfg(test)]

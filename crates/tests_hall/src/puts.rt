@@ -40,8 +40,8 @@ fn nth(alloc: Global, letter: u8, number: u8, is_own: bool) -> Option<Asked>
     put(alloc, from_utf8(&id).ok()?)
 }
 
-// The front of a put.
-fn put_one<H: HallName, R: Wait>(
+/// The front of a put.
+pub fn put_one<H: HallName, R: Wait>(
     rt: &R,
     alloc: Global,
     clerk: &Mutex<Clerk<H, &R>>,
@@ -122,12 +122,10 @@ fn found_by<H: HallName, R: Wait + Drop>(
     let told = told_by(alloc, &mut two, &of_one, &of_two);
     drop(of_one);
     drop(of_two);
-    let total = clerk.total(&mut one, &mut two);
-    let found = (one.made(), two.made(), total, told);
-    drop(two);
-    drop(one);
+    let found = (one.made(), two.made());
+    let total = clerk.total(&mut [one, two]);
     drop(clerk);
-    found
+    (found.0, found.1, total, told)
 }
 
 // Two threads make the puts.
@@ -138,7 +136,7 @@ fn put_by_two<H: HallName + Send + Sync, R: Threads + Wait + Sync>(
     both: (Store, Store),
     is_own: bool,
 ) -> Option<Found>
-    requires named { (name.seen.book ≡ H.book) × (name.blank.name ≡ H.name) × (H.parts ≡ 2) }
+    requires named { (name.seen.book ≡ H.book) × (name.blank.name ≡ H.name) × (name.blank.parts ≡ 2) × (H.parts ≡ 2) }
     requires alike { (both.0 ≡ H.start) × (both.1 ≡ H.start) }
 {
     let (clerk, one, two) = Hall::<H>::open(rt, alloc, name, both.0, both.1).ok()?;

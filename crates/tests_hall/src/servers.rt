@@ -200,7 +200,7 @@ fn ended<
     H: HallName + Send + Sync,
     R: Net<Listener = TcpListener, Stream = TcpStream> + Threads + Wait + Sync,
 >(rt: &R, alloc: Global, name: Unnamed, both: (Store, Store)) -> Option<(u8, Vec<u8>)>
-    requires named { (name.seen.book ≡ H.book) × (name.blank.name ≡ H.name) × (H.parts ≡ 2) }
+    requires named { (name.seen.book ≡ H.book) × (name.blank.name ≡ H.name) × (name.blank.parts ≡ 2) × (H.parts ≡ 2) }
     requires alike { (both.0 ≡ H.start) × (both.1 ≡ H.start) }
 {
     match Hall::<H>::open(rt, alloc, name, both.0, both.1) {

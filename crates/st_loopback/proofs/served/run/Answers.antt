@@ -18,7 +18,7 @@ returns-in_err-both g c =
     rw p.1 (inr (record { fault = p.0; why = subst (RefusesServedWords words) (sym p.2) why; status_is = refl; untold = refl }))
 
 pub open_hall-requires-clause-named : goal.open_hall-requires-clause-named
-open_hall-requires-clause-named g c κs within = (refl, refl, refl)
+open_hall-requires-clause-named g c κs within = (refl, refl, c.new.ensures, refl)
 
 pub open_hall-requires-clause-alike : goal.open_hall-requires-clause-alike
 open_hall-requires-clause-alike g c κs within = (refl, c.in_ok-both.ensures.alike)
