@@ -1,5 +1,6 @@
 -- What is written for what was read, and how a connection ends.
-use Rattle.std.specs.Prelude.{◌≡◌, ◌≢◌, ◌⊎◌, ◌-◌, ◌+◌, ◌^◌, ◌≤◌, ℕ, Bool, true, false, Option, Result, Ok, Err, List, [], ◌∷◌, ◌++◌, length, min, OnOk, IsErr}
+use Rattle.std.specs.Prelude.{◌≡◌, ◌≢◌, ◌⊎◌, ◌-◌, ◌+◌, ◌^◌, ◌≤◌, ℕ, Bool, true, false, Option, Result, Ok, Err, OnOk, IsErr, min}
+use Rattle.std.specs.Prelude.{List, [], ◌∷◌, ◌++◌, length}
 use Rattle.std.specs.List.{concat}
 use Rattle.std.specs.Io.KnownBytes.{Appends, Consumes, IsAtEnd}
 use Rattle.httparse.specs.Grammar.{RequestHead}
@@ -53,8 +54,8 @@ EndsSo (Err broken) read_failed given items rest answers sent =
 
 -- What the reader gave begins with items. They got answers and led from the old state to the new one. What was sent is these answers,
 -- or a front of them, as the end says.
-pub record Served {S : Type 0} (step : Answering S) (old new : S) (left_old left_new held_old held_new : Option (List ℕ)) (read_failed : Bool)
-    (result : Result Ended IoFault) : Type 0 where
+pub record Served {S : Type 0} (step : Answering S) (old new : S) (left_old left_new held_old held_new : Option (List ℕ))
+    (read_failed : Bool) (result : Result Ended IoFault) : Type 0 where
   pub given : List ℕ
   pub gave : Consumes left_old left_new given
   pub items : List First
@@ -122,8 +123,8 @@ EndsWithin step hold old new kept (Ok ended) read_failed given items rest answer
     EndsSo (Ok ended) read_failed given items rest answers sent
 
 -- `Served` where at most so many bytes of answers are held back, by an answerer that keeps the state `kept` in the end.
-pub record ServedWithin {S : Type 0} (step : Answering S) (hold : ℕ) (old new kept : S) (left_old left_new held_old held_new : Option (List ℕ))
-    (read_failed : Bool) (result : Result Ended IoFault) : Type 0 where
+pub record ServedWithin {S : Type 0} (step : Answering S) (hold : ℕ) (old new kept : S)
+    (left_old left_new held_old held_new : Option (List ℕ)) (read_failed : Bool) (result : Result Ended IoFault) : Type 0 where
   pub given : List ℕ
   pub gave : Consumes left_old left_new given
   pub items : List First

@@ -10,6 +10,7 @@ use crate::streams::{Sink, Source};
 use st_http::message::Take;
 use st_http::routes::Routes;
 use std::convert::AsSlice;
+use thiserror::Error;
 
 /// How a connection ended.
 #[derive(Clone, Copy, Debug, PartialEq, Eq)]
@@ -27,7 +28,8 @@ pub enum Ended {
 }
 
 /// A read or a write failed.
-#[derive(Clone, Copy, Debug, PartialEq, Eq)]
+#[derive(Clone, Copy, Debug, PartialEq, Eq, Error)]
+#[error("a read or a write failed after {written} bytes were written")]
 pub struct IoFault {
     /// How many bytes were written before.
     pub written: u128,

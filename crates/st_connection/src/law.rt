@@ -19,6 +19,7 @@ pub fn first_items()
 /// Where no answer is held back, each answer but the last is out whole, as is all where the answers were settled.
 pub fn served_at_once<X: Replies>()
     ensures { (old new kept : X.State) (left_old left_new held_old held_new : Option (List ℕ)) (read_failed : Bool)
-        (result : Outcome Ended IoFault) → ServedWithin X.answers 0 old new kept left_old left_new held_old held_new read_failed result → result ≢ Ok Lost
+        (result : Outcome Ended IoFault)
+        → ServedWithin X.answers 0 old new kept left_old left_new held_old held_new read_failed result → result ≢ Ok Lost
         → Served X.answers old new left_old left_new held_old held_new read_failed result }
 {}

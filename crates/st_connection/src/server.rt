@@ -1,6 +1,6 @@
 //! The one owner of the serving loop.
 ghost use Rattle.std.specs.Prelude.{◌≡◌, ◌≤◌, false, length, IfOk};
-ghost use Rattle.st_connection.specs.Connection.{EndsOn, KeptUnlessLost, Replied, ServedWithin};
+ghost use Rattle.st_connection.specs.Connection.{EndsOn, KeptUnlessLost, ServedWithin};
 ghost use Rattle.st_connection.specs.declared.connection.TheConstants.{ROOM};
 
 use crate::connection::{Ended, IoFault, MAX_READS, ROOM, serve_connection};
@@ -50,7 +50,7 @@ impl<X: Replies + Drop, A: Allocator + Copy> Server<X, A> {
     /// Answers one message.
     pub fn reply_to(&mut self, message: &Message<'_>) -> X::Reply
         requires sound { X.has_failed self.old ≡ false }
-        ensures replied { Replied X.answers (X.now self.old) message.now (X.Reply.items result) (X.now self.new) }
+        ensures replied { X.replies (X.now self.old) message.now (X.Reply.items result) (X.now self.new) }
         ensures sound { X.has_failed self.new ≡ false }
     {
         self.answerer.reply(message)

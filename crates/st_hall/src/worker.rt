@@ -149,11 +149,26 @@ impl<'a, H: HallName, R: Wait + Drop, G: Gate> Worker<'a, H, R, G> {
         self.desk.made()
     }
 
-    /// Answers one request. A change is made by the clerk, and its front is learnt where it has one. A read waits at the gate first,
-    /// and is then answered without waiting. When out of memory a change is not made, and a read may have seen more changes.
-    pub fn ask<W: Wait>(&mut self, rt: &W, asked: Asked) -> Result<Reply, AllocError>
+    /// Begins a call, which is counted.
+    pub fn begin(&mut self)
         ensures number { self.new.number ≡ self.old.number }
         ensures calls { self.new.calls ≡ min (self.old.calls + 1) (2 ^ 64 - 1) }
+        ensures seat { self.new.seat ≡ self.old.seat }
+    {
+        self.calls = self.calls.saturating_add(1);
+    }
+
+    /// Tells the gate that the answer to the call that began last is made.
+    pub fn end(&self) {
+        self.gate.answered(self.number, self.calls);
+    }
+
+    /// Answers the request of the call that began last. A change is made by the clerk, and its front is learnt where it has one. A
+    /// read waits at the gate first, and is then answered without waiting. When out of memory a change is not made, and a read may
+    /// have seen more changes.
+    pub fn ask<W: Wait>(&mut self, rt: &W, asked: Asked) -> Result<Reply, AllocError>
+        ensures number { self.new.number ≡ self.old.number }
+        ensures calls { self.new.calls ≡ self.old.calls }
         ensures seen { IsPrefix self.old.seat.seen self.new.seat.seen }
         ensures change { asks_for_change asked ≡ true
             → MatchResult result (λ _. self.new.seat.made ≡ self.old.seat.made + 1) (λ _. self.new.seat.made ≡ self.old.seat.made) }
@@ -163,15 +178,12 @@ impl<'a, H: HallName, R: Wait + Drop, G: Gate> Worker<'a, H, R, G> {
         ensures read { asks_for_change asked ≡ false → self.new.seat.made ≡ self.old.seat.made }
         ensures shown { asks_for_change asked ≡ false → IfOk result (λ r. r ≡ reply_of (state_after H.start self.new.seat.seen) asked) }
     {
-        self.calls = self.calls.saturating_add(1);
-        let reply = if asked.is_change() {
+        if asked.is_change() {
             change(rt, self.clerk, &mut self.desk, asked)
         } else {
             let reply = read(self.gate, self.number, self.calls, &mut self.desk, &asked);
             drop(asked);
             reply
-        };
-        self.gate.answered(self.number, self.calls);
-        reply
+        }
     }
 }

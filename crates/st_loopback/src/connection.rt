@@ -1,6 +1,11 @@
 //! One connection, and what lets reads pass.
-use st_connection::Ended;
-use st_connection::streams::{FromRead, FromWrite};
+ghost use Rattle.std.specs.Prelude.{◌≡◌, ◌≤◌, false};
+ghost use mathlib.Core.List.{IsPrefix};
+ghost use Rattle.st_connection.specs.Connection.{EndsOn, Served};
+ghost use Rattle.st_station.specs.Posts.{Answers};
+
+use st_connection::connection::{Ended, IoFault, MAX_READS};
+use st_connection::streams::{FromRead, FromWrite, Sink, Source};
 use st_hall::{Gate, HallName};
 use st_station::{Station, work};
 use std::io::{self, ErrorKind, Read, Write};
@@ -69,12 +74,48 @@ fn close_gently(mut stream: &TcpStream) -> io::Result<()> {
     Ok(())
 }
 
+/// Where the server says that it has ended a connection.
+pub trait Hangup {
+    /// Says that no more comes.
+    fn hang_up(&self);
+}
+
+impl Hangup for TcpStream {
+    fn hang_up(&self) {
+        let _closed = close_gently(self);
+    }
+}
+
+/// Answers the requests of a stream until it ends. Where the server ends it, the client is told so.
+pub fn answer_stream<H: HallName, C: Wait + Drop, W: Wait, R: Source, S: Sink, E: Hangup>(
+    station: &mut Station<'_, H, C, Open, W>,
+    reader: &mut R,
+    writer: &mut S,
+    stream: &E,
+) -> Result<Ended, IoFault>
+    requires reader_sound { R.has_failed reader.old ≡ false }
+    requires writer_sound { S.has_failed writer.old ≡ false }
+    ensures served { Served (Answers H.start) station.old station.new (R.left reader.old) (R.left reader.new)
+        (S.held writer.old) (S.held writer.new) (R.has_failed reader.new) result }
+    ensures ends { EndsOn MAX_READS (R.left reader.new) (R.reads reader.old) (R.reads reader.new)
+        (R.has_ended reader.new) (R.has_failed reader.new) (S.has_failed writer.new) result }
+{
+    let ended = work(station, reader, writer);
+    if let Ok(Ended::Closed | Ended::TurnsSpent) = ended {
+        stream.hang_up();
+    }
+    ended
+}
+
 /// Answers the requests of one connection until it ends. A fault ends this connection alone.
 pub fn converse<H: HallName, C: Wait + Drop, W: Wait>(
     station: &mut Station<'_, H, C, Open, W>,
     stream: TcpStream,
     limit: Duration,
-) {
+)
+    ensures seen { IsPrefix station.old.seat.seen station.new.seat.seen }
+    ensures made { station.old.seat.made ≤ station.new.seat.made }
+{
     if set_limits(&stream, limit).is_err() {
         return;
     }
@@ -83,7 +124,5 @@ pub fn converse<H: HallName, C: Wait + Drop, W: Wait>(
         stream: &stream,
         is_late: false,
     });
-    if let Ok(Ended::Closed | Ended::TurnsSpent) = work(station, &mut reader, &mut writer) {
-        let _closed = close_gently(&stream);
-    }
+    let _ended = answer_stream(station, &mut reader, &mut writer, &stream);
 }

@@ -1,8 +1,8 @@
 //! A service: a store that is asked over connections, one after another.
 ghost use Rattle.std.specs.Prelude.{◌≡◌, false, IfOk};
-ghost use Rattle.st_service.specs.Answers.{Answers};
+ghost use Rattle.st_service.specs.Answers.{Answers, RepliesTo};
 ghost use Rattle.st_service.specs.Bytes.{bytes_of};
-ghost use Rattle.st_connection.specs.Connection.{EndsOn, Replied, Served};
+ghost use Rattle.st_connection.specs.Connection.{EndsOn, Served};
 
 use crate::answer::Answer;
 use crate::answerer::Answerer;
@@ -40,7 +40,7 @@ impl<A: Allocator + Copy> Service<A> {
     /// Answers one message. When out of memory the answer is a 503. A 503 never follows an accepted change, and changes nothing but
     /// that the audit listing keeps the entry of a refused change.
     pub fn reply_to(&mut self, message: &Message<'_>) -> Answer<A>
-        ensures { Replied Answers self.old message.now (bytes_of result) self.new }
+        ensures { RepliesTo self.old message.now (bytes_of result) self.new }
     {
         self.server.reply_to(message)
     }

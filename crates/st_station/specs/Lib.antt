@@ -1,1 +1,4 @@
 pub mod Seats
+pub mod Posts
+pub mod Replies
+pub mod inner

@@ -13,7 +13,7 @@ use Rattle.st_core.specs.Step.{asks_for_change}
 use Rattle.st_connection.specs.Render.{fault_text, busy_text}
 use Rattle.st_service.specs.Answers.{Asks, reply_text, close_of, Answers as ServiceAnswers}
 use Rattle.st_hall.specs.Steps.{Ask, State, Told, reply_of, state_after}
-use Rattle.st_hall.specs.Views.{Seat, EndsWith}
+use Rattle.st_hall.specs.Views.{Seat, EndsAfter}
 
 -- what was seen is seen still, and so many receipts more were got
 pub record Moves (more : ℕ) (s t : Seat) : Type 0 where
@@ -28,27 +28,27 @@ pub record AsksIn (h : RequestHead) (body : List ℕ) (asked : Ask) : Type 0 whe
   pub asks : Asks endpoint name (token_of (fields_of h)) body asked
 
 -- At a seat an item may get this answer, and leave this seat.
-pub data Answers (start : State) : Seat → First → List ℕ → Seat → Type 0 where
+pub data SeatAnswers (start : State) : Seat → First → List ℕ → Seat → Type 0 where
   -- a read is told what the state after the seen changes replies
   read : {s t : Seat} {h : RequestHead} {body : List ℕ} {bare : Bool} {asked : Ask}
       → AsksIn h body asked → asks_for_change asked ≡ false → Moves 0 s t
-      → Answers start s (message h body bare) (reply_text (reply_of (state_after start t.seen) asked) (close_of h) bare) t
-  -- a change is told the last reply of a list that ends with it, and is counted
+      → SeatAnswers start s (message h body bare) (reply_text (reply_of (state_after start t.seen) asked) (close_of h) bare) t
+  -- a change is told the last reply of a list that goes on what was seen and ends with it, and is counted
   made : {s t : Seat} {h : RequestHead} {body : List ℕ} {bare : Bool} {asked : Ask} {reply : Told}
-      → AsksIn h body asked → asks_for_change asked ≡ true → (list : List Ask) × EndsWith start list asked reply → Moves 1 s t
-      → Answers start s (message h body bare) (reply_text reply (close_of h) bare) t
+      → AsksIn h body asked → asks_for_change asked ≡ true → (list : List Ask) × EndsAfter start s.seen list asked reply → Moves 1 s t
+      → SeatAnswers start s (message h body bare) (reply_text reply (close_of h) bare) t
   -- out of memory for the text of a refusal, which is counted
   untold : {s t : Seat} {h : RequestHead} {body : List ℕ} {bare : Bool} {asked : Ask} {refusal : Refusal}
       → AsksIn h body asked → asks_for_change asked ≡ true
-      → (list : List Ask) × EndsWith start list asked (Reply.Refused refusal) → Moves 1 s t
-      → Answers start s (message h body bare) (busy_text (close_of h) bare) t
+      → (list : List Ask) × EndsAfter start s.seen list asked (Reply.Refused refusal) → Moves 1 s t
+      → SeatAnswers start s (message h body bare) (busy_text (close_of h) bare) t
   -- out of memory, and no change is made
   busy : {s t : Seat} {h : RequestHead} {body : List ℕ} {bare : Bool} → Moves 0 s t
-      → Answers start s (message h body bare) (busy_text (close_of h) bare) t
+      → SeatAnswers start s (message h body bare) (busy_text (close_of h) bare) t
   -- a message without an endpoint asks nothing, and is answered as by a service in any state
   unrouted : {s : Seat} {h : RequestHead} {body : List ℕ} {bare : Bool} {text : List ℕ}
       → ((endpoint : Endpoint) (name : List ℕ) → routed h.method h.target ≡ found endpoint name → ⊥)
       → ((state : State) → ServiceAnswers state (message h body bare) text state)
-      → Answers start s (message h body bare) text s
+      → SeatAnswers start s (message h body bare) text s
   -- nor does a fault
-  faulty : {s : Seat} {reason : Reason} {bare : Bool} → Answers start s (fault reason bare) (fault_text reason bare) s
+  faulty : {s : Seat} {reason : Reason} {bare : Bool} → SeatAnswers start s (fault reason bare) (fault_text reason bare) s

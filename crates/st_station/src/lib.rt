@@ -1,6 +1,7 @@
 //! Serves the requests of connections at a desk of a hall.
 #![tactic(auto)]
 
+pub mod law;
 mod station;
 
 pub use station::{Station, work};

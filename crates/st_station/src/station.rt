@@ -1,9 +1,12 @@
 //! A station: a worker who answers the messages of connections.
-ghost use Rattle.std.specs.Prelude.{◌≡◌, false, IfOk};
-ghost use Rattle.st_connection.specs.Connection.{EndsOn, Replied, Served};
+ghost use Rattle.std.specs.Prelude.{◌≡◌, false, refl, IfOk};
+ghost use Rattle.st_connection.specs.Connection.{EndsOn, Served};
 ghost use Rattle.st_service.specs.Answers.{IsFound};
 ghost use Rattle.st_service.specs.Bytes.{bytes_of};
-ghost use Rattle.st_station.specs.Seats.{Answers, faulty};
+ghost use Rattle.st_station.specs.Posts.{Answers};
+ghost use Rattle.st_station.specs.Replies.{RepliesTo, SeatReplies};
+ghost use Rattle.st_station.specs.Seats.{faulty};
+ghost use Rattle.st_station.specs.inner.Shown.{post_shown};
 
 use st_connection::connection::{Ended, IoFault, MAX_READS};
 use st_connection::replies::Replies;
@@ -11,8 +14,7 @@ use st_connection::streams::{Sink, Source};
 use st_connection::{Failed, Server};
 use st_hall::{Clerk, Desk, Gate, HallName, Worker};
 use st_http::message::Message;
-use st_http::routes::Route;
-use st_service::{Answer, asked_of, refuse, tell};
+use st_service::{Answer, asked_of};
 use std::alloc::{AllocError, Global};
 use std::marker::Model;
 use std::sync::{Mutex, Wait};
@@ -26,37 +28,51 @@ struct Answerer<'a, H: HallName, R: Wait + Drop, G: Gate, W: Wait> {
 }
 
 impl<'a, H: HallName, R: Wait + Drop, G: Gate, W: Wait> Model for Answerer<'a, H, R, G, W> {
-    ghost use Rattle.st_hall.specs.Views.{Seat};
+    ghost use Rattle.st_hall.specs.Views.{Post};
 
-    ghost Value = { Seat };
+    ghost Value = { Post };
 
-    ghost view = { λ a. a.worker.seat };
+    ghost view = { λ a. a.worker };
 }
 
 impl<'a, H: HallName, R: Wait + Drop, G: Gate, W: Wait> Answerer<'a, H, R, G, W> {
-    // Answers a message whose route is an endpoint.
-    fn answer(&mut self, message: &Message<'_>) -> Answer
+    // Answers a message whose route is an endpoint, in the call that began last.
+    fn answer_found(&mut self, message: &Message<'_>) -> Answer
         requires { IsFound message.now }
-        ensures { Replied (Answers H.start) self.old message.now (bytes_of result) self.new }
+        ensures number { self.new.number ≡ self.old.number }
+        ensures calls { self.new.calls ≡ self.old.calls }
+        ensures seat { SeatReplies H.start self.old.seat message.now (bytes_of result) self.new.seat }
     {
         let close = message.close;
         let bare = message.bare;
         let Ok(asked) = asked_of(self.alloc, self.alloc, message) else {
             return Answer::Busy { close, bare };
         };
-        let Ok(reply) = self.worker.ask(self.rt, asked) else {
-            return Answer::Busy { close, bare };
-        };
-        tell(self.alloc, &reply, close, bare)
+        let told = self.worker.ask(self.rt, asked);
+        let answer = Answer::of(self.alloc, &told, close, bare);
+        drop(told);
+        answer
+    }
+
+    // Answers a message, in the call that began last.
+    fn answer(&mut self, message: &Message<'_>) -> Answer
+        ensures number { self.new.number ≡ self.old.number }
+        ensures calls { self.new.calls ≡ self.old.calls }
+        ensures seat { SeatReplies H.start self.old.seat message.now (bytes_of result) self.new.seat }
+    {
+        match Answer::of_unrouted(self.alloc, message) {
+            Some(answer) => answer,
+            None => self.answer_found(message),
+        }
     }
 }
 
 impl<'a, H: HallName, R: Wait + Drop, G: Gate, W: Wait> Replies for Answerer<'a, H, R, G, W> {
-    ghost use Rattle.st_hall.specs.Views.{Seat};
+    ghost use Rattle.st_hall.specs.Views.{Post};
 
     type Reply = Answer;
 
-    ghost State = { Seat };
+    ghost State = { Post };
 
     ghost now = { λ a. a };
 
@@ -66,13 +82,17 @@ impl<'a, H: HallName, R: Wait + Drop, G: Gate, W: Wait> Replies for Answerer<'a,
 
     ghost answers = { Answers H.start };
 
-    ghost faults = { λ s reason bare. faulty };
+    ghost replies = { RepliesTo H.start };
+
+    ghost shown = { post_shown H.start };
+
+    ghost faults = { λ s reason bare. record { seat = faulty; number = refl; calls = refl } };
 
     fn reply(&mut self, message: &Message<'_>) -> Answer {
-        match message.route {
-            Route::Found(..) => self.answer(message),
-            Route::NoRoute | Route::BadMethod { .. } => refuse(self.alloc, message),
-        }
+        self.worker.begin();
+        let answer = self.answer(message);
+        self.worker.end();
+        answer
     }
 
     fn settle(&mut self) -> Result<(), Failed> {
@@ -80,16 +100,17 @@ impl<'a, H: HallName, R: Wait + Drop, G: Gate, W: Wait> Replies for Answerer<'a,
     }
 }
 
-/// A worker who serves connections, one after another. Contracts see it as its desk.
+/// A worker who serves connections, one after another. Contracts see it as its post: its number, how many messages it was asked, and
+/// its desk.
 #[derive(Drop)]
 pub struct Station<'a, H: HallName, R: Wait + Drop, G: Gate, W: Wait> {
     server: Server<Answerer<'a, H, R, G, W>>,
 }
 
 impl<'a, H: HallName, R: Wait + Drop, G: Gate, W: Wait> Model for Station<'a, H, R, G, W> {
-    ghost use Rattle.st_hall.specs.Views.{Seat};
+    ghost use Rattle.st_hall.specs.Views.{Post};
 
-    ghost Value = { Seat };
+    ghost Value = { Post };
 
     ghost view = { λ s. s.server };
 }
@@ -104,7 +125,7 @@ impl<'a, H: HallName, R: Wait + Drop, G: Gate, W: Wait> Station<'a, H, R, G, W> 
         clerk: &'a Mutex<Clerk<H, R>>,
         gate: &'a G,
     ) -> Result<Station<'a, H, R, G, W>, AllocError>
-        ensures { IfOk result (λ station. station ≡ desk) }
+        ensures { IfOk result (λ station. station ≡ record { number = number; calls = 0; seat = desk }) }
     {
         let worker = Worker::new(number, desk, clerk, gate);
         let server = Server::new(alloc, alloc, Answerer { alloc, worker, rt })?;
@@ -113,14 +134,15 @@ impl<'a, H: HallName, R: Wait + Drop, G: Gate, W: Wait> Station<'a, H, R, G, W> 
 
     /// How many receipts were got at its desk.
     pub fn made(&self) -> u64
-        ensures { result ≡ self.now.made }
+        ensures { result ≡ self.now.seat.made }
     {
         self.server.answerer().worker.made()
     }
 
-    /// Answers one message. When out of memory the answer is a 503, which never follows an accepted change.
+    /// Answers one message, which is one call, also where its route is no endpoint. The gate is told of the answer when its text is
+    /// made. When out of memory the answer is a 503, which never follows an accepted change.
     pub fn reply_to(&mut self, message: &Message<'_>) -> Answer
-        ensures { Replied (Answers H.start) self.old message.now (bytes_of result) self.new }
+        ensures { RepliesTo H.start self.old message.now (bytes_of result) self.new }
     {
         self.server.reply_to(message)
     }

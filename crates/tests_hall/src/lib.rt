@@ -5,6 +5,8 @@
 #[cfg(test)]
 mod asks;
 #[cfg(test)]
+mod calls;
+#[cfg(test)]
 mod desks;
 #[cfg(test)]
 mod faults;
@@ -14,6 +16,8 @@ mod fronts;
 mod halls;
 #[cfg(test)]
 mod messages;
+#[cfg(test)]
+mod pending;
 #[cfg(test)]
 mod puts;
 #[cfg(test)]

@@ -3,7 +3,7 @@ ghost use Rattle.std.specs.Prelude.{◌≡◌};
 
 use crate::halls::{AUDIT, Always, INPUT, ONE_ENTRY, OUTPUT, stores};
 use st_core::Store;
-use st_hall::{Clerk, Desk, Hall, HallName, Unnamed};
+use st_hall::{Clerk, Desk, Gate, Hall, HallName, Unnamed};
 use st_http::message::{Message, Take};
 use st_http::routes::Routes;
 use st_station::Station;
@@ -13,8 +13,8 @@ use std::sync::{Mutex, Wait};
 use std::test::*;
 
 // Answers a message, behind what was answered before.
-fn tell<H: HallName, C: Wait + Drop, R: Wait>(
-    station: &mut Station<'_, H, C, Always, R>,
+fn tell<H: HallName, C: Wait + Drop, G: Gate, R: Wait>(
+    station: &mut Station<'_, H, C, G, R>,
     message: &Message<'_>,
     told: &mut Vec<u8>,
 ) -> Option<()> {
@@ -23,8 +23,8 @@ fn tell<H: HallName, C: Wait + Drop, R: Wait>(
 }
 
 // Answers the first message of a text, and says how long the message is.
-fn answer<H: HallName, C: Wait + Drop, R: Wait>(
-    station: &mut Station<'_, H, C, Always, R>,
+fn answer<H: HallName, C: Wait + Drop, G: Gate, R: Wait>(
+    station: &mut Station<'_, H, C, G, R>,
     routes: &Routes,
     text: &[u8],
     told: &mut Vec<u8>,
@@ -39,8 +39,8 @@ fn answer<H: HallName, C: Wait + Drop, R: Wait>(
 }
 
 // Answers the messages of a text.
-fn answer_all<H: HallName, C: Wait + Drop, R: Wait>(
-    station: &mut Station<'_, H, C, Always, R>,
+fn answer_all<H: HallName, C: Wait + Drop, G: Gate, R: Wait>(
+    station: &mut Station<'_, H, C, G, R>,
     routes: &Routes,
     text: &[u8],
     told: &mut Vec<u8>,
@@ -56,10 +56,10 @@ fn answer_all<H: HallName, C: Wait + Drop, R: Wait>(
     None
 }
 
-// Whether a station answers the messages of a text by these answers.
-fn is_answered<H: HallName, C: Wait + Drop, R: Wait>(
+/// Whether a station answers the messages of a text by these answers.
+pub fn is_answered<H: HallName, C: Wait + Drop, G: Gate, R: Wait>(
     alloc: Global,
-    station: &mut Station<'_, H, C, Always, R>,
+    station: &mut Station<'_, H, C, G, R>,
     text: &[u8],
     wanted: &[u8],
 ) -> Option<bool> {

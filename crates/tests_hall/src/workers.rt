@@ -1,11 +1,12 @@
-//! Two workers who answer reads while the clerk is held.
+//! Two stations that answer reads while the clerk is held.
 ghost use Rattle.std.specs.Prelude.{◌≡◌};
 ghost use Rattle.std.specs.Thread.{IsSync};
 
-use crate::asks::{count, number_in};
-use crate::halls::stores;
+use crate::halls::{COUNT, NO_ROWS, stores};
+use crate::messages::is_answered;
 use st_core::Store;
-use st_hall::{Clerk, Gate, Hall, HallName, Unnamed, Worker};
+use st_hall::{Clerk, Desk, Gate, Hall, HallName, Unnamed};
+use st_station::Station;
 use std::alloc::Global;
 use std::marker::Brand;
 use std::sync::atomic::AtomicU64;
@@ -18,7 +19,7 @@ use std::time::{Clock, Duration};
 
 const TURNS: u32 = 10_000;
 
-// Worker 1's first call passes once worker 2's is answered, and both once the lock is held.
+// Station 1's first call passes once station 2's is answered, and both once the lock is held. No other call passes.
 #[derive(Drop)]
 struct Turns<'a, R: Clock> {
     rt: &'a R,
@@ -29,15 +30,17 @@ struct Turns<'a, R: Clock> {
 }
 
 impl<R: Clock> Gate for Turns<'_, R> {
-    fn may_pass(&self, worker: u64, _call: u64) -> bool {
+    fn may_pass(&self, worker: u64, call: u64) -> bool {
         thread::sleep(self.rt, Duration::from_millis(1));
-        self.locked.load(SeqCst) == 1 && (worker == 2 || self.told_two.load(SeqCst) == 1)
+        let is_next = worker == 2 || (worker == 1 && self.told_two.load(SeqCst) == 1);
+        self.locked.load(SeqCst) == 1 && call == 1 && is_next
     }
 
-    fn answered(&self, worker: u64, _call: u64) {
-        if worker == 1 {
+    fn answered(&self, worker: u64, call: u64) {
+        if worker == 1 && call == 1 {
             self.told_one.store(1, SeqCst);
-        } else {
+        }
+        if worker == 2 && call == 1 {
             self.told_two.store(1, SeqCst);
         }
     }
@@ -65,31 +68,56 @@ impl<R: Clock + Wait> Turns<'_, R> {
     }
 }
 
-// What a worker tells of a count.
-fn number_of<H: HallName, R: Clock + Wait>(
-    rt: &R,
+// Whether a station counts no rows.
+fn counts_none<H: HallName, R: Clock + Wait>(
     alloc: Global,
-    worker: &mut Worker<'_, H, &R, Turns<'_, R>>,
-) -> Option<u64> {
-    let asked = count(alloc)?;
-    let told = worker.ask(rt, asked);
-    let number = number_in(&told);
-    drop(told);
-    number
+    mut station: Station<'_, H, &R, Turns<'_, R>, R>,
+) -> Option<bool> {
+    is_answered(alloc, &mut station, COUNT, NO_ROWS)
 }
 
-// How many rows a worker counts.
-fn count_by<H: HallName, R: Clock + Wait>(
+type Counted = (Option<bool>, Option<bool>, bool);
+
+// Whether each of two stations counts no rows while a third thread holds the clerk's lock, and whether both were let pass then.
+fn counted_by<H: HallName + Send + Sync, R: Threads + Wait + Clock + Sync>(
     rt: &R,
     alloc: Global,
-    mut worker: Worker<'_, H, &R, Turns<'_, R>>,
-) -> Option<u64> {
-    number_of(rt, alloc, &mut worker)
+    clerk: &Mutex<Clerk<H, &R>>,
+    turns: &Turns<'_, R>,
+    one: Station<'_, H, &R, Turns<'_, R>, R>,
+    two: Station<'_, H, &R, Turns<'_, R>, R>,
+) -> Counted {
+    let (held, (a, b)) = join(
+        rt,
+        || turns.hold(rt, clerk),
+        || -> (Option<bool>, Option<bool>)
+            requires { IsSync R.row }
+        { join(rt, || counts_none(alloc, one), || counts_none(alloc, two)) },
+    );
+    (a, b, held && turns.gave_up.load(SeqCst) == 0)
 }
 
-type Counted = (Option<u64>, Option<u64>, bool);
+// The same, of stations at two desks.
+fn counted_at<H: HallName + Send + Sync, R: Threads + Wait + Clock + Sync>(
+    rt: &R,
+    alloc: Global,
+    clerk: &Mutex<Clerk<H, &R>>,
+    one: Desk<H>,
+    two: Desk<H>,
+) -> Option<Counted> {
+    let turns = Turns {
+        rt,
+        locked: AtomicU64::new(0),
+        told_one: AtomicU64::new(0),
+        told_two: AtomicU64::new(0),
+        gave_up: AtomicU64::new(0),
+    };
+    let one = Station::new(rt, alloc, 1, one, clerk, &turns).ok()?;
+    let two = Station::new(rt, alloc, 2, two, clerk, &turns).ok()?;
+    Some(counted_by(rt, alloc, clerk, &turns, one, two))
+}
 
-// What each of two workers counts while a third thread holds the clerk's lock, and whether both were let pass then.
+// The same, of the desks of a hall.
 fn counted<H: HallName + Send + Sync, R: Threads + Wait + Clock + Sync>(
     rt: &R,
     alloc: Global,
@@ -99,25 +127,10 @@ fn counted<H: HallName + Send + Sync, R: Threads + Wait + Clock + Sync>(
     requires named { (name.seen.book ≡ H.book) × (name.blank.name ≡ H.name) × (name.blank.parts ≡ 2) × (H.parts ≡ 2) }
     requires alike { (both.0 ≡ H.start) × (both.1 ≡ H.start) }
 {
-    let (clerk, one, two) = Hall::<H>::open(rt, alloc, name, both.0, both.1).ok()?;
-    let clerk = Mutex::new(clerk);
-    let turns = Turns {
-        rt,
-        locked: AtomicU64::new(0),
-        told_one: AtomicU64::new(0),
-        told_two: AtomicU64::new(0),
-        gave_up: AtomicU64::new(0),
-    };
-    let one = Worker::new(1, one, &clerk, &turns);
-    let two = Worker::new(2, two, &clerk, &turns);
-    let (held, (a, b)) = join(
-        rt,
-        || turns.hold(rt, &clerk),
-        || -> (Option<u64>, Option<u64>)
-            requires { IsSync R.row }
-        { join(rt, || count_by(rt, alloc, one), || count_by(rt, alloc, two)) },
-    );
-    Some((a, b, held && turns.gave_up.load(SeqCst) == 0))
+    match Hall::<H>::open(rt, alloc, name, both.0, both.1) {
+        Ok((clerk, one, two)) => counted_at(rt, alloc, &Mutex::new(clerk), one, two),
+        Err(_) => None,
+    }
 }
 
 fn found<R: Threads + Wait + Clock + Sync>(rt: &R, alloc: Global) -> Option<Counted> {
@@ -126,5 +139,5 @@ fn found<R: Threads + Wait + Clock + Sync>(rt: &R, alloc: Global) -> Option<Coun
 
 #[test]
 fn two_reads_at_once(rt: HostRuntime) {
-    assert!(rt; found(&rt, rt.alloc()) == Some((Some(0), Some(0), true)));
+    assert!(rt; found(&rt, rt.alloc()) == Some((Some(true), Some(true), true)));
 }

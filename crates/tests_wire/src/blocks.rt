@@ -42,6 +42,10 @@ impl Replies for Unsettled {
 
     ghost answers = { λ _ _ _ _. Unit {0} };
 
+    ghost replies = { λ _ _ _ _. Unit {0} };
+
+    ghost shown = { λ _ _ _ _ _ _ _ _ _. tt };
+
     ghost faults = { λ _ _ _. tt };
 
     fn reply(&mut self, _message: &Message<'_>) -> LineEnd {

@@ -1,5 +1,6 @@
 -- Stages of the code, which no reader has to believe: what the loops over items and bytes have done.
-use Rattle.std.specs.Prelude.{◌≡◌, ◌≢◌, ◌⊎◌, ◌*◌, ◌+◌, ◌^◌, ◌≤◌, ◌<◌, ℕ, Bool, true, false, Option, Result, Ok, Err, List, [], ◌++◌, length, drop}
+use Rattle.std.specs.Prelude.{◌≡◌, ◌≢◌, ◌⊎◌, ◌*◌, ◌+◌, ◌^◌, ◌≤◌, ◌<◌, ℕ, Bool, true, false, Option, Result, Ok, Err}
+use Rattle.std.specs.Prelude.{List, [], ◌++◌, length, drop}
 use Rattle.std.specs.List.{concat}
 use Rattle.std.specs.Io.KnownBytes.{Appends}
 use Rattle.st_http.specs.First.{First, more, IsFirst}

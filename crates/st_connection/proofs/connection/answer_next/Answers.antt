@@ -26,14 +26,14 @@ returns-in_default-clause-answered g c =
 pub returns-in-Err-pass-clause-answered : goal.returns-in-Err-pass-clause-answered
 returns-in-Err-pass-clause-answered g c =
     let replied = λ (h : RequestHead) (body : List ℕ) (bare : Bool) (shows : ShowsMessage h body bare c.in-Message.message).
-    subst (λ (a : List ℕ). g.X.Replies.answers (g.X.Replies.now c.args.answerer.now) (message h body bare) a (g.X.Replies.now c.reply-reply.new.self)) (sym c.as_slice.ensures) (c.reply-reply.ensures.answered h body bare shows) in
+    subst (λ (a : List ℕ). g.X.Replies.answers (g.X.Replies.now c.args.answerer.now) (message h body bare) a (g.X.Replies.now c.reply-reply.new.self)) (sym c.as_slice.ensures) (g.met.X.Replies.shown _ _ _ _ c.reply-reply.ensures.answered h body bare shows) in
     let one = message_one g.X.Replies.answers _ _ _ _ (omega arith) _ _ c.in-Message.ensures.first replied in
     next_stops g.X.Replies.answers _ _ _ _ _ _ c.in-Err-pass.ensures.now _ _ _ _ _ _ (take c.pass-in-Message.new.held c.pass-in-Message.new.block) _ _ c.reply-reply.ensures.kept _ one.1 _ c.in-Err-pass.ensures.passed
 
 pub returns-after-message-clause-answered : goal.returns-after-message-clause-answered
 returns-after-message-clause-answered g c =
     let replied = λ (h : RequestHead) (body : List ℕ) (bare : Bool) (shows : ShowsMessage h body bare c.in-Message.message).
-    subst (λ (a : List ℕ). g.X.Replies.answers (g.X.Replies.now c.args.answerer.now) (message h body bare) a (g.X.Replies.now c.reply-reply.new.self)) (sym c.as_slice.ensures) (c.reply-reply.ensures.answered h body bare shows) in
+    subst (λ (a : List ℕ). g.X.Replies.answers (g.X.Replies.now c.args.answerer.now) (message h body bare) a (g.X.Replies.now c.reply-reply.new.self)) (sym c.as_slice.ensures) (g.met.X.Replies.shown _ _ _ _ c.reply-reply.ensures.answered h body bare shows) in
     let one = message_one g.X.Replies.answers (g.X.Replies.now c.args.answerer.now) (g.X.Replies.now c.reply-reply.new.self) c.args.text.now _ (omega arith) _ _ c.in-Message.ensures.first replied in
     elim c.if-message.branch [
       | then-message w ↦

@@ -1,6 +1,6 @@
 use Rattle.std.proofs.Common.{◌≡◌, sym, true, false}
 use Rattle.st_connection.proofs.AtOnce.{at_once}
-use Rattle.st_station.specs.Seats.{Answers}
+use Rattle.st_station.specs.Posts.{Answers}
 use Rattle.st_station.proofs.station.work.Goals as goal
 
 pub returns-clause-served : goal.returns-clause-served

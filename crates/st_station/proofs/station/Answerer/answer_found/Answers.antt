@@ -1,0 +1,13 @@
+use Rattle.std.proofs.Common.{refl, sym}
+use Rattle.st_station.proofs.Seated.{seated, seated_unasked}
+use Rattle.st_station.proofs.station.Answerer.answer_found.Goals as goal
+
+pub returns-in_default-clause-seat : goal.returns-in_default-clause-seat
+returns-in_default-clause-seat g c = seated_unasked g.H.HallName.start c.args.self.now.seat c.args.message.now _ refl
+
+pub returns-clause-seat : goal.returns-clause-seat
+returns-clause-seat g c =
+    let asked = c.ask-told.ensures in
+    let answered = c.of-answer.ensures in
+    rw (sym c.self.view_is) (seated g.H.HallName.start c.self.inside.worker.seat c.ask-told.new.self.seat c.args.message.now _ c.in-Ok.asked
+    c.requires c.in-Ok.ensures c.ask-told.result asked.seen asked.change asked.goes_on asked.read asked.shown answered.ok answered.err)
