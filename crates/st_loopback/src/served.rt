@@ -14,11 +14,12 @@ use st_core::Store;
 use st_hall::{Clerk, Desk, Hall, HallFault, HallName, Unnamed};
 use st_station::Station;
 use std::alloc::Global;
-use std::io::Write;
+use std::io::{Eprint, Write};
 use std::marker::Brand;
 use std::net::{Net, SocketAddr, SocketAddrV4, TcpListener, TcpStream};
 use std::sync::{Mutex, Wait};
 use std::thread::Threads;
+use std::time::Clock;
 
 // Listens at the address.
 fn listen<R: Net<Listener = TcpListener, Stream = TcpStream>>(
@@ -63,7 +64,7 @@ fn begin<R: Net<Listener = TcpListener, Stream = TcpStream>, O: Write>(
 }
 
 // Serves as many connections as the words say, or all that come, and gives their number.
-fn attend<'c, H: HallName + Send + Sync, R: Threads + Wait + Sync>(
+fn attend<'c, H: HallName + Send + Sync, R: Threads + Wait + Clock + Eprint + Sync>(
     rt: &R,
     alloc: Global,
     listener: &TcpListener,
@@ -86,7 +87,7 @@ fn attend<'c, H: HallName + Send + Sync, R: Threads + Wait + Sync>(
 fn announce<
     'c,
     H: HallName + Send + Sync,
-    R: Net<Listener = TcpListener, Stream = TcpStream> + Threads + Wait + Sync,
+    R: Net<Listener = TcpListener, Stream = TcpStream> + Threads + Wait + Clock + Eprint + Sync,
     O: Write,
 >(
     rt: &R,
@@ -114,7 +115,7 @@ fn announce<
 fn seat_workers<
     'c,
     H: HallName + Send + Sync,
-    R: Net<Listener = TcpListener, Stream = TcpStream> + Threads + Wait + Sync,
+    R: Net<Listener = TcpListener, Stream = TcpStream> + Threads + Wait + Clock + Eprint + Sync,
     O: Write,
 >(
     rt: &'c R,
@@ -135,7 +136,7 @@ fn seat_workers<
 // Opens a hall over the two stores, and serves at its desks.
 fn open_hall<
     H: HallName + Send + Sync,
-    R: Net<Listener = TcpListener, Stream = TcpStream> + Threads + Wait + Sync,
+    R: Net<Listener = TcpListener, Stream = TcpStream> + Threads + Wait + Clock + Eprint + Sync,
     O: Write,
 >(
     rt: &R,
@@ -160,12 +161,10 @@ fn open_hall<
 }
 
 // Reads the words, opens the stores, and serves.
-fn run<R: Net<Listener = TcpListener, Stream = TcpStream> + Threads + Wait + Sync, O: Write>(
-    rt: &R,
-    alloc: Global,
-    words: &[String],
-    output: &mut O,
-) -> Result<(), Fault>
+fn run<
+    R: Net<Listener = TcpListener, Stream = TcpStream> + Threads + Wait + Clock + Eprint + Sync,
+    O: Write,
+>(rt: &R, alloc: Global, words: &[String], output: &mut O) -> Result<(), Fault>
     ensures { Ran (map string_bytes words.now) (O.contents output.old) (O.contents output.new) (exit_status_after result) }
 {
     let said = ServedArguments::read(alloc, words)?;
@@ -180,7 +179,7 @@ fn run<R: Net<Listener = TcpListener, Stream = TcpStream> + Threads + Wait + Syn
 /// name is no authorization; 5 where the port was not bound, a connection was not accepted, or the output
 /// took no more; 6 where there was no memory, no place or no thread. Each but 0 has its text in `faults`.
 pub fn serve_words<
-    R: Net<Listener = TcpListener, Stream = TcpStream> + Threads + Wait + Sync,
+    R: Net<Listener = TcpListener, Stream = TcpStream> + Threads + Wait + Clock + Eprint + Sync,
     O: Write,
     F: Write,
 >(rt: &R, alloc: Global, words: &[String], output: &mut O, faults: &mut F) -> u8

@@ -8,45 +8,33 @@ use crate::connection::{Open, converse};
 use crossbeam_channel::{Receiver, Sender, unbounded};
 use st_command_line::Fault;
 use st_hall::HallName;
+use st_peer::Acceptor;
 use st_station::Station;
 use std::alloc::{AllocError, Global};
-use std::io::ErrorKind;
+use std::io::Eprint;
 use std::net::{TcpListener, TcpStream};
 use std::sync::{Mutex, Wait};
 use std::thread;
 use std::thread::Threads;
-use std::time::Duration;
+use std::time::{Clock, Duration};
 
-// The next connection. One that its client gave up before it was accepted is passed over.
-fn accept(listener: &TcpListener) -> Result<TcpStream, Fault>
-    ensures { IfErr result (λ fault. fault ≡ Accept) }
-{
-    for _ in 0..u64::MAX {
-        match listener.accept() {
-            Ok((stream, _)) => return Ok(stream),
-            Err(error) => match error.kind() {
-                ErrorKind::ConnectionAborted | ErrorKind::Interrupted => {}
-                _ => return Err(Fault::Accept),
-            },
-        }
-    }
-    Err(Fault::Accept)
-}
+// The program, as its lines on standard error name it.
+const PROGRAM: &str = "st_served";
 
 // Answers the connections of a queue, one after another.
-fn answer_queued<H: HallName, C: Wait + Drop, R: Wait>(
+fn answer_queued<H: HallName, C: Wait + Drop, R: Wait + Clock>(
     rt: &R,
     station: &mut Station<'_, H, C, Open, R>,
     queue: &Receiver<TcpStream>,
     limit: Duration,
 ) {
     for stream in queue.iter(rt) {
-        converse(station, stream, limit);
+        converse(rt, station, stream, limit);
     }
 }
 
 // One worker's thread: works until the sender of its queue is gone.
-fn work_from_queue<H: HallName, C: Wait + Drop, R: Wait>(
+fn work_from_queue<H: HallName, C: Wait + Drop, R: Wait + Clock>(
     rt: &R,
     mut station: Station<'_, H, C, Open, R>,
     queue: Receiver<TcpStream>,
@@ -63,9 +51,9 @@ fn is_for_first(number: u16) -> bool
 }
 
 // Accepts this many connections, and sends each to one worker or the other.
-fn distribute<R: Wait>(
+fn distribute<R: Wait + Clock + Eprint>(
     rt: &R,
-    listener: &TcpListener,
+    mut acceptor: Acceptor<'_, TcpListener>,
     connections: u16,
     one: Sender<TcpStream>,
     two: Sender<TcpStream>,
@@ -73,7 +61,9 @@ fn distribute<R: Wait>(
     ensures { IfErr result Stops }
 {
     for number in 0..connections {
-        let stream = accept(listener)?;
+        let Ok(stream) = acceptor.next(rt) else {
+            return Err(Fault::Accept);
+        };
         let queue = if is_for_first(number) { &one } else { &two };
         if queue.send(rt, stream).is_err() {
             return Err(Fault::NoMemory);
@@ -90,7 +80,7 @@ fn queues(alloc: Global) -> Result<(Queue, Queue), AllocError> {
 }
 
 // Starts two workers, each with a queue, and spreads this many connections over them.
-fn spread<'c, H: HallName + Send + Sync, R: Threads + Wait + Sync>(
+fn spread<'c, H: HallName + Send + Sync, R: Threads + Wait + Clock + Eprint + Sync>(
     rt: &R,
     both: (Queue, Queue),
     listener: &TcpListener,
@@ -118,13 +108,19 @@ fn spread<'c, H: HallName + Send + Sync, R: Threads + Wait + Sync>(
             if !is_first || !is_second {
                 return Err(Fault::NoThread);
             }
-            distribute(rt, listener, connections, to_one, to_two)
+            distribute(
+                rt,
+                Acceptor::new(listener, PROGRAM),
+                connections,
+                to_one,
+                to_two,
+            )
         },
     )
 }
 
 /// Serves this many connections by two workers, each on a thread of its own: the first, the third and so on by the first worker.
-pub fn serve_number<'c, H: HallName + Send + Sync, R: Threads + Wait + Sync>(
+pub fn serve_number<'c, H: HallName + Send + Sync, R: Threads + Wait + Clock + Eprint + Sync>(
     rt: &R,
     alloc: Global,
     listener: &TcpListener,
@@ -145,31 +141,22 @@ pub fn serve_number<'c, H: HallName + Send + Sync, R: Threads + Wait + Sync>(
     }
 }
 
-// Where the workers accept their connections, one at a time, until an accept fails.
+// Where the workers accept their connections, one at a time.
 #[derive(Drop)]
 struct Door<'a> {
-    listener: &'a TcpListener,
-    is_open: Mutex<bool>,
+    acceptor: Mutex<Acceptor<'a, TcpListener>>,
 }
 
 impl Door<'_> {
-    fn next<R: Wait>(&self, rt: &R) -> Option<TcpStream> {
-        let mut is_open = self.is_open.lock(rt);
-        if !*is_open {
-            return None;
-        }
-        match accept(self.listener) {
-            Ok(stream) => Some(stream),
-            Err(_) => {
-                *is_open = false;
-                None
-            }
-        }
+    // The next connection, as long as the listener is good.
+    fn next<R: Wait + Clock + Eprint>(&self, rt: &R) -> Option<TcpStream> {
+        let mut acceptor = self.acceptor.lock(rt);
+        acceptor.next(rt).ok()
     }
 }
 
-// Answers one connection after another at the door, until an accept fails.
-fn answer_at_door<H: HallName, C: Wait + Drop, R: Wait>(
+// Answers one connection after another at the door, until the listener is bad.
+fn answer_at_door<H: HallName, C: Wait + Drop, R: Wait + Clock + Eprint>(
     rt: &R,
     station: &mut Station<'_, H, C, Open, R>,
     door: &Door<'_>,
@@ -179,12 +166,12 @@ fn answer_at_door<H: HallName, C: Wait + Drop, R: Wait>(
         let Some(stream) = door.next(rt) else {
             return;
         };
-        converse(station, stream, limit);
+        converse(rt, station, stream, limit);
     }
 }
 
 // One worker's thread: works until the door is closed.
-fn work_at_door<H: HallName, C: Wait + Drop, R: Wait>(
+fn work_at_door<H: HallName, C: Wait + Drop, R: Wait + Clock + Eprint>(
     rt: &R,
     mut station: Station<'_, H, C, Open, R>,
     door: &Door<'_>,
@@ -193,9 +180,9 @@ fn work_at_door<H: HallName, C: Wait + Drop, R: Wait>(
     answer_at_door(rt, &mut station, door, limit);
 }
 
-/// Serves all connections by two workers, each on a thread of its own: a worker that is free accepts the next one. Ends when an
-/// accept fails.
-pub fn serve_all<'c, H: HallName + Send + Sync, R: Threads + Wait + Sync>(
+/// Serves all connections by two workers, each on a thread of its own: a worker that is free accepts the next one. Ends when the
+/// listener is bad.
+pub fn serve_all<'c, H: HallName + Send + Sync, R: Threads + Wait + Clock + Eprint + Sync>(
     rt: &R,
     listener: &TcpListener,
     limit: Duration,
@@ -205,8 +192,7 @@ pub fn serve_all<'c, H: HallName + Send + Sync, R: Threads + Wait + Sync>(
     ensures { Stops result }
 {
     let door = Door {
-        listener,
-        is_open: Mutex::new(true),
+        acceptor: Mutex::new(Acceptor::new(listener, PROGRAM)),
     };
     let door = &door;
     thread::scope(

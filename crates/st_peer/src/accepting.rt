@@ -1,0 +1,104 @@
+//! Accepting goes on whatever happens to a connection or to the machine.
+ghost use Rattle.std.specs.Prelude.{◌≡◌, ◌*◌, min};
+ghost use Rattle.std.specs.Duration.{as_nanos};
+
+use std::io::{self, Write};
+use std::net::OpenListener;
+use std::thread;
+use std::time::{Clock, Duration};
+use thiserror::Error;
+
+/// The listener cannot accept any more.
+#[derive(Clone, Copy, Debug, PartialEq, Eq, Error)]
+#[error("the listener is bad")]
+pub struct BadListener;
+
+// What an error of accept(2) is about.
+#[derive(Clone, Copy)]
+enum Cause {
+    // One connection, which is gone.
+    Connection,
+    // The machine, which has no file or no memory now.
+    Machine,
+    // The listener.
+    Listener,
+}
+
+// What an error is about, by accept(2).
+fn cause_of(error: &io::Error) -> Cause {
+    match error.raw_os_error() {
+        // EPERM, EINTR, EAGAIN, ENONET, EPROTO, ENOPROTOOPT, EOPNOTSUPP, ENETDOWN, ENETUNREACH, ECONNABORTED, ECONNRESET, ETIMEDOUT,
+        // EHOSTDOWN, EHOSTUNREACH
+        Some(1 | 4 | 11 | 64 | 71 | 92 | 95 | 100 | 101 | 103 | 104 | 110 | 112 | 113) => {
+            Cause::Connection
+        }
+        // ENOMEM, ENFILE, EMFILE, ENOBUFS
+        Some(12 | 23 | 24 | 105) => Cause::Machine,
+        _ => Cause::Listener,
+    }
+}
+
+// The first wait while the machine is short of files or memory, and the longest, in milliseconds.
+const FIRST_WAIT: u64 = 10;
+
+const LONGEST_WAIT: u64 = 1_000;
+
+// The next wait: twice as long, and a second at most.
+fn longer(wait: Duration) -> Duration
+    ensures { as_nanos result ≡ min (as_nanos wait * 2) 1000000000 }
+{
+    wait.saturating_mul(2)
+        .min(Duration::from_millis(LONGEST_WAIT))
+}
+
+/// Accepts the connections of a listener. While the machine is short of files or memory it waits; it says on `faults` when that
+/// begins and when it ends.
+#[derive(Drop)]
+pub struct Acceptor<'a, L, F> {
+    listener: &'a L,
+    faults: F,
+    is_short: bool,
+}
+
+impl<'a, L: OpenListener, F: Write> Acceptor<'a, L, F> {
+    /// Accepts the connections of this listener.
+    pub fn new(listener: &'a L, faults: F) -> Self {
+        Acceptor {
+            listener,
+            faults,
+            is_short: false,
+        }
+    }
+
+    // Says whether the machine is short of files or memory, where that has changed.
+    fn tell(&mut self, is_short: bool, line: &str) {
+        if self.is_short != is_short {
+            self.is_short = is_short;
+            let _told = writeln!(self.faults, "{line}");
+        }
+    }
+
+    /// The next connection. An error that is about one connection is passed over; one about the machine is waited out, 10 ms at
+    /// first and then twice as long each time, up to a second. Any other is the listener's (accept(2)).
+    pub fn next<R: Clock>(&mut self, clock: &R) -> Result<L::Stream, BadListener> {
+        let mut wait = Duration::from_millis(FIRST_WAIT);
+        for _ in 0..u64::MAX {
+            match self.listener.accept() {
+                Ok((stream, _)) => {
+                    self.tell(false, "accepting again");
+                    return Ok(stream);
+                }
+                Err(error) => match cause_of(&error) {
+                    Cause::Connection => {}
+                    Cause::Machine => {
+                        self.tell(true, "no file or memory for a connection: waiting");
+                        thread::sleep(clock, wait);
+                        wait = longer(wait);
+                    }
+                    Cause::Listener => return Err(BadListener),
+                },
+            }
+        }
+        Err(BadListener)
+    }
+}

@@ -1,0 +1,10 @@
+//! The client at the other end of a TCP connection: how it is accepted, how long it may take, and how the server parts from it.
+#![tactic(auto)]
+
+mod accepting;
+mod outgoing;
+mod parting;
+
+pub use accepting::{Acceptor, BadListener};
+pub use outgoing::Outgoing;
+pub use parting::part;
