@@ -12,8 +12,8 @@ from typing import IO
 
 from served import PROGRAM, digest, free_port, token
 
-SHORT = b"no file or memory for a connection: waiting\n"
-AGAIN = b"accepting again\n"
+SHORT = b"st_served: no file or memory for a connection: waiting\n"
+AGAIN = b"st_served: accepting again\n"
 
 
 @dataclass(frozen=True)

@@ -2,7 +2,7 @@
 ghost use Rattle.std.specs.Prelude.{◌≡◌, ◌*◌, min};
 ghost use Rattle.std.specs.Duration.{as_nanos};
 
-use std::io::{self, Write};
+use std::io::{self, Eprint};
 use std::net::OpenListener;
 use std::thread;
 use std::time::{Clock, Duration};
@@ -51,51 +51,57 @@ fn longer(wait: Duration) -> Duration
         .min(Duration::from_millis(LONGEST_WAIT))
 }
 
-/// Accepts the connections of a listener. While the machine is short of files or memory it waits; it says on `faults` when that
-/// begins and when it ends.
+/// Accepts the connections of a listener. While the machine is short of files or memory it waits, and says on standard error
+/// when that begins and when it ends.
 #[derive(Drop)]
-pub struct Acceptor<'a, L, F> {
+pub struct Acceptor<'a, L> {
     listener: &'a L,
-    faults: F,
+    program: &'a str,
     is_short: bool,
+    is_bad: bool,
 }
 
-impl<'a, L: OpenListener, F: Write> Acceptor<'a, L, F> {
-    /// Accepts the connections of this listener.
-    pub fn new(listener: &'a L, faults: F) -> Self {
+impl<'a, L: OpenListener> Acceptor<'a, L> {
+    /// Accepts the connections of this listener, for the program of this name.
+    pub fn new(listener: &'a L, program: &'a str) -> Self {
         Acceptor {
             listener,
-            faults,
+            program,
             is_short: false,
+            is_bad: false,
         }
     }
 
     // Says whether the machine is short of files or memory, where that has changed.
-    fn tell(&mut self, is_short: bool, line: &str) {
+    fn tell<R: Eprint>(&mut self, rt: &R, is_short: bool, what: &str) {
         if self.is_short != is_short {
             self.is_short = is_short;
-            let _told = writeln!(self.faults, "{line}");
+            let program = self.program;
+            let _told = rt.eprintln(format_args!("{program}: {what}"));
         }
     }
 
     /// The next connection. An error that is about one connection is passed over; one about the machine is waited out, 10 ms at
-    /// first and then twice as long each time, up to a second. Any other is the listener's (accept(2)).
-    pub fn next<R: Clock>(&mut self, clock: &R) -> Result<L::Stream, BadListener> {
+    /// first and then twice as long each time, up to a second. Any other is the listener's, which is then bad for good (accept(2)).
+    pub fn next<R: Clock + Eprint>(&mut self, rt: &R) -> Result<L::Stream, BadListener> {
         let mut wait = Duration::from_millis(FIRST_WAIT);
         for _ in 0..u64::MAX {
+            if self.is_bad {
+                return Err(BadListener);
+            }
             match self.listener.accept() {
                 Ok((stream, _)) => {
-                    self.tell(false, "accepting again");
+                    self.tell(rt, false, "accepting again");
                     return Ok(stream);
                 }
                 Err(error) => match cause_of(&error) {
                     Cause::Connection => {}
                     Cause::Machine => {
-                        self.tell(true, "no file or memory for a connection: waiting");
-                        thread::sleep(clock, wait);
+                        self.tell(rt, true, "no file or memory for a connection: waiting");
+                        thread::sleep(rt, wait);
                         wait = longer(wait);
                     }
-                    Cause::Listener => return Err(BadListener),
+                    Cause::Listener => self.is_bad = true,
                 },
             }
         }
