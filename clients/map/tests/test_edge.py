@@ -63,6 +63,16 @@ def test_body_of_the_greatest_size_passes(stack: Stack) -> None:
     assert reply.endswith(b'{"normal":"storms"}')
 
 
+def test_client_that_expects_a_100_gets_it(stack: Stack) -> None:
+    body = b'{"label":"wind&wind"}'
+    with socket.create_connection(("127.0.0.1", stack.edge), 10) as client:
+        head = f"POST /label HTTP/1.1\r\nHost: x\r\nAuthorization: Bearer {token('root')}\r\nContent-Length: {len(body)}\r\n"
+        client.sendall(f"{head}Expect: 100-continue\r\n\r\n".encode())
+        assert client.recv(65_536) == b"HTTP/1.1 100 Continue\r\n\r\n"
+        client.sendall(body)
+        assert client.recv(65_536).endswith(b'\r\n\r\n{"normal":"wind"}')
+
+
 def test_larger_body_is_refused_as_by_the_server(stack: Stack) -> None:
     with half_sent(stack, "Content-Length: 65537", 65_537) as client:
         reply = client.recv(65_536)
