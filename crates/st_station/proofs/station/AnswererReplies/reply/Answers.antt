@@ -1,15 +1,18 @@
-use Rattle.std.proofs.Common.{refl, inr, ◌∙◌, subst, ℕ, ◌+◌, min}
+use Rattle.std.proofs.Common.{◌≡◌, refl, inr, ◌∙◌, subst}
 use Rattle.st_hall.specs.Views.{Seat}
 use Rattle.st_station.specs.Replies.{SeatReplies}
 use Rattle.st_station.proofs.station.AnswererReplies.reply.Goals as goal
 
 pub returns : goal.returns
-returns g c = record {
-  answered = record {
-    seat = subst (λ (s : Seat). SeatReplies g.H.HallName.start s c.args.message.now _ c.answer.new.self.seat) c.begin.ensures.seat c.answer.ensures.seat;
-    number = c.answer.ensures.number ∙ c.begin.ensures.number;
-    calls = c.answer.ensures.calls ∙ c.begin.ensures.calls;
-  };
-  kept = inr refl;
-  sound = refl;
-}
+returns g c =
+    let same : c.args.self.now ≡ c.self.inside.worker = cc (c.self.view_is) in
+    let answered = c.answer-answer.ensures in
+    record {
+      answered = rw same (record {
+        seat = subst (λ (s : Seat). SeatReplies g.H.HallName.start s c.args.message.now _ c.answer-answer.new.self.seat) c.begin.ensures.seat answered.seat;
+        number = answered.number ∙ c.begin.ensures.number;
+        calls = answered.calls ∙ c.begin.ensures.calls;
+      });
+      kept = inr refl;
+      sound = refl;
+    }
