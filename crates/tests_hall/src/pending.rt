@@ -59,7 +59,7 @@ fn pending_in<H: HallName, R: Wait>(
     name: Unnamed,
     both: (Store, Store),
 ) -> Option<Found>
-    requires named { (name.seen.book ≡ H.book) × (name.blank.name ≡ H.name) × (H.parts ≡ 2) }
+    requires named { (name.seen.book ≡ H.book) × (name.blank.name ≡ H.name) × (name.blank.parts ≡ 2) × (H.parts ≡ 2) }
     requires alike { (both.0 ≡ H.start) × (both.1 ≡ H.start) }
 {
     let (mut clerk, mut one, mut two) = Hall::<H>::open(rt, alloc, name, both.0, both.1).ok()?;
