@@ -1,5 +1,6 @@
 use Rattle.std.proofs.Common.{◌≡◌, refl, inr, ◌∙◌, subst}
 use Rattle.st_hall.specs.Views.{Seat}
+use Rattle.st_service.specs.Bytes.{bytes_of}
 use Rattle.st_station.specs.Replies.{SeatReplies}
 use Rattle.st_station.proofs.station.AnswererReplies.reply.Goals as goal
 
@@ -9,7 +10,7 @@ returns g c =
     let answered = c.answer-answer.ensures in
     record {
       answered = rw same (record {
-        seat = subst (λ (s : Seat). SeatReplies g.H.HallName.start s c.args.message.now _ c.answer-answer.new.self.seat) c.begin.ensures.seat answered.seat;
+        seat = subst (λ (s : Seat). SeatReplies g.H.HallName.start s c.args.message.now (bytes_of c.answer-answer.result) c.answer-answer.new.self.seat) c.begin.ensures.seat answered.seat;
         number = answered.number ∙ c.begin.ensures.number;
         calls = answered.calls ∙ c.begin.ensures.calls;
       });
