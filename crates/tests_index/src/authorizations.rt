@@ -33,14 +33,38 @@ fn sets(rt: HostRuntime) {
     assert!(rt; bad == Some(AuthsFault::BadName { index: 1 }));
 }
 
+// The place of the first of the names that a set lacks.
+fn first_missing(alloc: Global, held: &[&str], names: &[&str]) -> Option<Option<usize>> {
+    Some(set(alloc, held)?.first_missing(names))
+}
+
+#[test]
+fn missing_names(rt: HostRuntime) {
+    let held = ["A", "C"];
+    assert!(rt; first_missing(rt.alloc(), &held, &["C", "B", "A", "D"]) == Some(Some(1)));
+    assert!(rt; first_missing(rt.alloc(), &held, &["C", "A", "C"]) == Some(None));
+}
+
 // What is asked of a memory of verdicts: a label under a set.
-const ASKED: [(&str, &[&str], bool); 6] = [
+type Asked<'a> = (&'a str, &'a [&'a str], bool);
+
+const ASKED: [Asked<'static>; 6] = [
     ("A", &["A"], true),
     ("A", &[], false),
     ("B", &["B"], true),
     ("A", &["A"], true),
     ("A", &["A"], true),
     ("B", &["A"], false),
+];
+
+// Labels of more than 15 bytes, which lie outside their values.
+const ASKED_LONG: [Asked<'static>; 6] = [
+    ("the_first_of_names", &["the_first_of_names"], true),
+    ("the_first_of_names", &[], false),
+    ("another_of_names", &["another_of_names"], true),
+    ("the_first_of_names", &["the_first_of_names"], true),
+    ("the_first_of_names", &["the_first_of_names"], true),
+    ("another_of_names", &["the_first_of_names"], false),
 ];
 
 // What a memory of verdicts answers, asked by a label under the set of these names.
@@ -56,9 +80,9 @@ fn answer(
 }
 
 // Whether a memory of verdicts answers each in turn.
-fn answers_each(alloc: Global, verdicts: &mut Verdicts<Global>) -> bool {
-    for (label, names, wanted) in ASKED {
-        if answer(alloc, verdicts, label, names) != Some(wanted) {
+fn answers_each(alloc: Global, verdicts: &mut Verdicts<Global>, asked: &[Asked<'_>]) -> bool {
+    for (label, names, wanted) in asked {
+        if answer(alloc, verdicts, *label, *names) != Some(*wanted) {
             return false;
         }
     }
@@ -66,12 +90,13 @@ fn answers_each(alloc: Global, verdicts: &mut Verdicts<Global>) -> bool {
 }
 
 // Whether a memory of one verdict answers each in turn.
-fn are_answered(alloc: Global) -> Option<bool> {
+fn are_answered(alloc: Global, asked: &[Asked<'_>]) -> Option<bool> {
     let mut verdicts = Verdicts::new(alloc, NonZeroUsize::MIN).ok()?;
-    Some(answers_each(alloc, &mut verdicts))
+    Some(answers_each(alloc, &mut verdicts, asked))
 }
 
 #[test]
 fn verdicts(rt: HostRuntime) {
-    assert!(rt; are_answered(rt.alloc()) == Some(true));
+    assert!(rt; are_answered(rt.alloc(), &ASKED) == Some(true));
+    assert!(rt; are_answered(rt.alloc(), &ASKED_LONG) == Some(true));
 }

@@ -104,18 +104,25 @@ fn part(t0: u64, t1: u64, at: usize) -> Wanted {
     Some((part.bin_lo, part.bin_hi, Some(part.zbox)))
 }
 
+// Whether a span has three parts, of these bins and these first and last seconds.
+fn has_parts(t0: u64, t1: u64, wanted: [(u32, u32, u32, u32); 3]) -> bool {
+    for (at, (lo, hi, first, last)) in wanted.iter().enumerate() {
+        let zbox = ZBox::new(1, 2, 3, 4, *first, *last);
+        if part(t0, t1, at) != Some((*lo, *hi, zbox)) {
+            return false;
+        }
+    }
+    part(t0, t1, 3) == None
+}
+
 #[test]
 fn parts_of_a_span(rt: HostRuntime) {
-    // Four weeks: the end of one, two whole ones, the start of the last.
-    for (at, lo, hi, first, last) in [
-        (0, 0, 0, 604_700, 604_799),
-        (1, 1, 2, 0, 604_799),
-        (2, 3, 3, 0, 7),
-    ] {
-        let wanted = Some((lo, hi, ZBox::new(1, 2, 3, 4, first, last)));
-        assert!(rt; part(604_700, 3 * 604_800 + 7, at) == wanted);
-    }
-    assert!(rt; part(604_700, 3 * 604_800 + 7, 3) == None);
+    // The end of a week, two whole ones, and the start of a fourth.
+    let wanted = [(0, 0, 604_700, 604_799), (1, 2, 0, 604_799), (3, 3, 0, 7)];
+    assert!(rt; has_parts(604_700, 1_814_407, wanted));
+    // One second of the first week, and one of the fourth.
+    let wanted = [(0, 0, 604_799, 604_799), (1, 2, 0, 604_799), (3, 3, 0, 0)];
+    assert!(rt; has_parts(604_799, 1_814_400, wanted));
 }
 
 // How many parts a span has.

@@ -9,17 +9,18 @@ fn key_of(x: u64, y: u64, t: u64, period: Period) -> Option<(u32, u64)> {
     Some((key.bin(), key.address()))
 }
 
-// The bin of the last point's key, and whether that is the key of the point alone.
-fn last_key(period: Period) -> Option<(u32, bool)> {
+// The bin and the address of the last point's key, and whether that is the key of the point alone.
+fn last_key(period: Period) -> Option<(u32, u64, bool)> {
     let last = Point::new(2_097_151, 2_097_151, 19_818_086_399).ok()?;
     let key = Key::of(&last, period);
-    Some((key.bin(), key.point(period) == Some(last)))
+    Some((key.bin(), key.address(), key.point(period) == Some(last)))
 }
 
 #[test]
 fn last_point(rt: HostRuntime) {
-    assert!(rt; last_key(Period::Week) == Some((32_767, true)));
-    assert!(rt; last_key(Period::Day) == Some((229_375, true)));
+    // The addresses of the second 604,799 of a week, and of the second 86,399 of a day.
+    assert!(rt; last_key(Period::Week) == Some((32_767, 4_530_462_891_089_854_463, true)));
+    assert!(rt; last_key(Period::Day) == Some((229_375, 3_954_017_497_119_719_423, true)));
     for (x, y, t) in [(2_097_152, 0, 0), (0, u64::MAX, 0), (0, 0, 19_818_086_400)] {
         assert!(rt; key_of(x, y, t, Period::Week) == None);
     }
@@ -56,6 +57,23 @@ fn bins(rt: HostRuntime) {
 fn after(bin: u32, address: u64, period: Period) -> Option<(u32, u64)> {
     let next = Key::new(bin, address, period)?.after(period)?;
     Some((next.bin(), next.address()))
+}
+
+// Whether a key belongs to no point.
+fn is_bare(bin: u32, address: u64, period: Period) -> Option<bool> {
+    Some(Key::new(bin, address, period)?.point(period) == None)
+}
+
+#[test]
+fn keys_of_no_point(rt: HostRuntime) {
+    // The greatest address has an offset of 2^21 - 1; that of the first second past a week is no offset either.
+    for (address, is_none) in [
+        ((1 << 63) - 1, true),
+        (577_589_161_016_426_496, true),
+        (577_589_161_009_236_260, false),
+    ] {
+        assert!(rt; is_bare(0, address, Period::Week) == Some(is_none));
+    }
 }
 
 #[test]

@@ -93,7 +93,7 @@ fn days(rt: HostRuntime) {
 // How many parts the plan of all points has, or why there is none.
 fn part_count(alloc: Global, budget: u32) -> Option<Result<usize, PlanFault>> {
     let plan = plan(alloc, &whole()?, budget, Period::Week);
-    Some(plan.map(|plan| plan.parts().len()))
+    Some(plan.map(|plan| plan.parts.len()))
 }
 
 #[test]

@@ -32,6 +32,14 @@ impl Call {
     }
 }
 
+// Puts a copy of a row into a table. Whether there is memory for both.
+fn puts_copy<A: Allocator + Copy>(table: &mut Table<UbTree<A>>, row: &Row<A>) -> bool {
+    match row.copy() {
+        Ok(row) => table.put(row).is_ok(),
+        Err(_) => false,
+    }
+}
+
 // Makes a call. Whether it is answered.
 fn answers<A: Allocator + Copy>(
     alloc: Global,
@@ -42,7 +50,7 @@ fn answers<A: Allocator + Copy>(
     let auths = Auths::from_list(alloc, &["A", "B"]).ok()?;
     let query = query_of(WHOLE)?;
     Some(match call {
-        Call::Put => table.put(row).is_ok(),
+        Call::Put => puts_copy(table, row),
         Call::Get => table.get("p", &auths).is_ok(),
         Call::Page => table
             .page::<Global, Global>(&query, &auths, None, 2)

@@ -49,7 +49,7 @@ fn empty<A: Allocator + Copy>(alloc: A, period: Period) -> Option<Table<UbTree<A
 // Puts a row without a note into a table.
 fn put<A: Allocator + Copy>(alloc: A, table: &mut Table<UbTree<A>>, said: Said<'_>) -> Option<()> {
     let row = row_of(alloc, said)?;
-    table.put(&row).ok()
+    table.put(row).ok()
 }
 
 /// A week table of these rows.

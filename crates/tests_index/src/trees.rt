@@ -7,7 +7,7 @@ use st_ubtree::UbTree;
 use std::alloc::{Allocator, Global};
 
 // A tree of so many rows, each of its own key.
-fn filled(alloc: Global, count: u64) -> Option<UbTree> {
+fn filled<A: Allocator + Copy>(alloc: A, count: u64) -> Option<UbTree<A>> {
     let mut tree = UbTree::new(alloc, Period::Week).ok()?;
     for x in 0..count {
         put_at(&mut tree, alloc, x, ("a", ""))?;
@@ -138,4 +138,50 @@ fn growths_of_one_key(heap: &Refusing<Global>) -> Option<[u64; 3]> {
 fn growths_at_one_key(rt: HostRuntime) {
     let heap = Refusing::new(rt.alloc());
     assert!(rt; growths_of_one_key(&heap) == Some([0, 1, 1]));
+}
+
+// How many growths a new tree takes, if there is none with each of them refused.
+fn growths_of_new(heap: &Refusing<Global>) -> Option<u64> {
+    for n in 1..100u64 {
+        heap.arm(n);
+        let is_made = UbTree::new(heap, Period::Week).is_ok();
+        if heap.is_armed() {
+            heap.arm(0);
+            return is_made.then_some(n - 1);
+        }
+        if is_made {
+            return None;
+        }
+    }
+    None
+}
+
+// How many growths the list of a tree's regions takes, if there is none with each of them refused.
+fn growths_of_list(heap: &Refusing<Global>, tree: &UbTree<&Refusing<Global>>) -> Option<u64> {
+    for n in 1..100u64 {
+        heap.arm(n);
+        let is_listed = tree.regions().is_ok();
+        if heap.is_armed() {
+            heap.arm(0);
+            return is_listed.then_some(n - 1);
+        }
+        if is_listed {
+            return None;
+        }
+    }
+    None
+}
+
+// How many growths the list of the regions of a tree of 33 rows takes.
+fn growths_of_regions(heap: &Refusing<Global>) -> Option<u64> {
+    let tree = filled(heap, 33)?;
+    growths_of_list(heap, &tree)
+}
+
+// A new tree takes its page, and a short list of regions itself.
+#[test]
+fn growths_of_trees_and_lists(rt: HostRuntime) {
+    let heap = Refusing::new(rt.alloc());
+    assert!(rt; growths_of_new(&heap) == Some(1));
+    assert!(rt; growths_of_regions(&heap) == Some(1));
 }
