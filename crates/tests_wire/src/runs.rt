@@ -1,9 +1,8 @@
 //! What the server's state answers to a list of requests.
 
 use crate::serving::DIGEST;
-use st_core::{Asked, Call, Reply, Store, Token, run};
-use st_dir::Name;
-use st_policy::{Denial, Refusal};
+use st_core::{Asked, Call, Denial, Refusal, Reply, Request, Store, Token, run};
+use st_dir::{Name, TableName};
 use std::alloc::Global;
 
 // Root's token.
@@ -22,31 +21,69 @@ fn bad(token: Option<Token>) -> Asked {
     }
 }
 
-// How many replies there are, and whether the first is about the token, and the second about the body.
-fn told_in(replies: &[Reply]) -> (usize, bool, bool) {
-    let first = matches!(
-        replies.first(),
-        Some(Reply::Refused(Refusal::Denied(Denial::Token)))
-    );
-    let second = matches!(replies.get(1), Some(Reply::Refused(Refusal::BadBox)));
-    (replies.len(), first, second)
+// A request of root's.
+fn good(request: Request) -> Asked {
+    Asked {
+        token: root(),
+        call: Call::Good(request),
+    }
+}
+
+// A change: the table points is dropped.
+fn dropped() -> Option<Request> {
+    let table = TableName::new("points").ok()?;
+    Some(Request::DropTable { table })
+}
+
+// What a reply says.
+#[derive(Clone, Copy, Debug, PartialEq, Eq)]
+enum Told {
+    NoToken,
+    BadBox,
+    Accepted,
+    NoTables,
+    Other,
+}
+
+// What a reply says, where there is one.
+fn told_in(reply: Option<&Reply>) -> Told {
+    match reply {
+        Some(Reply::Refused(Refusal::Denied(Denial::Token))) => Told::NoToken,
+        Some(Reply::Refused(Refusal::BadBox)) => Told::BadBox,
+        Some(Reply::Accepted) => Told::Accepted,
+        Some(Reply::Tables(tables)) if tables.as_slice().is_empty() => Told::NoTables,
+        _ => Told::Other,
+    }
+}
+
+// What four replies say, where there are four.
+fn all_told(replies: &[Reply]) -> Option<(Told, Told, Told, Told)> {
+    if replies.len() != 4 {
+        return None;
+    }
+    Some((
+        told_in(replies.first()),
+        told_in(replies.get(1)),
+        told_in(replies.get(2)),
+        told_in(replies.get(3)),
+    ))
 }
 
 // What a fresh store's state answers to these requests.
-fn told_to(alloc: Global, asked: &[Asked]) -> Option<(usize, bool, bool)> {
+fn told_to(alloc: Global, asked: &[Asked]) -> Option<(Told, Told, Told, Told)> {
     let mut store = Store::open(alloc, DIGEST, &["A"]).ok()?;
     let replies = run(&mut store, asked);
     drop(store);
     let replies = replies.ok()?;
-    let told = told_in(replies.as_slice());
+    let told = all_told(replies.as_slice());
     drop(replies);
-    Some(told)
+    told
 }
 
-// How many replies there are to a bad body without a token and one with, and whether each is told of its own fault.
-fn told(alloc: Global) -> Option<(usize, bool, bool)> {
-    let token = root()?;
-    let asked = [bad(None), bad(Some(token))];
+// What is told of a bad body without a token and one with, of a change, and of a read behind it.
+fn told_in_turn(alloc: Global) -> Option<(Told, Told, Told, Told)> {
+    let change = dropped()?;
+    let asked = [bad(None), bad(root()), good(change), good(Request::Tables)];
     let told = told_to(alloc, &asked);
     drop(asked);
     told
@@ -54,5 +91,8 @@ fn told(alloc: Global) -> Option<(usize, bool, bool)> {
 
 #[test]
 fn a_run_tells_each_in_turn(rt: HostRuntime) {
-    assert!(rt; told(rt.alloc()) == Some((2, true, true)));
+    assert!(rt;
+        told_in_turn(rt.alloc())
+            == Some((Told::NoToken, Told::BadBox, Told::Accepted, Told::NoTables))
+    );
 }
