@@ -8,7 +8,7 @@ use st_hall::{Clerk, Desk, Hall, HallName, Unnamed};
 use st_loopback::{Open, serve_all, serve_words};
 use st_station::Station;
 use std::alloc::Global;
-use std::io::{Read, Write};
+use std::io::{Eprint, Read, Write};
 use std::marker::Brand;
 use std::net::{Ipv4Addr, Net, SocketAddr, SocketAddrV4, TcpListener, TcpStream};
 use std::sync::{Mutex, Wait};
@@ -92,10 +92,9 @@ fn are_answered<R: Net<Listener = TcpListener, Stream = TcpStream> + Clock>(
 }
 
 // The status of a server, whether it tells what it should, and what its clients find.
-fn served<R: Net<Listener = TcpListener, Stream = TcpStream> + Threads + Wait + Sync + Clock>(
-    rt: &R,
-    alloc: Global,
-) -> Option<(u8, bool, (bool, bool))> {
+fn served<
+    R: Net<Listener = TcpListener, Stream = TcpStream> + Threads + Wait + Clock + Eprint + Sync,
+>(rt: &R, alloc: Global) -> Option<(u8, bool, (bool, bool))> {
     let words = words_for(alloc, &WORDS)?;
     let mut output = Vec::new(alloc);
     let mut faults = Vec::new(alloc);
@@ -110,11 +109,9 @@ fn served<R: Net<Listener = TcpListener, Stream = TcpStream> + Threads + Wait + 
 }
 
 // The status of a server that does not come to listen, whether it tells nothing, and what it says of the fault.
-fn refused<R: Net<Listener = TcpListener, Stream = TcpStream> + Threads + Wait + Sync>(
-    rt: &R,
-    alloc: Global,
-    line: &[&str],
-) -> Option<(u8, bool, Vec<u8>)> {
+fn refused<
+    R: Net<Listener = TcpListener, Stream = TcpStream> + Threads + Wait + Clock + Eprint + Sync,
+>(rt: &R, alloc: Global, line: &[&str]) -> Option<(u8, bool, Vec<u8>)> {
     let words = words_for(alloc, line)?;
     let mut output = Vec::new(alloc);
     let mut faults = Vec::new(alloc);
@@ -123,13 +120,9 @@ fn refused<R: Net<Listener = TcpListener, Stream = TcpStream> + Threads + Wait +
 }
 
 // Whether a server ends with this status and this text before it listens.
-fn is_refused<R: Net<Listener = TcpListener, Stream = TcpStream> + Threads + Wait + Sync>(
-    rt: &R,
-    alloc: Global,
-    line: &[&str],
-    status: u8,
-    text: &[u8],
-) -> bool {
+fn is_refused<
+    R: Net<Listener = TcpListener, Stream = TcpStream> + Threads + Wait + Clock + Eprint + Sync,
+>(rt: &R, alloc: Global, line: &[&str], status: u8, text: &[u8]) -> bool {
     match refused(rt, alloc, line) {
         Some((ended, true, faults)) => ended == status && faults.as_slice() == text,
         _ => false,
@@ -162,7 +155,7 @@ fn asked_once<R: Net<Listener = TcpListener, Stream = TcpStream>>(
 fn ended_at<
     'c,
     H: HallName + Send + Sync,
-    R: Net<Listener = TcpListener, Stream = TcpStream> + Threads + Wait + Sync,
+    R: Net<Listener = TcpListener, Stream = TcpStream> + Threads + Wait + Clock + Eprint + Sync,
 >(
     rt: &R,
     alloc: Global,
@@ -182,7 +175,7 @@ fn ended_at<
 fn ended_between<
     'c,
     H: HallName + Send + Sync,
-    R: Net<Listener = TcpListener, Stream = TcpStream> + Threads + Wait + Sync,
+    R: Net<Listener = TcpListener, Stream = TcpStream> + Threads + Wait + Clock + Eprint + Sync,
 >(
     rt: &'c R,
     alloc: Global,
@@ -198,7 +191,7 @@ fn ended_between<
 // The same, in a hall over the two stores.
 fn ended<
     H: HallName + Send + Sync,
-    R: Net<Listener = TcpListener, Stream = TcpStream> + Threads + Wait + Sync,
+    R: Net<Listener = TcpListener, Stream = TcpStream> + Threads + Wait + Clock + Eprint + Sync,
 >(rt: &R, alloc: Global, name: Unnamed, both: (Store, Store)) -> Option<(u8, Vec<u8>)>
     requires named { (name.seen.book ≡ H.book) × (name.blank.name ≡ H.name) × (name.blank.parts ≡ 2) × (H.parts ≡ 2) }
     requires alike { (both.0 ≡ H.start) × (both.1 ≡ H.start) }
@@ -210,10 +203,9 @@ fn ended<
 }
 
 // Whether the connection is served to its end, and the status is that of an accept that failed.
-fn is_served_to_its_end<R: Net<Listener = TcpListener, Stream = TcpStream> + Threads + Wait + Sync>(
-    rt: &R,
-    alloc: Global,
-) -> Option<bool> {
+fn is_served_to_its_end<
+    R: Net<Listener = TcpListener, Stream = TcpStream> + Threads + Wait + Clock + Eprint + Sync,
+>(rt: &R, alloc: Global) -> Option<bool> {
     let both = stores(alloc)?;
     let (status, told) = ended::<Brand, _>(rt, alloc, Unnamed::new(), both)?;
     Some(status == 5 && told.as_slice() == COUNTED)
