@@ -12,6 +12,8 @@ const COUNT: &str = "POST /tables/points/count";
 
 const SCAN: &str = "POST /tables/points/scan";
 
+const PLAN: &str = "POST /tables/points/plan";
+
 // A row under an expression, and what counts see of it.
 const LABELLED: [Turn<'static>; 4] = [
     (
@@ -41,7 +43,7 @@ const LABELLED: [Turn<'static>; 4] = [
 ];
 
 // One id under two labels, one of them deleted twice.
-const TWO_LABELS: [Turn<'static>; 6] = [
+const TWO_LABELS: [Turn<'static>; 7] = [
     (
         ROOT,
         PUT,
@@ -65,6 +67,12 @@ const TWO_LABELS: [Turn<'static>; 6] = [
     (ROOT, DELETE, "{\"id\":\"p\",\"label\":\"A\"}", DONE),
     (
         ROOT,
+        COUNT,
+        "{\"auths\":[\"A\",\"B\"],\"box\":[0,2097151,0,2097151,0,19818086399]}",
+        "{\"count\":1}",
+    ),
+    (
+        ROOT,
         SCAN,
         "{\"auths\":[\"A\",\"B\"],\"box\":[0,2097151,0,2097151,0,19818086399],\"limit\":10}",
         "{\"next\":null,\"rows\":[{\"id\":\"p\",\"label\":\"B\",\"note\":\"\",\"point\":[0,0,0]}]}",
@@ -72,7 +80,7 @@ const TWO_LABELS: [Turn<'static>; 6] = [
 ];
 
 // A row that is put elsewhere, and then there once more with a note.
-const MOVED: [Turn<'static>; 5] = [
+const MOVED: [Turn<'static>; 7] = [
     (
         ROOT,
         PUT,
@@ -93,9 +101,21 @@ const MOVED: [Turn<'static>; 5] = [
     ),
     (
         ROOT,
+        COUNT,
+        "{\"auths\":[\"A\"],\"box\":[5,5,5,5,5,5]}",
+        "{\"count\":1}",
+    ),
+    (
+        ROOT,
         PUT,
         "{\"id\":\"p\",\"label\":\"A\",\"note\":\"n\",\"point\":[5,5,5]}",
         DONE,
+    ),
+    (
+        ROOT,
+        GET,
+        "{\"auths\":[\"A\"],\"id\":\"p\"}",
+        "{\"rows\":[{\"id\":\"p\",\"label\":\"A\",\"note\":\"n\",\"point\":[5,5,5]}]}",
     ),
     (
         ROOT,
@@ -105,8 +125,8 @@ const MOVED: [Turn<'static>; 5] = [
     ),
 ];
 
-// Rows, and a page, a grid, a plan and a normal form over them.
-const SHOWN: [Turn<'static>; 7] = [
+// Rows, and a page, a grid, plans and a normal form over them.
+const SHOWN: [Turn<'static>; 9] = [
     (
         ROOT,
         PUT,
@@ -141,9 +161,21 @@ const SHOWN: [Turn<'static>; 7] = [
     ),
     (
         ROOT,
-        "POST /tables/points/plan",
+        PLAN,
         "{\"box\":[1,2,1,2,0,0],\"budget\":4}",
         "{\"parts\":[{\"bins\":[0,0],\"ranges\":[[3,3,true],[10,10,true],[17,17,true],[24,24,true]]}]}",
+    ),
+    (
+        ROOT,
+        PLAN,
+        "{\"box\":[1,2,1,2,0,0],\"budget\":3}",
+        "{\"parts\":[{\"bins\":[0,0],\"ranges\":[[3,24,false]]}]}",
+    ),
+    (
+        ROOT,
+        PLAN,
+        "{\"box\":[1,2,1,2,0,0],\"budget\":0}",
+        "{\"error\":\"field\",\"field\":\"budget\"}",
     ),
     (
         ROOT,
@@ -156,7 +188,7 @@ const SHOWN: [Turn<'static>; 7] = [
 // Rows that are put and deleted, while each allocation fails in turn, are those that were put and not deleted.
 #[test]
 fn changes_of_rows(rt: HostRuntime) {
-    for (turns, least) in [(&LABELLED[..], 4), (&TWO_LABELS[..], 6), (&MOVED[..], 5)] {
+    for (turns, least) in [(&LABELLED[..], 4), (&TWO_LABELS[..], 7), (&MOVED[..], 7)] {
         let runs = busy_runs(rt.alloc(), &[], turns);
         assert!(rt; runs.is_some_and(|runs| runs >= least));
     }
@@ -165,5 +197,5 @@ fn changes_of_rows(rt: HostRuntime) {
 #[test]
 fn reads_of_rows(rt: HostRuntime) {
     let runs = busy_runs(rt.alloc(), &[], &SHOWN);
-    assert!(rt; runs.is_some_and(|runs| runs >= 7));
+    assert!(rt; runs.is_some_and(|runs| runs >= 9));
 }
