@@ -59,21 +59,6 @@ pub fn put(alloc: Global, id: &str) -> Option<Asked>
     })
 }
 
-/// A request by root that makes a user v without authorizations.
-pub fn create_user(alloc: Global) -> Option<Asked>
-    ensures { IfSome result (λ asked. asks_for_change asked ≡ true) }
-{
-    let request = Request::CreateUser {
-        user: Name::new("v").ok()?,
-        digest: [0; 32],
-        auths: Auths::from_list(alloc, &[]).ok()?,
-    };
-    Some(Asked {
-        token: token(),
-        call: Call::Good(request),
-    })
-}
-
 /// A count by root of all rows that everybody may see.
 pub fn count(alloc: Global) -> Option<Asked>
     ensures { IfSome result (λ asked. asks_for_change asked ≡ false) }
@@ -146,42 +131,6 @@ fn entries_of<H: HallName>(desk: &mut Desk<H>, asked: Asked) -> Option<usize>
 /// How many changes a desk lists that were asked for.
 pub fn entries<H: HallName>(desk: &mut Desk<H>) -> Option<usize> {
     entries_of(desk, audit())
-}
-
-// Whether a listing has entries of these requests, in this order.
-fn lists(told: &Result<Reply, AllocError>, wanted: &[&str]) -> bool {
-    match told {
-        Ok(Reply::Audit(entries)) => {
-            let entries = entries.as_slice();
-            entries.len() == wanted.len()
-                && entries
-                    .iter()
-                    .zip(wanted)
-                    .all(|(entry, request)| entry.request.is(*request))
-        }
-        _ => false,
-    }
-}
-
-// Whether a desk tells such a listing.
-fn is_listing<H: HallName>(desk: &mut Desk<H>, asked: Asked, wanted: &[&str]) -> bool
-    requires { asks_for_change asked ≡ false }
-{
-    let told = desk.read(&asked);
-    drop(asked);
-    let is_told = lists(&told, wanted);
-    drop(told);
-    is_told
-}
-
-/// Whether a desk lists changes by these requests, in this order.
-pub fn are_listed<H: HallName>(desk: &mut Desk<H>, wanted: &[&str]) -> bool {
-    is_listing(desk, audit(), wanted)
-}
-
-/// Whether a change is told to be made.
-pub fn is_accepted(told: &Result<Reply, AllocError>) -> bool {
-    matches!(told, Ok(Reply::Accepted))
 }
 
 /// The front of a receipt.

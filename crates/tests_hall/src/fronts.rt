@@ -10,8 +10,8 @@ use std::marker::Brand;
 use std::sync::{Mutex, Wait};
 use std::test::*;
 
-/// The front of a put.
-pub fn told<H: HallName, R: Wait + Drop, W: Wait>(
+// The front of a put.
+fn told<H: HallName, R: Wait + Drop, W: Wait>(
     rt: &W,
     alloc: Global,
     clerk: &mut Clerk<H, R>,
@@ -25,8 +25,8 @@ pub fn told<H: HallName, R: Wait + Drop, W: Wait>(
     front
 }
 
-/// What a desk counts once it learned a front.
-pub fn rows_after<H: HallName>(
+// What a desk counts once it learned a front.
+fn rows_after<H: HallName>(
     alloc: Global,
     desk: &mut Desk<H>,
     front: &Option<Front<H>>,

@@ -5,10 +5,6 @@
 #[cfg(test)]
 mod asks;
 #[cfg(test)]
-mod calls;
-#[cfg(test)]
-mod desks;
-#[cfg(test)]
 mod faults;
 #[cfg(test)]
 mod fronts;
@@ -16,8 +12,6 @@ mod fronts;
 mod halls;
 #[cfg(test)]
 mod messages;
-#[cfg(test)]
-mod pending;
 #[cfg(test)]
 mod puts;
 #[cfg(test)]

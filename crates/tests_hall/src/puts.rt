@@ -40,8 +40,8 @@ fn nth(alloc: Global, letter: u8, number: u8, is_own: bool) -> Option<Asked>
     put(alloc, from_utf8(&id).ok()?)
 }
 
-/// The front of a put.
-pub fn put_one<H: HallName, R: Wait>(
+// The front of a put.
+fn put_one<H: HallName, R: Wait>(
     rt: &R,
     alloc: Global,
     clerk: &Mutex<Clerk<H, &R>>,
