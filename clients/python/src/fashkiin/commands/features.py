@@ -3,6 +3,7 @@
 from __future__ import annotations
 
 import argparse
+import logging
 from collections.abc import Callable
 
 from fashkiin.client import Client
@@ -34,6 +35,8 @@ def _run(session: Session, arguments: argparse.Namespace) -> int:
         raise SettingsError("features: waitress is missing, wanted: apt install python3-waitress") from None
     if not 0 <= arguments.port <= 65_535:
         raise SettingsError(f"--port: {arguments.port}, wanted 0 to 65535")
+    # A request that waits for a thread is no fault, and standard error is for faults.
+    logging.getLogger("waitress.queue").setLevel(logging.ERROR)
     application = Features(connector(session.settings), arguments.base_url)
     try:
         server = waitress.create_server(application, host="127.0.0.1", port=arguments.port, threads=THREADS, ident=None)
