@@ -27,9 +27,9 @@ enum Cause {
 // What an error is about, by accept(2).
 fn cause_of(error: &io::Error) -> Cause {
     match error.raw_os_error() {
-        // EPERM, EINTR, EAGAIN, ENONET, EPROTO, ENOPROTOOPT, EOPNOTSUPP, ENETDOWN, ENETUNREACH, ECONNABORTED, ECONNRESET, ETIMEDOUT,
+        // EPERM, EINTR, ENONET, EPROTO, ENOPROTOOPT, EOPNOTSUPP, ENETDOWN, ENETUNREACH, ECONNABORTED, ECONNRESET, ETIMEDOUT,
         // EHOSTDOWN, EHOSTUNREACH
-        Some(1 | 4 | 11 | 64 | 71 | 92 | 95 | 100 | 101 | 103 | 104 | 110 | 112 | 113) => {
+        Some(1 | 4 | 64 | 71 | 92 | 95 | 100 | 101 | 103 | 104 | 110 | 112 | 113) => {
             Cause::Connection
         }
         // ENOMEM, ENFILE, EMFILE, ENOBUFS

@@ -27,8 +27,6 @@ mod table_growths;
 #[cfg(test)]
 mod tabling;
 #[cfg(test)]
-mod thousands;
-#[cfg(test)]
 mod trees;
 #[cfg(test)]
 mod walks;
