@@ -1,5 +1,6 @@
 //! Sets of authorizations.
-ghost use Rattle.std.specs.Prelude.{◌≡◌, ◌↔◌, ◌<◌, ◌≤◌, [], None, option_map, find, IsTrue, IfSome, IfOk, IfErr, length, map, not, slice_index_or};
+ghost use Rattle.std.specs.Prelude.{◌≡◌, ◌↔◌, ◌<◌, ◌≤◌, [], None, option_map, find, IsTrue, IfSome, IfOk, IfErr, length, map, not};
+ghost use Rattle.std.specs.Prelude.{slice_index_or};
 ghost use Rattle.std.specs.List.{list_all, position, range_with_len};
 ghost use Rattle.st_text.specs.Texts.{is_among};
 ghost use Rattle.st_auth.specs.Names.{is_auth_name as is_auth_name_of, first_bad, first_missing, RefusesNames};
@@ -23,7 +24,7 @@ pub enum AuthsFault {
     #[error("the name at index {index} is empty or longer than {MAX_NAME} bytes")]
     BadName { index: usize },
     /// Out of memory.
-    #[error("no memory")]
+    #[error("out of memory")]
     NoMemory,
 }
 

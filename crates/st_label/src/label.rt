@@ -25,7 +25,7 @@ pub const MAX_LEN: usize = 256;
 pub enum LabelFault {
     /// The first byte that no label continues with, whatever its depth, or the text's length when the
     /// text begins a label but is not one.
-    #[error("no label: it fails at byte {at}")]
+    #[error("an invalid label: it fails at byte {at}")]
     BadLabel { at: usize },
     /// The text is longer than [`MAX_LEN`] bytes.
     #[error("the label is longer than {MAX_LEN} bytes")]
@@ -34,7 +34,7 @@ pub enum LabelFault {
     #[error("the parenthesis at byte {at} opens too many levels")]
     TooDeep { at: usize },
     /// Out of memory.
-    #[error("no memory")]
+    #[error("out of memory")]
     NoMemory,
 }
 

@@ -1,6 +1,8 @@
 //! Reads the tree of a label.
 ghost use Rattle.std.specs.Prelude.{◌≡◌, ◌++◌, ◌∷◌, [], Option, IfOk, option_map, Ok, Err, Some, map, string_bytes, encode_utf8};
-ghost use Rattle.st_label.specs.inner.Machine.{Mode, Open, Word, Quoted, Done, Joined as JoinedOf, init, state, step_mode, step_start, step_done, popped, with_sign, closed as closed_by, whole as whole_by, tree_of, class_of as class_at};
+ghost use Rattle.st_label.specs.inner.Machine.{Mode, Open, Word, Quoted, Done, Joined as JoinedOf, init, state, step_mode, step_start};
+ghost use Rattle.st_label.specs.inner.Machine.{step_done, popped, with_sign, closed as closed_by, whole as whole_by, tree_of};
+ghost use Rattle.st_label.specs.inner.Machine.{class_of as class_at};
 ghost use Rattle.st_label.specs.Refusals.{max_depth};
 ghost use Rattle.st_label.specs.inner.Views.{reader_view, tree_view, level_view, outer_view, unit_view, op_view, class_view};
 ghost use Rattle.st_label.specs.inner.Gives.{Gives, named};

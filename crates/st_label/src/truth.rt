@@ -5,7 +5,8 @@ ghost use Rattle.st_label.specs.inner.Views.{class_view};
 ghost use Rattle.st_label.specs.Refusals.{max_len};
 ghost use Rattle.st_label.specs.Reading.{is_true, IsLabel};
 ghost use Rattle.st_label.specs.Faults.{RefusesLabel};
-ghost use Rattle.st_label.specs.inner.Truth.{joins, sign_truth, level_truth, pass_done, pass_start, pass_step, pass_truth, Passes, IsPlaced};
+ghost use Rattle.st_label.specs.inner.Truth.{joins, sign_truth, level_truth, pass_done, pass_start, pass_step, pass_truth, Passes};
+ghost use Rattle.st_label.specs.inner.Truth.{IsPlaced};
 
 use crate::class::{Class, class_of};
 use crate::label::LabelFault;

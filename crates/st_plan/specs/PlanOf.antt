@@ -1,5 +1,6 @@
 -- The plan of a query as a list, which can be computed where the boxes are small.
-use Rattle.std.specs.Prelude.{ℕ, zero, suc, ◌+◌, ◌-◌, ◌*◌, ◌/◌, ◌^◌, List, [], ◌∷◌, map, filter, find, unwrap_or, length, Bool, ◌&&◌, ◌||◌, not, if◌then◌else◌, nat_eq, nat_le, nat_lt}
+use Rattle.std.specs.Prelude.{ℕ, zero, suc, ◌+◌, ◌-◌, ◌*◌, ◌/◌, ◌^◌, List, [], ◌∷◌, map, filter, find, unwrap_or, length, Bool, ◌&&◌}
+use Rattle.std.specs.Prelude.{◌||◌, not, if◌then◌else◌, nat_eq, nat_le, nat_lt}
 use Rattle.st_key.specs.declared.period.Period.{Period}
 use Rattle.st_key.specs.Morton.{x_of, y_of, offset_of, address_of}
 use Rattle.st_box.specs.declared.query.Query.{Query}

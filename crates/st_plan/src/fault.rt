@@ -10,7 +10,7 @@ pub enum PlanFault {
     #[error("the budget is not 1 to 64")]
     BadBudget,
     /// Out of memory.
-    #[error("no memory")]
+    #[error("out of memory")]
     NoMemory,
 }
 

@@ -12,7 +12,8 @@ use Rattle.st_policy.specs.declared.refusal.Refusal.TheVariants.{NoTable, NoUser
 use Rattle.st_policy.specs.declared.request.Request.{Request}
 use Rattle.st_policy.specs.declared.request.Request.TheVariants.{Whoami, Tables, Users, User, Grants, NamespaceGrants, Label, Audit}
 use Rattle.st_policy.specs.declared.request.Request.TheVariants.{Get, Scan, Count, Grid, Plan, Put, Delete, CreateTable, DropTable}
-use Rattle.st_policy.specs.declared.request.Request.TheVariants.{Constraint, Period, CreateUser, DropUser, Token, Auths, GrantSystem, RevokeSystem}
+use Rattle.st_policy.specs.declared.request.Request.TheVariants.{Constraint, Period, CreateUser, DropUser, Token, Auths, GrantSystem}
+use Rattle.st_policy.specs.declared.request.Request.TheVariants.{RevokeSystem}
 use Rattle.st_policy.specs.declared.request.Request.TheVariants.{GrantTable, RevokeTable, GrantNamespace, RevokeNamespace}
 use Rattle.st_policy.specs.Requests.{table_of, user_of, auths_of}
 

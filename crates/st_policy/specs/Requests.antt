@@ -4,7 +4,8 @@ use Rattle.st_text.specs.Texts.{Text}
 use Rattle.st_policy.specs.declared.request.Request.{Request}
 use Rattle.st_policy.specs.declared.request.Request.TheVariants.{Whoami, Tables, Users, User, Grants, NamespaceGrants, Label, Audit}
 use Rattle.st_policy.specs.declared.request.Request.TheVariants.{Get, Scan, Count, Grid, Plan, Put, Delete, CreateTable, DropTable}
-use Rattle.st_policy.specs.declared.request.Request.TheVariants.{Constraint, Period, CreateUser, DropUser, Token, Auths, GrantSystem, RevokeSystem}
+use Rattle.st_policy.specs.declared.request.Request.TheVariants.{Constraint, Period, CreateUser, DropUser, Token, Auths, GrantSystem}
+use Rattle.st_policy.specs.declared.request.Request.TheVariants.{RevokeSystem}
 use Rattle.st_policy.specs.declared.request.Request.TheVariants.{GrantTable, RevokeTable, GrantNamespace, RevokeNamespace}
 
 -- the name of the line, by which the audit listing writes it

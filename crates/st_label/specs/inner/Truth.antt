@@ -1,6 +1,7 @@
 -- A machine, which no reader has to believe: the reader's steps with a truth in place of each tree, and the index of each
 -- unit's first byte in place of its bytes. `proofs/` shows that it finds the truth of the tree that the text reads as.
-use Rattle.std.specs.Prelude.{◌≡◌, ◌≤◌, ℕ, ◌+◌, ◌==◌, nat_lt, List, [], ◌∷◌, length, slice_range, drop, reverse, Bool, true, false, ◌&&◌, ◌||◌, Option, Some, None, Result, Ok, Err, if◌then◌else◌}
+use Rattle.std.specs.Prelude.{◌≡◌, ◌≤◌, ℕ, ◌+◌, ◌==◌, nat_lt, List, [], ◌∷◌, length, slice_range, drop, reverse, Bool, true, false, ◌&&◌}
+use Rattle.std.specs.Prelude.{◌||◌, Option, Some, None, Result, Ok, Err, if◌then◌else◌}
 use Rattle.st_label.specs.Refusals.{max_depth}
 use Rattle.st_label.specs.inner.Terms.{term_name}
 use Rattle.st_label.specs.inner.Machine.{Class, Plain, Sign, Quote, Backslash, Open, Close, Other}
