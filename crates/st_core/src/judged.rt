@@ -49,7 +49,7 @@ fn asker<'a, A: Allocator>(directory: &Directory<A>, token: &'a Option<Token>) -
 }
 
 // The policy's refusal, where there is one.
-fn refusal<A: Allocator>(
+pub(crate) fn refusal<A: Allocator>(
     directory: &Directory<A>,
     asker: &Name,
     request: &Request<A>,

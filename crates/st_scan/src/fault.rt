@@ -10,10 +10,10 @@ pub enum ScanFault {
     #[error("the limit is not 1 to 1,000")]
     BadLimit,
     /// A grid has not 1 to 32 columns and 1 to 32 lines.
-    #[error("the grid has not 1 to 32 columns and 1 to 32 lines")]
+    #[error("the grid does not have 1 to 32 columns and 1 to 32 lines")]
     BadGrid,
     /// Out of memory.
-    #[error("no memory")]
+    #[error("out of memory")]
     NoMemory,
 }
 

@@ -1,17 +1,19 @@
 //! What a store makes of changes.
-ghost use Rattle.std.specs.Prelude.{◌≡◌, None, true, Ok, IsOk, IsErr, IfOk, IfErr, OnOk, OnErr};
+ghost use Rattle.std.specs.Prelude.{◌≡◌, None, Some, true, Ok, IsOk, IsErr, IfOk, IfErr, OnOk, OnErr};
 ghost use Rattle.st_dir.specs.Directory.{is_user};
 ghost use Rattle.st_dir.specs.declared.fault.DirectoryFault.TheVariants.{NoMemory};
 ghost use Rattle.st_policy.specs.Policy.{refusal_of};
+ghost use Rattle.st_policy.specs.Requests.{is_change};
+ghost use Rattle.st_core.specs.declared.asked.Call.{Call};
 ghost use Rattle.st_core.specs.Changes.{rows_after, directory_after};
 ghost use Rattle.st_core.specs.Judging.{JudgesChange, judgement};
-ghost use Rattle.st_core.specs.Step.{asks_for_change, settle, step};
+ghost use Rattle.st_core.specs.Step.{Heard, asks_for_change, judge_call, settle, step};
 
 use crate::asked::Asked;
-use crate::judged::{JudgedRef, judge};
+use crate::judged::{JudgedRef, judge, refusal};
 use crate::store::Store;
 use st_dir::{Directory, DirectoryFault, Name};
-use st_policy::{Reply, Request};
+use st_policy::{Refusal, Reply, Request};
 use std::alloc::{AllocError, Allocator};
 
 // An allowed change fails only when out of memory.
@@ -119,6 +121,33 @@ impl<A: Allocator + Copy> Store<A> {
         }
     }
 
+    // Makes a user's change or lists its refusal, and gives the reply.
+    fn carry_out(
+        &mut self,
+        asker: &Name,
+        request: &Request<A>,
+        refusal: Option<Refusal>,
+    ) -> Result<Reply<A>, AllocError>
+        requires known { is_user self.old.directory asker.now ≡ true }
+        requires change { is_change request.now ≡ true }
+        requires judged { refusal_of self.old.directory asker.now request.now ≡ refusal }
+        ensures reply { IfOk result (λ reply. reply ≡ (settle self.old (Heard asker.now request.now refusal)).reply) }
+        ensures state { OnOk result (self.new ≡ (settle self.old (Heard asker.now request.now refusal)).state) }
+        ensures unchanged { OnErr result (self.new ≡ self.old) }
+    {
+        match refusal {
+            Some(refusal) => {
+                self.note(asker, request, refusal.number());
+                Ok(Reply::Refused(refusal))
+            }
+            None => {
+                self.make(asker, request)?;
+                self.note(asker, request, 0);
+                Ok(Reply::Accepted)
+            }
+        }
+    }
+
     /// Makes what a judged change comes to, and gives the reply: an allowed change is made; and made or refused, it is listed in
     /// the audit listing, unless it was not heard. When out of memory nothing is changed.
     pub fn settle(&mut self, judged: JudgedRef<A>) -> Result<Reply<A>, AllocError>
@@ -132,21 +161,24 @@ impl<A: Allocator + Copy> Store<A> {
             JudgedRef::Heard {
                 asker,
                 request,
-                refusal: Some(refusal),
-            } => {
-                self.note(asker, request, refusal.number());
-                Ok(Reply::Refused(refusal))
-            }
-            JudgedRef::Heard {
-                asker,
-                request,
-                refusal: None,
-            } => {
-                self.make(asker, request)?;
-                self.note(asker, request, 0);
-                Ok(Reply::Accepted)
-            }
+                refusal,
+            } => self.carry_out(asker, request, refusal),
         }
+    }
+
+    /// Makes a user's change where it is allowed, and gives the reply, as `change` does where the token holds. So a change that was
+    /// made before, of which no secret is kept, can be made again. When out of memory nothing is changed.
+    pub fn change_by(&mut self, asker: &Name, request: &Request<A>) -> Result<Reply<A>, AllocError>
+        requires user { is_user self.old.directory asker.now ≡ true }
+        requires change { is_change request.now ≡ true }
+        ensures reply { IfOk result (λ reply. reply
+            ≡ (settle self.old (judge_call self.old.directory (Some asker.now) (Call.Good request.now))).reply) }
+        ensures state { OnOk result (self.new
+            ≡ (settle self.old (judge_call self.old.directory (Some asker.now) (Call.Good request.now))).state) }
+        ensures unchanged { OnErr result (self.new ≡ self.old) }
+    {
+        let refusal = refusal(&self.directory, asker, request);
+        self.carry_out(asker, request, refusal)
     }
 
     /// Makes a change where it is allowed, and gives the reply. Whether it is made or refused, it is
