@@ -1,5 +1,5 @@
 -- What the two files of a journal, the log and the database file, stand for.
-use Rattle.std.specs.Prelude.{◌≡◌, ◌⊎◌, ℕ, List, true, [], ◌∷◌, codes}
+use Rattle.std.specs.Prelude.{◌≡◌, ◌⊎◌, ◌++◌, ℕ, List, true, [], ◌∷◌, codes}
 use Rattle.sqlite_value.specs.declared.value.Value.TheVariants.{Text}
 use Rattle.sqlite_wal.specs.Recovery.{Image}
 use Rattle.sqlite_pages.specs.PageMap.{PageMap}
@@ -15,7 +15,9 @@ use Rattle.st_journal_file.specs.Table.{table_tree}
 
 -- the table, as SQL makes it
 abbrev pub table_text : List ℕ
-table_text = codes "CREATE TABLE changes (number INTEGER PRIMARY KEY, time INTEGER NOT NULL, user TEXT NOT NULL, request TEXT NOT NULL, name TEXT NOT NULL, body TEXT NOT NULL, result TEXT NOT NULL) STRICT"
+table_text =
+    codes "CREATE TABLE changes (number INTEGER PRIMARY KEY, time INTEGER NOT NULL, user TEXT NOT NULL, "
+    ++ codes "request TEXT NOT NULL, name TEXT NOT NULL, body TEXT NOT NULL, result TEXT NOT NULL) STRICT"
 
 -- the schema of the database: this table alone
 abbrev pub schema : List Wanted

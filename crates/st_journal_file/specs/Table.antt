@@ -27,13 +27,13 @@ integer _ = pos 0
 
 -- the record in a row
 abbrev pub record_in : Row → Record
-record_in row = record {
-  time = integer (column row 2);
-  user = bytes (column row 3);
-  request = bytes (column row 4);
-  name = bytes (column row 5);
-  body = bytes (column row 6);
-  result = bytes (column row 7);
+record_in cells = record {
+  time = integer (column cells 2);
+  user = bytes (column cells 3);
+  request = bytes (column cells 4);
+  name = bytes (column cells 5);
+  body = bytes (column cells 6);
+  result = bytes (column cells 7);
 }
 
 -- the records in a database
