@@ -2,3 +2,4 @@ pub mod Listed
 pub mod Same
 pub mod Chosen
 pub mod OneAnswer
+pub mod SomeAnswer

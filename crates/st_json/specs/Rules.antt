@@ -23,7 +23,8 @@ use Rattle.st_policy.specs.declared.refusal.Refusal.{Refusal}
 use Rattle.st_policy.specs.declared.refusal.Refusal.TheVariants.{Json, Field, BadBox, BadLabel, BadName}
 use Rattle.st_json.specs.declared.value.Bounds.{Bounds}
 use Rattle.st_json.specs.Fields.{HasBox, HasPoint, text_in, auths_in, id_in, note_in, digest_in, on_in}
-use Rattle.st_json.specs.Fields.{table_permission_in, system_permission_in, period_in, new_period_in, limit_in, side_in, budget_in, HasAfter}
+use Rattle.st_json.specs.Fields.{table_permission_in, system_permission_in, period_in, new_period_in, limit_in, side_in, budget_in}
+use Rattle.st_json.specs.Fields.{HasAfter}
 use Rattle.st_json.specs.Needs.{Rule, Has}
 
 -- the body is UTF-8 and reads as this object

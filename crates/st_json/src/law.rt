@@ -12,3 +12,8 @@ pub fn one_answer<A: Allocator>()
     ensures { (l : Endpoint) (name body : List ℕ) (a b : Result (Request A) Refusal) → Decoded l name body a
         → Decoded l name body b → a ≡ b }
 {}
+
+/// An endpoint, a name and a body have an answer.
+pub fn some_answer<A: Allocator>()
+    ensures { (l : Endpoint) (name body : List ℕ) → (answer : Result (Request A) Refusal) × Decoded l name body answer }
+{}

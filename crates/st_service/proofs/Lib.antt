@@ -4,3 +4,4 @@ pub mod Histories
 pub mod Equal
 pub mod Connections
 pub mod Together
+pub mod Unheard

@@ -7,6 +7,7 @@ ghost use Rattle.st_service.specs.inner.Shown.{shown};
 
 use crate::answer::Answer;
 use crate::asked::asked_of;
+use crate::strangers::{is_stranger, to_stranger};
 use st_connection::Failed;
 use st_connection::replies::Replies;
 use st_core::{Asked, Store};
@@ -53,8 +54,8 @@ impl<A: Allocator + Copy> Answerer<A> {
         answer
     }
 
-    // Answers a message whose route is an endpoint.
-    fn answer(&mut self, message: &Message<'_>) -> Answer<A>
+    // Answers a message whose route is an endpoint, by what it asks.
+    fn answer_asked(&mut self, message: &Message<'_>) -> Answer<A>
         requires { IsFound message.now }
         ensures { RepliesTo self.old message.now (bytes_of result) self.new }
     {
@@ -67,6 +68,18 @@ impl<A: Allocator + Copy> Answerer<A> {
         let answer = self.tell_step(message, &asked);
         drop(asked);
         answer
+    }
+
+    // Answers a message whose route is an endpoint.
+    fn answer(&mut self, message: &Message<'_>) -> Answer<A>
+        requires { IsFound message.now }
+        ensures { RepliesTo self.old message.now (bytes_of result) self.new }
+    {
+        if is_stranger(self.store.directory(), message) {
+            to_stranger(self.alloc, message)
+        } else {
+            self.answer_asked(message)
+        }
     }
 }
 

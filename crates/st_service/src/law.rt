@@ -1,16 +1,20 @@
 //! What the definitions say of each text, whatever the program does.
-ghost use Rattle.std.specs.Prelude.{◌≡◌, ◌++◌, List, ℕ, Bool, Option, Result, All};
+ghost use Rattle.std.specs.Prelude.{◌≡◌, ◌++◌, List, ℕ, Bool, Option, None, Result, All, option_map};
+ghost use Rattle.st_policy.specs.declared.denial.Denial.TheVariants.{Token as BadToken};
+ghost use Rattle.st_policy.specs.declared.refusal.Refusal.TheVariants.{Denied};
+ghost use Rattle.st_policy.specs.declared.reply.Reply.TheVariants.{Refused};
 ghost use Rattle.st_core.specs.declared.asked.Asked.{Asked};
 ghost use Rattle.st_core.specs.State.{State};
-ghost use Rattle.st_core.specs.Step.{replies, after};
+ghost use Rattle.st_core.specs.Step.{asker_of, replies, after};
 ghost use Rattle.st_core.specs.Worlds.{NeverSystem};
-ghost use Rattle.st_service.specs.Answers.{Answers};
+ghost use Rattle.st_service.specs.Answers.{Answers, IsFound, RepliesTo, reply_text, token_from, token_in};
 ghost use Rattle.st_connection.specs.Connection.{Run, Served};
 ghost use Rattle.st_connection.specs.declared.connection.Ended.{Ended};
 ghost use Rattle.st_connection.specs.declared.connection.IoFault.{IoFault};
 ghost use Rattle.st_service.specs.Runs.{IsBusy, Tells};
 ghost use Rattle.st_service.specs.Worlds.{Event, IsHistory, requests, keep_history, keep_items, answers, answers_to};
 ghost use Rattle.st_http.specs.First.{First};
+ghost use Rattle.st_http.specs.declared.message.Message.{Message};
 ghost use Rattle.st_text.specs.Texts.{Text};
 
 use std::alloc::Allocator;
@@ -75,4 +79,10 @@ pub fn equal_service<A: Allocator>()
         → NeverSystem user s (requests history) → NeverSystem user s (requests other)
         → keep_history user s history ≡ keep_history user s other
         → answers_to user first.items first.answers ≡ answers_to user second.items second.answers }
+{}
+
+/// A message whose token does not hold is refused so, whatever its body is, and changes nothing.
+pub fn strangers_are_refused<A: Allocator>()
+    ensures { (s : State A) (m : Message) → IsFound m → asker_of s.directory (option_map token_from (token_in m)) ≡ None
+        → RepliesTo s m (reply_text {A = A} (Refused (Denied BadToken)) m.close m.bare) s }
 {}
