@@ -184,4 +184,4 @@ pub clerk : (H R : RattleType) (h : hall.Ghosts H.Denot) (l : ledger.Ghosts H.De
 clerk H R h l a s = let d = directory in search (sendable, crosses, writer, held_front, HeadCross.the_field_send, QueuedCross.the_send, BookCross.the_send) depth 60 fits 100000
 
 pub worker : (a : NamedLft) (H R G : RattleType) (h : hall.Ghosts H.Denot) (l : ledger.Ghosts H.Denot) → IsSend R → IsSync G → IsSend (Worker.the_row a H R G h l)
-worker a H R G h l s y = search (sendable, crosses, held_desk, clerk) depth 60 fits 100000
+worker a H R G h l s y = search (sendable, crosses, held_front, held_desk, clerk) depth 60 fits 100000

@@ -1,5 +1,5 @@
 -- What follows from queued changes that follow each other.
-use Rattle.std.proofs.Common.{◌≡◌, ◌+◌, subst, List, [], ◌∷◌, ◌++◌, length, fold, refl, ap, sym, ◌∙◌, arith, length-append, append_assoc, Result, Ok, Err, MatchResult, IfOk, OnOk, true}
+use Rattle.std.proofs.Common.{◌≡◌, ◌+◌, subst, List, [], ◌∷◌, ◌++◌, length, fold, refl, ap, sym, ◌∙◌, arith, length-append, append_assoc, Option, None, Some, Result, Ok, Err, MatchOption, MatchResult, IfOk, IfSome, OnOk, true}
 use Rattle.std.proofs.lemmas.List.{append-nil, same_from_push}
 use mathlib.Core.List.{IsPrefix}
 use Rattle.std.specs.declared.alloc.Global.{Global}
@@ -111,6 +111,11 @@ pub ended : (start : State) (seen : List Ask) (a : Ask) (reply : Told) → ((lis
     → (list : List Ask) × EndsWith start list a reply
 ended start seen a reply (list, (before, on, is, told)) = (list, (before, is, told))
 
+pub all_ended : {E : Type 0} (start : State) (seen : List Ask) (a : Ask) (r : Result Told E) → IfOk r (λ x. (list : List Ask) × EndsAfter start seen list a x)
+    → IfOk r (λ x. (list : List Ask) × EndsWith start list a x)
+all_ended start seen a (Ok x) h = ended start seen a x h
+all_ended start seen a (Err e) h = tt
+
 -- the first list begins the last
 pub follows_prefix : (start : State) (xs : List Ask) (qs : List QueuedValue) (ys : List Ask) → Follows start xs qs ys → IsPrefix xs ys
 follows_prefix start xs [] ys f = ([], append-nil xs ∙ f)
@@ -140,3 +145,27 @@ pub at_state : {D E : Type 0} (P : D → State → Type 0) (directory : Director
     → IfOk r (λ d. (t : State) → t.directory ≡ directory → P d t) → IfOk r (λ d. P d s)
 at_state P directory s (Ok d) is h = h s (sym is)
 at_state P directory s (Err e) is h = tt
+
+-- a front that is the list after a change goes on what was seen
+pub front_ends : {A E : Type 0} (start : State) (seen before list published published' : List Ask) (a : Ask) (reply : A → Told) (front : A → Option (List Ask))
+    (r : Result A E) → OnOk r (IsPrefix seen before) → MatchResult r (λ _. list ≡ before ++ a ∷ []) (λ _. list ≡ before)
+    → IfOk r (λ x. reply x ≡ reply_of (state_after start before) a)
+    → IfOk r (λ x. MatchOption (front x) (published' ≡ published) (λ f. (f ≡ list) × (published' ≡ list)))
+    → IfOk r (λ x. IfSome (front x) (λ f. EndsAfter start seen f a (reply x)))
+front_ends start seen before list published published' a reply front (Ok x) on is told fronts = go (front x) fronts
+  where
+    go : (f : Option (List Ask)) → MatchOption f (published' ≡ published) (λ l. (l ≡ list) × (published' ≡ list)) → IfSome f (λ l. EndsAfter start seen l a (reply x))
+    go (Some l) same = (before, on, same.0 ∙ is, told)
+    go None same = tt
+front_ends start seen before list published published' a reply front (Err e) on is told fronts = tt
+
+-- what was seen before a change is published after it
+pub shown_after : {A E : Type 0} (seen before list published : List Ask) (a : Ask) (front : A → Option (List Ask)) (r : Result A E)
+    → OnOk r (IsPrefix seen before) → MatchResult r (λ _. list ≡ before ++ a ∷ []) (λ _. list ≡ before)
+    → IfOk r (λ x. MatchOption (front x) (published ≡ before) (λ f. (f ≡ list) × (published ≡ list))) → OnOk r (IsPrefix seen published)
+shown_after seen before list published a front (Ok x) on is fronts = go (front x) fronts
+  where
+    go : (f : Option (List Ask)) → MatchOption f (published ≡ before) (λ l. (l ≡ list) × (published ≡ list)) → IsPrefix seen published
+    go None same = subst (IsPrefix seen) (sym same) on
+    go (Some l) same = subst (IsPrefix seen) (sym (same.1 ∙ is)) (on.0 ++ a ∷ [], sym (append_assoc seen on.0 (a ∷ [])) ∙ ap (λ (l : List Ask). l ++ a ∷ []) on.1)
+shown_after seen before list published a front (Err e) on is fronts = tt

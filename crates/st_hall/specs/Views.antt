@@ -1,5 +1,5 @@
 -- What contracts see of a desk, a worker and a clerk.
-use Rattle.std.specs.Prelude.{ℕ, ◌≡◌, ◌≤◌, List, [], ◌∷◌, ◌++◌, length, sum_by}
+use Rattle.std.specs.Prelude.{ℕ, ◌≡◌, ◌≤◌, ◌⊎◌, List, [], ◌∷◌, ◌++◌, length, sum_by}
 use mathlib.Core.List.{IsPrefix}
 use Rattle.st_hall.specs.Steps.{Ask, State, Told, reply_of, state_after}
 
@@ -16,11 +16,17 @@ opening_seat seen = record { seen = seen; made = 0 }
 abbrev pub receipts : List Seat → ℕ
 receipts seats = sum_by (λ seat. seat.made) seats
 
--- a worker's number, how often it has been asked (2^64 - 1 also where it was more often), and its desk
+-- a worker's number, how often it has been asked (2^64 - 1 also where it was more often), the longest front that it learnt (at first
+-- what its desk had seen), and its desk
 pub record Post : Type 0 where
   pub number : ℕ
   pub calls : ℕ
+  pub learnt : List Ask
   pub seat : Seat
+
+-- nothing was learnt, or a front that goes on what was seen before and begins what is seen now
+abbrev pub Learns : Post → Post → Type 0
+Learns s t = (t.learnt ≡ s.learnt) ⊎ (IsPrefix s.seat.seen t.learnt × IsPrefix t.learnt t.seat.seen)
 
 -- the one list of changes, and the part of it that is published
 pub record Roll : Type 0 where

@@ -1,5 +1,5 @@
 //! The clerk, who makes changes and publishes them.
-ghost use Rattle.std.specs.Prelude.{◌≡◌, ◌+◌, ◌^◌, ◌<◌, [], ◌∷◌, ◌++◌, drop, length, true, unwrap_or, IfOk, IfSome, OnOk, MatchResult};
+ghost use Rattle.std.specs.Prelude.{◌≡◌, ◌+◌, ◌^◌, ◌<◌, [], ◌∷◌, ◌++◌, drop, length, true, unwrap_or, IfOk, OnOk, MatchOption, MatchResult};
 ghost use mathlib.Core.List.{IsPrefix};
 ghost use Rattle.st_core.specs.Judging.{judgement};
 ghost use Rattle.st_core.specs.Step.{asks_for_change};
@@ -221,7 +221,9 @@ impl<H: HallName, R: Wait + Drop> Clerk<H, R> {
         ensures made { MatchResult result (λ _. desk.new.made ≡ desk.old.made + 1) (λ _. desk.new.made ≡ desk.old.made) }
         ensures seen { desk.new.seen ≡ desk.old.seen }
         ensures reply { IfOk result (λ r. r.0 ≡ reply_of (state_after H.start self.old.list) asked.now) }
-        ensures front { IfOk result (λ r. IfSome r.1 (λ f. (f ≡ self.new.list) × (self.new.published ≡ self.new.list))) }
+        ensures shown { OnOk result (IsPrefix desk.old.seen self.new.published) }
+        ensures front { IfOk result (λ r. MatchOption r.1 (self.new.published ≡ self.old.list)
+            (λ f. (f ≡ self.new.list) × (self.new.published ≡ self.new.list))) }
     {
         self.publish(rt)?;
         let reply = self.add(desk, asked)?;
@@ -232,7 +234,8 @@ impl<H: HallName, R: Wait + Drop> Clerk<H, R> {
     }
 
     /// Makes a change: publishes what is not published yet, adds the change, and publishes it where there is memory. Its receipt
-    /// has a front where it is published. When out of memory the change is not made; changes before it may have become published.
+    /// has a front if it is published, and none if it is not. All that the desk had seen is published then. When out of memory the
+    /// change is not made; changes before it may have become published.
     pub fn commit<W: Wait>(
         &mut self,
         rt: &W,
@@ -245,9 +248,11 @@ impl<H: HallName, R: Wait + Drop> Clerk<H, R> {
         ensures list { MatchResult result (λ _. self.new.list ≡ self.old.list ++ asked ∷ []) (λ _. self.new.list ≡ self.old.list) }
         ensures made { MatchResult result (λ _. desk.new.made ≡ desk.old.made + 1) (λ _. desk.new.made ≡ desk.old.made) }
         ensures seen { desk.new.seen ≡ desk.old.seen }
+        ensures shown { OnOk result (IsPrefix desk.old.seen self.new.published) }
         ensures asked { IfOk result (λ r. r.asked ≡ asked) }
         ensures reply { IfOk result (λ r. r.reply ≡ reply_of (state_after H.start self.old.list) asked) }
-        ensures front { IfOk result (λ r. IfSome r.front (λ f. (f ≡ self.new.list) × (self.new.published ≡ self.new.list))) }
+        ensures front { IfOk result (λ r. MatchOption r.front (self.new.published ≡ self.old.list)
+            (λ f. (f ≡ self.new.list) × (self.new.published ≡ self.new.list))) }
     {
         let made = self.make(rt, desk, &asked);
         receipt_of(asked, made)

@@ -2,15 +2,15 @@
 ghost use Rattle.std.specs.Prelude.{◌≡◌, ◌+◌, ◌<◌, [], drop, replicate, true, List, IfOk, IfSome, MatchResult};
 ghost use Rattle.st_core.specs.Step.{asks_for_change};
 ghost use Rattle.st_hall.specs.Steps.{Ask};
-ghost use Rattle.st_hall.specs.declared.hall.HallFault.TheVariants.{NoMemory};
-ghost use Rattle.st_hall.specs.Views.{EndsAfter, EndsWith, opening_seat};
+ghost use Rattle.st_hall.specs.Views.{EndsAfter, opening_seat};
 ghost use Rattle.st_hall.specs.inner.Editions.{Agrees};
 
 use crate::clerk::Clerk;
 use crate::desk::{Desk, EditionReader};
 use crate::edition::Edition;
+use crate::fault::HallFault;
 use crate::front::{Front, begin};
-use crate::name::{HallName, Unnamed};
+use crate::name::{HallName, Unnamed, UnnamedFor};
 use crate::queue::EditionWriter;
 use crate::receipt::Receipt;
 use left_right::writer::Writer;
@@ -20,21 +20,6 @@ use std::alloc::{AllocError, Global};
 use std::marker::PhantomData;
 use std::sync::ledger::Share;
 use std::sync::{Mutex, Wait};
-
-/// What keeps a hall from opening.
-#[derive(Clone, Copy, PartialEq, Eq, Debug)]
-pub enum HallFault {
-    NoPlace,
-    NoMemory,
-}
-
-impl From<AllocError> for HallFault {
-    ghost from_gives = { λ _ e. e ≡ NoMemory };
-
-    fn from(_: AllocError) -> HallFault {
-        HallFault::NoMemory
-    }
-}
 
 #[tactic(auto, using(crate::proofs::Following::after_none))]
 // What publishes two copies of a state to so many readers.
@@ -170,7 +155,7 @@ impl<H: HallName> Hall<H> {
     pub fn open_for<R: Wait + Drop>(
         rt: R,
         alloc: Global,
-        name: Unnamed,
+        name: UnnamedFor,
         first: Store,
         second: Store,
         workers: u16,
@@ -181,7 +166,7 @@ impl<H: HallName> Hall<H> {
         ensures clerk { IfOk result (λ t. (t.0.list ≡ []) × (t.0.published ≡ [])) }
         ensures desks { IfOk result (λ t. t.1.items ≡ replicate workers (opening_seat [])) }
     {
-        let Unnamed { head, seen, blank } = name;
+        let UnnamedFor { head, seen, blank } = name;
         let (head, front) = begin::<H>(head, seen);
         let (book, share) = blank.open::<H>();
         let (directory, writer, desks) = copies(
@@ -203,11 +188,13 @@ impl<H: HallName> Hall<H> {
         first: Store,
         second: Store,
     ) -> Result<(Clerk<H, R>, Desk<H>, Desk<H>), HallFault>
-        requires named { (name.seen.book ≡ H.book) × (name.blank.name ≡ H.name) × (name.blank.parts ≡ 2) × (H.parts ≡ 2) }
+        requires named { (name.seen.book ≡ H.book) × (name.blank.name ≡ H.name) × (H.parts ≡ 2) }
         requires alike { (first ≡ H.start) × (second ≡ H.start) }
         ensures clerk { IfOk result (λ t. (t.0.list ≡ []) × (t.0.published ≡ [])) }
-        ensures desks { IfOk result (λ t. (t.1 ≡ opening_seat []) × (t.2 ≡ opening_seat [])) }
+        ensures desks { IfOk result (λ t. (t.1.seen ≡ []) × (t.1.made ≡ 0) × (t.2.seen ≡ []) × (t.2.made ≡ 0)) }
     {
+        let Unnamed { head, seen, blank } = name;
+        let name = UnnamedFor { head, seen, blank };
         let (clerk, desks) = Hall::open_for(rt, alloc, name, first, second, 2)?;
         let (one, two) = two_of(desks);
         Ok((clerk, one, two))
@@ -224,7 +211,7 @@ impl<H: HallName> Hall<H> {
         ensures made { MatchResult result (λ _. desk.new.made ≡ desk.old.made + 1) (λ _. desk.new.made ≡ desk.old.made) }
         ensures seen { desk.new.seen ≡ desk.old.seen }
         ensures asked { IfOk result (λ r. r.asked ≡ asked) }
-        ensures front { IfOk result (λ r. IfSome r.front (λ f. EndsWith H.start f asked r.reply)) }
+        ensures front { IfOk result (λ r. IfSome r.front (λ f. EndsAfter H.start desk.old.seen f asked r.reply)) }
         ensures reply { IfOk result (λ r. (list : List Ask) × EndsAfter H.start desk.old.seen list asked r.reply) }
     {
         clerk.lock(rt).commit(rt, desk, asked)

@@ -27,9 +27,20 @@ impl HallName for Brand {
     ghost book = { record { number = 0; log_name = 0; cells_name = 0 } };
 }
 
-/// A history that is empty, and an empty count, which have no name yet.
+/// For a hall of two desks: a history that is empty, and an empty count, which have no name yet.
 #[derive(Drop)]
 pub struct Unnamed {
+    pub(crate) head: Word<Asked, u64, Law>,
+    pub seen: Seen<Asked, u64, Law>,
+    pub blank: Blank,
+    pub ghost empty: { seen.log ≡ [] },
+    pub ghost head_is: { head ≡ head_of seen.book },
+    pub ghost two: { blank.parts ≡ 2 },
+}
+
+/// For a hall of any number of desks: a history that is empty, and an empty count, which have no name yet.
+#[derive(Drop)]
+pub struct UnnamedFor {
     pub(crate) head: Word<Asked, u64, Law>,
     pub seen: Seen<Asked, u64, Law>,
     pub blank: Blank,
@@ -39,18 +50,19 @@ pub struct Unnamed {
 
 impl Unnamed {
     /// An empty history, and an empty count of two shares.
-    pub fn new() -> Unnamed
-        ensures { result.blank.parts ≡ 2 }
-    {
-        Unnamed::of(2)
+    pub fn new() -> Unnamed {
+        let UnnamedFor { head, seen, blank } = UnnamedFor::of(2);
+        Unnamed { head, seen, blank }
     }
+}
 
+impl UnnamedFor {
     /// An empty history, and an empty count of as many shares as there are workers.
-    pub fn of(workers: u16) -> Unnamed
+    pub fn of(workers: u16) -> UnnamedFor
         ensures { result.blank.parts ≡ workers }
     {
         let (seen, mut first, _second) = Seen::open(Start::alone(), 0, 0);
-        Unnamed {
+        UnnamedFor {
             head: Word::tracked(0, &mut first),
             seen,
             blank: Blank::new(workers as u64),

@@ -1,9 +1,9 @@
 //! A worker, who answers requests one after the other at a desk.
-ghost use Rattle.std.specs.Prelude.{◌≡◌, ◌+◌, ◌-◌, ◌^◌, true, false, min, List, IfOk, IfSome, MatchResult};
+ghost use Rattle.std.specs.Prelude.{◌≡◌, ◌+◌, ◌-◌, ◌^◌, ◌⊎◌, true, false, min, List, Some, IfOk, IfSome, MatchResult};
 ghost use mathlib.Core.List.{IsPrefix};
 ghost use Rattle.st_core.specs.Step.{asks_for_change};
 ghost use Rattle.st_hall.specs.Steps.{Ask, reply_of, state_after};
-ghost use Rattle.st_hall.specs.Views.{EndsAfter, EndsWith};
+ghost use Rattle.st_hall.specs.Views.{EndsAfter, EndsWith, Learns};
 
 use crate::clerk::Clerk;
 use crate::desk::Desk;
@@ -31,22 +31,26 @@ pub trait Gate {
     fn gave_up(&self, worker: u64, call: u64);
 }
 
-/// A worker at a desk, with the clerk and a gate. Contracts see its number, its calls and the desk.
+/// A worker at a desk, with the clerk and a gate. Contracts see its number, its calls, the longest front that it learnt, and the desk.
 #[derive(Drop)]
 pub struct Worker<'a, H: HallName, R: Wait + Drop, G: Gate> {
     number: u64,
     calls: u64,
+    learnt: Front<H>,
     desk: Desk<H>,
     clerk: &'a Mutex<Clerk<H, R>>,
     gate: &'a G,
 }
 
 impl<'a, H: HallName, R: Wait + Drop, G: Gate> Model for Worker<'a, H, R, G> {
+    ghost use mathlib.Core.List.{IsPrefix};
     ghost use Rattle.st_hall.specs.Views.{Post};
 
     ghost Value = { Post };
 
-    ghost view = { λ s. record { number = s.number; calls = s.calls; seat = s.desk } };
+    ghost view = { λ s. record { number = s.number; calls = s.calls; learnt = s.learnt; seat = s.desk } };
+
+    ghost invariant = { λ s. IsPrefix s.learnt s.desk.seen };
 }
 
 // Asks the gate until it lets the read pass, or often enough.
@@ -73,35 +77,16 @@ fn told<H: HallName>(receipt: Receipt<H>) -> (Reply, Option<Front<H>>)
     (reply, front)
 }
 
-// Learns a front, where there is one.
-fn learn<H: HallName>(desk: &mut Desk<H>, front: Option<Front<H>>)
-    ensures learnt { IfSome front (λ f. IsPrefix f desk.new.seen) }
-    ensures seen { IsPrefix desk.old.seen desk.new.seen }
-    ensures made { desk.new.made ≡ desk.old.made }
+// The longer of what was learnt and a front, where there is one.
+fn longest<H: HallName>(learnt: &Front<H>, front: Option<Front<H>>) -> Front<H>
+    ensures one { (result ≡ learnt.now) ⊎ (front ≡ Some result) }
+    ensures this { IsPrefix learnt.now result }
+    ensures that { IfSome front (λ f. IsPrefix f result) }
 {
     let Some(front) = front else {
-        return;
+        return learnt.again();
     };
-    desk.learn(&front);
-}
-
-// Makes a change, and learns its front.
-fn change<H: HallName, R: Wait + Drop, W: Wait>(
-    rt: &W,
-    clerk: &Mutex<Clerk<H, R>>,
-    desk: &mut Desk<H>,
-    asked: Asked,
-) -> Result<Reply, AllocError>
-    requires { asks_for_change asked ≡ true }
-    ensures made { MatchResult result (λ _. desk.new.made ≡ desk.old.made + 1) (λ _. desk.new.made ≡ desk.old.made) }
-    ensures seen { IsPrefix desk.old.seen desk.new.seen }
-    ensures reply { IfOk result (λ r. (list : List Ask) × EndsWith H.start list asked r) }
-    ensures goes_on { IfOk result (λ r. (list : List Ask) × EndsAfter H.start desk.old.seen list asked r) }
-{
-    let receipt = Hall::change(rt, clerk, desk, asked)?;
-    let (reply, front) = told(receipt);
-    learn(desk, front);
-    Ok(reply)
+    learnt.longer(&front)
 }
 
 // Answers a read once the gate lets it pass, or has been asked often enough.
@@ -122,7 +107,7 @@ fn read<H: HallName, G: Gate>(
 }
 
 impl<'a, H: HallName, R: Wait + Drop, G: Gate> Worker<'a, H, R, G> {
-    /// A worker of this number at a desk.
+    /// A worker of this number at a desk. What the desk has seen counts as learnt.
     pub fn new(
         number: u64,
         desk: Desk<H>,
@@ -131,11 +116,13 @@ impl<'a, H: HallName, R: Wait + Drop, G: Gate> Worker<'a, H, R, G> {
     ) -> Worker<'a, H, R, G>
         ensures number { result.number ≡ number }
         ensures calls { result.calls ≡ 0 }
+        ensures learnt { result.learnt ≡ desk.seen }
         ensures seat { result.seat ≡ desk }
     {
         Worker {
             number,
             calls: 0,
+            learnt: desk.front(),
             desk,
             clerk,
             gate,
@@ -153,6 +140,7 @@ impl<'a, H: HallName, R: Wait + Drop, G: Gate> Worker<'a, H, R, G> {
     pub fn begin(&mut self)
         ensures number { self.new.number ≡ self.old.number }
         ensures calls { self.new.calls ≡ min (self.old.calls + 1) (2 ^ 64 - 1) }
+        ensures learnt { self.new.learnt ≡ self.old.learnt }
         ensures seat { self.new.seat ≡ self.old.seat }
     {
         self.calls = self.calls.saturating_add(1);
@@ -163,6 +151,42 @@ impl<'a, H: HallName, R: Wait + Drop, G: Gate> Worker<'a, H, R, G> {
         self.gate.answered(self.number, self.calls);
     }
 
+    /// Learns the front of a receipt, where it has one, and gives the reply. All that is seen later begins with each front learnt.
+    pub fn learn(&mut self, receipt: Receipt<H>) -> Reply
+        ensures number { self.new.number ≡ self.old.number }
+        ensures calls { self.new.calls ≡ self.old.calls }
+        ensures reply { result ≡ receipt.reply }
+        ensures front { IfSome receipt.front (λ f. IsPrefix f self.new.learnt) }
+        ensures one { (self.new.learnt ≡ self.old.learnt) ⊎ (receipt.front ≡ Some self.new.learnt) }
+        ensures keeps { IsPrefix self.old.learnt self.new.learnt }
+        ensures knows { IsPrefix self.new.learnt self.new.seat.seen }
+        ensures seen { IsPrefix self.old.seat.seen self.new.seat.seen }
+        ensures made { self.new.seat.made ≡ self.old.seat.made }
+    {
+        let (reply, front) = told(receipt);
+        self.learnt = longest(&self.learnt, front);
+        self.desk.learn(&self.learnt);
+        reply
+    }
+
+    // Makes a change, and learns its front.
+    fn change<W: Wait>(&mut self, rt: &W, asked: Asked) -> Result<Reply, AllocError>
+        requires { asks_for_change asked ≡ true }
+        ensures number { self.new.number ≡ self.old.number }
+        ensures calls { self.new.calls ≡ self.old.calls }
+        ensures made { MatchResult result (λ _. self.new.seat.made ≡ self.old.seat.made + 1)
+            (λ _. self.new.seat.made ≡ self.old.seat.made) }
+        ensures seen { IsPrefix self.old.seat.seen self.new.seat.seen }
+        ensures goes_on { IfOk result (λ r. (list : List Ask) × EndsAfter H.start self.old.seat.seen list asked r) }
+        ensures learns { MatchResult result
+            (λ r. (self.new.learnt ≡ self.old.learnt) ⊎ EndsAfter H.start self.old.seat.seen self.new.learnt asked r)
+            (λ _. self.new.learnt ≡ self.old.learnt) }
+        ensures knows { IsPrefix self.new.learnt self.new.seat.seen }
+    {
+        let receipt = Hall::change(rt, self.clerk, &mut self.desk, asked)?;
+        Ok(self.learn(receipt))
+    }
+
     /// Answers the request of the call that began last. A change is made by the clerk, and its front is learnt where it has one. A
     /// read waits at the gate first, and is then answered without waiting. When out of memory a change is not made, and a read may
     /// have seen more changes.
@@ -170,16 +194,22 @@ impl<'a, H: HallName, R: Wait + Drop, G: Gate> Worker<'a, H, R, G> {
         ensures number { self.new.number ≡ self.old.number }
         ensures calls { self.new.calls ≡ self.old.calls }
         ensures seen { IsPrefix self.old.seat.seen self.new.seat.seen }
+        ensures knows { IsPrefix self.new.learnt self.new.seat.seen }
+        ensures learns { Learns self.old self.new }
         ensures change { asks_for_change asked ≡ true
             → MatchResult result (λ _. self.new.seat.made ≡ self.old.seat.made + 1) (λ _. self.new.seat.made ≡ self.old.seat.made) }
         ensures changed { asks_for_change asked ≡ true → IfOk result (λ r. (list : List Ask) × EndsWith H.start list asked r) }
         ensures goes_on { asks_for_change asked ≡ true
             → IfOk result (λ r. (list : List Ask) × EndsAfter H.start self.old.seat.seen list asked r) }
-        ensures read { asks_for_change asked ≡ false → self.new.seat.made ≡ self.old.seat.made }
+        ensures learnt { asks_for_change asked ≡ true → MatchResult result
+            (λ r. (self.new.learnt ≡ self.old.learnt) ⊎ EndsAfter H.start self.old.seat.seen self.new.learnt asked r)
+            (λ _. self.new.learnt ≡ self.old.learnt) }
+        ensures read { asks_for_change asked ≡ false
+            → (self.new.seat.made ≡ self.old.seat.made) × (self.new.learnt ≡ self.old.learnt) }
         ensures shown { asks_for_change asked ≡ false → IfOk result (λ r. r ≡ reply_of (state_after H.start self.new.seat.seen) asked) }
     {
         if asked.is_change() {
-            change(rt, self.clerk, &mut self.desk, asked)
+            self.change(rt, asked)
         } else {
             let reply = read(self.gate, self.number, self.calls, &mut self.desk, &asked);
             drop(asked);

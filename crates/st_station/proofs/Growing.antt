@@ -1,13 +1,12 @@
--- What a station has seen it sees still, and its receipts are not fewer.
-use Rattle.std.proofs.Common.{◌≤◌, ℕ, List, [], ◌∷◌, subst, sym, arith}
-use Rattle.std.specs.Prelude.{Option, Bool, Result}
+-- What a station has seen it sees still, its receipts are not fewer, and what it learnt it sees.
+use Rattle.std.proofs.Common.{◌≤◌, ℕ, List, [], ◌∷◌, inl, inr, subst, sym, arith}
 use Rattle.std.proofs.lemmas.List.{append-nil}
 use mathlib.Core.List.{IsPrefix}
 use Rattle.st_http.specs.First.{First}
 use Rattle.st_connection.specs.Connection.{Run}
-use Rattle.st_hall.specs.Steps.{State}
-use Rattle.st_hall.specs.Views.{Seat, Post}
-use Rattle.st_hall.proofs.Fronts.{prefix_trans}
+use Rattle.st_hall.specs.Steps.{Ask, State}
+use Rattle.st_hall.specs.Views.{Seat, Post, Learns}
+use Rattle.st_hall.proofs.Fronts.{prefix_self, prefix_trans}
 use Rattle.st_station.specs.Seats.{Moves, SeatAnswers, read, made, untold, busy, unrouted, faulty}
 use Rattle.st_station.specs.Posts.{Answers}
 
@@ -36,3 +35,22 @@ run_grows start s t (i ∷ items) (a ∷ answers) (m, one, rest) =
     let first = one_grows start s.seat m.seat i a one.seat in
     let later = run_grows start m t items answers rest in
     (prefix_trans _ _ _ first.0 later.0, omega (arith, first.1, later.1))
+
+one_remembers : (s t : Post) → Learns s t → IsPrefix s.seat.seen t.seat.seen → IsPrefix s.learnt s.seat.seen
+    → IsPrefix s.learnt t.learnt × IsPrefix t.learnt t.seat.seen
+one_remembers s t (inl same) seen begins = (
+  subst (λ (l : List Ask). IsPrefix s.learnt l) (sym same) (prefix_self s.learnt),
+  subst (λ (l : List Ask). IsPrefix l t.seat.seen) (sym same) (prefix_trans _ _ _ begins seen),
+)
+one_remembers s t (inr learns) seen begins = (prefix_trans _ _ _ begins learns.0, learns.1)
+
+pub run_remembers : (start : State) (s t : Post) (items : List First) (answers : List (List ℕ)) → Run (Answers start) s items answers t
+    → IsPrefix s.learnt s.seat.seen → IsPrefix s.learnt t.learnt × IsPrefix t.learnt t.seat.seen
+run_remembers start s t [] [] same begins =
+    subst (λ (u : Post). IsPrefix s.learnt u.learnt × IsPrefix u.learnt u.seat.seen) (sym same) (prefix_self s.learnt, begins)
+run_remembers start s t [] (a ∷ answers) h begins = absurd h
+run_remembers start s t (i ∷ items) [] h begins = absurd h
+run_remembers start s t (i ∷ items) (a ∷ answers) (m, one, rest) begins =
+    let first = one_remembers s m one.learns (one_grows start s.seat m.seat i a one.seat).0 begins in
+    let later = run_remembers start m t items answers rest first.1 in
+    (prefix_trans _ _ _ first.0 later.0, later.1)

@@ -2,7 +2,7 @@
 use Rattle.std.specs.Prelude.{◌≡◌, ℕ, ◌+◌, ◌-◌, ◌^◌, min, List}
 use Rattle.st_http.specs.First.{First, message, fault, more}
 use Rattle.st_hall.specs.Steps.{State}
-use Rattle.st_hall.specs.Views.{Post}
+use Rattle.st_hall.specs.Views.{Post, Learns}
 use Rattle.st_station.specs.Seats.{SeatAnswers}
 
 -- each message is one call; a worker numbers its calls from 1 and stays at 2^64 - 1
@@ -16,3 +16,4 @@ pub record Answers (start : State) (s : Post) (item : First) (answer : List ℕ)
   pub seat : SeatAnswers start s.seat item answer t.seat
   pub number : t.number ≡ s.number
   pub calls : t.calls ≡ calls_after item s.calls
+  pub learns : Learns s t

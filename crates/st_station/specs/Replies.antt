@@ -7,7 +7,7 @@ use Rattle.st_core.specs.Step.{asks_for_change}
 use Rattle.st_connection.specs.Render.{busy_text}
 use Rattle.st_service.specs.Answers.{AsksBy, IsFound, reply_text, RepliesTo as ServiceReplies}
 use Rattle.st_hall.specs.Steps.{Ask, State, Told, reply_of, state_after}
-use Rattle.st_hall.specs.Views.{Seat, Post, EndsAfter}
+use Rattle.st_hall.specs.Views.{Seat, Post, Learns, EndsAfter}
 use Rattle.st_station.specs.Seats.{Moves}
 
 -- At a seat a message may get this answer, and leave this seat.
@@ -33,3 +33,4 @@ pub record RepliesTo (start : State) (s : Post) (m : Message) (answer : List ℕ
   pub seat : SeatReplies start s.seat m answer t.seat
   pub number : t.number ≡ s.number
   pub calls : t.calls ≡ min (s.calls + 1) (2 ^ 64 - 1)
+  pub learns : Learns s t

@@ -8,9 +8,11 @@ ghost use Rattle.st_hall.specs.Steps.{State};
 ghost use Rattle.st_hall.specs.Views.{Post};
 ghost use Rattle.st_station.specs.Posts.{Answers};
 
-/// What a station has seen it sees still, and its receipts are not fewer, after each connection that it served.
+/// What a station has seen it sees still, and its receipts are not fewer, after each connection that it served. What it sees begins
+/// with each front that it learnt.
 pub fn only_grows()
     ensures { (start : State) (s t : Post) (left_old left_new held_old held_new : Option (List ℕ)) (read_failed : Bool)
         (result : Result Ended IoFault) → Served (Answers start) s t left_old left_new held_old held_new read_failed result
-        → IsPrefix s.seat.seen t.seat.seen × (s.seat.made ≤ t.seat.made) }
+        → IsPrefix s.seat.seen t.seat.seen × (s.seat.made ≤ t.seat.made)
+        × (IsPrefix s.learnt s.seat.seen → IsPrefix s.learnt t.learnt × IsPrefix t.learnt t.seat.seen) }
 {}

@@ -1,6 +1,8 @@
 //! A station: a worker who answers the messages of connections.
 ghost use Rattle.std.specs.Prelude.{◌≡◌, false, refl, IfOk};
+ghost use mathlib.Core.Logic.{inl};
 ghost use Rattle.st_connection.specs.Connection.{EndsOn, Served};
+ghost use Rattle.st_hall.specs.Views.{Learns};
 ghost use Rattle.st_service.specs.Answers.{IsFound};
 ghost use Rattle.st_service.specs.Bytes.{bytes_of};
 ghost use Rattle.st_station.specs.Posts.{Answers};
@@ -41,6 +43,7 @@ impl<'a, H: HallName, R: Wait + Drop, G: Gate, W: Wait> Answerer<'a, H, R, G, W>
         requires { IsFound message.now }
         ensures number { self.new.number ≡ self.old.number }
         ensures calls { self.new.calls ≡ self.old.calls }
+        ensures learns { Learns self.old self.new }
         ensures seat { SeatReplies H.start self.old.seat message.now (bytes_of result) self.new.seat }
     {
         let close = message.close;
@@ -58,6 +61,7 @@ impl<'a, H: HallName, R: Wait + Drop, G: Gate, W: Wait> Answerer<'a, H, R, G, W>
     fn answer(&mut self, message: &Message<'_>) -> Answer
         ensures number { self.new.number ≡ self.old.number }
         ensures calls { self.new.calls ≡ self.old.calls }
+        ensures learns { Learns self.old self.new }
         ensures seat { SeatReplies H.start self.old.seat message.now (bytes_of result) self.new.seat }
     {
         match Answer::of_unrouted(self.alloc, message) {
@@ -86,7 +90,7 @@ impl<'a, H: HallName, R: Wait + Drop, G: Gate, W: Wait> Replies for Answerer<'a,
 
     ghost shown = { post_shown H.start };
 
-    ghost faults = { λ s reason bare. record { seat = faulty; number = refl; calls = refl } };
+    ghost faults = { λ s reason bare. record { seat = faulty; number = refl; calls = refl; learns = inl refl } };
 
     fn reply(&mut self, message: &Message<'_>) -> Answer {
         self.worker.begin();
@@ -100,8 +104,8 @@ impl<'a, H: HallName, R: Wait + Drop, G: Gate, W: Wait> Replies for Answerer<'a,
     }
 }
 
-/// A worker who serves connections, one after another. Contracts see it as its post: its number, how many messages it was asked, and
-/// its desk.
+/// A worker who serves connections, one after another. Contracts see it as its post: its number, how many messages it was asked, the
+/// longest front that it learnt, and its desk.
 #[derive(Drop)]
 pub struct Station<'a, H: HallName, R: Wait + Drop, G: Gate, W: Wait> {
     server: Server<Answerer<'a, H, R, G, W>>,
@@ -125,7 +129,7 @@ impl<'a, H: HallName, R: Wait + Drop, G: Gate, W: Wait> Station<'a, H, R, G, W> 
         clerk: &'a Mutex<Clerk<H, R>>,
         gate: &'a G,
     ) -> Result<Station<'a, H, R, G, W>, AllocError>
-        ensures { IfOk result (λ station. station ≡ record { number = number; calls = 0; seat = desk }) }
+        ensures { IfOk result (λ station. station ≡ record { number = number; calls = 0; learnt = desk.seen; seat = desk }) }
     {
         let worker = Worker::new(number, desk, clerk, gate);
         let server = Server::new(alloc, alloc, Answerer { alloc, worker, rt })?;

@@ -1,12 +1,9 @@
 -- That a message's answer is one of the items that it may be, which no reader has to believe.
-use Rattle.std.proofs.Common.{◌≡◌, ℕ, Bool, true, false, List, Option, refl, sym, ◌∙◌, subst}
+use Rattle.std.proofs.Common.{◌≡◌, ℕ, Bool, true, false, List, Option, sym, ◌∙◌, subst}
 use Rattle.httparse.specs.Grammar.{RequestHead}
-use Rattle.st_http.specs.declared.routes.Endpoint.{Endpoint}
-use Rattle.st_http.specs.declared.routes.Route.{Route}
-use Rattle.st_http.specs.declared.routes.Route.TheVariants as routes
 use Rattle.st_http.specs.declared.message.Message.{Message}
 use Rattle.st_http.specs.First.{message, fields_of}
-use Rattle.st_http.specs.Routes.{Routed, found, no_route, bad_method, ShowsRoute, routed}
+use Rattle.st_http.specs.Routes.{ShowsRoute, routed}
 use Rattle.st_http.specs.Message.{ShowsMessage}
 use Rattle.st_http.specs.Token.{UserAndSecret, token_of}
 use Rattle.st_policy.specs.declared.refusal.Refusal.{Refusal}
@@ -79,4 +76,5 @@ post_shown start s t m bytes replied h body bare shows = record {
   seat = seat_shown start s.seat t.seat m bytes replied.seat h body bare shows;
   number = replied.number;
   calls = replied.calls;
+  learns = replied.learns;
 }

@@ -10,4 +10,4 @@ returns-clause-seat g c =
     let asked = c.ask-told.ensures in
     let answered = c.of-answer.ensures in
     rw (sym c.self.view_is) (seated g.H.HallName.start c.self.inside.worker.seat c.ask-told.new.self.seat c.args.message.now _ c.in-Ok.asked
-    c.requires c.in-Ok.ensures c.ask-told.result asked.seen asked.change asked.goes_on asked.read asked.shown answered.ok answered.err)
+    c.requires c.in-Ok.ensures c.ask-told.result asked.seen asked.change asked.goes_on (λ e. (asked.read e).0) asked.shown answered.ok answered.err)
