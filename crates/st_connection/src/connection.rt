@@ -207,6 +207,7 @@ pub fn serve_connection<X: Replies, R: Source, W: Sink>(
             Ok(Stop::Waits(used)) => {
                 buffer.copy_within(used..filled, 0);
                 filled -= used;
+                reader.answered(filled);
             }
         }
     }

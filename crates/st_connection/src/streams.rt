@@ -35,6 +35,14 @@ pub trait Source {
         ensures ended { IsTrue (has_ended self.new) ↔ (result ≡ Ok 0) × (0 < length buffer.new) }
         ensures ok { OnOk result (has_failed self.new ≡ has_failed self.old) }
         ensures err { OnErr result (has_failed self.new ≡ true) };
+
+    /// Hears that each whole message of what was read is answered, and that of the next one `rest` bytes were read.
+    fn answered(&mut self, _rest: usize)
+        ensures bytes { left self.new ≡ left self.old }
+        ensures counted { reads self.new ≡ reads self.old }
+        ensures ended { has_ended self.new ≡ has_ended self.old }
+        ensures failed { has_failed self.new ≡ has_failed self.old }
+    {}
 }
 
 /// Where bytes go to.
@@ -105,6 +113,19 @@ impl<R: Read> FromRead<R> {
             ended: false,
             failed: false,
         }
+    }
+
+    /// Counts a read that fails before it is made.
+    pub fn give_up(&mut self) -> Failed
+        ensures bytes { ⟦<FromRead<R> as Source>⟧.left self.new ≡ ⟦<FromRead<R> as Source>⟧.left self.old }
+        ensures counted { ⟦<FromRead<R> as Source>⟧.reads self.new ≡ min (⟦<FromRead<R> as Source>⟧.reads self.old + 1) (2 ^ 64 - 1) }
+        ensures not_ended { ⟦<FromRead<R> as Source>⟧.has_ended self.new ≡ false }
+        ensures failed { ⟦<FromRead<R> as Source>⟧.has_failed self.new ≡ true }
+    {
+        self.reads = self.reads.saturating_add(1);
+        self.ended = false;
+        self.failed = true;
+        Failed
     }
 }
 

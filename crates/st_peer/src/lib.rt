@@ -2,9 +2,11 @@
 #![tactic(auto)]
 
 mod accepting;
+mod incoming;
 mod outgoing;
 mod parting;
 
 pub use accepting::{Acceptor, BadListener};
+pub use incoming::Incoming;
 pub use outgoing::Outgoing;
 pub use parting::part;

@@ -1,4 +1,5 @@
-use Rattle.std.proofs.Common.{rules, inl, inr, Err, ◌+◌, ◌-◌, ◌≤◌, take, refl, ap, ◌∙◌, arith}
+use Rattle.std.proofs.Common.{rules, inl, inr, ℕ, List, Option, Err, ◌+◌, ◌-◌, ◌≤◌, take, refl, sym, ap, ◌∙◌, subst, arith}
+use Rattle.std.specs.Io.KnownBytes.{Consumes}
 use borrow.Rule.Slice.PartMut.{put_mid}
 use Rattle.st_connection.proofs.Buffer.{text_after_read, text_after_move, front_length, front_at_most, front_empty, front_some, part_at_most, part_within}
 use Rattle.st_connection.proofs.Turns.{serving_start, text_short, enough, read_breaks, turns_spent, ends_clean, ends_cut, write_breaks, connection_lost, connection_closes, goes_on_serving, counted_on}
@@ -71,16 +72,17 @@ reads-preserved g c =
     let le : c.in-Ok-Waits.used ≤ c.reads.filled + c.in-Ok.count = omega (arith, n, a.0) in
     let fits = part_within c.reads.buffer c.read.new.buffer c.reads.filled (c.reads.filled + 65536 - c.reads.filled) c.in-Ok.count c.reads.invariant.within c.in-Ok.ensures.room in
     let moved = ap (take (c.reads.filled + c.in-Ok.count - c.in-Ok-Waits.used)) c.copy_within.ensures.after ∙ text_after_move b c.in-Ok-Waits.used (c.reads.filled + c.in-Ok.count) le fits in
+    let given = subst (λ (l : Option (List ℕ)). Consumes (g.R.Source.left c.reads.reader) l (take c.in-Ok.count c.read.new.buffer)) (sym c.answered.ensures.bytes) c.in-Ok.ensures.bytes.0 in
     record {
-      serving = goes_on_serving _ _ _ _ _ _ _ _ _ _ c.reads.invariant.serving 0 _ (take c.in-Ok.count c.read.new.buffer) c.in-Ok.ensures.bytes.0 _ _ t _ _ c.in-Ok-Waits.used _ moved (omega (arith, p, m, c.read.auto.buffer, c.in-Ok.ensures.room)) a;
+      serving = goes_on_serving _ _ _ _ _ _ _ _ _ _ c.reads.invariant.serving 0 _ (take c.in-Ok.count c.read.new.buffer) given _ _ t _ _ c.in-Ok-Waits.used _ moved (omega (arith, p, m, c.read.auto.buffer, c.in-Ok.ensures.room)) a;
       within = omega (arith, fits, c.copy_within.ensures.len);
       settled = c.in-Ok-Waits.ensures.settled (λ e. cc);
       answerer_sound = c.in-Ok-Waits.ensures.not_lost (λ e. cc);
       block_room = c.in-Ok-Waits.ensures.room_stays ∙ c.reads.invariant.block_room;
-      reader_sound = c.in-Ok.ensures.ok ∙ c.reads.invariant.reader_sound;
+      reader_sound = c.answered.ensures.failed ∙ c.in-Ok.ensures.ok ∙ c.reads.invariant.reader_sound;
       writer_sound = c.in-Ok-Waits.ensures.ok (λ e. cc) ∙ c.reads.invariant.writer_sound;
       no_reads = λ h. omega arith;
-      reads = λ _. counted_on _ _ _ _ c.reads.invariant.no_reads c.reads.invariant.reads c.read.ensures.counted;
+      reads = λ _. c.answered.ensures.counted ∙ counted_on _ _ _ _ c.reads.invariant.no_reads c.reads.invariant.reads c.read.ensures.counted;
     }
 
 pub returns-clause-served : goal.returns-clause-served
