@@ -1,41 +1,38 @@
 -- The command lines: what the code builds, what it reads, and what it refuses.
-use Rattle.std.specs.Prelude.{Option, Some, None, map, option_map, unwrap_or}
+use Rattle.std.specs.Prelude.{IfErr, IfOk, Option, Some, None, Result, Ok, Err, map, option_map, unwrap_or}
 use Rattle.std.specs.Borrow.{Bor}
-use Rattle.std.specs.List.{slice_index_or}
-use Rattle.std.proofs.Common.{ap, ap₂, ◌≡◌, ◌∙◌, ◌<◌, ◌==◌, ◌&&◌, ℕ, Bool, T, not, false, length, List, [], ◌∷◌, codes, true, inl, inr, refl, sym, subst, zero, suc, arith}
+use Rattle.std.specs.List.{All, slice_index_or}
+use Rattle.std.proofs.lemmas.List.Elements.{All-head, All-tail}
+use Rattle.std.proofs.Common.{ap, ◌≡◌, ◌∙◌, ◌<◌, ◌==◌, ◌&&◌, ℕ, Bool, T, not, false, length, List, [], ◌∷◌, codes, true, inl, inr, refl, sym, subst, zero, suc, arith}
 use Rattle.std.proofs.lemmas.Bool.{and_parts, not-true, false≢true}
 use Rattle.std.specs.Str.{bytes_eq}
-use Rattle.clap.specs.Built.{AddsArg, FitsChain, HasDistinctIds, IsPlainArg}
+use Rattle.clap.specs.Built.{AddsArg, AddsInTurn, FitsChain, HasDistinctIds, IsPlainArg}
 use Rattle.clap.specs.declared.builder.arg.Arg.{Arg}
-use Rattle.clap.specs.Words.{App, HasKind, IsAmong, app_of, fault_of, kind_of, new_app, rule_of, with_rule}
+use Rattle.clap.specs.Words.{App, HasKind, IsAmong, app_of, fault_of, kind_of, rule_of, with_rule}
 use Rattle.clap.specs.declared.builder.command.Command.{Command}
 use Rattle.clap.specs.declared.error.Error.{Error}
 use Rattle.clap.specs.declared.error.kind.ErrorKind.{ErrorKind}
 use Rattle.clap.specs.declared.error.kind.ErrorKind.TheVariants.{OutOfMemory}
 use Rattle.st_text.specs.Texts.{Text}
-use Rattle.st_command_line.specs.Common.{RefusesWords, name_operand, root_option}
-use Rattle.st_command_line.specs.RunArguments.{run_command}
-use Rattle.st_command_line.specs.ServedArguments.{connections_option, port_option, served_command, timeout_option}
+use Rattle.st_command_line.specs.Common.{RefusesWords, with_rules}
 use Rattle.st_command_line.specs.Status.{as_fault}
 
--- an argument of this rule, added
-step : (old new : Command) (a : Arg) (app : _) (rule : _) → app_of old ≡ app → rule_of a ≡ rule → a.global ≡ false → AddsArg old a new → app_of new ≡ with_rule app rule
-step old new a app rule is_app is_rule local adds = adds.shape local ∙ ap₂ with_rule is_app is_rule
+-- what follows from a fact of the value, or of the error
+pub if_ok : {T E : Type 0} (P Q : T → Type 0) (r : Result T E) → ((x : T) → P x → Q x) → IfOk r P → IfOk r Q
+if_ok P Q (Ok x) f h = f x h
+if_ok P Q (Err e) f h = tt
 
--- the commands that the code builds are those of the definitions
-pub is_run_command : (start with_root command : Command) (root names : Arg) → app_of start ≡ new_app (codes "st_run")
-    → rule_of root ≡ root_option → rule_of names ≡ name_operand → root.global ≡ false → names.global ≡ false
-    → AddsArg start root with_root → AddsArg with_root names command → app_of command ≡ run_command
-is_run_command start with_root command root names is r n lr ln a b =
-    step with_root command names _ _ (step start with_root root _ _ is r lr a) n ln b
+pub if_err : {T E : Type 0} (P Q : E → Type 0) (r : Result T E) → ((e : E) → P e → Q e) → IfErr r P → IfErr r Q
+if_err P Q (Ok x) f h = tt
+if_err P Q (Err e) f h = f e h
 
-pub is_served_command : (start one two three four command : Command) (root port connections timeout names : Arg) → app_of start ≡ new_app (codes "st_served")
-    → rule_of root ≡ root_option → rule_of port ≡ port_option → rule_of connections ≡ connections_option → rule_of timeout ≡ timeout_option → rule_of names ≡ name_operand
-    → root.global ≡ false → port.global ≡ false → connections.global ≡ false → timeout.global ≡ false → names.global ≡ false
-    → AddsArg start root one → AddsArg one port two → AddsArg two connections three → AddsArg three timeout four → AddsArg four names command
-    → app_of command ≡ served_command
-is_served_command start one two three four command root port connections timeout names is r p c t n lr lp lc lt ln a b d e f =
-    step four command names _ _ (step three four timeout _ _ (step two three connections _ _ (step one two port _ _ (step start one root _ _ is r lr a) p lp b) c lc d) t lt e) n ln f
+-- a command with arguments added in turn is that of their rules
+pub chained : (old new : Command) (args : List Arg) (app : App) → app_of old ≡ app → All FitsChain args → AddsInTurn AddsArg old args new
+    → app_of new ≡ with_rules app (map rule_of args)
+chained old new [] app is fit chain = ap app_of (sym chain) ∙ is
+chained old new (a ∷ args) app is fit chain =
+    chained chain.0 new args (with_rule app (rule_of a)) (chain.1.shape (All-head FitsChain a args fit).1 ∙ ap (λ x. with_rule x (rule_of a)) is)
+    (All-tail FitsChain a args fit) chain.2
 
 named : (app : App) (words : List Text) (kind : ErrorKind) (error : Error) → IsAmong (kind_of error) (fault_of app words) → RefusesWords app words (as_fault kind error)
 named app words OutOfMemory error h = tt

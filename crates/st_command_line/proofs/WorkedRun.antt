@@ -1,7 +1,7 @@
 -- Command lines of the first program, worked out.
 use Rattle.std.proofs.Common.{[], ◌∷◌, codes, ◌≡◌, refl}
 use Rattle.clap.specs.Words.{fault_of}
-use Rattle.clap.specs.declared.error.kind.ErrorKind.TheVariants.{ArgumentConflict, DisplayHelp, InvalidValue, MissingRequiredArgument, UnknownArgument}
+use Rattle.clap.specs.declared.error.kind.ErrorKind.TheVariants.{ArgumentConflict, DisplayHelp, DisplayVersion, InvalidValue, MissingRequiredArgument, UnknownArgument}
 use Rattle.clap.proofs.OnLiterals.{clap_on_literals}
 use Rattle.st_command_line.specs.Common.{SaysRoot}
 use Rattle.st_command_line.specs.RunArguments.{run_command}
@@ -33,6 +33,10 @@ unknown_option = refl
 help : fault_of run_command (codes "st_run" ∷ codes "--help" ∷ []) ≡ DisplayHelp ∷ []
 unfolding clap_on_literals
 help = refl
+
+version : fault_of run_command (codes "st_run" ∷ codes "--version" ∷ []) ≡ DisplayVersion ∷ []
+unfolding clap_on_literals
+version = refl
 
 no_value : fault_of run_command (codes "st_run" ∷ codes "--root" ∷ []) ≡ InvalidValue ∷ []
 unfolding clap_on_literals

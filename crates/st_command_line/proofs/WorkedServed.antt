@@ -1,9 +1,10 @@
 -- Command lines of the server, worked out.
+use Rattle.std.specs.Prelude.{Some}
 use Rattle.std.proofs.Common.{[], ◌∷◌, codes, ◌≡◌, refl}
 use Rattle.clap.specs.Words.{fault_of}
-use Rattle.clap.specs.declared.error.kind.ErrorKind.TheVariants.{MissingRequiredArgument, ValueValidation}
+use Rattle.clap.specs.declared.error.kind.ErrorKind.TheVariants.{DisplayVersion, MissingRequiredArgument, ValueValidation}
 use Rattle.clap.proofs.OnLiterals.{clap_on_literals}
-use Rattle.st_command_line.specs.ServedArguments.{served_command}
+use Rattle.st_command_line.specs.ServedArguments.{served_command, text_of}
 
 whole : fault_of served_command (codes "st_served" ∷ codes "--root" ∷ codes "66" ∷ codes "--port" ∷ codes "47001" ∷ codes "--connections" ∷ codes "0" ∷ codes "A" ∷ []) ≡ []
 unfolding clap_on_literals
@@ -28,3 +29,27 @@ too_many_connections = refl
 too_long : fault_of served_command (codes "st_served" ∷ codes "--root" ∷ codes "66" ∷ codes "--port" ∷ codes "1" ∷ codes "--timeout" ∷ codes "3601" ∷ []) ≡ ValueValidation ∷ []
 unfolding clap_on_literals
 too_long = refl
+
+workers : fault_of served_command (codes "st_served" ∷ codes "--port=47001" ∷ codes "--root=66" ∷ codes "--workers=256" ∷ []) ≡ []
+unfolding clap_on_literals
+workers = refl
+
+no_worker : fault_of served_command (codes "st_served" ∷ codes "--port=47001" ∷ codes "--root=66" ∷ codes "--workers=0" ∷ []) ≡ ValueValidation ∷ []
+unfolding clap_on_literals
+no_worker = refl
+
+every_option : fault_of served_command (codes "st_served" ∷ codes "--root=66" ∷ codes "--port=47001" ∷ codes "--workers" ∷ codes "256" ∷ codes "--idle" ∷ codes "3600" ∷ codes "--listen" ∷ codes "10.0.0.7" ∷ codes "A" ∷ []) ≡ []
+unfolding clap_on_literals
+every_option = refl
+
+the_listener : text_of (codes "listen") (codes "st_served" ∷ codes "--root=66" ∷ codes "--port=47001" ∷ codes "--listen" ∷ codes "10.0.0.7" ∷ []) ≡ Some (codes "10.0.0.7")
+unfolding clap_on_literals
+the_listener = refl
+
+no_idle_time : fault_of served_command (codes "st_served" ∷ codes "--root" ∷ codes "66" ∷ codes "--port" ∷ codes "1" ∷ codes "--idle" ∷ codes "0" ∷ []) ≡ ValueValidation ∷ []
+unfolding clap_on_literals
+no_idle_time = refl
+
+version : fault_of served_command (codes "st_served" ∷ codes "--version" ∷ []) ≡ DisplayVersion ∷ []
+unfolding clap_on_literals
+version = refl

@@ -1,13 +1,22 @@
 -- What both command lines have, `--root DIGEST` and `[NAME]...`: what the words say by it, and why they are refused.
-use Rattle.std.specs.Prelude.{◌≡◌, ℕ, List, [], Some, Ok, IsErr, codes, true, unwrap_or}
+use Rattle.std.specs.Prelude.{◌≡◌, ℕ, List, [], ◌∷◌, Some, Ok, IsErr, codes, true, unwrap_or}
 use Rattle.hex.specs.Hex.{decode_sized}
-use Rattle.clap.specs.Words.{App, Rule, IsAmong, all_of, fault_of, first_of, found_of, kind_of, matches_of, new_rule, rows_of}
+use Rattle.clap.specs.Words.{App, Rule, IsAmong, all_of, fault_of, first_of, found_of, kind_of, matches_of, new_rule, rows_of, with_rule}
 use Rattle.clap.specs.declared.parser.matches.ArgMatches.{ArgMatches}
 use Rattle.clap.specs.declared.builder.action.ArgAction.TheVariants.{Append, Set}
 use Rattle.st_text.specs.Texts.{Text}
 use Rattle.st_auth.specs.Names.{first_bad}
 use Rattle.st_command_line.specs.declared.fault.Fault.{Fault}
 use Rattle.st_command_line.specs.declared.fault.Fault.TheVariants.{Usage, BadDigest, BadName, NoMemory}
+
+-- a command that tells a version when it is asked for one
+abbrev pub with_version : App → App
+with_version app = record app { top = record app.top { has_version = true } }
+
+-- a command with each of these rules added in turn
+abbrev pub with_rules : App → List Rule → App
+with_rules app [] = app
+with_rules app (rule ∷ rules) = with_rules (with_rule app rule) rules
 
 -- the option `--root DIGEST`, which must be there, once
 abbrev pub root_option : Rule

@@ -1,15 +1,22 @@
--- The command line `st_served --root DIGEST --port P [--connections N] [--timeout SECONDS] [NAME]...`: what its words say,
--- and why words are refused.
-use Rattle.std.specs.Prelude.{◌≡◌, ◌⊎◌, ◌<◌, ◌^◌, ℕ, List, [], Option, Some, None, codes, true, pos}
+-- The command line `st_served --root DIGEST --port P [--connections N] [--workers N] [--timeout SECONDS] [--idle SECONDS]
+-- [--listen ADDRESS] [NAME]...`: what its words say, and why words are refused.
+use Rattle.std.specs.Prelude.{◌≡◌, ◌⊎◌, ◌<◌, ◌^◌, ℕ, List, [], ◌∷◌, Option, Some, None}
+use Rattle.std.specs.Prelude.{codes, map, max, true, pos, unwrap_or}
 use Rattle.std.specs.Str.Parse.{IsNumeral, digits_value, without_leading_plus}
-use Rattle.clap.specs.Words.{App, Rule, fault_of, matches_of, new_app, new_rule, one_of, with_rule}
+use Rattle.std.specs.Net.Addr.{ipv4_octets}
+use Rattle.std.specs.Net.Grammar.{IsIpv4Text}
+use Rattle.std.specs.Net.Socket.{v4_ip}
+use Rattle.std.specs.declared.net.ipv4_addr.Ipv4Addr.{Ipv4Addr}
+use Rattle.std.specs.declared.net.socket_addr.SocketAddrV4.{SocketAddrV4}
+use Rattle.clap.specs.Words.{App, Rule, fault_of, matches_of, new_app, new_rule, one_of}
 use Rattle.clap.specs.declared.builder.action.ArgAction.TheVariants.{Set}
 use Rattle.clap.specs.declared.builder.value_parser.ValueParser.TheVariants.{Signed}
 use Rattle.st_text.specs.Texts.{Text}
 use Rattle.st_command_line.specs.declared.fault.Fault.{Fault}
-use Rattle.st_command_line.specs.declared.fault.Fault.TheVariants.{BadNumber}
+use Rattle.st_command_line.specs.declared.fault.Fault.TheVariants.{BadAddress, BadNumber}
+use Rattle.st_command_line.specs.declared.served_arguments.ServedArguments.{ServedArguments}
 use Rattle.st_command_line.specs.Common as common
-use Rattle.st_command_line.specs.Common.{SaysRoot, name_operand, root_option}
+use Rattle.st_command_line.specs.Common.{SaysRoot, name_operand, root_option, with_rules, with_version}
 
 -- the option `--port P`, 1 to 65,535, which must be there, once
 abbrev pub port_option : Rule
@@ -30,6 +37,15 @@ connections_option = record (new_rule (codes "connections")) {
   parser = Some (Signed (pos 0) (pos 1000));
 }
 
+-- the option `--workers N`, 1 to 256
+abbrev pub workers_option : Rule
+workers_option = record (new_rule (codes "workers")) {
+  long = Some (codes "workers");
+  value_names = 1;
+  action = Some Set;
+  parser = Some (Signed (pos 1) (pos 256));
+}
+
 -- the option `--timeout SECONDS`, 1 to 3,600
 abbrev pub timeout_option : Rule
 timeout_option = record (new_rule (codes "timeout")) {
@@ -39,10 +55,29 @@ timeout_option = record (new_rule (codes "timeout")) {
   parser = Some (Signed (pos 1) (pos 3600));
 }
 
+-- the option `--idle SECONDS`, 1 to 3,600
+abbrev pub idle_option : Rule
+idle_option = record (new_rule (codes "idle")) {
+  long = Some (codes "idle");
+  value_names = 1;
+  action = Some Set;
+  parser = Some (Signed (pos 1) (pos 3600));
+}
+
+-- the option `--listen ADDRESS`
+abbrev pub listen_option : Rule
+listen_option = record (new_rule (codes "listen")) {
+  long = Some (codes "listen");
+  value_names = 1;
+  action = Some Set;
+}
+
+abbrev pub served_rules : List Rule
+served_rules = root_option ∷ port_option ∷ connections_option ∷ workers_option ∷ timeout_option ∷ idle_option ∷ listen_option
+    ∷ name_operand ∷ []
+
 abbrev pub served_command : App
-served_command =
-    with_rule (with_rule (with_rule (with_rule (with_rule (new_app (codes "st_served")) root_option) port_option)
-    connections_option) timeout_option) name_operand
+served_command = with_rules (with_version (new_app (codes "st_served"))) served_rules
 
 -- the text writes a number below 2^16 in decimal digits
 pub record Writes (text : Text) (number : ℕ) : Type 0 where
@@ -57,16 +92,26 @@ Gives (Some text) (Some number) = Writes text number
 Gives None (Some number) = ⊥
 Gives (Some text) None = ⊥
 
--- the text of a number
-abbrev pub number_text : Text → List Text → Option Text
-number_text id words = one_of id (matches_of served_command words)
+-- the address that an optional text writes, as four decimal numbers below 256 with dots between them
+abbrev pub GivesAddress : Option Text → Option Ipv4Addr → Type 0
+GivesAddress None None = Unit {0}
+GivesAddress (Some text) (Some address) = IsIpv4Text text address
+GivesAddress None (Some address) = ⊥
+GivesAddress (Some text) None = ⊥
 
--- the words are such a command line, with this digest, these numbers and these names
-pub record SaysServed (words : List Text) (digits : Text) (port : ℕ) (connections timeout : Option ℕ) (names : List Text) : Type 0 where
-  pub root : SaysRoot served_command words digits names
-  pub port_is : Gives (number_text (codes "port") words) (Some port)
-  pub connections_are : Gives (number_text (codes "connections") words) connections
-  pub timeout_is : Gives (number_text (codes "timeout") words) timeout
+-- the text of an option
+abbrev pub text_of : Text → List Text → Option Text
+text_of id words = one_of id (matches_of served_command words)
+
+-- the words are such a command line, and say this
+pub record SaysServed (words : List Text) (said : ServedArguments) : Type 0 where
+  pub root : SaysRoot served_command words said.digest.now (map (λ name. name.now) said.names.items)
+  pub port_is : Gives (text_of (codes "port") words) (Some said.port)
+  pub connections_are : Gives (text_of (codes "connections") words) said.connections
+  pub workers_are : Gives (text_of (codes "workers") words) said.workers
+  pub timeout_is : Gives (text_of (codes "timeout") words) said.timeout
+  pub idle_is : Gives (text_of (codes "idle") words) said.idle
+  pub address_is : GivesAddress (text_of (codes "listen") words) said.listen
 
 -- the text is there, and does not write a number below 2^16
 abbrev pub IsUnread : Option Text → Type 0
@@ -76,9 +121,42 @@ IsUnread (Some text) = IsNumeral 10 (without_leading_plus text) × (digits_value
 -- the port is missing, or the text of a number does not write one
 pub record HasBadNumber (words : List Text) : Type 0 where
   pub whole : fault_of served_command words ≡ []
-  pub bad : (number_text (codes "port") words ≡ None) ⊎ ((id : Text) × IsUnread (number_text id words))
+  pub bad : (text_of (codes "port") words ≡ None) ⊎ ((id : Text) × IsUnread (text_of id words))
+
+-- the text is there, and does not write an address
+abbrev pub IsNoAddress : Option Text → Type 0
+IsNoAddress None = ⊥
+IsNoAddress (Some text) = (address : Ipv4Addr) → IsIpv4Text text address → ⊥
+
+-- the text of an address does not write one
+pub record HasBadAddress (words : List Text) : Type 0 where
+  pub whole : fault_of served_command words ≡ []
+  pub bad : (id : Text) × IsNoAddress (text_of id words)
 
 -- why the words are refused
 abbrev pub RefusesServedWords : List Text → Fault → Type 0
 RefusesServedWords words BadNumber = HasBadNumber words
+RefusesServedWords words BadAddress = HasBadAddress words
 RefusesServedWords words fault = common.RefusesWords served_command words fault
+
+-- where the server listens: at 127.0.0.1 where the words say nothing else
+abbrev pub ListensAt : Option Ipv4Addr → SocketAddrV4 → Type 0
+ListensAt (Some address) listening = v4_ip listening ≡ address
+ListensAt None listening = ipv4_octets (v4_ip listening) ≡ 127 ∷ 0 ∷ 0 ∷ 1 ∷ []
+
+abbrev workers_or : (connections workers : Option ℕ) → ℕ
+workers_or connections (Some number) = max number 1
+workers_or (Some connections) None = 2
+workers_or None None = 64
+
+-- how many workers serve, at least one: as many as the words say, or else 2 for a number of connections, and 64 without one
+abbrev pub workers_of : ServedArguments → ℕ
+workers_of said = workers_or said.connections said.workers
+
+-- how many seconds a message may take, and a reply
+abbrev pub seconds_of : ServedArguments → ℕ
+seconds_of said = unwrap_or said.timeout 30
+
+-- how many seconds may pass between two messages
+abbrev pub idle_seconds_of : ServedArguments → ℕ
+idle_seconds_of said = unwrap_or said.idle (seconds_of said)

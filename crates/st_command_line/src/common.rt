@@ -1,15 +1,28 @@
-//! What both command lines have: `--root DIGEST` and `[NAME]...`.
-ghost use Rattle.std.specs.Prelude.{◌≡◌, ◌⊎◌, IfErr, codes};
+//! What both command lines have: `--root DIGEST` and `[NAME]...`, the version, and how words are parsed.
+ghost use Rattle.std.specs.Prelude.{◌≡◌, ◌⊎◌, [], IfOk, IfErr, IsSome, codes, false, map, string_bytes};
 ghost use Rattle.clap.specs.Built.{FitsChain, TakesValue};
-ghost use Rattle.clap.specs.Words.{rule_of};
-ghost use Rattle.st_command_line.specs.Common.{root_option, name_operand};
+ghost use Rattle.clap.specs.Words.{App, app_of, args_of, first_value, found_of, groups_of, new_app, rule_of};
+ghost use Rattle.clap.specs.declared.builder.command.Command.TheViews.{out-Command as fields_of};
+ghost use Rattle.st_command_line.specs.Common.{IsParsed, RefusesWords, root_option, name_operand, with_version};
+ghost use Rattle.st_command_line.specs.inner.Commands.{Builds};
 ghost use Rattle.st_command_line.specs.declared.fault.Fault.TheVariants.{NotText, NoMemory};
 
+use crate::VERSION;
 use crate::fault::Fault;
-use clap::{Arg, ArgAction};
+use clap::{Arg, ArgAction, ArgMatches, Command};
 use std::alloc::Global;
 use std::env::Env;
 use std::{env, io};
+
+/// A command of this name, with the version of the programs.
+pub fn named<'a>(alloc: Global, name: &'a str) -> Command<'a>
+    ensures app { app_of result ≡ with_version (new_app name.entry.now) }
+    ensures empty { (args_of result ≡ []) × (groups_of result ≡ []) }
+    ensures local { (fields_of result).has_globals ≡ false }
+    ensures negates { (fields_of result).subcommand_negates_reqs ≡ false }
+{
+    Command::new(alloc, name).version(VERSION)
+}
 
 /// The option `--root DIGEST`.
 pub fn root<'a>(alloc: Global) -> Arg<'a>
@@ -32,6 +45,17 @@ pub fn names<'a>(alloc: Global) -> Arg<'a>
     ensures fits { FitsChain result }
 {
     Arg::new(alloc, "NAME").action(ArgAction::Append)
+}
+
+/// Parses the words by a command.
+pub fn parse_by<'a>(command: Command<'a>, words: &'a [String]) -> Result<ArgMatches<'a>, Fault>
+    ensures ok { IfOk result (λ matches. (app : App) → Builds app command.entry → IsParsed app (map string_bytes words.now) matches) }
+    ensures root { IfOk result (λ matches. (app : App) → Builds app command.entry
+        → IsSome (first_value (found_of matches) (codes "root"))) }
+    ensures err { IfErr result (λ fault. (app : App) → Builds app command.entry
+        → RefusesWords app (map string_bytes words.now) fault) }
+{
+    Ok(command.try_get_matches_from(words)?)
 }
 
 /// The words of the process's command line; the first is the program's own name. `NotText` if one is not UTF-8.

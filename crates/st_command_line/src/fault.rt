@@ -19,6 +19,9 @@ pub enum Fault {
     /// A number that the parser let pass is not one below 2^16.
     #[error("bad number")]
     BadNumber,
+    /// The address to listen at is not an IPv4 address.
+    #[error("bad address")]
+    BadAddress,
     /// The digest is not 64 hexadecimal digits.
     #[error("bad digest")]
     BadDigest,
@@ -63,6 +66,7 @@ impl Fault {
             Fault::Usage(_)
             | Fault::NotText
             | Fault::BadNumber
+            | Fault::BadAddress
             | Fault::BadDigest
             | Fault::BadName => 2,
             Fault::Cut => 3,

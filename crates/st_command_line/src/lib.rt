@@ -5,8 +5,14 @@ mod common;
 mod fault;
 mod run_arguments;
 mod served_arguments;
+mod served_options;
+mod shown;
+
+/// The version of the programs.
+pub const VERSION: &str = "0.1.0";
 
 pub use common::words_of;
 pub use fault::{Fault, give_up};
 pub use run_arguments::RunArguments;
 pub use served_arguments::ServedArguments;
+pub use shown::{show_run, show_served};

@@ -3,11 +3,12 @@ ghost use Rattle.std.specs.Prelude.{IfOk, IfErr, IsSome, codes, map, string_byte
 ghost use Rattle.clap.specs.Words.{first_value, found_of};
 ghost use Rattle.st_command_line.specs.Common.{IsParsed, SaysRoot, RefusesWords};
 ghost use Rattle.st_command_line.specs.RunArguments.{run_command};
+ghost use Rattle.st_command_line.specs.inner.Commands.{Builds};
 
-use crate::common::{names, root};
+use crate::common::{named, names, parse_by, root};
 use crate::fault::Fault;
 use clap::{ArgMatches, Command};
-use std::alloc::Global;
+use std::alloc::{AllocError, Global};
 
 /// The arguments of `st_run`.
 #[derive(Drop)]
@@ -18,16 +19,21 @@ pub struct RunArguments<'a> {
     pub names: Vec<&'a str>,
 }
 
-// Parses the words.
-fn parse<'a>(alloc: Global, words: &'a [String]) -> Result<ArgMatches<'a>, Fault>
+// The command.
+fn command<'a>(alloc: Global) -> Result<Command<'a>, AllocError>
+    ensures { IfOk result (Builds run_command) }
+{
+    let command = named(alloc, "st_run").arg(root(alloc))?.arg(names(alloc))?;
+    Ok(command)
+}
+
+/// Parses the words.
+pub fn parse<'a>(alloc: Global, words: &'a [String]) -> Result<ArgMatches<'a>, Fault>
     ensures ok { IfOk result (IsParsed run_command (map string_bytes words.now)) }
     ensures root { IfOk result (λ matches. IsSome (first_value (found_of matches) (codes "root"))) }
     ensures err { IfErr result (λ fault. RefusesWords run_command (map string_bytes words.now) fault) }
 {
-    let command = Command::new(alloc, "st_run")
-        .arg(root(alloc))?
-        .arg(names(alloc))?;
-    Ok(command.try_get_matches_from(words)?)
+    parse_by(command(alloc)?, words)
 }
 
 impl<'a> RunArguments<'a> {

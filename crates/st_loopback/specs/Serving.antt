@@ -1,5 +1,5 @@
 -- What a run does and tells, by the status that it gives.
-use Rattle.std.specs.Prelude.{◌≡◌, ◌⊎◌, ◌++◌, ℕ, Option, Some, Result, Ok, Err, List, [], codes, decimal}
+use Rattle.std.specs.Prelude.{◌≡◌, ◌⊎◌, ◌++◌, ℕ, Option, Some, Result, Ok, Err, List, [], codes, decimal, map}
 use Rattle.std.specs.declared.alloc.Global.{Global}
 use Rattle.std.specs.Io.KnownBytes.{Appends}
 use Rattle.st_text.specs.Texts.{Text}
@@ -7,6 +7,7 @@ use Rattle.st_core.specs.State.{State}
 use Rattle.st_command_line.specs.declared.fault.Fault.{Fault}
 use Rattle.st_command_line.specs.declared.fault.Fault.TheVariants.{Bind, Accept, Write, NoMemory, NoPlace, NoThread}
 use Rattle.st_command.specs.Opening.{Opens}
+use Rattle.st_command_line.specs.declared.served_arguments.ServedArguments.{ServedArguments}
 use Rattle.st_command_line.specs.ServedArguments.{SaysServed, RefusesServedWords}
 use Rattle.st_command_line.specs.Status.{exit_status_of, exit_status_after}
 
@@ -35,16 +36,12 @@ Stops fault = (fault ≡ Accept) ⊎ ((fault ≡ NoThread) ⊎ (fault ≡ NoMemo
 
 -- the words open a state, and are served by
 pub record IsServed (words : List Text) (old new : Option (List ℕ)) (status : ℕ) : Type 0 where
-  pub digits : Text
-  pub port : ℕ
-  pub connections : Option ℕ
-  pub timeout : Option ℕ
-  pub names : List Text
-  pub says : SaysServed words digits port connections timeout names
+  pub said : ServedArguments
+  pub says : SaysServed words said
   pub state : State Global
-  pub opens : Opens digits names state
+  pub opens : Opens said.digest.now (map (λ name. name.now) said.names.items) state
   pub ended : Result Unit Fault
-  pub tells : Tells port connections old new ended
+  pub tells : Tells said.port said.connections old new ended
   pub status_is : status ≡ exit_status_after ended
 
 -- the words are refused, and nothing was told

@@ -5,14 +5,22 @@ ghost use Rattle.st_connection.specs.Connection.{EndsOn, Served};
 ghost use Rattle.st_station.specs.Posts.{Answers};
 
 use st_connection::connection::{Ended, IoFault, MAX_READS};
-use st_connection::streams::{FromRead, FromWrite, Sink, Source};
+use st_connection::streams::{FromWrite, Sink, Source};
 use st_hall::{Gate, HallName};
-use st_peer::{Outgoing, part};
+use st_peer::{Incoming, Outgoing, part};
 use st_station::{Station, work};
-use std::io;
 use std::net::TcpStream;
 use std::sync::Wait;
 use std::time::{Clock, Duration};
+
+/// How long a client may take.
+#[derive(Clone, Copy)]
+pub struct Limits {
+    /// For a message, from its first byte to its last, and so for a reply.
+    pub message: Duration,
+    /// From an answer to the first byte of the next message.
+    pub idle: Duration,
+}
 
 /// Lets each read pass at once.
 #[derive(Drop)]
@@ -68,26 +76,22 @@ pub fn answer_stream<H: HallName, C: Wait + Drop, W: Wait, R: Source, S: Sink, E
     ended
 }
 
-// What a client is sent. A read or a write that waits longer than the limit fails.
-fn within(stream: &TcpStream, limit: Duration) -> io::Result<Outgoing<'_>> {
-    stream.set_read_timeout(Some(limit))?;
-    Outgoing::new(stream, limit)
-}
-
 /// Answers the requests of one connection until it ends. A fault ends this connection alone.
 pub fn converse<H: HallName, C: Wait + Drop, W: Wait, R: Clock>(
     rt: &R,
     station: &mut Station<'_, H, C, Open, W>,
     stream: TcpStream,
-    limit: Duration,
+    limits: Limits,
 )
     ensures seen { IsPrefix station.old.seat.seen station.new.seat.seen }
     ensures made { station.old.seat.made ≤ station.new.seat.made }
 {
-    let Ok(outgoing) = within(&stream, limit) else {
+    let Ok(mut reader) = Incoming::new(rt, &stream, limits.message, limits.idle) else {
         return;
     };
-    let mut reader = FromRead::new(&stream);
+    let Ok(outgoing) = Outgoing::new(&stream, limits.message) else {
+        return;
+    };
     let mut writer = FromWrite::new(outgoing);
     let parting = Parting {
         stream: &stream,

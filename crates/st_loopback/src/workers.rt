@@ -1,10 +1,11 @@
-//! Two workers, and how connections come to them.
-ghost use Rattle.std.specs.Prelude.{◌≡◌, ◌↔◌, ◌%◌, IfErr, IsTrue};
+//! Workers, and how connections come to them.
+ghost use Rattle.std.specs.Prelude.{◌%◌, IfErr, length};
+ghost use Rattle.std.specs.Slice.{IsItemAt};
 ghost use Rattle.std.specs.Thread.{IsSync};
 ghost use Rattle.st_loopback.specs.Serving.{Stops};
 ghost use Rattle.st_command_line.specs.declared.fault.Fault.TheVariants.{Accept};
 
-use crate::connection::{Open, converse};
+use crate::connection::{Limits, Open, converse};
 use crossbeam_channel::{Receiver, Sender, unbounded};
 use st_command_line::Fault;
 use st_hall::HallName;
@@ -16,7 +17,7 @@ use std::net::{TcpListener, TcpStream};
 use std::sync::{Mutex, Wait};
 use std::thread;
 use std::thread::Threads;
-use std::time::{Clock, Duration};
+use std::time::Clock;
 
 // The program, as its lines on standard error name it.
 const PROGRAM: &str = "st_served";
@@ -26,10 +27,10 @@ fn answer_queued<H: HallName, C: Wait + Drop, R: Wait + Clock>(
     rt: &R,
     station: &mut Station<'_, H, C, Open, R>,
     queue: &Receiver<TcpStream>,
-    limit: Duration,
+    limits: Limits,
 ) {
     for stream in queue.iter(rt) {
-        converse(rt, station, stream, limit);
+        converse(rt, station, stream, limits);
     }
 }
 
@@ -38,33 +39,35 @@ fn work_from_queue<H: HallName, C: Wait + Drop, R: Wait + Clock>(
     rt: &R,
     mut station: Station<'_, H, C, Open, R>,
     queue: Receiver<TcpStream>,
-    limit: Duration,
+    limits: Limits,
 ) {
-    answer_queued(rt, &mut station, &queue, limit);
+    answer_queued(rt, &mut station, &queue, limits);
 }
 
-// Whether a connection is for the first worker: the first, the third and so on are, where the first has number 0.
-fn is_for_first(number: u16) -> bool
-    ensures { IsTrue result ↔ (number % 2 ≡ 0) }
+// The queue of the worker that a connection is for: the workers take them in turn, from number 0 on.
+fn queue_for(number: u16, queues: &[Sender<TcpStream>]) -> Option<&Sender<TcpStream>>
+    ensures { IsItemAt queues.now (number % length queues.now) result }
 {
-    number % 2 == 0
+    let at = (number as usize).checked_rem(queues.len())?;
+    queues.get(at)
 }
 
-// Accepts this many connections, and sends each to one worker or the other.
+// Accepts this many connections, and sends each to its worker.
 fn distribute<R: Wait + Clock + Eprint>(
     rt: &R,
     mut acceptor: Acceptor<'_, TcpListener>,
     connections: u16,
-    one: Sender<TcpStream>,
-    two: Sender<TcpStream>,
+    queues: &[Sender<TcpStream>],
 ) -> Result<(), Fault>
     ensures { IfErr result Stops }
 {
     for number in 0..connections {
+        let Some(queue) = queue_for(number, queues) else {
+            return Err(Fault::NoThread);
+        };
         let Ok(stream) = acceptor.next(rt) else {
             return Err(Fault::Accept);
         };
-        let queue = if is_for_first(number) { &one } else { &two };
         if queue.send(rt, stream).is_err() {
             return Err(Fault::NoMemory);
         }
@@ -72,26 +75,19 @@ fn distribute<R: Wait + Clock + Eprint>(
     Ok(())
 }
 
-type Queue = (Sender<TcpStream>, Receiver<TcpStream>);
-
-// A queue for each worker.
-fn queues(alloc: Global) -> Result<(Queue, Queue), AllocError> {
-    Ok((unbounded(alloc)?, unbounded(alloc)?))
-}
-
-// Starts two workers, each with a queue, and spreads this many connections over them.
-fn spread<'c, H: HallName + Send + Sync, R: Threads + Wait + Clock + Eprint + Sync>(
+/// Serves this many connections by a worker for each station, on a thread of its own. The workers take them in turn: connection
+/// number i, from 0, is for worker i mod W of W workers. Ends early where a thread was refused, when none is accepted, and where
+/// the listener is bad or memory runs out, when those that were accepted are answered first.
+pub fn serve_number<'c, H: HallName + Send + Sync, R: Threads + Wait + Clock + Eprint + Sync>(
     rt: &R,
-    both: (Queue, Queue),
+    alloc: Global,
     listener: &TcpListener,
     connections: u16,
-    limit: Duration,
-    one: Station<'_, H, &'c R, Open, R>,
-    two: Station<'_, H, &'c R, Open, R>,
+    limits: Limits,
+    stations: Vec<Station<'_, H, &'c R, Open, R>>,
 ) -> Result<(), Fault>
     ensures { IfErr result Stops }
 {
-    let ((to_one, for_one), (to_two, for_two)) = both;
     thread::scope(
         thread::scope_env(),
         rt,
@@ -99,74 +95,46 @@ fn spread<'c, H: HallName + Send + Sync, R: Threads + Wait + Clock + Eprint + Sy
             requires { IsSync R.row }
             ensures { IfErr result Stops }
         {
-            let is_first = scope
-                .spawn(move || work_from_queue(rt, one, for_one, limit))
-                .is_ok();
-            let is_second = scope
-                .spawn(move || work_from_queue(rt, two, for_two, limit))
-                .is_ok();
-            if !is_first || !is_second {
-                return Err(Fault::NoThread);
+            let mut queues = Vec::new(alloc);
+            for station in stations {
+                let (queue, own) = unbounded(alloc)?;
+                let thread = scope.spawn(move || work_from_queue(rt, station, own, limits));
+                if thread.is_err() {
+                    return Err(Fault::NoThread);
+                }
+                queues.push(queue).map_err(|_| AllocError)?;
             }
-            distribute(
-                rt,
-                Acceptor::new(listener, PROGRAM),
-                connections,
-                to_one,
-                to_two,
-            )
+            distribute(rt, Acceptor::new(listener, PROGRAM), connections, &queues)
         },
     )
 }
 
-/// Serves this many connections by two workers, each on a thread of its own: the first, the third and so on by the first worker.
-pub fn serve_number<'c, H: HallName + Send + Sync, R: Threads + Wait + Clock + Eprint + Sync>(
-    rt: &R,
-    alloc: Global,
-    listener: &TcpListener,
-    connections: u16,
-    limit: Duration,
-    one: Station<'_, H, &'c R, Open, R>,
-    two: Station<'_, H, &'c R, Open, R>,
-) -> Result<(), Fault>
-    ensures { IfErr result Stops }
-{
-    match queues(alloc) {
-        Ok(both) => spread(rt, both, listener, connections, limit, one, two),
-        Err(fault) => {
-            drop(one);
-            drop(two);
-            Err(fault.into())
-        }
-    }
-}
-
-// Where the workers accept their connections, one at a time.
+// Where the workers accept their connections, one at a time. It is closed for good when it has no acceptor.
 #[derive(Drop)]
 struct Door<'a> {
-    acceptor: Mutex<Acceptor<'a, TcpListener>>,
+    acceptor: Mutex<Option<Acceptor<'a, TcpListener>>>,
 }
 
 impl Door<'_> {
-    // The next connection, as long as the listener is good.
+    // The next connection, as long as the door is open and the listener is good.
     fn next<R: Wait + Clock + Eprint>(&self, rt: &R) -> Option<TcpStream> {
         let mut acceptor = self.acceptor.lock(rt);
-        acceptor.next(rt).ok()
+        acceptor.as_mut()?.next(rt).ok()
     }
 }
 
-// Answers one connection after another at the door, until the listener is bad.
+// Answers one connection after another at the door, until it is closed or the listener is bad.
 fn answer_at_door<H: HallName, C: Wait + Drop, R: Wait + Clock + Eprint>(
     rt: &R,
     station: &mut Station<'_, H, C, Open, R>,
     door: &Door<'_>,
-    limit: Duration,
+    limits: Limits,
 ) {
     for _ in rt.forever() {
         let Some(stream) = door.next(rt) else {
             return;
         };
-        converse(rt, station, stream, limit);
+        converse(rt, station, stream, limits);
     }
 }
 
@@ -175,24 +143,23 @@ fn work_at_door<H: HallName, C: Wait + Drop, R: Wait + Clock + Eprint>(
     rt: &R,
     mut station: Station<'_, H, C, Open, R>,
     door: &Door<'_>,
-    limit: Duration,
+    limits: Limits,
 ) {
-    answer_at_door(rt, &mut station, door, limit);
+    answer_at_door(rt, &mut station, door, limits);
 }
 
-/// Serves all connections by two workers, each on a thread of its own: a worker that is free accepts the next one. Ends when the
-/// listener is bad.
+/// Serves all connections by a worker for each station, on a thread of its own: a worker that is free accepts the next one. Nobody
+/// accepts before all threads have begun; where one is refused, none does. Ends when the listener is bad.
 pub fn serve_all<'c, H: HallName + Send + Sync, R: Threads + Wait + Clock + Eprint + Sync>(
     rt: &R,
     listener: &TcpListener,
-    limit: Duration,
-    one: Station<'_, H, &'c R, Open, R>,
-    two: Station<'_, H, &'c R, Open, R>,
+    limits: Limits,
+    stations: Vec<Station<'_, H, &'c R, Open, R>>,
 ) -> Fault
     ensures { Stops result }
 {
     let door = Door {
-        acceptor: Mutex::new(Acceptor::new(listener, PROGRAM)),
+        acceptor: Mutex::new(Some(Acceptor::new(listener, PROGRAM))),
     };
     let door = &door;
     thread::scope(
@@ -202,14 +169,14 @@ pub fn serve_all<'c, H: HallName + Send + Sync, R: Threads + Wait + Clock + Epri
             requires { IsSync R.row }
             ensures { Stops result }
         {
-            let has_begun = scope
-                .spawn(move || work_at_door(rt, one, door, limit))
-                .is_ok();
-            if !has_begun {
-                drop(two);
-                return Fault::NoThread;
+            let mut acceptor = door.acceptor.lock(rt);
+            for station in stations {
+                let thread = scope.spawn(move || work_at_door(rt, station, door, limits));
+                if thread.is_err() {
+                    *acceptor = None;
+                    return Fault::NoThread;
+                }
             }
-            work_at_door(rt, two, door, limit);
             Fault::Accept
         },
     )

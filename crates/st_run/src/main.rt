@@ -2,7 +2,7 @@
 #![tactic(auto)]
 
 use st_command::run_words;
-use st_command_line::{give_up, words_of};
+use st_command_line::{give_up, show_run, words_of};
 use st_connection::{FromRead, FromWrite};
 use std::process::ExitCode;
 
@@ -11,7 +11,11 @@ fn main(rt: HostRuntime) -> ExitCode {
     let mut writer = FromWrite::new(rt.stdout());
     let mut faults = rt.stderr();
     let status = match words_of(&rt) {
-        Ok(words) => run_words(rt.alloc(), &words, &mut reader, &mut writer, &mut faults),
+        Ok(words) => match show_run(rt.alloc(), &words, &mut rt.stdout()) {
+            Ok(true) => 0,
+            Ok(false) => run_words(rt.alloc(), &words, &mut reader, &mut writer, &mut faults),
+            Err(fault) => give_up("st_run", fault, &mut faults),
+        },
         Err(fault) => give_up("st_run", fault, &mut faults),
     };
     ExitCode::from(status)

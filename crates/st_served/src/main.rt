@@ -1,8 +1,8 @@
-//! `st_served --root DIGEST --port P [--connections N] [--timeout SECONDS] [NAME]...` serves connections at a
-//! port of the loopback interface.
+//! `st_served --root DIGEST --port P [--listen ADDRESS] [--workers N] [--connections N] [--timeout SECONDS] [--idle SECONDS]
+//! [NAME]...` serves connections at a port.
 #![tactic(auto)]
 
-use st_command_line::{give_up, words_of};
+use st_command_line::{give_up, show_served, words_of};
 use st_loopback::serve_words;
 use std::process::ExitCode;
 
@@ -10,7 +10,11 @@ fn main(rt: HostRuntime) -> ExitCode {
     let mut output = rt.stdout();
     let mut faults = rt.stderr();
     let status = match words_of(&rt) {
-        Ok(words) => serve_words(&rt, rt.alloc(), &words, &mut output, &mut faults),
+        Ok(words) => match show_served(rt.alloc(), &words, &mut output) {
+            Ok(true) => 0,
+            Ok(false) => serve_words(&rt, rt.alloc(), &words, &mut output, &mut faults),
+            Err(fault) => give_up("st_served", fault, &mut faults),
+        },
         Err(fault) => give_up("st_served", fault, &mut faults),
     };
     ExitCode::from(status)

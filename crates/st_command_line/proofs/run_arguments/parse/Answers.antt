@@ -1,47 +1,12 @@
-use Rattle.std.proofs.Common.{ap, ap₂, refl, sym, subst, true, [], ◌∷◌, ◌≡◌, ◌∙◌, arith, map, string_bytes, is_some}
-use Rattle.std.specs.List.{All}
-use Rattle.std.proofs.lemmas.List.Elements.{All-cons, All-nil}
-use Rattle.std.proofs.lemmas.Result.{err_from_is_err_and}
-use Rattle.clap.specs.Built.{FitsChain}
-use Rattle.clap.specs.Words.{HasKind, fault_of, first_value, found_of, is_simple, is_simple_and_free, matches_of}
-use Rattle.clap.proofs.CallerLemmas.{required_in_chain}
-use Rattle.st_command_line.specs.Common.{RefusesWords}
 use Rattle.st_command_line.specs.RunArguments.{run_command}
-use Rattle.st_command_line.proofs.Refusing.{are_distinct, distinct, ids_of, is_run_command, refused}
+use Rattle.st_command_line.proofs.Refusing.{if_err, if_ok}
 use Rattle.st_command_line.proofs.run_arguments.parse.Goals as goal
 
 pub returns-clause-ok : goal.returns-clause-ok
-returns-clause-ok c =
-    let is = is_run_command c.new.result c.in_ok-arg.field-0 c.in_ok-command.command c.root.result c.names.result c.new.ensures.app
-    c.root.ensures.rule c.names.ensures.rule c.root.ensures.fits.1 c.names.ensures.fits.1 c.in_ok-arg.ensures c.in_ok-command.ensures in
-    let words = map string_bytes c.args.words.now in
-    let ensures = c.in_ok-try_get_matches_from.ensures in
-    record {
-      whole = sym (ap (λ a. fault_of a words) is) ∙ ensures.kinds (ap is_simple_and_free is);
-      rows_are = (ensures.matches (ap is_simple is)).0 ∙ ap (λ a. matches_of a words) is;
-    }
-
-pub returns-in_err-try_get_matches_from-clause-err : goal.returns-in_err-try_get_matches_from-clause-err
-returns-in_err-try_get_matches_from-clause-err c =
-    let is = is_run_command c.new.result c.in_ok-arg.field-0 c.in_ok-command.command c.root.result c.names.result c.new.ensures.app
-    c.root.ensures.rule c.names.ensures.rule c.root.ensures.fits.1 c.names.ensures.fits.1 c.in_ok-arg.ensures c.in_ok-command.ensures in
-    let words = map string_bytes c.args.words.now in
-    let fault = c.from_residual-in_err-try_get_matches_from in
-    let p = err_from_is_err_and fault.result fault.ensures.1 in
-    let told = c.in_err-try_get_matches_from.ensures.kinds (ap is_simple_and_free is) in
-    let error = c.in_err-try_get_matches_from.field-0.0 in
-    rw p.1 (subst (RefusesWords run_command words) (sym p.2) (refused run_command words error (subst (λ a. HasKind (fault_of a words) error) is told)))
+returns-clause-ok c = if_ok _ _ c.parse_by.result (λ matches given. given run_command c.in_ok-command.ensures) c.parse_by.ensures.ok
 
 pub returns-clause-root : goal.returns-clause-root
-returns-clause-root c =
-    let root = c.root.result in
-    let names = c.names.result in
-    let all = root ∷ names ∷ [] in
-    let fit : All FitsChain all = All-cons FitsChain root (names ∷ []) c.root.ensures.fits
-    (All-cons FitsChain names [] c.names.ensures.fits (All-nil FitsChain)) in
-    let apart : are_distinct (ids_of all) ≡ true = ap are_distinct (ap₂ ◌∷◌ c.root.ensures.id (ap (λ id. id ∷ []) c.names.ensures.id)) in
-    let given = required_in_chain c.new.result c.in_ok-command.command all 0 root c.in_ok-try_get_matches_from.field-0
-    (c.in_ok-arg.field-0, c.in_ok-arg.ensures, (c.in_ok-command.command, c.in_ok-command.ensures, refl))
-    c.new.ensures.empty.0 c.new.ensures.empty.1 c.new.ensures.local c.new.ensures.negates
-    fit (distinct all apart) (omega arith) c.root.ensures.takes c.in_ok-try_get_matches_from.ensures.parsed in
-    subst (λ id. is_some (first_value (found_of c.in_ok-try_get_matches_from.field-0) id) ≡ true) c.root.ensures.id given
+returns-clause-root c = if_ok _ _ c.parse_by.result (λ matches given. given run_command c.in_ok-command.ensures) c.parse_by.ensures.root
+
+pub returns-clause-err : goal.returns-clause-err
+returns-clause-err c = if_err _ _ c.parse_by.result (λ fault given. given run_command c.in_ok-command.ensures) c.parse_by.ensures.err

@@ -18,7 +18,10 @@ returns-in_err-both g c =
     rw p.1 (inr (record { fault = p.0; why = subst (RefusesServedWords words) (sym p.2) why; status_is = refl; untold = refl }))
 
 pub open_hall-requires-clause-named : goal.open_hall-requires-clause-named
-open_hall-requires-clause-named g c κs within = (refl, refl, c.new.ensures, refl)
+open_hall-requires-clause-named g c κs within = (refl, refl)
+
+pub open_hall-requires-clause-workers : goal.open_hall-requires-clause-workers
+open_hall-requires-clause-workers g c κs within = (c.of-name.ensures, refl, c.worker_count-workers.ensures.some)
 
 pub open_hall-requires-clause-alike : goal.open_hall-requires-clause-alike
 open_hall-requires-clause-alike g c κs within = (refl, c.in_ok-both.ensures.alike)
@@ -31,11 +34,7 @@ pub returns : goal.returns
 returns g c =
     let said = c.in_ok-said.said in
     inl (record {
-      digits = said.digest.now;
-      port = said.port;
-      connections = said.connections;
-      timeout = said.timeout;
-      names = map (λ name. name.now) said.names.items;
+      said = said;
       says = c.in_ok-said.ensures.ok;
       state = c.in_ok-both.both.0;
       opens = subst (λ (names : List (Bor Text)). Opens said.digest.now (map (λ name. name.now) names) c.in_ok-both.both.0) c.deref.ensures.value c.in_ok-both.ensures.ok;

@@ -1,43 +1,65 @@
 use Rattle.std.proofs.Common.{ap, refl, sym, subst, [], ◌∙◌, codes, map, string_bytes}
-use Rattle.std.specs.Prelude.{Some, option_map, unwrap_or}
+use Rattle.std.specs.Prelude.{option_map, unwrap_or}
 use Rattle.std.proofs.lemmas.Result.{err_from_is_err_and}
 use Rattle.clap.specs.Words.{all_of, first_of, found_of}
 use Rattle.clap.proofs.WalkLemmas.{first_value-rows, raw_values-rows}
 use Rattle.st_command_line.specs.ServedArguments.{Gives, RefusesServedWords}
-use Rattle.st_command_line.proofs.Numbers.{bad_number, no_port, number_read}
+use Rattle.st_command_line.proofs.Numbers.{no_port, widens}
 use Rattle.st_command_line.proofs.Refusing.{names_given}
 use Rattle.st_command_line.proofs.served_arguments.ServedArguments.read.Goals as goal
+
+pub returns-in_err-matches-clause-err : goal.returns-in_err-matches-clause-err
+returns-in_err-matches-clause-err c =
+    let words = map string_bytes c.args.words.now in
+    let p = err_from_is_err_and c.from_residual.result c.from_residual.ensures.1 in
+    rw p.1 (subst (RefusesServedWords words) (sym p.2) (widens words _ c.in_err-matches.ensures.err))
+
+pub returns-in_default-2-clause-err : goal.returns-in_default-2-clause-err
+returns-in_default-2-clause-err c =
+    let words = map string_bytes c.args.words.now in
+    let parsed = c.in_ok-matches.ensures.ok in
+    no_port words parsed.whole (subst (Gives _) c.in_default-2.is (c.in_ok-port.ensures.ok words parsed))
 
 pub returns-in_err-port-clause-err : goal.returns-in_err-port-clause-err
 returns-in_err-port-clause-err c =
     let words = map string_bytes c.args.words.now in
     let p = err_from_is_err_and c.from_residual-in_err-port.result c.from_residual-in_err-port.ensures.1 in
-    let bad = c.in_err-port.ensures.err in
-    rw p.1 (subst (RefusesServedWords words) (sym p.2) (bad_number words (codes "port") c.in_ok-matches.matches c.in_ok-matches.ensures.ok _ bad.0 bad.1))
-
-pub returns-in_default-2-clause-err : goal.returns-in_default-2-clause-err
-returns-in_default-2-clause-err c =
-    no_port (map string_bytes c.args.words.now) c.in_ok-matches.matches c.in_ok-matches.ensures.ok (subst (Gives _) c.in_default-2.is c.in_ok-port.ensures.ok)
+    rw p.1 (subst (RefusesServedWords words) (sym p.2) (c.in_err-port.ensures.err words c.in_ok-matches.ensures.ok))
 
 pub returns-in_err-connections-clause-err : goal.returns-in_err-connections-clause-err
 returns-in_err-connections-clause-err c =
     let words = map string_bytes c.args.words.now in
     let p = err_from_is_err_and c.from_residual-in_err-connections.result c.from_residual-in_err-connections.ensures.1 in
-    let bad = c.in_err-connections.ensures.err in
-    rw p.1 (subst (RefusesServedWords words) (sym p.2) (bad_number words (codes "connections") c.in_ok-matches.matches c.in_ok-matches.ensures.ok _ bad.0 bad.1))
+    rw p.1 (subst (RefusesServedWords words) (sym p.2) (c.in_err-connections.ensures.err words c.in_ok-matches.ensures.ok))
+
+pub returns-in_err-workers-clause-err : goal.returns-in_err-workers-clause-err
+returns-in_err-workers-clause-err c =
+    let words = map string_bytes c.args.words.now in
+    let p = err_from_is_err_and c.from_residual-in_err-workers.result c.from_residual-in_err-workers.ensures.1 in
+    rw p.1 (subst (RefusesServedWords words) (sym p.2) (c.in_err-workers.ensures.err words c.in_ok-matches.ensures.ok))
 
 pub returns-in_err-timeout-clause-err : goal.returns-in_err-timeout-clause-err
 returns-in_err-timeout-clause-err c =
     let words = map string_bytes c.args.words.now in
     let p = err_from_is_err_and c.from_residual-in_err-timeout.result c.from_residual-in_err-timeout.ensures.1 in
-    let bad = c.in_err-timeout.ensures.err in
-    rw p.1 (subst (RefusesServedWords words) (sym p.2) (bad_number words (codes "timeout") c.in_ok-matches.matches c.in_ok-matches.ensures.ok _ bad.0 bad.1))
+    rw p.1 (subst (RefusesServedWords words) (sym p.2) (c.in_err-timeout.ensures.err words c.in_ok-matches.ensures.ok))
+
+pub returns-in_err-idle-clause-err : goal.returns-in_err-idle-clause-err
+returns-in_err-idle-clause-err c =
+    let words = map string_bytes c.args.words.now in
+    let p = err_from_is_err_and c.from_residual-in_err-idle.result c.from_residual-in_err-idle.ensures.1 in
+    rw p.1 (subst (RefusesServedWords words) (sym p.2) (c.in_err-idle.ensures.err words c.in_ok-matches.ensures.ok))
+
+pub returns-in_err-listen-clause-err : goal.returns-in_err-listen-clause-err
+returns-in_err-listen-clause-err c =
+    let words = map string_bytes c.args.words.now in
+    let p = err_from_is_err_and c.from_residual-in_err-listen.result c.from_residual-in_err-listen.ensures.1 in
+    rw p.1 (subst (RefusesServedWords words) (sym p.2) (c.in_err-listen.ensures.err words c.in_ok-matches.ensures.ok))
 
 pub returns-clause-ok : goal.returns-clause-ok
 returns-clause-ok c =
     let words = map string_bytes c.args.words.now in
-    let matches = c.in_ok-matches.matches in
-    let found = found_of matches in
+    let found = found_of c.in_ok-matches.matches in
     let parsed = c.in_ok-matches.ensures.ok in
     record {
       root = record {
@@ -45,7 +67,10 @@ returns-clause-ok c =
         digits_are = sym (ap (first_of (codes "root")) parsed.rows_are) ∙ (sym (first_value-rows found (codes "root")) ∙ (sym c.get_str.ensures ∙ ap (option_map (λ s. s.now)) c.in-Some.is));
         names_are = ap (λ rows. unwrap_or (all_of (codes "NAME") rows) []) (sym parsed.rows_are) ∙ (ap (λ o. unwrap_or o []) (sym (raw_values-rows found (codes "NAME"))) ∙ (names_given _ c.get_strs.result _ c.unwrap_or-names.result c.get_strs.ensures c.unwrap_or-names.ensures refl ∙ ap (map (λ name. name.now)) (sym c.in_ok-from_slice.ensures.items)));
       };
-      port_is = number_read words (codes "port") matches parsed (Some c.in-Some-2.port) (subst (Gives _) c.in-Some-2.is c.in_ok-port.ensures.ok);
-      connections_are = number_read words (codes "connections") matches parsed c.in_ok-connections.connections c.in_ok-connections.ensures.ok;
-      timeout_is = number_read words (codes "timeout") matches parsed c.in_ok-timeout.timeout c.in_ok-timeout.ensures.ok;
+      port_is = subst (Gives _) c.in-Some-2.is (c.in_ok-port.ensures.ok words parsed);
+      connections_are = c.in_ok-connections.ensures.ok words parsed;
+      workers_are = c.in_ok-workers.ensures.ok words parsed;
+      timeout_is = c.in_ok-timeout.ensures.ok words parsed;
+      idle_is = c.in_ok-idle.ensures.ok words parsed;
+      address_is = c.in_ok-listen.ensures.ok words parsed;
     }

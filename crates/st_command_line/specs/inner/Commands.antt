@@ -1,0 +1,12 @@
+-- A stage of the code: the commands that it builds.
+use Rattle.std.specs.Prelude.{◌≡◌, IsSome, codes, true}
+use Rattle.clap.specs.Built.{IsParsedFrom}
+use Rattle.clap.specs.Words.{App, app_of, first_value, found_of, is_simple_and_free}
+use Rattle.clap.specs.declared.builder.command.Command.{Command}
+use Rattle.clap.specs.declared.parser.matches.ArgMatches.{ArgMatches}
+
+-- the command is this one, and whatever it parses has a digest
+pub record Builds (app : App) (command : Command) : Type 0 where
+  pub is : app_of command ≡ app
+  pub free : is_simple_and_free app ≡ true
+  pub root : (matches : ArgMatches) → IsParsedFrom command matches → IsSome (first_value (found_of matches) (codes "root"))

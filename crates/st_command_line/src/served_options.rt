@@ -1,0 +1,116 @@
+//! The options of `st_served`, and the parsing of its words.
+ghost use Rattle.std.specs.Prelude.{◌≡◌, IfOk, IfErr, IsSome, codes, map, string_bytes};
+ghost use Rattle.clap.specs.Built.{FitsChain};
+ghost use Rattle.clap.specs.Words.{first_value, found_of, rule_of};
+ghost use Rattle.st_command_line.specs.Common.{IsParsed, RefusesWords};
+ghost use Rattle.st_command_line.specs.ServedArguments.{served_command, port_option, connections_option};
+ghost use Rattle.st_command_line.specs.ServedArguments.{workers_option, timeout_option, idle_option, listen_option};
+ghost use Rattle.st_command_line.specs.inner.Commands.{Builds};
+
+use crate::common::{named, names, parse_by, root};
+use crate::fault::Fault;
+use clap::{Arg, ArgAction, ArgMatches, Command};
+use std::alloc::{AllocError, Global};
+
+// The option `--port P`.
+fn port<'a>(alloc: Global) -> Arg<'a>
+    ensures id { result.id.now ≡ codes "port" }
+    ensures rule { rule_of result ≡ port_option }
+    ensures fits { FitsChain result }
+{
+    Arg::new(alloc, "port")
+        .long("port")
+        .value_name("P")
+        .required(true)
+        .action(ArgAction::Set)
+        .value_parser(clap::value_parser!(u16).range(1..))
+}
+
+// The option `--connections N`.
+fn connections<'a>(alloc: Global) -> Arg<'a>
+    ensures id { result.id.now ≡ codes "connections" }
+    ensures rule { rule_of result ≡ connections_option }
+    ensures fits { FitsChain result }
+{
+    Arg::new(alloc, "connections")
+        .long("connections")
+        .value_name("N")
+        .action(ArgAction::Set)
+        .value_parser(clap::value_parser!(u16).range(0..=1000))
+}
+
+// The option `--workers N`.
+fn workers<'a>(alloc: Global) -> Arg<'a>
+    ensures id { result.id.now ≡ codes "workers" }
+    ensures rule { rule_of result ≡ workers_option }
+    ensures fits { FitsChain result }
+{
+    Arg::new(alloc, "workers")
+        .long("workers")
+        .value_name("N")
+        .action(ArgAction::Set)
+        .value_parser(clap::value_parser!(u16).range(1..=256))
+}
+
+// The option `--timeout SECONDS`.
+fn timeout<'a>(alloc: Global) -> Arg<'a>
+    ensures id { result.id.now ≡ codes "timeout" }
+    ensures rule { rule_of result ≡ timeout_option }
+    ensures fits { FitsChain result }
+{
+    Arg::new(alloc, "timeout")
+        .long("timeout")
+        .value_name("SECONDS")
+        .action(ArgAction::Set)
+        .value_parser(clap::value_parser!(u16).range(1..=3600))
+}
+
+// The option `--idle SECONDS`.
+fn idle<'a>(alloc: Global) -> Arg<'a>
+    ensures id { result.id.now ≡ codes "idle" }
+    ensures rule { rule_of result ≡ idle_option }
+    ensures fits { FitsChain result }
+{
+    Arg::new(alloc, "idle")
+        .long("idle")
+        .value_name("SECONDS")
+        .action(ArgAction::Set)
+        .value_parser(clap::value_parser!(u16).range(1..=3600))
+}
+
+// The option `--listen ADDRESS`.
+fn listen<'a>(alloc: Global) -> Arg<'a>
+    ensures id { result.id.now ≡ codes "listen" }
+    ensures rule { rule_of result ≡ listen_option }
+    ensures fits { FitsChain result }
+{
+    Arg::new(alloc, "listen")
+        .long("listen")
+        .value_name("ADDRESS")
+        .action(ArgAction::Set)
+}
+
+// The command.
+fn command<'a>(alloc: Global) -> Result<Command<'a>, AllocError>
+    ensures { IfOk result (Builds served_command) }
+{
+    let command = named(alloc, "st_served")
+        .arg(root(alloc))?
+        .arg(port(alloc))?
+        .arg(connections(alloc))?
+        .arg(workers(alloc))?
+        .arg(timeout(alloc))?
+        .arg(idle(alloc))?
+        .arg(listen(alloc))?
+        .arg(names(alloc))?;
+    Ok(command)
+}
+
+/// Parses the words.
+pub fn parse<'a>(alloc: Global, words: &'a [String]) -> Result<ArgMatches<'a>, Fault>
+    ensures ok { IfOk result (IsParsed served_command (map string_bytes words.now)) }
+    ensures root { IfOk result (λ matches. IsSome (first_value (found_of matches) (codes "root"))) }
+    ensures err { IfErr result (λ fault. RefusesWords served_command (map string_bytes words.now) fault) }
+{
+    parse_by(command(alloc)?, words)
+}
