@@ -8,6 +8,7 @@ import time
 from collections.abc import Iterator
 from contextlib import contextmanager
 from dataclasses import dataclass
+from pathlib import Path
 from typing import IO
 
 from served import PROGRAM, digest, free_port, token
@@ -76,6 +77,16 @@ def test_a_slow_body_that_is_too_long_is_answered_and_read_whole() -> None:
             connection.send(bytes(20_000))
             time.sleep(0.02)
         assert connection.getresponse().status == 413
+
+
+def test_curl_gets_the_answer_to_a_slow_body_that_is_too_long(tmp_path: Path) -> None:
+    body = tmp_path / "body"
+    body.write_bytes(bytes(1_000_000))
+    with running() as server:
+        url = f"http://127.0.0.1:{server.port}/tables/points/put"
+        words = ["curl", "-s", "-S", "--limit-rate", "1M", "-H", "Expect:", "-w", " %{http_code}", "--data-binary", f"@{body}", url]
+        told = subprocess.run(words, capture_output=True, text=True, timeout=30)
+    assert (told.returncode, told.stdout, told.stderr) == (0, '{"error":"size"} 413', "")
 
 
 def test_a_client_that_is_too_slow_is_parted_from_without_a_reset() -> None:

@@ -42,7 +42,7 @@ def half_sent(stack: Stack, head: str, sent: int) -> socket.socket:
 )
 def test_bodies_that_stop_hold_no_worker(stack: Stack, head: str, sent: int) -> None:
     with ExitStack() as clients:
-        for _ in range(4):  # twice the workers
+        for _ in range(128):  # twice the workers
             clients.enter_context(half_sent(stack, head, sent))
         time.sleep(0.3)
         begin = time.monotonic()

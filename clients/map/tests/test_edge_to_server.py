@@ -1,11 +1,12 @@
 """The edge by deploy/haproxy.cfg towards its server: what it asks again and what never, when it closes, how long it waits, and
 whether it is up.
 
-A scripted server stands for the real one, but in the last test.
+A scripted server stands for the real one, but in the last two tests.
 """
 
 from __future__ import annotations
 
+import json
 import re
 import time
 from collections import Counter
@@ -19,7 +20,7 @@ from urllib.request import urlopen
 
 import pytest
 
-from served import free_port
+from served import free_port, served, token
 from stack import Stack, configured, running, until_open
 from worker import Asked, reply, working
 
@@ -190,6 +191,29 @@ def test_edge_tells_whether_its_server_answers(tmp_path: Path) -> None:
         with working(lambda asked: reply(404 if asked.line == "GET /health HTTP/1.1" else 200), port):
             until(edge.is_up)
         until(lambda: not edge.is_up())
+
+
+def test_each_put_is_made_once_over_connections_that_end(tmp_path: Path) -> None:
+    """By 16 clients who keep their connections, where one request in ten is the last of a connection to the real server."""
+    head = {"Authorization": f"Bearer {token('root')}"}
+    with served() as port, edge_before(tmp_path, port, {r"rand\(1000\)": "rand(10)"}) as edge:
+
+        def put_often(number: int) -> None:
+            client = HTTPConnection("127.0.0.1", edge.port, timeout=20)
+            for at in range(60):
+                row = {"id": f"r{number}.{at}", "label": "", "note": "", "point": [number, at, 0]}
+                client.request("POST", "/tables/points/put", json.dumps(row), head)
+                told = client.getresponse()
+                assert (told.status, told.read()) == (200, b'{"ok":true}')
+            client.close()
+
+        with ThreadPoolExecutor(16) as pool:
+            list(pool.map(put_often, range(16)))
+        client = HTTPConnection("127.0.0.1", port, timeout=20)
+        client.request("GET", "/audit", headers=head)
+        changes = json.load(client.getresponse())["entries"]
+        client.close()
+        assert len(changes) == 16 * 60
 
 
 def test_server_is_checked_without_a_token_and_without_lines_of_the_log(stack: Stack) -> None:

@@ -11,6 +11,7 @@ import stat
 import subprocess
 import sys
 from collections.abc import Sequence
+from functools import partial
 from pathlib import Path
 from served import digest, token
 
@@ -148,7 +149,12 @@ def test_changes_are_followed_until_an_interrupt(table: Table, root: Client, url
     environment = os.environ | {"PYTHONPATH": str(TOP / "src"), "PYTHONUNBUFFERED": "1"}
     words = ["audit", "--follow", "--interval", "0.1", "--url", url, "--token-file", str(token_file)]
     with subprocess.Popen(
-        [sys.executable, "-m", "fashkiin", *words], env=environment, stdout=subprocess.PIPE, text=True
+        [sys.executable, "-m", "fashkiin", *words],
+        env=environment,
+        stdout=subprocess.PIPE,
+        text=True,
+        # A shell in the background ignores interrupts, and so do its children.
+        preexec_fn=partial(signal.signal, signal.SIGINT, signal.SIG_DFL),
     ) as following:
         assert following.stdout is not None
         while following.stdout.readline() != f"root\tcreate-table\t{table.name}\tdone\n":

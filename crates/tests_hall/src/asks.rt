@@ -10,7 +10,7 @@ use st_hall::{Desk, Front, HallName, Receipt};
 use st_index::{Id, Note, Row};
 use st_key::Point;
 use st_label::Label;
-use st_policy::Request;
+use st_policy::{Entry, Request};
 use std::alloc::{AllocError, Global};
 
 // Root's token.
@@ -52,6 +52,21 @@ pub fn put(alloc: Global, id: &str) -> Option<Asked>
     let request = Request::Put {
         table: TableName::new("points").ok()?,
         row: row(alloc, id)?,
+    };
+    Some(Asked {
+        token: token(),
+        call: Call::Good(request),
+    })
+}
+
+/// A request by root that makes a user v without authorizations.
+pub fn create_user(alloc: Global) -> Option<Asked>
+    ensures { IfSome result (λ asked. asks_for_change asked ≡ true) }
+{
+    let request = Request::CreateUser {
+        user: Name::new("v").ok()?,
+        digest: [0; 32],
+        auths: Auths::from_list(alloc, &[]).ok()?,
     };
     Some(Asked {
         token: token(),
@@ -131,6 +146,45 @@ fn entries_of<H: HallName>(desk: &mut Desk<H>, asked: Asked) -> Option<usize>
 /// How many changes a desk lists that were asked for.
 pub fn entries<H: HallName>(desk: &mut Desk<H>) -> Option<usize> {
     entries_of(desk, audit())
+}
+
+// Whether entries are of these requests, in this order.
+fn are_of(entries: &[Entry], wanted: &[&str]) -> bool {
+    for (entry, request) in entries.iter().zip(wanted) {
+        if !entry.request.is(*request) {
+            return false;
+        }
+    }
+    entries.len() == wanted.len()
+}
+
+// Whether a listing has entries of these requests, in this order.
+fn lists(told: &Result<Reply, AllocError>, wanted: &[&str]) -> bool {
+    match told {
+        Ok(Reply::Audit(entries)) => are_of(entries.as_slice(), wanted),
+        _ => false,
+    }
+}
+
+// Whether a desk tells such a listing.
+fn is_listing<H: HallName>(desk: &mut Desk<H>, asked: Asked, wanted: &[&str]) -> bool
+    requires { asks_for_change asked ≡ false }
+{
+    let told = desk.read(&asked);
+    drop(asked);
+    let is_told = lists(&told, wanted);
+    drop(told);
+    is_told
+}
+
+/// Whether a desk lists changes by these requests, in this order.
+pub fn are_listed<H: HallName>(desk: &mut Desk<H>, wanted: &[&str]) -> bool {
+    is_listing(desk, audit(), wanted)
+}
+
+/// Whether a change is told to be made.
+pub fn is_accepted(told: &Result<Reply, AllocError>) -> bool {
+    matches!(told, Ok(Reply::Accepted))
 }
 
 /// The front of a receipt.

@@ -10,8 +10,8 @@ use std::marker::Brand;
 use std::sync::{Mutex, Wait};
 use std::test::*;
 
-// The front of a put.
-fn told<H: HallName, R: Wait + Drop, W: Wait>(
+/// The front of a put.
+pub fn told<H: HallName, R: Wait + Drop, W: Wait>(
     rt: &W,
     alloc: Global,
     clerk: &mut Clerk<H, R>,
@@ -25,8 +25,8 @@ fn told<H: HallName, R: Wait + Drop, W: Wait>(
     front
 }
 
-// What a desk counts once it learned a front.
-fn rows_after<H: HallName>(
+/// What a desk counts once it learned a front.
+pub fn rows_after<H: HallName>(
     alloc: Global,
     desk: &mut Desk<H>,
     front: &Option<Front<H>>,
@@ -61,7 +61,7 @@ fn learnt<H: HallName, R: Wait>(
     name: Unnamed,
     both: (Store, Store),
 ) -> Option<[u64; 4]>
-    requires named { (name.seen.book ≡ H.book) × (name.blank.name ≡ H.name) × (name.blank.parts ≡ 2) × (H.parts ≡ 2) }
+    requires named { (name.seen.book ≡ H.book) × (name.blank.name ≡ H.name) × (H.parts ≡ 2) }
     requires alike { (both.0 ≡ H.start) × (both.1 ≡ H.start) }
 {
     let (mut clerk, mut one, mut two) = Hall::<H>::open(rt, alloc, name, both.0, both.1).ok()?;
@@ -112,7 +112,7 @@ fn late<H: HallName, R: Wait>(
     name: Unnamed,
     both: (Store, Store),
 ) -> Option<(u64, u64)>
-    requires named { (name.seen.book ≡ H.book) × (name.blank.name ≡ H.name) × (name.blank.parts ≡ 2) × (H.parts ≡ 2) }
+    requires named { (name.seen.book ≡ H.book) × (name.blank.name ≡ H.name) × (H.parts ≡ 2) }
     requires alike { (both.0 ≡ H.start) × (both.1 ≡ H.start) }
 {
     let (clerk, mut one, mut two) = Hall::<H>::open(rt, alloc, name, both.0, both.1).ok()?;

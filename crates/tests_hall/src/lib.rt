@@ -5,6 +5,10 @@
 #[cfg(test)]
 mod asks;
 #[cfg(test)]
+mod calls;
+#[cfg(test)]
+mod desks;
+#[cfg(test)]
 mod faults;
 #[cfg(test)]
 mod fronts;
@@ -13,11 +17,15 @@ mod halls;
 #[cfg(test)]
 mod messages;
 #[cfg(test)]
+mod pending;
+#[cfg(test)]
 mod puts;
 #[cfg(test)]
 mod runs;
 #[cfg(test)]
 mod servers;
+#[cfg(test)]
+mod taken_back;
 #[cfg(test)]
 mod words;
 #[cfg(test)]

@@ -56,6 +56,20 @@ fn answer_all<H: HallName, C: Wait + Drop, G: Gate, R: Wait>(
     None
 }
 
+/// What a station answers the messages of a text.
+pub fn told_of<H: HallName, C: Wait + Drop, G: Gate, R: Wait>(
+    alloc: Global,
+    station: &mut Station<'_, H, C, G, R>,
+    text: &[u8],
+) -> Option<Vec<u8>> {
+    let routes = Routes::new(alloc).ok()?;
+    let mut told = Vec::new(alloc);
+    let answered = answer_all(station, &routes, text, &mut told);
+    drop(routes);
+    answered?;
+    Some(told)
+}
+
 /// Whether a station answers the messages of a text by these answers.
 pub fn is_answered<H: HallName, C: Wait + Drop, G: Gate, R: Wait>(
     alloc: Global,
@@ -63,14 +77,7 @@ pub fn is_answered<H: HallName, C: Wait + Drop, G: Gate, R: Wait>(
     text: &[u8],
     wanted: &[u8],
 ) -> Option<bool> {
-    let routes = Routes::new(alloc).ok()?;
-    let mut told = Vec::new(alloc);
-    let answered = answer_all(station, &routes, text, &mut told);
-    let is_wanted = told.as_slice() == wanted;
-    drop(told);
-    drop(routes);
-    answered?;
-    Some(is_wanted)
+    Some(told_of(alloc, station, text)?.as_slice() == wanted)
 }
 
 // Whether a station answers the three messages rightly, how many receipts it got, and whether the listing has one entry.
@@ -104,7 +111,7 @@ fn answered<H: HallName, R: Wait>(
     name: Unnamed,
     both: (Store, Store),
 ) -> Option<(bool, u64, bool)>
-    requires named { (name.seen.book ≡ H.book) × (name.blank.name ≡ H.name) × (name.blank.parts ≡ 2) × (H.parts ≡ 2) }
+    requires named { (name.seen.book ≡ H.book) × (name.blank.name ≡ H.name) × (H.parts ≡ 2) }
     requires alike { (both.0 ≡ H.start) × (both.1 ≡ H.start) }
 {
     let (clerk, desk, other) = Hall::<H>::open(rt, alloc, name, both.0, both.1).ok()?;

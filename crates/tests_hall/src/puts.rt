@@ -40,8 +40,8 @@ fn nth(alloc: Global, letter: u8, number: u8, is_own: bool) -> Option<Asked>
     put(alloc, from_utf8(&id).ok()?)
 }
 
-// The front of a put.
-fn put_one<H: HallName, R: Wait>(
+/// The front of a put.
+pub fn put_one<H: HallName, R: Wait>(
     rt: &R,
     alloc: Global,
     clerk: &Mutex<Clerk<H, &R>>,
@@ -136,7 +136,7 @@ fn put_by_two<H: HallName + Send + Sync, R: Threads + Wait + Sync>(
     both: (Store, Store),
     is_own: bool,
 ) -> Option<Found>
-    requires named { (name.seen.book ≡ H.book) × (name.blank.name ≡ H.name) × (name.blank.parts ≡ 2) × (H.parts ≡ 2) }
+    requires named { (name.seen.book ≡ H.book) × (name.blank.name ≡ H.name) × (H.parts ≡ 2) }
     requires alike { (both.0 ≡ H.start) × (both.1 ≡ H.start) }
 {
     let (clerk, one, two) = Hall::<H>::open(rt, alloc, name, both.0, both.1).ok()?;

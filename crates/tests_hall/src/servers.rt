@@ -5,7 +5,7 @@ use crate::words::{DIGEST, words_for};
 use st_command::stores_for;
 use st_core::Store;
 use st_hall::{Clerk, Desk, Hall, HallName, Unnamed};
-use st_loopback::{Open, serve_all, serve_words};
+use st_loopback::{Limits, Open, serve_all, serve_words};
 use st_station::Station;
 use std::alloc::Global;
 use std::io::{Eprint, Read, Write};
@@ -151,24 +151,31 @@ fn asked_once<R: Net<Listener = TcpListener, Stream = TcpStream>>(
     Some((listener, stream))
 }
 
-// The status of a server between two stations whose listener accepts one connection, and what its client is told.
+// The status of a server between stations whose listener accepts one connection, and what its client is told.
 fn ended_at<
     'c,
     H: HallName + Send + Sync,
     R: Net<Listener = TcpListener, Stream = TcpStream> + Threads + Wait + Clock + Eprint + Sync,
->(
-    rt: &R,
-    alloc: Global,
-    one: Station<'_, H, &'c R, Open, R>,
-    two: Station<'_, H, &'c R, Open, R>,
-) -> Option<(u8, Vec<u8>)> {
+>(rt: &R, alloc: Global, stations: Vec<Station<'_, H, &'c R, Open, R>>) -> Option<(u8, Vec<u8>)> {
     let Some((listener, mut stream)) = asked_once(rt) else {
-        drop(one);
-        drop(two);
+        drop(stations);
         return None;
     };
-    let fault = serve_all(rt, &listener, Duration::from_secs(10), one, two);
+    let limit = Duration::from_secs(10);
+    let limits = Limits {
+        message: limit,
+        idle: limit,
+    };
+    let fault = serve_all(rt, &listener, limits, stations);
     Some((fault.status(), rest_of(alloc, &mut stream)?))
+}
+
+// The list of two values.
+fn pair_of<T: Drop>(alloc: Global, one: T, two: T) -> Option<Vec<T>> {
+    let mut both = Vec::with_capacity(alloc, 2).ok()?;
+    both.push(one).ok()?;
+    both.push(two).ok()?;
+    Some(both)
 }
 
 // The same, between two desks.
@@ -185,7 +192,7 @@ fn ended_between<
 ) -> Option<(u8, Vec<u8>)> {
     let one = Station::new(rt, alloc, 1, one, clerk, &Open).ok()?;
     let two = Station::new(rt, alloc, 2, two, clerk, &Open).ok()?;
-    ended_at(rt, alloc, one, two)
+    ended_at(rt, alloc, pair_of(alloc, one, two)?)
 }
 
 // The same, in a hall over the two stores.
@@ -193,7 +200,7 @@ fn ended<
     H: HallName + Send + Sync,
     R: Net<Listener = TcpListener, Stream = TcpStream> + Threads + Wait + Clock + Eprint + Sync,
 >(rt: &R, alloc: Global, name: Unnamed, both: (Store, Store)) -> Option<(u8, Vec<u8>)>
-    requires named { (name.seen.book ≡ H.book) × (name.blank.name ≡ H.name) × (name.blank.parts ≡ 2) × (H.parts ≡ 2) }
+    requires named { (name.seen.book ≡ H.book) × (name.blank.name ≡ H.name) × (H.parts ≡ 2) }
     requires alike { (both.0 ≡ H.start) × (both.1 ≡ H.start) }
 {
     match Hall::<H>::open(rt, alloc, name, both.0, both.1) {

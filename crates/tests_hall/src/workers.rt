@@ -124,7 +124,7 @@ fn counted<H: HallName + Send + Sync, R: Threads + Wait + Clock + Sync>(
     name: Unnamed,
     both: (Store, Store),
 ) -> Option<Counted>
-    requires named { (name.seen.book ≡ H.book) × (name.blank.name ≡ H.name) × (name.blank.parts ≡ 2) × (H.parts ≡ 2) }
+    requires named { (name.seen.book ≡ H.book) × (name.blank.name ≡ H.name) × (H.parts ≡ 2) }
     requires alike { (both.0 ≡ H.start) × (both.1 ≡ H.start) }
 {
     match Hall::<H>::open(rt, alloc, name, both.0, both.1) {

@@ -27,6 +27,8 @@ mod table_growths;
 #[cfg(test)]
 mod tabling;
 #[cfg(test)]
+mod thousands;
+#[cfg(test)]
 mod trees;
 #[cfg(test)]
 mod walks;

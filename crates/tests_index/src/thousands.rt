@@ -1,0 +1,218 @@
+//! Two thousand rows, each of a key of its own, put into a UB-tree and into an index of one region and taken out again: the places
+//! that are held are always those from one to another, and both say so.
+
+use crate::putting::{put_at, take_at};
+use crate::tabling::query_of;
+use st_auth::Auths;
+use st_index::{ListIndex, Row, RowIndex};
+use st_key::Period;
+use st_scan::{count, page};
+use st_ubtree::UbTree;
+use std::alloc::Global;
+
+const COUNT: u64 = 2_000;
+
+// The first of some places that follow each other, and the place past the last.
+type Places = (u64, u64);
+
+const ALL: Places = (0, COUNT);
+
+const MIDDLE: Places = (500, 1_500);
+
+const HALVES: [Places; 2] = [(0, 1_000), (1_000, COUNT)];
+
+// An order of all places.
+#[derive(Clone, Copy)]
+enum Order {
+    Rising,
+    Falling,
+}
+
+impl Order {
+    // The place of this number.
+    fn place(self, number: u64) -> u64 {
+        match self {
+            Order::Rising => number,
+            Order::Falling => COUNT.saturating_sub(number).saturating_sub(1),
+        }
+    }
+
+    // The places up to this number.
+    fn so_far(self, number: u64) -> Places {
+        match self {
+            Order::Rising => (0, number.saturating_add(1)),
+            Order::Falling => (self.place(number), COUNT),
+        }
+    }
+
+    // The places past this number.
+    fn left(self, number: u64) -> Places {
+        match self {
+            Order::Rising => (number.saturating_add(1), COUNT),
+            Order::Falling => (0, self.place(number)),
+        }
+    }
+}
+
+// Those of the places that are in a part.
+fn common((from, to): Places, (first, end): Places) -> Places {
+    (from.max(first), to.min(end))
+}
+
+// The box of a part.
+fn box_of((first, end): Places) -> [u64; 6] {
+    [first, end.saturating_sub(1), 0, 0, 0, 0]
+}
+
+// Whether an index counts the rows of these places in a part.
+fn counts<I: RowIndex<Alloc = Global>>(
+    alloc: Global,
+    index: &I,
+    places: Places,
+    part: Places,
+) -> Option<bool> {
+    let (from, to) = common(places, part);
+    let query = query_of(box_of(part))?;
+    let counted = count(alloc, index, &query, &Auths::none(alloc));
+    Some(counted == to.saturating_sub(from))
+}
+
+// Whether the rows are at these places, one at each, in rising order.
+fn are_at(rows: &[&Row], (from, to): Places) -> bool {
+    let mut place = from;
+    for row in rows {
+        if u64::from(row.point.x()) != place {
+            return false;
+        }
+        place = place.saturating_add(1);
+    }
+    place == to.max(from)
+}
+
+// Whether an index shows the rows of these places in a part.
+fn shows<I: RowIndex<Alloc = Global>>(
+    alloc: Global,
+    index: &I,
+    places: Places,
+    part: Places,
+) -> Option<bool> {
+    let query = query_of(box_of(part))?;
+    let auths = Auths::none(alloc);
+    let page = page::<I, Global, Global>(alloc, index, &query, &auths, None, 1_000).ok()?;
+    Some(!page.more && are_at(page.rows.as_slice(), common(places, part)))
+}
+
+// Whether an index has the rows of these places: by a count of the middle, and one by one.
+fn is_full<I: RowIndex<Alloc = Global>>(alloc: Global, index: &I, places: Places) -> Option<bool> {
+    let [low, high] = HALVES;
+    let is_counted = counts(alloc, index, places, MIDDLE)?;
+    let is_low = shows(alloc, index, places, low)?;
+    let is_high = shows(alloc, index, places, high)?;
+    Some(is_counted && is_low && is_high)
+}
+
+// Whether an index has the rows of these places after the step of this number: by a count of all, and each hundredth time closer.
+// One whose counts are slow is asked each tenth time.
+fn holds<I: RowIndex<Alloc = Global>>(
+    alloc: Global,
+    index: &I,
+    (number, is_slow): (u64, bool),
+    places: Places,
+) -> Option<bool> {
+    if number % 100 == 99 {
+        return Some(counts(alloc, index, places, ALL)? && is_full(alloc, index, places)?);
+    }
+    if is_slow && number % 10 > 0 {
+        return Some(true);
+    }
+    counts(alloc, index, places, ALL)
+}
+
+// Puts in a row at each place, in an order. Whether the index has the rows of the places so far after each.
+fn put_all<I: RowIndex<Alloc = Global, Row = Row>>(
+    alloc: Global,
+    index: &mut I,
+    order: Order,
+    is_slow: bool,
+) -> Option<bool> {
+    for number in 0..COUNT {
+        put_at(index, alloc, order.place(number), ("a", ""))?;
+        if !holds(alloc, index, (number, is_slow), order.so_far(number))? {
+            return Some(false);
+        }
+    }
+    Some(true)
+}
+
+// Takes out the row of each place, in an order. Whether each was there, and the index has the rows of the places left after each.
+fn take_all<I: RowIndex<Alloc = Global>>(
+    alloc: Global,
+    index: &mut I,
+    order: Order,
+    is_slow: bool,
+) -> Option<bool> {
+    for number in 0..COUNT {
+        let was_held = take_at(index, alloc, order.place(number), ("a", ""))?;
+        if !was_held || !holds(alloc, index, (number, is_slow), order.left(number))? {
+            return Some(false);
+        }
+    }
+    Some(true)
+}
+
+// Whether an index of one region has the right rows throughout, where they are put in by one order and taken out by another.
+fn is_list_right(alloc: Global, puts: Order, takes: Order) -> Option<bool> {
+    let mut list = ListIndex::new(alloc, Period::Week);
+    let is_put = put_all(alloc, &mut list, puts, true)?;
+    let is_taken = take_all(alloc, &mut list, takes, true)?;
+    Some(is_put && is_taken)
+}
+
+// How many regions a tree has.
+fn regions_of(tree: &UbTree) -> Option<usize> {
+    Some(tree.regions().ok()?.len())
+}
+
+// How many regions a tree has once the rows are put in, and how many regions and rows once they are taken out, if it has the right
+// rows throughout.
+fn sizes_of(
+    alloc: Global,
+    tree: &mut UbTree,
+    puts: Order,
+    takes: Order,
+) -> Option<(usize, usize, u64)> {
+    if !put_all(alloc, tree, puts, false)? {
+        return None;
+    }
+    let most = regions_of(tree)?;
+    if !take_all(alloc, tree, takes, false)? {
+        return None;
+    }
+    Some((most, regions_of(tree)?, tree.len()))
+}
+
+// Those of a new tree.
+fn sizes(alloc: Global, puts: Order, takes: Order) -> Option<(usize, usize, u64)> {
+    let mut tree = UbTree::new(alloc, Period::Week).ok()?;
+    sizes_of(alloc, &mut tree, puts, takes)
+}
+
+// The 33rd key splits the only page into 16 and 17, and then each 16th splits the last one. An inner node holds 32.
+#[test]
+fn put_in_rising_and_taken_out_in_falling_order(rt: HostRuntime) {
+    let found = sizes(rt.alloc(), Order::Rising, Order::Falling);
+    assert!(rt; found == Some((124, 1, 0)));
+}
+
+// Here each 17th key splits the first page.
+#[test]
+fn put_in_falling_and_taken_out_in_rising_order(rt: HostRuntime) {
+    let found = sizes(rt.alloc(), Order::Falling, Order::Rising);
+    assert!(rt; found == Some((117, 1, 0)));
+}
+
+#[test]
+fn the_same_of_one_region(rt: HostRuntime) {
+    assert!(rt; is_list_right(rt.alloc(), Order::Rising, Order::Falling) == Some(true));
+    assert!(rt; is_list_right(rt.alloc(), Order::Falling, Order::Rising) == Some(true));
+}
