@@ -1,7 +1,11 @@
 #!/usr/bin/env bash
-# Requests a second of the proved st_served over loopback: counts and puts on one and on two kept connections, through HAProxy
-# with 64 clients, and a constant of nginx as a yardstick; and the time of a count alone and beside a connection that puts
-# without pause, which is to be no slower than twice as long.
+# Requests a second of the proved st_served over loopback: counts and puts on 1, 2, 4 and 8 kept connections with as many workers,
+# beside a constant of nginx by as many processes; puts of 1, 8 and 64 connections; the time of a count alone and beside a
+# connection that puts without pause, which is to be no slower than twice as long, at the 99th percentile too; and counts of 64
+# clients through HAProxy.
+#
+#     served.sh [PROGRAM [SECONDS]]
+#
 # First build it: (cd crates/st_served && rt run -- $(cat args)). It needs wrk, and leaves out HAProxy or nginx where there is none.
 set -eu
 cd "$(dirname "$0")/.."
@@ -9,38 +13,31 @@ digest=66687aadf862bd776c8fc18b8e9f8e20089714856ee233b3902a591d0d5f2925
 program=${1:-crates/st_served/out/st_served}
 seconds=${2:-10}
 folder=$(mktemp -d)
-trap 'kill $(jobs -p) 2> /dev/null || true; rm -rf "$folder"' EXIT
+started=
+trap 'stop; rm -rf "$folder"' EXIT
 
-# What `wrk` tells of so many connections to a port that ask one kind of request.
-drive() {
-    wrk -t "$(($1 < 2 ? 1 : 2))" -c "$1" -d "${seconds}s" -s bench/served.lua "http://127.0.0.1:$2" -- "$3"
+# Ends the program that was started last.
+stop() {
+    if [ -n "$started" ]; then
+        kill "$started" 2> /dev/null || true
+        wait "$started" 2> /dev/null || true
+        started=
+    fi
 }
 
-# The requests a second and the mean time that `wrk` told.
-told() {
-    awk -v what="$1" '/Latency/ { time = $2 } /Requests\/sec/ { rate = $2 } /Non-2xx/ { bad = ", " $0 } END { print what ": " rate " a second, " time " each" bad }'
+# Starts a server with so many workers.
+serve() {
+    : > "$folder/served"
+    "$program" --root "$digest" --port 47001 --timeout 60 --workers "$1" A > "$folder/served" &
+    started=$!
+    until grep -q listening "$folder/served"; do sleep 0.1; done
 }
 
-"$program" --root "$digest" --port 47001 --timeout 60 A > "$folder/served" &
-sleep 1
-drive 1 47001 count | told "counts on one connection"
-drive 2 47001 count | told "counts on two connections"
-drive 1 47001 put | told "puts on one connection"
-drive 2 47001 put | told "puts on two connections"
-drive 1 47001 count | told "counts on one connection, over the rows that were put"
-drive 1 47001 put > "$folder/puts" &
-drive 1 47001 count | told "the same beside a connection that puts"
-wait $!
-if command -v haproxy > "$folder/which"; then
-    sed '/8443/d' deploy/haproxy.cfg > "$folder/haproxy.cfg"
-    haproxy -f "$folder/haproxy.cfg" > "$folder/haproxy.log" 2>&1 &
-    sleep 1
-    drive 64 8080 count | told "counts of 64 clients through HAProxy"
-fi
-if command -v nginx > "$folder/which"; then
-    cat > "$folder/nginx.conf" << END
+# Starts nginx with so many processes, which answer with a constant.
+serve_constant() {
+    cat > "$folder/nginx.conf" << END_OF_FILE
 daemon off;
-worker_processes 2;
+worker_processes $1;
 pid $folder/nginx.pid;
 error_log $folder/nginx.log;
 events {}
@@ -57,8 +54,54 @@ http {
         location / { default_type application/json; return 200 '{"count":0}'; }
     }
 }
-END
+END_OF_FILE
     nginx -c "$folder/nginx.conf" &
+    started=$!
     sleep 1
-    drive 2 47009 count | told "a constant of nginx on two connections"
+}
+
+# What `wrk` tells of so many connections to a port that ask one kind of request.
+drive() {
+    local threads=$(($1 < $(nproc) ? $1 : $(nproc)))
+    wrk -t "$threads" -c "$1" -d "${seconds}s" --latency -s bench/served.lua "http://127.0.0.1:$2" -- "$3"
+}
+
+# The requests a second, and the middle and the 99th percentile of their times, that `wrk` told.
+told() {
+    awk -v what="$1" '/^ +50%/ { middle = $2 } /^ +99%/ { most = $2 } /Requests\/sec/ { rate = $2 } /Non-2xx/ { bad = ", " $0 }
+        END { print what ": " rate " a second, " middle " in the middle, " most " for 99 of 100" bad }'
+}
+
+for number in 1 2 4 8; do
+    serve "$number"
+    drive "$number" 47001 count | told "counts of $number connections"
+    drive "$number" 47001 put | told "puts of $number connections"
+    stop
+    if command -v nginx > "$folder/which"; then
+        serve_constant "$number"
+        drive "$number" 47009 count | told "a constant of nginx on $number connections"
+        stop
+    fi
+done
+for number in 1 8 64; do
+    serve 64
+    drive "$number" 47001 put | told "puts of $number connections, with 64 workers"
+    stop
+done
+serve 2
+drive 1 47001 put | told "puts of one connection"
+drive 1 47001 count | told "counts of one connection over these rows"
+drive 1 47001 put > "$folder/puts" &
+puts=$!
+drive 1 47001 count | told "the same beside a connection that puts"
+wait "$puts"
+stop
+if command -v haproxy > "$folder/which"; then
+    serve 64
+    sed '/8443/d' deploy/haproxy.cfg > "$folder/haproxy.cfg"
+    haproxy -f "$folder/haproxy.cfg" > "$folder/haproxy.log" 2>&1 &
+    edge=$!
+    sleep 1
+    drive 64 8080 count | told "counts of 64 clients through HAProxy"
+    kill "$edge"
 fi

@@ -86,7 +86,7 @@ def filter_of_the_unit() -> seccomp.SyscallFilter:
 
 def test_server_serves_under_the_filter_of_the_unit(root: Path) -> None:
     port = free_port()
-    variables = {"ROOT_DIGEST": digest("root"), "PORT": str(port), "TIMEOUT": "5"}
+    variables = {"ROOT_DIGEST": digest("root"), "PORT": str(port), "TIMEOUT": "5", "WORKERS": "3", "LISTEN": "127.0.0.1"}
     line = re.findall(r"^ExecStart=(.*) \$ROOT_AUTHS$", UNIT, re.M)[0]
     words = [*re.sub(r"\$\{(\w+)\}", lambda found: variables[str(found[1])], line).split(), "coast"]
     words[0] = f"{root}{words[0]}"
