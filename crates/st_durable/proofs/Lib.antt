@@ -1,0 +1,4 @@
+pub mod Replaying
+pub mod Noting
+pub mod Settling
+pub mod Lives

@@ -1,0 +1,17 @@
+-- What went out before the state that an opening finds.
+use Rattle.std.specs.Prelude.{◌≡◌, ℕ, List, ◌++◌, Option}
+use Rattle.std.specs.List.{concat}
+use Rattle.std.specs.Io.KnownBytes.{Appends}
+use Rattle.st_http.specs.First.{First}
+use Rattle.st_connection.specs.Connection.{Answering, Run}
+
+-- Items got answers, one after another, and led from the old state to the one that is found. What was written is a front of these
+-- answers.
+pub record FoundAfter {S : Type 0} (step : Answering S) (old found : S) (held_old held_new : Option (List ℕ)) : Type 0 where
+  pub items : List First
+  pub answers : List (List ℕ)
+  pub run : Run step old items answers found
+  pub sent : List ℕ
+  pub wrote : Appends held_old held_new sent
+  pub missing : List ℕ
+  pub all : concat answers ≡ sent ++ missing

@@ -1,0 +1,32 @@
+-- A store whose changes are kept, and what is left of it if the process ends.
+use Rattle.std.specs.Prelude.{◌≡◌, ◌⊎◌, Bool, List, Option, Some, None}
+use Rattle.std.specs.declared.alloc.Global.{Global}
+use Rattle.st_core.specs.State.{State}
+use Rattle.st_core.specs.Step.{step}
+use Rattle.st_journal.specs.declared.record.Record.{Record}
+use Rattle.st_journal.specs.Replays.{Replays}
+use Rattle.st_durable.specs.declared.pending.Pending.{Pending}
+use Rattle.st_durable.specs.Applying.{Applies}
+
+-- The state after all changes that are kept, their journal, the change that was answered last, if it is not kept yet, and whether
+-- one could not be kept.
+pub record Keeping (J : Type 0) : Type 0 where
+  pub kept : State Global
+  pub journal : J
+  pub pending : Option Pending
+  pub failed : Bool
+
+-- the state after the pending change
+abbrev pub state_with : State Global → Option Pending → State Global
+state_with kept None = kept
+state_with kept (Some pending) = (step kept pending.asked).state
+
+-- the state after all that was answered
+abbrev pub answered : {J : Type 0} → Keeping J → State Global
+answered k = state_with k.kept k.pending
+
+-- From this first state the records lead to one of these two states.
+pub record LeadTo (first kept answered : State Global) (records : List Record) : Type 0 where
+  pub after : State Global
+  pub made : Replays Applies first records after
+  pub is : (after ≡ kept) ⊎ (after ≡ answered)

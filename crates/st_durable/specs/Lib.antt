@@ -1,0 +1,4 @@
+pub mod Applying
+pub mod Keeping
+pub mod Found
+pub mod inner

@@ -1,0 +1,22 @@
+-- An invariant of a representation, which no reader has to believe: the journal's list leads to the store.
+use Rattle.std.specs.Prelude.{◌≡◌, ℕ, true, false, List, IfSome}
+use Rattle.std.specs.declared.alloc.Global.{Global}
+use Rattle.st_core.specs.State.{State}
+use Rattle.st_core.specs.Step.{asks_for_change, step}
+use Rattle.st_journal.specs.declared.record.Record.{Record}
+use Rattle.st_journal.specs.Replays.{Replays}
+use Rattle.st_durable.specs.declared.pending.Pending.{Pending}
+use Rattle.st_durable.specs.Applying.{Applies}
+use Rattle.st_durable.specs.Keeping.{Keeping, LeadTo, answered}
+
+-- the record is that of the change
+pub record IsNoted (kept : State Global) (pending : Pending) : Type 0 where
+  pub change : asks_for_change pending.asked ≡ true
+  pub noted : Applies kept pending.note (step kept pending.asked).state
+
+pub record IsSound {J : Type 0} (list : J → List Record) (misreads : J → ℕ) (is_ready : J → Type 0) (may_leave : J → List Record → Type 0)
+    (first : State Global) (k : Keeping J) : Type 0 where
+  pub ready : k.failed ≡ false → is_ready k.journal
+  pub stands : k.failed ≡ false → misreads k.journal ≡ 0 → Replays Applies first (list k.journal) k.kept
+  pub leaves : misreads k.journal ≡ 0 → (left : List Record) → may_leave k.journal left → LeadTo first k.kept (answered k) left
+  pub waits : IfSome k.pending (IsNoted k.kept)

@@ -1,0 +1,103 @@
+//! What answers messages by a store whose changes are kept.
+ghost use Rattle.st_durable.specs.Keeping.{answered};
+ghost use Rattle.st_durable.specs.inner.Sound.{IsSound};
+ghost use Rattle.st_service.specs.Answers.{Answers, RepliesTo, faulty};
+ghost use Rattle.st_service.specs.inner.Shown.{shown};
+
+use crate::answer::answer;
+use crate::beginning::Beginning;
+use crate::keep::keep;
+use crate::pending::Pending;
+use st_connection::Failed;
+use st_connection::replies::Replies;
+use st_core::Store;
+use st_http::message::Message;
+use st_journal::Journal;
+use st_service::Answer;
+use std::alloc::Global;
+use std::marker::{Model, PhantomData};
+use std::time::Clock;
+
+// A store, the journal of its changes, and the change that was answered last, until it is kept.
+#[derive(Drop)]
+pub(crate) struct Answerer<'a, B: Beginning, J: Journal + Drop, C: Clock> {
+    pub(crate) alloc: Global,
+    pub(crate) clock: &'a C,
+    pub(crate) store: Store,
+    pub(crate) journal: J,
+    pub(crate) pending: Option<Pending>,
+    pub(crate) failed: bool,
+    pub(crate) beginning: PhantomData<B>,
+}
+
+impl<'a, B: Beginning, J: Journal + Drop, C: Clock> Model for Answerer<'a, B, J, C> {
+    ghost use Rattle.st_durable.specs.Keeping.{Keeping};
+    ghost use Rattle.st_durable.specs.inner.Sound.{IsSound};
+
+    ghost Value = { Keeping J };
+
+    ghost view = { λ a. record { kept = a.store; journal = a.journal; pending = a.pending; failed = a.failed } };
+
+    ghost invariant = { λ a. IsSound J.list J.misreads J.is_ready J.may_leave B.first
+        (record { kept = a.store; journal = a.journal; pending = a.pending; failed = a.failed }) };
+}
+
+impl<'a, B: Beginning, J: Journal + Drop, C: Clock> Answerer<'a, B, J, C> {
+    // What is always true of it.
+    pub(crate) fn show(&self)
+        ensures { IsSound J.list J.misreads J.is_ready J.may_leave B.first self.now }
+    {
+        let _failed = self.failed;
+    }
+}
+
+impl<'a, B: Beginning, J: Journal + Drop, C: Clock> Replies for Answerer<'a, B, J, C> {
+    ghost use Rattle.std.specs.declared.alloc.Global.{Global};
+    ghost use Rattle.st_core.specs.State.{State};
+
+    type Reply = Answer;
+
+    ghost State = { State Global };
+
+    ghost now = { answered };
+
+    ghost kept = { λ a. a.kept };
+
+    ghost has_failed = { λ a. a.failed };
+
+    ghost answers = { Answers };
+
+    ghost replies = { RepliesTo };
+
+    ghost shown = { shown };
+
+    ghost faults = { λ s reason bare. faulty };
+
+    // While a change is not kept, no further one is taken. The loop settles each answer before it reads the next message.
+    fn reply(&mut self, message: &Message<'_>) -> Answer {
+        if self.pending.is_some() {
+            return Answer::Busy {
+                close: message.close,
+                bare: message.bare,
+            };
+        }
+        if let Some(answer) = Answer::of_unrouted(self.alloc, message) {
+            return answer;
+        }
+        let (answer, pending) = answer(self.alloc, self.clock, &self.store, message);
+        self.pending = pending;
+        answer
+    }
+
+    fn settle(&mut self) -> Result<(), Failed> {
+        let Some(pending) = &self.pending else {
+            return Ok(());
+        };
+        if keep(&mut self.store, &mut self.journal, pending).is_err() {
+            self.failed = true;
+            return Err(Failed);
+        }
+        self.pending = None;
+        Ok(())
+    }
+}

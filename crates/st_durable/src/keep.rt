@@ -1,0 +1,39 @@
+//! Keeping a change.
+ghost use Rattle.std.specs.Prelude.{◌≡◌, ◌≤◌, ◌⊎◌, ◌++◌, ◌∷◌, [], List, OnOk, OnErr};
+ghost use Rattle.st_core.specs.Step.{step};
+ghost use Rattle.st_journal.specs.declared.record.Record.{Record};
+ghost use Rattle.st_durable.specs.inner.Sound.{IsNoted};
+
+use crate::pending::Pending;
+use st_connection::Failed;
+use st_core::Store;
+use st_journal::Journal;
+use std::slice;
+
+// Appends the record of a change, and then makes the change.
+pub(crate) fn keep<J: Journal>(
+    store: &mut Store,
+    journal: &mut J,
+    pending: &Pending,
+) -> Result<(), Failed>
+    requires ready { J.is_ready journal.old }
+    requires is_noted { IsNoted store.old pending.now }
+    ensures misreads { J.misreads journal.old ≤ J.misreads journal.new }
+    ensures made { OnOk result (store.new ≡ (step store.old pending.now.asked).state) }
+    ensures unmade { OnErr result (store.new ≡ store.old) }
+    ensures ready { OnOk result (J.is_ready journal.new) }
+    ensures list { OnOk result (J.misreads journal.new ≡ 0 → J.list journal.new ≡ J.list journal.old ++ pending.now.note ∷ []) }
+    ensures crash { J.misreads journal.new ≡ 0 → (left : List Record) → J.may_leave journal.new left
+        → (left ≡ J.list journal.old) ⊎ (left ≡ J.list journal.old ++ pending.now.note ∷ []) }
+{
+    if journal.append(slice::from_ref(&pending.note)).is_err() {
+        return Err(Failed);
+    }
+    let told = store.change(&pending.asked);
+    let made = match &told {
+        Ok(_) => Ok(()),
+        Err(_) => Err(Failed),
+    };
+    drop(told);
+    made
+}

@@ -1,0 +1,18 @@
+//! A store whose changes a journal keeps before they are answered, and which is made again from them.
+#![tactic(auto)]
+
+mod answer;
+mod answerer;
+mod beginning;
+mod durable;
+mod judged;
+mod keep;
+pub mod law;
+mod noted;
+mod pending;
+mod replayed;
+
+pub use beginning::Beginning;
+pub use durable::DurableService;
+pub use pending::Pending;
+pub use replayed::ReplayedStore;
