@@ -2,27 +2,35 @@
 # Requests a second of the proved st_served over loopback: counts and puts on 1, 2, 4 and 8 kept connections with as many workers,
 # beside a constant of nginx by as many processes; puts of 1, 8 and 64 connections; the time of a count alone and beside a
 # connection that puts without pause, which is to be no slower than twice as long, at the 99th percentile too; and counts of 64
-# clients through HAProxy.
+# clients through HAProxy. The time that a server's own code and the system took for a request stands behind each line. At the end
+# it compares.
 #
 #     served.sh [PROGRAM [SECONDS]]
 #
 # First build it: (cd crates/st_served && rt run -- $(cat args)). It needs wrk, and leaves out HAProxy or nginx where there is none.
-set -eu
+# It takes 21 times SECONDS, which are 10 where they are left out; ports 47001, 47009, 8080 and 8404 are to be free.
+set -euo pipefail
 cd "$(dirname "$0")/.."
 digest=66687aadf862bd776c8fc18b8e9f8e20089714856ee233b3902a591d0d5f2925
 program=${1:-crates/st_served/out/st_served}
 seconds=${2:-10}
 folder=$(mktemp -d)
 started=
-trap 'stop; rm -rf "$folder"' EXIT
+edge=
+trap 'stop; end "$edge"; rm -rf "$folder"' EXIT
+
+# Ends a program, if there is one.
+end() {
+    if [ -n "$1" ]; then
+        kill "$1" 2> /dev/null || true
+        wait "$1" 2> /dev/null || true
+    fi
+}
 
 # Ends the program that was started last.
 stop() {
-    if [ -n "$started" ]; then
-        kill "$started" 2> /dev/null || true
-        wait "$started" 2> /dev/null || true
-        started=
-    fi
+    end "$started"
+    started=
 }
 
 # Starts a server with so many workers.
@@ -30,7 +38,10 @@ serve() {
     : > "$folder/served"
     "$program" --root "$digest" --port 47001 --timeout 60 --workers "$1" A > "$folder/served" &
     started=$!
-    until grep -q listening "$folder/served"; do sleep 0.1; done
+    until grep -q listening "$folder/served"; do
+        kill -0 "$started"
+        sleep 0.1
+    done
 }
 
 # Starts nginx with so many processes, which answer with a constant.
@@ -55,9 +66,17 @@ http {
     }
 }
 END_OF_FILE
-    nginx -c "$folder/nginx.conf" &
+    nginx -c "$folder/nginx.conf" -e "$folder/nginx.log" &
     started=$!
     sleep 1
+    kill -0 "$started"
+}
+
+# The program that was started last and its processes, one a line with its time in its own code and in the system.
+times() {
+    { echo "$started"; cat "/proc/$started/task/$started/children"; } | tr ' ' '\n' | grep . | while read -r process; do
+        awk '{ sub(/.*\) /, ""); print $12, $13 }' "/proc/$process/stat"
+    done
 }
 
 # What `wrk` tells of so many connections to a port that ask one kind of request.
@@ -66,35 +85,66 @@ drive() {
     wrk -t "$threads" -c "$1" -d "${seconds}s" --latency -s bench/served.lua "http://127.0.0.1:$2" -- "$3"
 }
 
-# The requests a second, and the middle and the 99th percentile of their times, that `wrk` told.
+# The requests a second, and the middle and the 99th percentile of their times, that `wrk` told; then how many microseconds a request
+# took of the server's own code and of the system, and how many of its processes were at work. The figures are kept under a name.
 told() {
-    awk -v what="$1" '/^ +50%/ { middle = $2 } /^ +99%/ { most = $2 } /Requests\/sec/ { rate = $2 } /Non-2xx/ { bad = ", " $0 }
-        END { print what ": " rate " a second, " middle " in the middle, " most " for 99 of 100" bad }'
+    times > "$folder/after"
+    awk -v name="$1" -v what="$2" -v tick="$(getconf CLK_TCK)" -v seconds="$seconds" -v figures="$folder/figures" '
+        function microseconds(text) { return text * (text ~ /us$/ ? 1 : text ~ /ms$/ ? 1000 : 1000000) }
+        FILENAME ~ /before$/ { own -= $1; kernel -= $2; at[FNR] = $1 + $2; next }
+        FILENAME ~ /after$/ { own += $1; kernel += $2; busy += $1 + $2 - at[FNR] > tick * seconds / 20; next }
+        /^ +50%/ { middle = $2 }
+        /^ +99%/ { most = $2 }
+        /requests in/ { number = $1 }
+        /Requests\/sec/ { rate = $2 }
+        /Non-2xx|Socket errors/ { sub(/^ +/, ""); bad = bad ", " $0 }
+        END {
+            each = number ? 1000000 / tick / number : 0
+            printf "%s: %s a second, %s in the middle, %s for 99 of 100", what, rate, middle, most
+            if (name != "beside")  # where the time is that of the puts too
+                printf "; %.1f us of its own and %.1f of the system each, %d at work", own * each, kernel * each, busy
+            print bad
+            print name, rate, microseconds(middle), microseconds(most) > figures
+            close(figures)
+        }' "$folder/before" "$folder/after" -
+    cat "$folder/figures" >> "$folder/all"
 }
 
+# Drives so many connections, and tells of it: name, what it is, connections, port, kind.
+measure() {
+    times > "$folder/before"
+    drive "$3" "$4" "$5" > "$folder/wrk"
+    told "$1" "$2" < "$folder/wrk"
+}
+
+: > "$folder/all"
 for number in 1 2 4 8; do
     serve "$number"
-    drive "$number" 47001 count | told "counts of $number connections"
-    drive "$number" 47001 put | told "puts of $number connections"
+    measure "counts.$number" "counts of $number connections" "$number" 47001 count
+    measure "puts.$number" "puts of $number connections" "$number" 47001 put
     stop
     if command -v nginx > "$folder/which"; then
         serve_constant "$number"
-        drive "$number" 47009 count | told "a constant of nginx on $number connections"
+        measure "constant.$number" "a constant of nginx on $number connections" "$number" 47009 count
         stop
     fi
 done
 for number in 1 8 64; do
     serve 64
-    drive "$number" 47001 put | told "puts of $number connections, with 64 workers"
+    measure "puts64.$number" "puts of $number connections, with 64 workers" "$number" 47001 put
     stop
 done
 serve 2
-drive 1 47001 put | told "puts of one connection"
-drive 1 47001 count | told "counts of one connection over these rows"
-drive 1 47001 put > "$folder/puts" &
+measure put "puts of one connection" 1 47001 put
+measure alone "counts of one connection over these rows" 1 47001 count
+times > "$folder/before"
+seconds=$((seconds + 2)) drive 1 47001 put > "$folder/puts" &
 puts=$!
-drive 1 47001 count | told "the same beside a connection that puts"
+sleep 1
+drive 1 47001 count > "$folder/wrk"
 wait "$puts"
+told beside "the same beside a connection that puts" < "$folder/wrk"
+awk '/Requests\/sec/ { print "these puts: " $2 " a second" }' "$folder/puts"
 stop
 if command -v haproxy > "$folder/which"; then
     serve 64
@@ -102,6 +152,13 @@ if command -v haproxy > "$folder/which"; then
     haproxy -f "$folder/haproxy.cfg" > "$folder/haproxy.log" 2>&1 &
     edge=$!
     sleep 1
-    drive 64 8080 count | told "counts of 64 clients through HAProxy"
-    kill "$edge"
+    measure edge "counts of 64 clients through HAProxy" 64 8080 count
 fi
+awk '{ rate[$1] = $2; middle[$1] = $3; most[$1] = $4 }
+    END {
+        for (number = 1; number <= 8; number *= 2)
+            if (rate["constant." number])
+                printf "counts beside nginx on %d: %.2f\n", number, rate["counts." number] / rate["constant." number]
+        printf "a count beside puts: %.2f times as long in the middle, %.2f for 99 of 100 (no more than 2)\n",
+            middle["beside"] / middle["alone"], most["beside"] / most["alone"]
+    }' "$folder/all"

@@ -43,6 +43,12 @@ class Puts(threading.Thread):
         self._url = url
 
     def run(self) -> None:
+        try:
+            self._put_on()
+        except Exception as fault:  # so that what ends it is told
+            self.wrong.append(repr(fault))
+
+    def _put_on(self) -> None:
         with Client(self._url, token("root")) as client:
             client.tables.create("turns.marks")
             client.tables.create("turns.rows")
