@@ -1,11 +1,11 @@
 #!/usr/bin/env python3
-"""More requests through the edge than two connections of st_served take, which end after a million reads each: no client sees the
-end of one, and each put is made once, by the list of changes that `GET /audit` shows.
+"""More requests through the edge than the connections of two workers of st_served take, which end after a million reads each: no
+client sees the end of one, and each put is made once, by the list of changes that `GET /audit` shows.
 
     served_turns.py [REQUESTS]
 
-3,100,000 counts where it is left out, by 64 clients of `wrk`, beside one that puts without pause. It needs the built st_served,
-haproxy, nginx and wrk. Run it with /usr/bin/python3.
+3,100,000 counts where it is left out, by 64 clients of `wrk`, beside one that puts without pause, in rounds of half a minute. It
+needs the built st_served, haproxy and wrk. Run it with /usr/bin/python3.
 """
 from __future__ import annotations
 
@@ -22,12 +22,13 @@ TOP = Path(__file__).resolve().parent.parent
 for folder in ("tests", "clients/map/tests", "clients/python/src"):
     sys.path.insert(0, str(TOP / folder))
 
-from served import token  # noqa: E402
-from stack import Stack  # noqa: E402
+from served import served, token  # noqa: E402
+from test_edge_to_server import edge_before  # noqa: E402
 
 from fashkiin import Client, Row  # noqa: E402
 
 REQUESTS = 3_100_000
+WORKERS = {"maxconn 64 pool-max-conn 64": "maxconn 2 pool-max-conn 2"}
 GROUP = 1_000  # so that the last 1,024 changes have all of them
 START = datetime(2024, 5, 1, tzinfo=UTC)
 
@@ -82,16 +83,17 @@ def number(text: str, name: str) -> int:
 
 def main() -> None:
     wanted = int(sys.argv[1]) if len(sys.argv) > 1 else REQUESTS
-    with tempfile.TemporaryDirectory() as folder, Stack(Path(folder)) as stack:
-        puts = Puts(stack.url)
+    with tempfile.TemporaryDirectory() as folder, served("--workers", "2") as port, edge_before(Path(folder), port, WORKERS) as edge:
+        url = f"http://127.0.0.1:{edge.port}"
+        puts = Puts(url)
         puts.start()
         made, errors = 0, ""
         while made < wanted:
-            more, error = counted(stack.url)
+            more, error = counted(url)
             made, errors = made + more, errors + error
         puts.done.set()
         puts.join()
-        with urlopen(f"http://127.0.0.1:{stack.metrics}/metrics") as reply:
+        with urlopen(f"http://127.0.0.1:{edge.metrics}/metrics") as reply:
             numbers = reply.read().decode()
     opened = number(numbers, "connection_attempts_total")
     again, failed = number(numbers, "retry_warnings_total"), number(numbers, "response_errors_total")
