@@ -8,7 +8,7 @@
 #     served.sh [PROGRAM [SECONDS]]
 #
 # First build it: (cd crates/st_served && rt run -- $(cat args)). It needs wrk, and leaves out HAProxy or nginx where there is none.
-# It takes 21 times SECONDS, which are 10 where they are left out; ports 47001, 47009, 8080 and 8404 are to be free.
+# It takes 20 times SECONDS, which are 10 where they are left out; ports 47001, 47009, 8080 and 8404 are to be free.
 set -euo pipefail
 cd "$(dirname "$0")/.."
 digest=66687aadf862bd776c8fc18b8e9f8e20089714856ee233b3902a591d0d5f2925
