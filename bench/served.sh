@@ -33,6 +33,14 @@ stop() {
     started=
 }
 
+# Waits until a port of a program takes connections.
+until_open() {
+    until (: < "/dev/tcp/127.0.0.1/$1") 2> /dev/null; do
+        kill -0 "$2"
+        sleep 0.1
+    done
+}
+
 # Starts a server with so many workers.
 serve() {
     : > "$folder/served"
@@ -68,8 +76,7 @@ http {
 END_OF_FILE
     nginx -c "$folder/nginx.conf" -e "$folder/nginx.log" &
     started=$!
-    sleep 1
-    kill -0 "$started"
+    until_open 47009 "$started"
 }
 
 # The program that was started last and its processes, one a line with its time in its own code and in the system.
@@ -151,7 +158,7 @@ if command -v haproxy > "$folder/which"; then
     sed '/8443/d' deploy/haproxy.cfg > "$folder/haproxy.cfg"
     haproxy -f "$folder/haproxy.cfg" > "$folder/haproxy.log" 2>&1 &
     edge=$!
-    sleep 1
+    until_open 8080 "$edge"
     measure edge "counts of 64 clients through HAProxy" 64 8080 count
 fi
 awk '{ rate[$1] = $2; middle[$1] = $3; most[$1] = $4 }
