@@ -47,6 +47,7 @@ class Client:
     at_once: int = 1  # how many processes make the twenty puts
     connections: int = 1  # how many it opens for five puts
     keeps: bool = True  # whether it speaks HTTP/1.1, where a connection is kept
+    waits: bool = False  # whether it waits for a 100, for a second at least
     more: bool = False  # whether it may put more often than it tells
 
 
@@ -91,12 +92,12 @@ PYTHON = [sys.executable, str(ASK / "ask.py")]
 # Node's `fetch` takes up its second request before it has given the first connection back, at any server. `wrk` makes a trial
 # connection, on which it asks nothing, puts again on a 100, and has other puts on their way when it ends.
 CLIENTS = [
-    Client("curl", ["curl", "--version"], curl),
+    Client("curl", ["curl", "--version"], curl, waits=True),
     Client("wget", ["wget", "--version"], wget, (Kind.CHUNKED,), at_once=20),
     Client("Python `requests`", [*PYTHON, "requests"], asking(*PYTHON, "requests")),
-    Client("Python `http.client`", [*PYTHON, "http.client"], asking(*PYTHON, "http.client")),
+    Client("Python `http.client`", [*PYTHON, "http.client"], asking(*PYTHON, "http.client"), waits=True),
     Client("Node `fetch`", ["node", "--version"], asking("node", str(ASK / "ask.mjs")), connections=2),
-    Client("Java `HttpClient`", ["java", "--version"], asking("java", str(ASK / "Ask.java"))),
+    Client("Java `HttpClient`", ["java", "--version"], asking("java", str(ASK / "Ask.java")), waits=True),
     Client("`ab`", ["ab", "-V"], ab, (Kind.CHUNKED,), keeps=False),
     Client("`wrk`", ["wrk", "-v"], wrk, connections=2, more=True),
 ]

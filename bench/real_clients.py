@@ -176,7 +176,7 @@ def is_number(client: Client, made: int | None, wanted: int) -> bool:
 def expected(client: Client, seen: Seen) -> tuple[str, bool]:
     """A 100 and then 200, and one put. A client need not wait for the 100; one that does gets it from the edge."""
     told = seen.told
-    waited = told.seconds > 0.9 and 100 not in told.statuses
+    waited = client.waits and told.seconds >= 1 and 100 not in told.statuses
     steps = ", then ".join(str(it) for it in told.statuses) or told.fault or "nothing"
     right = not (waited and seen.at_edge)
     if told.statuses[-1:] == [200]:
