@@ -1,6 +1,6 @@
 //! What a message is answered by a store, and the change that it asks.
-ghost use Rattle.std.specs.Prelude.{◌≡◌, true, IfOk, IfSome};
-ghost use Rattle.st_core.specs.Step.{asks_for_change, step};
+ghost use Rattle.std.specs.Prelude.{◌≡◌, IfOk, IfSome};
+ghost use Rattle.st_core.specs.Step.{step};
 ghost use Rattle.st_service.specs.Answers.{AsksBy, IsFound, RepliesTo};
 ghost use Rattle.st_service.specs.Bytes.{bytes_of};
 ghost use Rattle.st_durable.specs.Keeping.{state_with};
@@ -14,29 +14,7 @@ use st_service::{Answer, asked_of};
 use std::alloc::{AllocError, Global};
 use std::time::Clock;
 
-// The reply to a change, and the change until it is kept; none where it is not heard.
-fn take<C: Clock>(
-    alloc: Global,
-    clock: &C,
-    store: &Store,
-    message: &Message<'_>,
-    asked: Asked,
-) -> Result<(Reply, Option<Pending>), AllocError>
-    requires is_found { IsFound message.now }
-    requires asks { AsksBy message.now asked }
-    requires change { asks_for_change asked ≡ true }
-    ensures reply { IfOk result (λ both. both.0 ≡ (step store.now asked).reply) }
-    ensures state { IfOk result (λ both. state_with store.now both.1 ≡ (step store.now asked).state) }
-    ensures noted { IfOk result (λ both. IfSome both.1 (IsNoted store.now)) }
-{
-    let (reply, note) = judged(alloc, clock, store, message, &asked)?;
-    match note {
-        Some(note) => Ok((reply, Some(Pending { note, asked }))),
-        None => Ok((reply, None)),
-    }
-}
-
-// The reply to what is asked, and the change that it asks, until that is kept.
+// The reply to what is asked, and the change that it asks until that is kept; none where it asks for none or is not heard.
 fn ask<C: Clock>(
     alloc: Global,
     clock: &C,
@@ -50,12 +28,14 @@ fn ask<C: Clock>(
     ensures state { IfOk result (λ both. state_with store.now both.1 ≡ (step store.now asked).state) }
     ensures noted { IfOk result (λ both. IfSome both.1 (IsNoted store.now)) }
 {
-    if asked.is_change() {
-        return take(alloc, clock, store, message, asked);
+    if !asked.is_change() {
+        let reply = store.answer(&asked)?;
+        return Ok((reply, None));
     }
-    match store.answer(&asked) {
-        Ok(reply) => Ok((reply, None)),
-        Err(fault) => Err(fault),
+    let (reply, note) = judged(alloc, clock, store, message, &asked)?;
+    match note {
+        Some(note) => Ok((reply, Some(Pending { note, asked }))),
+        None => Ok((reply, None)),
     }
 }
 
