@@ -1,10 +1,13 @@
--- The state that a digest and names open.
-use Rattle.std.specs.Prelude.{◌≡◌, ℕ, None, Ok, List}
+-- The state that a digest and names open, and how it is said in a journal.
+use Rattle.std.specs.Prelude.{◌≡◌, ◌++◌, ℕ, None, Ok, List, [], ◌∷◌, codes, decimal, length}
 use Rattle.std.specs.declared.alloc.Global.{Global}
-use Rattle.hex.specs.Hex.{decode_sized}
+use Rattle.hex.specs.Hex.{decode_sized, encode_lower}
 use Rattle.st_text.specs.Texts.{Text}
 use Rattle.st_auth.specs.Names.{first_bad}
 use Rattle.st_core.specs.State.{State, first_state}
+use Rattle.st_command_line.specs.declared.fault.Fault.{Fault}
+use Rattle.st_command_line.specs.declared.fault.Fault.TheVariants.{OtherStore, StoreInUse, LaterStore, NoStore, StoreDamaged}
+use Rattle.st_command_line.specs.declared.fault.Fault.TheVariants.{StoreInterrupted, StoreIo, NoMemory}
 
 -- the state that a server begins with: root has these authorizations, each of them valid, and the digest that the
 -- 64 hexadecimal digits write
@@ -13,3 +16,33 @@ pub record Opens (digits : Text) (names : List Text) (state : State Global) : Ty
   pub written : decode_sized digits 32 ≡ Ok digest
   pub good : first_bad names ≡ None
   pub is : state ≡ first_state digest names
+
+-- a name behind its length in bytes
+abbrev pub name_text : Text → Text
+name_text name = codes " " ++ (decimal (length name) ++ (codes ":" ++ name))
+
+unfoldable pub names_text : List Text → Text
+names_text [] = []
+names_text (name ∷ names) = name_text name ++ names_text names
+
+-- what a journal says that its store was opened with: root's digest in 64 lower-case hexadecimal digits, and root's authorizations
+-- in the order given
+abbrev pub opening_text : List ℕ → List Text → Text
+opening_text digest names = encode_lower digest ++ names_text names
+
+-- the state that a server begins with, and how a journal says it
+pub record OpensWith (digits : Text) (names : List Text) (state : State Global) (opening : Text) : Type 0 where
+  pub opens : Opens digits names state
+  pub opening_is : opening ≡ opening_text opens.digest names
+
+-- why the journal of a store is not opened
+abbrev pub IsOfStore : Fault → Type 0
+IsOfStore OtherStore = Unit {0}
+IsOfStore StoreInUse = Unit {0}
+IsOfStore LaterStore = Unit {0}
+IsOfStore NoStore = Unit {0}
+IsOfStore StoreDamaged = Unit {0}
+IsOfStore StoreInterrupted = Unit {0}
+IsOfStore StoreIo = Unit {0}
+IsOfStore NoMemory = Unit {0}
+IsOfStore _ = ⊥

@@ -1,8 +1,11 @@
 //! Opens the stores that a command line names, and serves one connection from such a store.
 #![tactic(auto)]
 
+mod keeper;
+mod kept;
 mod opening;
 mod run;
 
+pub use keeper::Keeper;
 pub use opening::stores_for;
 pub use run::run_words;

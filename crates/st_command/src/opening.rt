@@ -1,19 +1,20 @@
 //! The stores that a digest and names open.
-ghost use Rattle.std.specs.Prelude.{◌≡◌, ◌⊎◌, ℕ, Ok, Some, None, IfOk, IfErr, IsErr, OnOk, List, map};
+ghost use Rattle.std.specs.Prelude.{◌≡◌, ◌⊎◌, ◌++◌, ℕ, Ok, Some, None, IfOk, IfErr, IsErr, OnOk, List, map, string_bytes};
 ghost use Rattle.clap.specs.Words.{App};
 ghost use Rattle.hex.specs.Hex.{decode_sized};
 ghost use Rattle.st_text.specs.Texts.{Text};
 ghost use Rattle.st_auth.specs.Names.{first_bad};
 ghost use Rattle.st_core.specs.State.{first_state};
 ghost use Rattle.st_command_line.specs.Common.{SaysRoot, RefusesWords};
-ghost use Rattle.st_command.specs.Opening.{Opens};
+ghost use Rattle.st_command.specs.Opening.{Opens, OpensWith, name_text, opening_text};
 ghost use Rattle.st_command_line.specs.declared.fault.Fault.TheVariants.{BadDigest, BadName, NoMemory};
 
 use st_auth::AuthsFault;
 use st_command_line::Fault;
 use st_core::Store;
+use st_durable::ReplayedStore;
 use st_service::Service;
-use std::alloc::Global;
+use std::alloc::{AllocError, Global};
 
 // The bytes that 64 hexadecimal digits write.
 fn digest_of(text: &str) -> Result<[u8; 32], Fault>
@@ -65,4 +66,41 @@ pub fn stores_for(alloc: Global, digits: &str, names: &[&str]) -> Result<(Store,
     let first = store_for(alloc, digest, names)?;
     let second = store_for(alloc, digest, names)?;
     Ok((first, second))
+}
+
+// Puts a name and its length behind a text.
+fn push_name(text: &mut String, alloc: Global, name: &str) -> Result<(), AllocError>
+    ensures { OnOk result (string_bytes text.new ≡ string_bytes text.old ++ name_text name.now) }
+{
+    let length = name.len();
+    let part = format!(in alloc; " {length}:{name}")?;
+    text.push_str(part.as_str())
+}
+
+// What a journal says that its store was opened with.
+fn opening_for(alloc: Global, digest: [u8; 32], names: &[&str]) -> Result<String, AllocError>
+    ensures { IfOk result (λ text. string_bytes text ≡ opening_text digest (map (λ name. name.now) names.now)) }
+{
+    let mut text = hex::encode(alloc, digest)?;
+    for name in names {
+        push_name(&mut text, alloc, name)?;
+    }
+    Ok(text)
+}
+
+// The state that 64 hexadecimal digits and names open, to which the changes of a journal are applied, and what that journal says
+// that its store was opened with. An invalid digest is reported before an invalid name.
+pub(crate) fn replayed_for(
+    alloc: Global,
+    digits: &str,
+    names: &[&str],
+) -> Result<(ReplayedStore, String), Fault>
+    ensures ok { IfOk result (λ both. OpensWith digits.now (map (λ name. name.now) names.now) both.0 (string_bytes both.1)) }
+    ensures err { IfErr result (λ fault. (app : App) (words : List Text)
+        → SaysRoot app words digits.now (map (λ name. name.now) names.now) → RefusesWords app words fault) }
+{
+    let digest = digest_of(digits)?;
+    let opened = store_for(alloc, digest, names)?;
+    let opening = opening_for(alloc, digest, names)?;
+    Ok((ReplayedStore::new(alloc, opened), opening))
 }

@@ -1,13 +1,20 @@
 //! Serves one connection from a reader to a writer, by the arguments of a command line.
-ghost use Rattle.std.specs.Prelude.{◌≡◌, false, map, string_bytes};
-ghost use Rattle.st_command.specs.Running.{Serves, Ran};
+ghost use Rattle.std.specs.Prelude.{◌≡◌, ◌⊎◌, false, Some, None, List, map, string_bytes};
+ghost use Rattle.st_text.specs.Texts.{Text};
+ghost use Rattle.st_command.specs.Running.{Serves, IsServed, IsRefused, IsKept, Ran};
+ghost use Rattle.st_command_line.specs.RunArguments.{SaysRun, store_of};
 ghost use Rattle.st_command_line.specs.Status.{exit_status_after};
 
-use crate::opening::service_for;
+use crate::keeper::Keeper;
+use crate::kept::{Place, serve_kept};
+use crate::opening::{replayed_for, service_for};
 use st_command_line::{Fault, RunArguments, give_up};
+use st_journal::Journal;
 use st_service::{Ended, IoFault, Service, Sink, Source};
 use std::alloc::Global;
 use std::io::Write;
+use std::marker::Brand;
+use std::time::Clock;
 
 // Serves the connection.
 fn converse<R: Source, W: Sink>(
@@ -28,21 +35,72 @@ fn converse<R: Source, W: Sink>(
     }
 }
 
-// Serves the connection from the state that the arguments open.
-fn run<R: Source, W: Sink>(
+// Serves the connection from a store in memory.
+fn run_in_memory<R: Source, W: Sink>(
     alloc: Global,
+    said: &RunArguments<'_>,
+    reader: &mut R,
+    writer: &mut W,
+) -> Result<(), Fault>
+    requires in_memory { store_of said.now ≡ None }
+    requires reader_sound { R.has_failed reader.old ≡ false }
+    requires writer_sound { W.has_failed writer.old ≡ false }
+    ensures { (words : List Text) → SaysRun words said.now
+        → IsServed words (R.left reader.old) (R.left reader.new) (W.held writer.old) (W.held writer.new)
+        (R.has_failed reader.new) (exit_status_after result)
+        ⊎ IsRefused words (R.left reader.old) (R.left reader.new) (W.held writer.old) (W.held writer.new)
+        (R.has_failed reader.new) (exit_status_after result) }
+{
+    let mut service = service_for(alloc, said.digest, &said.names)?;
+    converse(&mut service, reader, writer)
+}
+
+// Serves the connection from the store at a path.
+fn run_kept<J: Journal + Drop, K: Keeper<J> + Drop, C: Clock, R: Source, W: Sink>(
+    clock: &C,
+    alloc: Global,
+    keeper: K,
+    said: &RunArguments<'_>,
+    path: &str,
+    reader: &mut R,
+    writer: &mut W,
+) -> Result<(), Fault>
+    requires named { store_of said.now ≡ Some path.now }
+    requires reader_sound { R.has_failed reader.old ≡ false }
+    requires writer_sound { W.has_failed writer.old ≡ false }
+    ensures { (words : List Text) → SaysRun words said.now
+        → IsRefused words (R.left reader.old) (R.left reader.new) (W.held writer.old) (W.held writer.new)
+        (R.has_failed reader.new) (exit_status_after result)
+        ⊎ IsKept (K.holds keeper) J.list J.misreads J.may_leave words (R.left reader.old) (R.left reader.new)
+        (W.held writer.old) (W.held writer.new) (R.has_failed reader.new) (exit_status_after result) }
+{
+    let (state, opening) = replayed_for(alloc, said.digest, &said.names)?;
+    let place = Place { path, opening };
+    serve_kept::<Brand, J, K, C, R, W>(clock, alloc, keeper, &place, state, reader, writer)
+}
+
+// Serves the connection from the state that the arguments open.
+fn run<J: Journal + Drop, K: Keeper<J> + Drop, C: Clock, R: Source, W: Sink>(
+    clock: &C,
+    alloc: Global,
+    keeper: K,
     words: &[String],
     reader: &mut R,
     writer: &mut W,
 ) -> Result<(), Fault>
     requires reader_sound { R.has_failed reader.old ≡ false }
     requires writer_sound { W.has_failed writer.old ≡ false }
-    ensures { Ran (map string_bytes words.now) (R.left reader.old) (R.left reader.new) (W.held writer.old) (W.held writer.new)
-        (R.has_failed reader.new) (exit_status_after result) }
+    ensures { Ran (K.holds keeper) J.list J.misreads J.may_leave (map string_bytes words.now) (R.left reader.old)
+        (R.left reader.new) (W.held writer.old) (W.held writer.new) (R.has_failed reader.new) (exit_status_after result) }
 {
     let said = RunArguments::read(alloc, words)?;
-    let mut service = service_for(alloc, said.digest, &said.names)?;
-    converse(&mut service, reader, writer)
+    match said.store {
+        Some(path) => run_kept(clock, alloc, keeper, &said, path, reader, writer),
+        None => {
+            drop(keeper);
+            run_in_memory(alloc, &said, reader, writer)
+        }
+    }
 }
 
 /// Opens the store that the arguments name (the program's own name is the first word), serves one
@@ -50,9 +108,14 @@ fn run<R: Source, W: Sink>(
 /// between messages or a reply closed the connection; 2 for invalid arguments, a digest that is not
 /// 64 hexadecimal digits, or an invalid authorization; 3 if the input ended inside a message; 4
 /// after a million reads; 5 if a read or a write failed; 6 if memory ran out. For each but 0 it
-/// writes a message to `faults`.
-pub fn run_words<R: Source, W: Sink, F: Write>(
+/// writes a message to `faults`. Where the arguments name no store, it is in memory. Where they name
+/// one, the keeper opens its journal before anything is read: 5 and 8 to 13 say why it does not
+/// (`Fault`), and then nothing is read or written. Each change is kept before it is answered, and 7
+/// says that one was not, or may not have been.
+pub fn run_words<J: Journal + Drop, K: Keeper<J> + Drop, C: Clock, R: Source, W: Sink, F: Write>(
+    clock: &C,
     alloc: Global,
+    keeper: K,
     words: &[String],
     reader: &mut R,
     writer: &mut W,
@@ -60,10 +123,10 @@ pub fn run_words<R: Source, W: Sink, F: Write>(
 ) -> u8
     requires reader_sound { R.has_failed reader.old ≡ false }
     requires writer_sound { W.has_failed writer.old ≡ false }
-    ensures { Ran (map string_bytes words.now) (R.left reader.old) (R.left reader.new) (W.held writer.old) (W.held writer.new)
-        (R.has_failed reader.new) result }
+    ensures { Ran (K.holds keeper) J.list J.misreads J.may_leave (map string_bytes words.now) (R.left reader.old)
+        (R.left reader.new) (W.held writer.old) (W.held writer.new) (R.has_failed reader.new) result }
 {
-    match run(alloc, words, reader, writer) {
+    match run(clock, alloc, keeper, words, reader, writer) {
         Ok(()) => 0,
         Err(fault) => give_up("st_run", fault, faults),
     }

@@ -1,10 +1,30 @@
--- The command line `st_run --root DIGEST [NAME]...`.
-use Rattle.std.specs.Prelude.{List, [], ◌∷◌, codes}
-use Rattle.clap.specs.Words.{App, Rule, new_app}
-use Rattle.st_command_line.specs.Common.{root_option, name_operand, with_rules, with_version}
+-- The command line `st_run --root DIGEST [--store FILE] [NAME]...`, and what its words say.
+use Rattle.std.specs.Prelude.{◌≡◌, List, [], ◌∷◌, Option, Some, codes, map, option_map}
+use Rattle.clap.specs.Words.{App, Rule, first_of, matches_of, new_app, new_rule}
+use Rattle.clap.specs.declared.builder.action.ArgAction.TheVariants.{Set}
+use Rattle.st_text.specs.Texts.{Text}
+use Rattle.st_command_line.specs.declared.run_arguments.RunArguments.{RunArguments}
+use Rattle.st_command_line.specs.Common.{SaysRoot, root_option, name_operand, with_rules, with_version}
+
+-- the option `--store FILE`
+abbrev pub store_option : Rule
+store_option = record (new_rule (codes "store")) {
+  long = Some (codes "store");
+  value_names = 1;
+  action = Some Set;
+}
 
 abbrev pub run_rules : List Rule
-run_rules = root_option ∷ name_operand ∷ []
+run_rules = root_option ∷ store_option ∷ name_operand ∷ []
 
 abbrev pub run_command : App
 run_command = with_rules (with_version (new_app (codes "st_run"))) run_rules
+
+-- the path of the store, where the words name one
+abbrev pub store_of : RunArguments → Option Text
+store_of said = option_map (λ path. path.now) said.store
+
+-- the words are such a command line, and say this
+pub record SaysRun (words : List Text) (said : RunArguments) : Type 0 where
+  pub root : SaysRoot run_command words said.digest.now (map (λ name. name.now) said.names.items)
+  pub store_is : first_of (codes "store") (matches_of run_command words) ≡ store_of said

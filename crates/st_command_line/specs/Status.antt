@@ -6,6 +6,8 @@ use Rattle.clap.specs.declared.error.kind.ErrorKind.TheVariants.{OutOfMemory}
 use Rattle.st_command_line.specs.declared.fault.Fault.{Fault}
 use Rattle.st_command_line.specs.declared.fault.Fault.TheVariants.{Usage, NotText, BadNumber, BadAddress, BadDigest, BadName, Cut}
 use Rattle.st_command_line.specs.declared.fault.Fault.TheVariants.{TurnsSpent, Io, Bind, Accept, Write, NoMemory, NoPlace, NoThread}
+use Rattle.st_command_line.specs.declared.fault.Fault.TheVariants.{OtherStore, StoreInUse, LaterStore, NoStore, StoreDamaged}
+use Rattle.st_command_line.specs.declared.fault.Fault.TheVariants.{StoreInterrupted, StoreIo, StoreLost}
 
 abbrev pub exit_status_of : Fault → ℕ
 exit_status_of (Usage error) = 2
@@ -23,6 +25,14 @@ exit_status_of Write = 5
 exit_status_of NoMemory = 6
 exit_status_of NoPlace = 6
 exit_status_of NoThread = 6
+exit_status_of StoreIo = 5
+exit_status_of StoreLost = 7
+exit_status_of OtherStore = 8
+exit_status_of StoreInUse = 9
+exit_status_of LaterStore = 10
+exit_status_of NoStore = 11
+exit_status_of StoreDamaged = 12
+exit_status_of StoreInterrupted = 13
 
 -- the exit status after a run
 abbrev pub exit_status_after : Result Unit Fault → ℕ

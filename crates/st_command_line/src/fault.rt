@@ -34,6 +34,30 @@ pub enum Fault {
     /// The connection took a million reads.
     #[error("turns spent")]
     TurnsSpent,
+    /// The store was made for another digest or other authorizations of root.
+    #[error("store of another root")]
+    OtherStore,
+    /// Another process holds the store.
+    #[error("store in use")]
+    StoreInUse,
+    /// A later version of the program wrote the store.
+    #[error("store of a later format")]
+    LaterStore,
+    /// The file is no store.
+    #[error("no store")]
+    NoStore,
+    /// The file is a store, but it is damaged.
+    #[error("store damaged")]
+    StoreDamaged,
+    /// Another program was interrupted inside a transaction on the store; `sqlite3` undoes that when it opens the file.
+    #[error("store interrupted")]
+    StoreInterrupted,
+    /// The store could not be read or written when it was opened.
+    #[error("store not opened")]
+    StoreIo,
+    /// A change was not kept, or may not have been, or could not be made once it was kept.
+    #[error("store lost")]
+    StoreLost,
     /// A read or a write of the connection failed.
     #[error("read or write failed")]
     Io,
@@ -58,7 +82,7 @@ pub enum Fault {
 }
 
 impl Fault {
-    /// The exit status: 2, 3, 4, 5 or 6.
+    /// The exit status: 2 to 13.
     pub fn status(&self) -> u8
         ensures { result ≡ exit_status_of self.now }
     {
@@ -71,8 +95,15 @@ impl Fault {
             | Fault::BadName => 2,
             Fault::Cut => 3,
             Fault::TurnsSpent => 4,
-            Fault::Io | Fault::Bind | Fault::Accept | Fault::Write => 5,
+            Fault::Io | Fault::Bind | Fault::Accept | Fault::Write | Fault::StoreIo => 5,
             Fault::NoMemory | Fault::NoPlace | Fault::NoThread => 6,
+            Fault::StoreLost => 7,
+            Fault::OtherStore => 8,
+            Fault::StoreInUse => 9,
+            Fault::LaterStore => 10,
+            Fault::NoStore => 11,
+            Fault::StoreDamaged => 12,
+            Fault::StoreInterrupted => 13,
         }
     }
 }

@@ -1,13 +1,14 @@
-//! The command line `st_run --root DIGEST [NAME]...`.
-ghost use Rattle.std.specs.Prelude.{IfOk, IfErr, IsSome, codes, map, string_bytes};
-ghost use Rattle.clap.specs.Words.{first_value, found_of};
-ghost use Rattle.st_command_line.specs.Common.{IsParsed, SaysRoot, RefusesWords};
-ghost use Rattle.st_command_line.specs.RunArguments.{run_command};
+//! The command line `st_run --root DIGEST [--store FILE] [NAME]...`.
+ghost use Rattle.std.specs.Prelude.{◌≡◌, IfOk, IfErr, IsSome, codes, map, string_bytes};
+ghost use Rattle.clap.specs.Built.{FitsChain};
+ghost use Rattle.clap.specs.Words.{first_value, found_of, rule_of};
+ghost use Rattle.st_command_line.specs.Common.{IsParsed, RefusesWords};
+ghost use Rattle.st_command_line.specs.RunArguments.{run_command, store_option, SaysRun};
 ghost use Rattle.st_command_line.specs.inner.Commands.{Builds};
 
 use crate::common::{named, names, parse_by, root};
 use crate::fault::Fault;
-use clap::{ArgMatches, Command};
+use clap::{Arg, ArgAction, ArgMatches, Command};
 use std::alloc::{AllocError, Global};
 
 /// The arguments of `st_run`.
@@ -15,15 +16,32 @@ use std::alloc::{AllocError, Global};
 pub struct RunArguments<'a> {
     /// The SHA-256 of root's secret in 64 hexadecimal digits; not checked here.
     pub digest: &'a str,
+    /// The path of the file that keeps the store; without it the store is in memory alone.
+    pub store: Option<&'a str>,
     /// Root's authorizations; not checked here.
     pub names: Vec<&'a str>,
+}
+
+// The option `--store FILE`.
+fn store<'a>(alloc: Global) -> Arg<'a>
+    ensures id { result.id.now ≡ codes "store" }
+    ensures rule { rule_of result ≡ store_option }
+    ensures fits { FitsChain result }
+{
+    Arg::new(alloc, "store")
+        .long("store")
+        .value_name("FILE")
+        .action(ArgAction::Set)
 }
 
 // The command.
 fn command<'a>(alloc: Global) -> Result<Command<'a>, AllocError>
     ensures { IfOk result (Builds run_command) }
 {
-    let command = named(alloc, "st_run").arg(root(alloc))?.arg(names(alloc))?;
+    let command = named(alloc, "st_run")
+        .arg(root(alloc))?
+        .arg(store(alloc))?
+        .arg(names(alloc))?;
     Ok(command)
 }
 
@@ -39,17 +57,18 @@ pub fn parse<'a>(alloc: Global, words: &'a [String]) -> Result<ArgMatches<'a>, F
 impl<'a> RunArguments<'a> {
     /// Parses a command line, whose first word is the program's own name.
     pub fn read(alloc: Global, words: &'a [String]) -> Result<RunArguments<'a>, Fault>
-        ensures ok { IfOk result (λ said. SaysRoot run_command (map string_bytes words.now) said.digest.now
-            (map (λ name. name.now) said.names.items)) }
+        ensures ok { IfOk result (SaysRun (map string_bytes words.now)) }
         ensures err { IfErr result (λ fault. RefusesWords run_command (map string_bytes words.now) fault) }
     {
         let matches = parse(alloc, words)?;
         let Some(digest) = matches.get_str("root") else {
             unreachable!()
         };
+        let store = matches.get_str("store");
         let names = matches.get_strs("NAME").unwrap_or(&[]);
         Ok(RunArguments {
             digest,
+            store,
             names: Vec::from_slice(alloc, names)?,
         })
     }

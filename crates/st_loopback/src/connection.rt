@@ -1,7 +1,8 @@
 //! One connection, and what lets reads pass.
-ghost use Rattle.std.specs.Prelude.{◌≡◌, ◌≤◌, false};
+ghost use Rattle.std.specs.Prelude.{◌≡◌, ◌≢◌, ◌≤◌, ◌⊎◌, Bool, true, false, Ok};
 ghost use mathlib.Core.List.{IsPrefix};
 ghost use Rattle.st_connection.specs.Connection.{EndsOn, Served};
+ghost use Rattle.st_connection.specs.declared.connection.Ended.TheVariants.{Clean, Cut};
 ghost use Rattle.st_station.specs.Posts.{Answers};
 
 use st_connection::connection::{Ended, IoFault, MAX_READS};
@@ -38,8 +39,12 @@ impl Gate for Open {
 
 /// Where the server says that it has ended a connection.
 pub trait Hangup {
+    // It was said that no more comes.
+    ghost is_over: { Self → Bool };
+
     /// Says that no more comes.
-    fn hang_up(&self);
+    fn hang_up(&mut self)
+        ensures { is_over self.new ≡ true };
 }
 
 // A connection from the server's side, and the clock by which it is parted from.
@@ -47,11 +52,15 @@ pub trait Hangup {
 struct Parting<'a, R> {
     stream: &'a TcpStream,
     clock: &'a R,
+    is_over: bool,
 }
 
 impl<R: Clock> Hangup for Parting<'_, R> {
-    fn hang_up(&self) {
+    ghost is_over = { λ p. p.is_over };
+
+    fn hang_up(&mut self) {
         part(self.clock, self.stream);
+        self.is_over = true;
     }
 }
 
@@ -60,7 +69,7 @@ pub fn answer_stream<H: HallName, C: Wait + Drop, W: Wait, R: Source, S: Sink, E
     station: &mut Station<'_, H, C, Open, W>,
     reader: &mut R,
     writer: &mut S,
-    stream: &E,
+    stream: &mut E,
 ) -> Result<Ended, IoFault>
     requires reader_sound { R.has_failed reader.old ≡ false }
     requires writer_sound { S.has_failed writer.old ≡ false }
@@ -68,6 +77,8 @@ pub fn answer_stream<H: HallName, C: Wait + Drop, W: Wait, R: Source, S: Sink, E
         (S.held writer.old) (S.held writer.new) (R.has_failed reader.new) result }
     ensures ends { EndsOn MAX_READS (R.left reader.new) (R.reads reader.old) (R.reads reader.new)
         (R.has_ended reader.new) (R.has_failed reader.new) (S.has_failed writer.new) result }
+    ensures told { result ≢ Ok Clean → result ≢ Ok Cut → E.is_over stream.new ≡ true }
+    ensures untold { (result ≡ Ok Clean) ⊎ (result ≡ Ok Cut) → stream.new ≡ stream.old }
 {
     let ended = work(station, reader, writer);
     if !matches!(ended, Ok(Ended::Clean | Ended::Cut)) {
@@ -93,9 +104,10 @@ pub fn converse<H: HallName, C: Wait + Drop, W: Wait, R: Clock>(
         return;
     };
     let mut writer = FromWrite::new(outgoing);
-    let parting = Parting {
+    let mut parting = Parting {
         stream: &stream,
         clock: rt,
+        is_over: false,
     };
-    let _ended = answer_stream(station, &mut reader, &mut writer, &parting);
+    let _ended = answer_stream(station, &mut reader, &mut writer, &mut parting);
 }

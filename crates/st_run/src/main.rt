@@ -1,6 +1,10 @@
-//! `st_run --root DIGEST [NAME]...` serves standard input to standard output, as one connection.
+//! `st_run --root DIGEST [--store FILE] [NAME]...` serves standard input to standard output, as one connection.
 #![tactic(auto)]
 
+mod sqlite;
+
+use sqlite::SqliteKeeper;
+use sqlite_std_file::Unknown;
 use st_command::run_words;
 use st_command_line::{give_up, show_run, words_of};
 use st_connection::{FromRead, FromWrite};
@@ -13,7 +17,21 @@ fn main(rt: HostRuntime) -> ExitCode {
     let status = match words_of(&rt) {
         Ok(words) => match show_run(rt.alloc(), &words, &mut rt.stdout()) {
             Ok(true) => 0,
-            Ok(false) => run_words(rt.alloc(), &words, &mut reader, &mut writer, &mut faults),
+            Ok(false) => {
+                let keeper = SqliteKeeper {
+                    runtime: &rt,
+                    start: Unknown,
+                };
+                run_words(
+                    &rt,
+                    rt.alloc(),
+                    keeper,
+                    &words,
+                    &mut reader,
+                    &mut writer,
+                    &mut faults,
+                )
+            }
             Err(fault) => give_up("st_run", fault, &mut faults),
         },
         Err(fault) => give_up("st_run", fault, &mut faults),

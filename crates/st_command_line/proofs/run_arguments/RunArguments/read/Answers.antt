@@ -10,7 +10,10 @@ returns-clause-ok c =
     let found = found_of c.in_ok-matches.matches in
     let parsed = c.in_ok-matches.ensures.ok in
     record {
-      whole = parsed.whole;
-      digits_are = sym (ap (first_of (codes "root")) parsed.rows_are) ∙ (sym (first_value-rows found (codes "root")) ∙ (sym c.get_str.ensures ∙ ap (option_map (λ s. s.now)) c.in-Some.is));
-      names_are = ap (λ rows. unwrap_or (all_of (codes "NAME") rows) []) (sym parsed.rows_are) ∙ (ap (λ o. unwrap_or o []) (sym (raw_values-rows found (codes "NAME"))) ∙ (names_given _ c.get_strs.result _ c.unwrap_or-names.result c.get_strs.ensures c.unwrap_or-names.ensures refl ∙ ap (map (λ name. name.now)) (sym c.in_ok-from_slice.ensures.items)));
+      root = record {
+        whole = parsed.whole;
+        digits_are = sym (ap (first_of (codes "root")) parsed.rows_are) ∙ (sym (first_value-rows found (codes "root")) ∙ (sym c.get_str.ensures ∙ ap (option_map (λ s. s.now)) c.in-Some.is));
+        names_are = ap (λ rows. unwrap_or (all_of (codes "NAME") rows) []) (sym parsed.rows_are) ∙ (ap (λ o. unwrap_or o []) (sym (raw_values-rows found (codes "NAME"))) ∙ (names_given _ c.get_strs.result _ c.unwrap_or-names.result c.get_strs.ensures c.unwrap_or-names.ensures refl ∙ ap (map (λ name. name.now)) (sym c.in_ok-from_slice.ensures.items)));
+      };
+      store_is = ap (first_of (codes "store")) (sym parsed.rows_are) ∙ (sym (first_value-rows found (codes "store")) ∙ sym c.get_str-store.ensures);
     }

@@ -1,0 +1,72 @@
+//! Serves one connection from a store that a journal keeps.
+ghost use Rattle.std.specs.Prelude.{◌≡◌, false, string_bytes};
+ghost use Rattle.st_durable.specs.Keeping.{answered};
+ghost use Rattle.st_command_line.specs.Status.{exit_status_after};
+ghost use Rattle.st_command.specs.Kept.{ServesKept, EndsKept};
+
+use crate::keeper::Keeper;
+use st_command_line::Fault;
+use st_durable::{Beginning, DurableService, ReplayedStore};
+use st_journal::Journal;
+use st_service::{Ended, IoFault, Sink, Source};
+use std::alloc::Global;
+use std::time::Clock;
+
+// Where a store is kept, and what it is opened with.
+#[derive(Drop)]
+pub(crate) struct Place<'a> {
+    pub(crate) path: &'a str,
+    pub(crate) opening: String,
+}
+
+// Serves the connection.
+fn converse_kept<B: Beginning, J: Journal + Drop, C: Clock, R: Source, W: Sink>(
+    service: &mut DurableService<'_, B, J, C>,
+    reader: &mut R,
+    writer: &mut W,
+) -> Result<(), Fault>
+    requires settled { service.old.kept ≡ answered service.old }
+    requires sound { service.old.failed ≡ false }
+    requires reader_sound { R.has_failed reader.old ≡ false }
+    requires writer_sound { W.has_failed writer.old ≡ false }
+    ensures { ServesKept J.list J.misreads J.may_leave B.first service.old.kept (R.left reader.old) (R.left reader.new)
+        (W.held writer.old) (W.held writer.new) (R.has_failed reader.new) (exit_status_after result) }
+{
+    match service.serve(reader, writer) {
+        Ok(Ended::Clean | Ended::Closed) => Ok(()),
+        Ok(Ended::Cut) => Err(Fault::Cut),
+        Ok(Ended::TurnsSpent) => Err(Fault::TurnsSpent),
+        Ok(Ended::Lost) => Err(Fault::StoreLost),
+        Err(IoFault { .. }) => Err(Fault::Io),
+    }
+}
+
+// Opens the journal over the state that its changes lead on from, and serves the connection.
+pub(crate) fn serve_kept<
+    B: Beginning,
+    J: Journal + Drop,
+    K: Keeper<J>,
+    C: Clock,
+    R: Source,
+    W: Sink,
+>(
+    clock: &C,
+    alloc: Global,
+    keeper: K,
+    place: &Place<'_>,
+    mut state: ReplayedStore,
+    reader: &mut R,
+    writer: &mut W,
+) -> Result<(), Fault>
+    requires first { state ≡ B.first }
+    requires reader_sound { R.has_failed reader.old ≡ false }
+    requires writer_sound { W.has_failed writer.old ≡ false }
+    ensures { EndsKept (K.holds keeper) J.list J.misreads J.may_leave (string_bytes place.now.opening) B.first
+        (R.left reader.old) (R.left reader.new) (W.held writer.old) (W.held writer.new) (R.has_failed reader.new)
+        (exit_status_after result) }
+{
+    let journal = keeper.open(place.path, place.opening.as_str(), &mut state)?;
+    let store = state.into_store();
+    let mut service = DurableService::<B, J, C>::new(alloc, clock, store, journal)?;
+    converse_kept(&mut service, reader, writer)
+}

@@ -1,0 +1,284 @@
+"""The built `st_run` with `--store FILE`: what it keeps, what a kill takes back, and which files it refuses."""
+import json
+import re
+import sqlite3
+import subprocess
+from collections.abc import Iterator
+from contextlib import closing, contextmanager
+from pathlib import Path
+from typing import IO
+
+import pytest
+
+from served import TOP, digest, token
+from test_command_lines import RUN, ran
+
+BOX = [0, 2097151, 0, 2097151, 0, 19818086399]
+AUTHS = ["A", "B"]
+
+
+def request(method: str, path: str, body: object = None, user: str = "root") -> bytes:
+    text = b"" if body is None else json.dumps(body).encode()
+    head = f"{method} {path} HTTP/1.1\r\nHost: a\r\nAuthorization: Bearer {token(user)}\r\nContent-Length: {len(text)}\r\n\r\n"
+    return head.encode() + text
+
+
+def put(name: str, table: str = "points") -> bytes:
+    return request("POST", f"/tables/{table}/put", {"id": name, "label": "A", "note": f"note of {name}", "point": [1, 2, 3]})
+
+
+class Ended(Exception):
+    """The program ended before it answered."""
+
+
+def answer(stream: IO[bytes]) -> tuple[int, dict[str, object]]:
+    """The status and the body of the next answer."""
+    head = {}
+    first = stream.readline()
+    while (line := stream.readline()) not in (b"\r\n", b""):
+        name, _, value = line.decode().partition(":")
+        head[name.lower()] = value.strip()
+    body = stream.read(int(head.get("content-length", "0")))
+    if not body:
+        raise Ended
+    return int(first.split()[1]), json.loads(body)
+
+
+class Run:
+    """A program that serves one connection."""
+
+    def __init__(self, process: "subprocess.Popen[bytes]") -> None:
+        assert process.stdin is not None and process.stdout is not None and process.stderr is not None
+        self.process = process
+        self.stdin: IO[bytes] = process.stdin
+        self.stdout: IO[bytes] = process.stdout
+        self.stderr: IO[bytes] = process.stderr
+
+    def ask(self, asked: bytes) -> tuple[int, dict[str, object]]:
+        self.stdin.write(asked)
+        self.stdin.flush()
+        return answer(self.stdout)
+
+    def rows(self) -> dict[str, str]:
+        """The notes of all rows by their ids."""
+        status, told = self.ask(request("POST", "/tables/points/scan", {"auths": ["A"], "box": BOX, "limit": 100}))
+        assert status == 200 and told["next"] is None
+        rows = told["rows"]
+        assert isinstance(rows, list)
+        return {row["id"]: row["note"] for row in rows}
+
+    def end(self) -> tuple[int, bytes, bytes]:
+        """Ends the input: the status, and the rest of both streams."""
+        self.stdin.close()
+        rest, faults = self.stdout.read(), self.stderr.read()
+        return self.process.wait(10), rest, faults
+
+
+@contextmanager
+def opened(file: Path, root: str = "root", auths: list[str] | None = None) -> Iterator[Run]:
+    words = [str(RUN), "--root", digest(root), "--store", str(file), *(AUTHS if auths is None else auths)]
+    with subprocess.Popen(words, stdin=subprocess.PIPE, stdout=subprocess.PIPE, stderr=subprocess.PIPE) as process:
+        try:
+            yield Run(process)
+        finally:
+            process.kill()
+
+
+def refused(file: Path, *words: str) -> tuple[int, str, str]:
+    """What a run with this store ends with; root and the authorizations are the usual ones unless words are given."""
+    return ran(RUN, "--store", str(file), *(words or ("--root", digest("root"), *AUTHS)))
+
+
+def files_of(file: Path) -> dict[str, bytes]:
+    """The files of a store by their names."""
+    return {path.name: path.read_bytes() for path in file.parent.glob(file.name + "*")}
+
+
+def asked(file: Path, query: str) -> list[tuple[object, ...]]:
+    """What SQLite itself answers. The connection is closed, since an open one holds the file."""
+    with closing(sqlite3.connect(file)) as base, base:
+        return base.execute(query).fetchall()
+
+
+def is_whole(file: Path) -> bool:
+    return asked(file, "pragma integrity_check") == [("ok",)]
+
+
+@pytest.fixture
+def store(tmp_path: Path) -> Path:
+    """A store with one row, which no process holds."""
+    file = tmp_path / "points.db"
+    with opened(file) as run:
+        assert run.ask(put("first")) == (200, {"ok": True})
+        assert run.end() == (0, b"", b"")
+    return file
+
+
+def test_rows_are_there_after_a_restart(store: Path) -> None:
+    with opened(store) as run:
+        assert run.rows() == {"first": "note of first"}
+        assert run.ask(put("second"))[0] == 200
+        assert run.end() == (0, b"", b"")
+    with opened(store) as run:
+        assert run.rows() == {"first": "note of first", "second": "note of second"}
+        status, told = run.ask(request("GET", "/audit"))
+        entries = told["entries"]
+        assert status == 200 and isinstance(entries, list) and [entry["request"] for entry in entries] == ["put", "put"]
+        assert run.end()[0] == 0
+    assert is_whole(store)
+
+
+def test_users_tables_and_refusals_are_there_after_a_restart(store: Path) -> None:
+    with opened(store) as run:
+        assert run.ask(request("POST", "/users", {"auths": ["A"], "digest": digest("ann"), "user": "ann"}))[0] == 200
+        assert run.ask(put("row", "nothere"))[0] == 404
+        assert run.end()[0] == 0
+    with opened(store) as run:
+        status, told = run.ask(request("GET", "/whoami", user="ann"))
+        assert (status, told["user"], told["auths"]) == (200, "ann", ["A"])
+        status, told = run.ask(request("GET", "/audit"))
+        entries = told["entries"]
+        assert isinstance(entries, list) and [entry["result"] == 0 for entry in entries] == [True, True, False]
+
+
+def test_a_change_that_was_answered_outlasts_a_kill(store: Path) -> None:
+    kept = {"first": "note of first"}
+    for turn in range(20):
+        with opened(store) as run:
+            assert run.rows() == kept
+            for number in range(turn):
+                name = f"{turn}.{number}"
+                assert run.ask(put(name))[0] == 200
+                kept[name] = f"note of {name}"
+            run.process.kill()
+            run.process.wait(10)
+        if len(kept) > 80:
+            break
+    with opened(store) as run:
+        assert run.rows() == kept
+        assert run.end()[0] == 0
+    assert is_whole(store)
+
+
+def test_a_change_that_was_sent_before_a_kill_is_there_whole_or_not_at_all(store: Path) -> None:
+    """Changes are sent without waiting for answers, and the program is killed after the tenth answer."""
+    names = [f"r{number}" for number in range(80)]
+    with opened(store) as run:
+        run.stdin.write(b"".join(put(name) for name in names))
+        run.stdin.flush()
+        for _ in range(10):
+            assert answer(run.stdout)[0] == 200
+        run.process.kill()
+        answered = 10
+        try:
+            while answer(run.stdout)[0] == 200:
+                answered += 1
+        except (Ended, IndexError):
+            pass
+    with opened(store) as run:
+        rows = run.rows()
+        assert run.end()[0] == 0
+    del rows["first"]
+    assert answered <= len(rows) <= len(names)
+    assert list(sorted(rows)) == sorted(names[:len(rows)])
+
+
+def test_without_a_store_no_file_is_written(tmp_path: Path) -> None:
+    words = [str(RUN.resolve()), "--root", digest("root"), *AUTHS]
+    it = subprocess.run(words, input=put("first"), capture_output=True, timeout=10, cwd=tmp_path)
+    assert it.returncode == 0 and it.stdout.startswith(b"HTTP/1.1 200 OK\r\n")
+    assert not list(tmp_path.iterdir())
+
+
+def test_the_file_has_the_digest_and_no_secret(store: Path) -> None:
+    secret = token("root").split(".")[1].encode()
+    for text in files_of(store).values():
+        assert secret not in text and bytes.fromhex(secret.decode()) not in text
+    rows = asked(store, "select number, user, request, name, body, result from changes order by number")
+    assert rows[0] == (0, "", "open", "", f"{digest('root')} 1:A 1:B", "")
+    assert [row[:4] for row in rows[1:]] == [(1, "root", "put", "points")]
+    assert json.loads(str(rows[1][4]))["id"] == "first" and json.loads(str(rows[1][5])) == {"ok": True}
+
+
+@pytest.mark.parametrize("words", [
+    ("--root", digest("other"), "A", "B"), ("--root", digest("root"), "A"), ("--root", digest("root"), "A", "B", "C"),
+    ("--root", digest("root"), "B", "A"), ("--root", digest("root"), "AB"), ("--root", digest("root"))])
+def test_a_store_of_another_root_is_refused(store: Path, words: tuple[str, ...]) -> None:
+    before = files_of(store)
+    assert refused(store, *words) == (8, "", "st_run: store of another root\n")
+    assert files_of(store) == before
+
+
+def test_the_digest_is_the_same_in_capitals(store: Path) -> None:
+    assert refused(store, "--root", digest("root").upper(), *AUTHS) == (0, "", "")
+
+
+def test_a_store_that_another_process_holds_is_refused(store: Path) -> None:
+    with opened(store) as run:
+        assert run.rows() == {"first": "note of first"}
+        assert refused(store) == (9, "", "st_run: store in use\n")
+        assert run.ask(put("second"))[0] == 200
+        assert run.end()[0] == 0
+
+
+def test_a_store_of_a_later_format_is_refused(store: Path) -> None:
+    asked(store, "pragma user_version = 1000000")
+    before = store.read_bytes()
+    assert refused(store) == (10, "", "st_run: store of a later format\n")
+    assert store.read_bytes() == before and is_whole(store)
+
+
+def test_what_is_no_store_is_refused(tmp_path: Path) -> None:
+    text = tmp_path / "text"
+    text.write_text("No store, but a text that is longer than the header of a SQLite file, as it happens.\n" * 100)
+    other = tmp_path / "other.db"
+    asked(other, "create table points (name text)")
+    asked(other, "insert into points values ('first')")
+    for file in (text, other):
+        before = file.read_bytes()
+        assert refused(file) == (11, "", "st_run: no store\n")
+        assert file.read_bytes() == before
+
+
+@pytest.mark.parametrize("damage", [
+    "delete from changes where number = 1", "update changes set body = '{' where number = 2", "delete from changes where number = 0",
+    "update changes set user = 'nobody' where number = 2", "update changes set request = 'scan' where number = 2"])
+def test_a_damaged_store_is_refused(store: Path, damage: str) -> None:
+    with opened(store) as run:
+        assert run.ask(put("second"))[0] == 200
+        assert run.end()[0] == 0
+    asked(store, damage)
+    before = store.read_bytes()
+    assert refused(store) == (12, "", "st_run: store damaged\n")
+    assert store.read_bytes() == before and is_whole(store)
+
+
+def test_the_queries_of_the_manual(store: Path) -> None:
+    """The queries of docs/OPERATIONS.md run over a store that has each kind of change that they ask for."""
+    grant = {"permission": "READ", "user": "ann"}
+    with opened(store) as run:
+        for change in (request("POST", "/users", {"auths": ["A"], "digest": digest("ann"), "user": "ann"}), put("second"),
+                       request("POST", "/tables/points/grant", grant), request("POST", "/tables", {"table": "old"}),
+                       request("DELETE", "/tables/old"), put("row", "nothere")):
+            run.ask(change)
+        assert run.end()[0] == 0
+    queries = re.findall(r"^\|.*\| `(SELECT .*;)` \|$", (TOP / "docs/OPERATIONS.md").read_text(), re.M)
+    told = [asked(store, query) for query in queries]
+    assert [len(rows) for rows in told] == [2, 7, 1, 1, 1]
+    assert [row[4] for row in told[0]] == ["first", "second"]
+    assert told[2] == [("root", "put", "nothere", "table", 1)]
+    assert told[3][0][1:6] == ("root", "grant-table", "points", "ann", "READ")
+
+
+def test_a_store_that_cannot_be_opened_is_refused(tmp_path: Path) -> None:
+    assert refused(tmp_path / "nowhere" / "points.db") == (5, "", "st_run: store not opened\n")
+    assert refused(tmp_path) == (5, "", "st_run: store not opened\n")
+    assert refused(tmp_path / "points.db", "--root", "66") == (2, "", "st_run: bad digest\n")
+    assert not (tmp_path / "points.db").exists()
+
+
+def test_every_option_of_the_program_is_in_its_help_and_in_its_manual_page() -> None:
+    told = ran(RUN, "--help")[1]
+    page = (TOP / "packaging/man/st_run.1").read_text().replace("\\-", "-")
+    for option in ("--root", "--store", "--help", "--version"):
+        assert option in told and option in page
