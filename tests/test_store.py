@@ -1,103 +1,33 @@
 """The built `st_run` with `--store FILE`: what it keeps, what a kill takes back, and which files it refuses."""
 import json
 import re
-import sqlite3
 import subprocess
-from collections.abc import Iterator
-from contextlib import closing, contextmanager
 from pathlib import Path
-from typing import IO
 
 import pytest
 
 from served import TOP, digest, token
-from test_command_lines import RUN, ran
-
-BOX = [0, 2097151, 0, 2097151, 0, 19818086399]
-AUTHS = ["A", "B"]
-
-
-def request(method: str, path: str, body: object = None, user: str = "root") -> bytes:
-    text = b"" if body is None else json.dumps(body).encode()
-    head = f"{method} {path} HTTP/1.1\r\nHost: a\r\nAuthorization: Bearer {token(user)}\r\nContent-Length: {len(text)}\r\n\r\n"
-    return head.encode() + text
+from stored import AUTHS, PATIENCE, RUN, Ended, answer, asked, opened, request
 
 
 def put(name: str, table: str = "points") -> bytes:
     return request("POST", f"/tables/{table}/put", {"id": name, "label": "A", "note": f"note of {name}", "point": [1, 2, 3]})
 
 
-class Ended(Exception):
-    """The program ended before it answered."""
-
-
-def answer(stream: IO[bytes]) -> tuple[int, dict[str, object]]:
-    """The status and the body of the next answer."""
-    head = {}
-    first = stream.readline()
-    while (line := stream.readline()) not in (b"\r\n", b""):
-        name, _, value = line.decode().partition(":")
-        head[name.lower()] = value.strip()
-    body = stream.read(int(head.get("content-length", "0")))
-    if not body:
-        raise Ended
-    return int(first.split()[1]), json.loads(body)
-
-
-class Run:
-    """A program that serves one connection."""
-
-    def __init__(self, process: "subprocess.Popen[bytes]") -> None:
-        assert process.stdin is not None and process.stdout is not None and process.stderr is not None
-        self.process = process
-        self.stdin: IO[bytes] = process.stdin
-        self.stdout: IO[bytes] = process.stdout
-        self.stderr: IO[bytes] = process.stderr
-
-    def ask(self, asked: bytes) -> tuple[int, dict[str, object]]:
-        self.stdin.write(asked)
-        self.stdin.flush()
-        return answer(self.stdout)
-
-    def rows(self) -> dict[str, str]:
-        """The notes of all rows by their ids."""
-        status, told = self.ask(request("POST", "/tables/points/scan", {"auths": ["A"], "box": BOX, "limit": 100}))
-        assert status == 200 and told["next"] is None
-        rows = told["rows"]
-        assert isinstance(rows, list)
-        return {row["id"]: row["note"] for row in rows}
-
-    def end(self) -> tuple[int, bytes, bytes]:
-        """Ends the input: the status, and the rest of both streams."""
-        self.stdin.close()
-        rest, faults = self.stdout.read(), self.stderr.read()
-        return self.process.wait(10), rest, faults
-
-
-@contextmanager
-def opened(file: Path, root: str = "root", auths: list[str] | None = None) -> Iterator[Run]:
-    words = [str(RUN), "--root", digest(root), "--store", str(file), *(AUTHS if auths is None else auths)]
-    with subprocess.Popen(words, stdin=subprocess.PIPE, stdout=subprocess.PIPE, stderr=subprocess.PIPE) as process:
-        try:
-            yield Run(process)
-        finally:
-            process.kill()
+def ran(*words: str) -> tuple[int, str, str]:
+    """The status of a run without input, and what it wrote to standard output and to standard error."""
+    it = subprocess.run([RUN, *words], stdin=subprocess.DEVNULL, capture_output=True, text=True, timeout=PATIENCE)
+    return it.returncode, it.stdout, it.stderr
 
 
 def refused(file: Path, *words: str) -> tuple[int, str, str]:
     """What a run with this store ends with; root and the authorizations are the usual ones unless words are given."""
-    return ran(RUN, "--store", str(file), *(words or ("--root", digest("root"), *AUTHS)))
+    return ran("--store", str(file), *(words or ("--root", digest("root"), *AUTHS)))
 
 
 def files_of(file: Path) -> dict[str, bytes]:
     """The files of a store by their names."""
     return {path.name: path.read_bytes() for path in file.parent.glob(file.name + "*")}
-
-
-def asked(file: Path, query: str) -> list[tuple[object, ...]]:
-    """What SQLite itself answers. The connection is closed, since an open one holds the file."""
-    with closing(sqlite3.connect(file)) as base, base:
-        return base.execute(query).fetchall()
 
 
 def is_whole(file: Path) -> bool:
@@ -121,9 +51,7 @@ def test_rows_are_there_after_a_restart(store: Path) -> None:
         assert run.end() == (0, b"", b"")
     with opened(store) as run:
         assert run.rows() == {"first": "note of first", "second": "note of second"}
-        status, told = run.ask(request("GET", "/audit"))
-        entries = told["entries"]
-        assert status == 200 and isinstance(entries, list) and [entry["request"] for entry in entries] == ["put", "put"]
+        assert [entry["request"] for entry in run.audit()] == ["put", "put"]
         assert run.end()[0] == 0
     assert is_whole(store)
 
@@ -136,9 +64,7 @@ def test_users_tables_and_refusals_are_there_after_a_restart(store: Path) -> Non
     with opened(store) as run:
         status, told = run.ask(request("GET", "/whoami", user="ann"))
         assert (status, told["user"], told["auths"]) == (200, "ann", ["A"])
-        status, told = run.ask(request("GET", "/audit"))
-        entries = told["entries"]
-        assert isinstance(entries, list) and [entry["result"] == 0 for entry in entries] == [True, True, False]
+        assert [entry["result"] == 0 for entry in run.audit()] == [True, True, False]
 
 
 def test_a_change_that_was_answered_outlasts_a_kill(store: Path) -> None:
@@ -151,7 +77,7 @@ def test_a_change_that_was_answered_outlasts_a_kill(store: Path) -> None:
                 assert run.ask(put(name))[0] == 200
                 kept[name] = f"note of {name}"
             run.process.kill()
-            run.process.wait(10)
+            run.process.wait(PATIENCE)
         if len(kept) > 80:
             break
     with opened(store) as run:
@@ -185,7 +111,7 @@ def test_a_change_that_was_sent_before_a_kill_is_there_whole_or_not_at_all(store
 
 def test_without_a_store_no_file_is_written(tmp_path: Path) -> None:
     words = [str(RUN.resolve()), "--root", digest("root"), *AUTHS]
-    it = subprocess.run(words, input=put("first"), capture_output=True, timeout=10, cwd=tmp_path)
+    it = subprocess.run(words, input=put("first"), capture_output=True, timeout=PATIENCE, cwd=tmp_path)
     assert it.returncode == 0 and it.stdout.startswith(b"HTTP/1.1 200 OK\r\n")
     assert not list(tmp_path.iterdir())
 
@@ -278,7 +204,7 @@ def test_a_store_that_cannot_be_opened_is_refused(tmp_path: Path) -> None:
 
 
 def test_every_option_of_the_program_is_in_its_help_and_in_its_manual_page() -> None:
-    told = ran(RUN, "--help")[1]
+    told = ran("--help")[1]
     page = (TOP / "packaging/man/st_run.1").read_text().replace("\\-", "-")
     for option in ("--root", "--store", "--help", "--version"):
         assert option in told and option in page

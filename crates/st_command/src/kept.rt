@@ -2,7 +2,7 @@
 ghost use Rattle.std.specs.Prelude.{◌≡◌, false, string_bytes};
 ghost use Rattle.st_durable.specs.Keeping.{answered};
 ghost use Rattle.st_command_line.specs.Status.{exit_status_after};
-ghost use Rattle.st_command.specs.Kept.{ServesKept, EndsKept};
+ghost use Rattle.st_command.specs.Kept.{ServesKept, EndsKept, kept_status_after};
 
 use crate::keeper::Keeper;
 use st_command_line::Fault;
@@ -19,6 +19,19 @@ pub(crate) struct Place<'a> {
     pub(crate) opening: String,
 }
 
+// How a run ends after a connection that ended so.
+fn end_after(ended: Result<Ended, IoFault>) -> Result<(), Fault>
+    ensures { exit_status_after result ≡ kept_status_after ended }
+{
+    match ended {
+        Ok(Ended::Clean | Ended::Closed) => Ok(()),
+        Ok(Ended::Cut) => Err(Fault::Cut),
+        Ok(Ended::TurnsSpent) => Err(Fault::TurnsSpent),
+        Ok(Ended::Lost) => Err(Fault::StoreLost),
+        Err(IoFault { .. }) => Err(Fault::Io),
+    }
+}
+
 // Serves the connection.
 fn converse_kept<B: Beginning, J: Journal + Drop, C: Clock, R: Source, W: Sink>(
     service: &mut DurableService<'_, B, J, C>,
@@ -32,13 +45,8 @@ fn converse_kept<B: Beginning, J: Journal + Drop, C: Clock, R: Source, W: Sink>(
     ensures { ServesKept J.list J.misreads J.may_leave B.first service.old.kept (R.left reader.old) (R.left reader.new)
         (W.held writer.old) (W.held writer.new) (R.has_failed reader.new) (exit_status_after result) }
 {
-    match service.serve(reader, writer) {
-        Ok(Ended::Clean | Ended::Closed) => Ok(()),
-        Ok(Ended::Cut) => Err(Fault::Cut),
-        Ok(Ended::TurnsSpent) => Err(Fault::TurnsSpent),
-        Ok(Ended::Lost) => Err(Fault::StoreLost),
-        Err(IoFault { .. }) => Err(Fault::Io),
-    }
+    let ended = service.serve(reader, writer);
+    end_after(ended)
 }
 
 // Opens the journal over the state that its changes lead on from, and serves the connection.

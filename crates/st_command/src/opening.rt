@@ -6,7 +6,7 @@ ghost use Rattle.st_text.specs.Texts.{Text};
 ghost use Rattle.st_auth.specs.Names.{first_bad};
 ghost use Rattle.st_core.specs.State.{first_state};
 ghost use Rattle.st_command_line.specs.Common.{SaysRoot, RefusesWords};
-ghost use Rattle.st_command.specs.Opening.{Opens, OpensWith, name_text, opening_text};
+ghost use Rattle.st_command.specs.Opening.{Opens, OpensWith, name_text, names_text, opening_text};
 ghost use Rattle.st_command_line.specs.declared.fault.Fault.TheVariants.{BadDigest, BadName, NoMemory};
 
 use st_auth::AuthsFault;
@@ -77,14 +77,22 @@ fn push_name(text: &mut String, alloc: Global, name: &str) -> Result<(), AllocEr
     text.push_str(part.as_str())
 }
 
+// Puts names behind a text.
+fn push_names(text: &mut String, alloc: Global, names: &[&str]) -> Result<(), AllocError>
+    ensures { OnOk result (string_bytes text.new ≡ string_bytes text.old ++ names_text (map (λ name. name.now) names.now)) }
+{
+    for name in names {
+        push_name(text, alloc, name)?;
+    }
+    Ok(())
+}
+
 // What a journal says that its store was opened with.
 fn opening_for(alloc: Global, digest: [u8; 32], names: &[&str]) -> Result<String, AllocError>
     ensures { IfOk result (λ text. string_bytes text ≡ opening_text digest (map (λ name. name.now) names.now)) }
 {
     let mut text = hex::encode(alloc, digest)?;
-    for name in names {
-        push_name(&mut text, alloc, name)?;
-    }
+    push_names(&mut text, alloc, names)?;
     Ok(text)
 }
 
