@@ -1,8 +1,8 @@
 //! What is asked of a copy, and of the clerk's directory.
-ghost use Rattle.std.specs.Prelude.{◌≡◌, true, false, unwrap_or, IfOk, OnOk, OnErr};
-ghost use Rattle.st_core.specs.Step.{asks_for_change};
+ghost use Rattle.std.specs.Prelude.{◌≡◌, true, false, None, unwrap_or, IfOk, OnOk, OnErr};
+ghost use Rattle.st_core.specs.Step.{asker_of, asks_for_change};
 ghost use Rattle.st_core.specs.Judging.{JudgesChange, judgement};
-ghost use Rattle.st_hall.specs.Steps.{State, judged_in, next, reply_of, settled};
+ghost use Rattle.st_hall.specs.Steps.{Ask, State, judged_in, next, reply_of, settled};
 
 use st_core::{Asked, Decision, Judged, JudgedRef, Reply, Store, judge};
 use st_dir::Directory;
@@ -47,6 +47,18 @@ pub(crate) fn decide<'a>(
             drop(judged);
             Err(fault)
         }
+    }
+}
+
+#[tactic(auto, using(crate::proofs::Unheard::unheard_change))]
+// Whether a judged change is not heard, which is where its token does not hold.
+pub(crate) fn is_unheard(judged: &JudgedRef) -> bool
+    ensures { result ≡ true → (s : State) (asked : Ask) → asks_for_change asked ≡ true → judgement judged.now ≡ judged_in s asked
+        → asker_of s.directory asked.token ≡ None }
+{
+    match judged {
+        JudgedRef::Unheard(_) => true,
+        JudgedRef::Heard { .. } => false,
     }
 }
 
