@@ -9,17 +9,26 @@ use Rattle.st_core.specs.declared.judged.Judged.{Judged}
 use Rattle.st_core.specs.Step.{asker_of, asks_for_change, calls_for_change, judge_call, settle}
 use Rattle.st_hall.specs.Steps.{Ask, State, Told, judged_in, reply_of}
 
--- a change is not heard only where nobody asks
-nobody : (s : State) (asker : Option Text) (call : Call _) (refusal : Refusal) → calls_for_change call ≡ true
-    → Judged.Unheard refusal ≡ judge_call s.directory asker call → asker ≡ None
-nobody s None call refusal change is = refl
-nobody s (Some asker) (Call.Bad other) refusal change is = cc
-nobody s (Some asker) (Call.Good request) refusal change is = cc
+is_heard : {A : Type 0} → Judged A → Bool
+is_heard (Judged.Unheard refusal) = false
+is_heard (Judged.Heard asker request refusal) = true
 
-pub unheard_change : (s : State) (asked : Ask) (refusal : Refusal) → asks_for_change asked ≡ true
-    → Judged.Unheard refusal ≡ judged_in s asked → asker_of s.directory asked.token ≡ None
+-- a change is heard exactly where somebody asks
+somebody : (s : State) (asker : Option Text) (call : Call _) (judged : Judged _) → calls_for_change call ≡ true
+    → judged ≡ judge_call s.directory asker call → is_heard judged ≡ is_some asker
+somebody s None call judged change is = ap is_heard is
+somebody s (Some asker) (Call.Bad other) judged change is = cc
+somebody s (Some asker) (Call.Good request) judged change is = ap is_heard is
+
+pub heard_change : (s : State) (asked : Ask) (judged : Judged _) → asks_for_change asked ≡ true → judged ≡ judged_in s asked
+    → is_heard judged ≡ is_some (asker_of s.directory asked.token)
 unfolding judged_in
-unheard_change s asked refusal change is = nobody s (asker_of s.directory asked.token) asked.call refusal change is
+heard_change s asked judged change is = somebody s (asker_of s.directory asked.token) asked.call judged change is
+
+-- where nobody is found, there is none
+pub is_nobody : {A : Type 0} (found : Option A) → false ≡ is_some found → found ≡ None
+is_nobody None is = refl
+is_nobody (Some x) is = cc
 
 -- what is told to a call that is no JSON object
 told_bad : Option Text → Told

@@ -1,8 +1,8 @@
 //! The clerk, who makes changes and publishes them.
-ghost use Rattle.std.specs.Prelude.{◌≡◌, ◌+◌, ◌^◌, ◌<◌, [], ◌∷◌, ◌++◌, drop, length, true, unwrap_or, Err, IfOk, OnOk, MatchOption, MatchResult};
+ghost use Rattle.std.specs.Prelude.{◌≡◌, ◌+◌, ◌^◌, ◌<◌, [], ◌∷◌, ◌++◌, drop, length, true, is_some, unwrap_or, Err, IfOk, OnOk, MatchOption, MatchResult};
 ghost use mathlib.Core.List.{IsPrefix};
 ghost use Rattle.st_core.specs.Judging.{judgement};
-ghost use Rattle.st_core.specs.Step.{asks_for_change};
+ghost use Rattle.st_core.specs.Step.{asker_of, asks_for_change};
 ghost use Rattle.st_hall.specs.Steps.{judged_in, reply_of, state_after};
 ghost use Rattle.st_hall.specs.Views.{Beside, IsStranger, receipts};
 ghost use Rattle.st_hall.specs.declared.fault.AskFault.TheVariants.{Stranger};
@@ -16,7 +16,7 @@ use crate::history::Head;
 use crate::name::HallName;
 use crate::queue::{EditionWriter, enter, queue, show};
 use crate::receipt::{Receipt, receipt_of};
-use crate::steps::{decide, is_unheard, replace};
+use crate::steps::{decide, is_heard, replace};
 use core::mem::replace_with;
 use left_right::Absorb;
 use st_core::{Asked, Decision, JudgedRef, Reply, Store};
@@ -177,6 +177,7 @@ impl<H: HallName, R: Wait + Drop> Clerk<H, R> {
     pub fn add(&mut self, desk: &mut Desk<H>, asked: &Asked) -> Result<Reply, AskFault>
         requires change { asks_for_change asked.now ≡ true }
         ensures stranger { result ≡ Err Stranger → IsStranger H.start desk.old.seen asked.now.token }
+        ensures heard { OnOk result (is_some (asker_of (state_after H.start self.old.list).directory asked.now.token) ≡ true) }
         ensures after { OnOk result (IsPrefix desk.old.seen self.old.list) }
         ensures published { self.new.published ≡ self.old.published }
         ensures list { MatchResult result (λ _. self.new.list ≡ self.old.list ++ asked.now ∷ []) (λ _. self.new.list ≡ self.old.list) }
@@ -188,7 +189,7 @@ impl<H: HallName, R: Wait + Drop> Clerk<H, R> {
             return Err(AskFault::NoMemory);
         }
         let (judged, decision) = self.decided(asked)?;
-        if is_unheard(&judged) {
+        if !is_heard(&judged) {
             return Err(AskFault::Stranger);
         }
         let entered = enter(
@@ -221,6 +222,7 @@ impl<H: HallName, R: Wait + Drop> Clerk<H, R> {
     ) -> Result<(Reply, Option<Front<H>>), AskFault>
         requires change { asks_for_change asked.now ≡ true }
         ensures stranger { result ≡ Err Stranger → IsStranger H.start desk.old.seen asked.now.token }
+        ensures heard { OnOk result (is_some (asker_of (state_after H.start self.old.list).directory asked.now.token) ≡ true) }
         ensures after { OnOk result (IsPrefix desk.old.seen self.old.list) }
         ensures grows { IsPrefix self.old.published self.new.published }
         ensures list { MatchResult result (λ _. self.new.list ≡ self.old.list ++ asked.now ∷ []) (λ _. self.new.list ≡ self.old.list) }
@@ -250,6 +252,7 @@ impl<H: HallName, R: Wait + Drop> Clerk<H, R> {
     ) -> Result<Receipt<H>, AskFault>
         requires change { asks_for_change asked ≡ true }
         ensures stranger { result ≡ Err Stranger → IsStranger H.start desk.old.seen asked.token }
+        ensures heard { OnOk result (is_some (asker_of (state_after H.start self.old.list).directory asked.token) ≡ true) }
         ensures after { OnOk result (IsPrefix desk.old.seen self.old.list) }
         ensures grows { IsPrefix self.old.published self.new.published }
         ensures list { MatchResult result (λ _. self.new.list ≡ self.old.list ++ asked ∷ []) (λ _. self.new.list ≡ self.old.list) }

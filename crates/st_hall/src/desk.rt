@@ -77,9 +77,8 @@ fn look<H: HallName>(
     }
 }
 
-#[tactic(auto, using(crate::proofs::Unheard::heard_probe))]
 // Whether a call that is no JSON object was refused for that, and not for its token.
-fn is_heard(reply: &Reply) -> bool
+fn is_known(reply: &Reply) -> bool
     ensures { (s : State) (asked : Ask) → asked.call ≡ Bad Json → reply.now ≡ reply_of s asked
         → result ≡ is_some (asker_of s.directory asked.token) }
 {
@@ -134,7 +133,7 @@ impl<H: HallName> Desk<H> {
         let told = self.read(&asked);
         drop(asked);
         let reply = told?;
-        let holds = is_heard(&reply);
+        let holds = is_known(&reply);
         drop(reply);
         Ok(holds)
     }

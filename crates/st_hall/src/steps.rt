@@ -1,5 +1,5 @@
 //! What is asked of a copy, and of the clerk's directory.
-ghost use Rattle.std.specs.Prelude.{◌≡◌, true, false, None, unwrap_or, IfOk, OnOk, OnErr};
+ghost use Rattle.std.specs.Prelude.{◌≡◌, true, false, is_some, unwrap_or, IfOk, OnOk, OnErr};
 ghost use Rattle.st_core.specs.Step.{asker_of, asks_for_change};
 ghost use Rattle.st_core.specs.Judging.{JudgesChange, judgement};
 ghost use Rattle.st_hall.specs.Steps.{Ask, State, judged_in, next, reply_of, settled};
@@ -50,15 +50,14 @@ pub(crate) fn decide<'a>(
     }
 }
 
-#[tactic(auto, using(crate::proofs::Unheard::unheard_change))]
-// Whether a judged change is not heard, which is where its token does not hold.
-pub(crate) fn is_unheard(judged: &JudgedRef) -> bool
-    ensures { result ≡ true → (s : State) (asked : Ask) → asks_for_change asked ≡ true → judgement judged.now ≡ judged_in s asked
-        → asker_of s.directory asked.token ≡ None }
+// Whether a judged change is heard, which is where its token holds.
+pub(crate) fn is_heard(judged: &JudgedRef) -> bool
+    ensures { (s : State) (asked : Ask) → asks_for_change asked ≡ true → judgement judged.now ≡ judged_in s asked
+        → result ≡ is_some (asker_of s.directory asked.token) }
 {
     match judged {
-        JudgedRef::Unheard(_) => true,
-        JudgedRef::Heard { .. } => false,
+        JudgedRef::Unheard(_) => false,
+        JudgedRef::Heard { .. } => true,
     }
 }
 
