@@ -24,7 +24,8 @@ def test_version_and_help_go_to_standard_output(program: Path, name: str) -> Non
     assert ran(program, "--version") == (0, f"{name} {VERSION}\n", "")
     status, told, faults = ran(program, "--help")
     assert (status, faults) == (0, "")
-    assert re.search(r"^ +--root <DIGEST> *$", told, re.M)
+    assert re.search(r"^ +--root <DIGEST> +The SHA-256 of root's secret", told, re.M)
+    assert told.startswith("Serves labelled points in place and time ")
 
 
 def test_every_option_of_the_server_is_in_its_help_and_in_its_manual_page() -> None:

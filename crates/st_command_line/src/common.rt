@@ -34,6 +34,7 @@ pub fn root<'a>(alloc: Global) -> Arg<'a>
     Arg::new(alloc, "root")
         .long("root")
         .value_name("DIGEST")
+        .help("The SHA-256 of root's secret, in 64 hexadecimal digits")
         .required(true)
         .action(ArgAction::Set)
 }
@@ -44,7 +45,9 @@ pub fn names<'a>(alloc: Global) -> Arg<'a>
     ensures rule { rule_of result ≡ name_operand }
     ensures fits { FitsChain result }
 {
-    Arg::new(alloc, "NAME").action(ArgAction::Append)
+    Arg::new(alloc, "NAME")
+        .help("An authorization of root")
+        .action(ArgAction::Append)
 }
 
 /// Parses the words by a command.

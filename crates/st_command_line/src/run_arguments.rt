@@ -31,6 +31,7 @@ fn store<'a>(alloc: Global) -> Arg<'a>
     Arg::new(alloc, "store")
         .long("store")
         .value_name("FILE")
+        .help("Keep the changes in this SQLite file, which is made where there is none")
         .action(ArgAction::Set)
 }
 
@@ -39,6 +40,7 @@ fn command<'a>(alloc: Global) -> Result<Command<'a>, AllocError>
     ensures { IfOk result (Builds run_command) }
 {
     let command = named(alloc, "st_run")
+        .about("Serves labelled points in place and time over standard input and output")
         .arg(root(alloc))?
         .arg(store(alloc))?
         .arg(names(alloc))?;

@@ -21,6 +21,7 @@ fn port<'a>(alloc: Global) -> Arg<'a>
     Arg::new(alloc, "port")
         .long("port")
         .value_name("P")
+        .help("The TCP port, 1 to 65535")
         .required(true)
         .action(ArgAction::Set)
         .value_parser(clap::value_parser!(u16).range(1..))
@@ -35,6 +36,7 @@ fn connections<'a>(alloc: Global) -> Arg<'a>
     Arg::new(alloc, "connections")
         .long("connections")
         .value_name("N")
+        .help("End after so many connections, 0 to 1000")
         .action(ArgAction::Set)
         .value_parser(clap::value_parser!(u16).range(0..=1000))
 }
@@ -48,6 +50,7 @@ fn workers<'a>(alloc: Global) -> Arg<'a>
     Arg::new(alloc, "workers")
         .long("workers")
         .value_name("N")
+        .help("The threads that serve connections, 1 to 256; without it 64, or 2 with --connections")
         .action(ArgAction::Set)
         .value_parser(clap::value_parser!(u16).range(1..=256))
 }
@@ -61,6 +64,7 @@ fn timeout<'a>(alloc: Global) -> Arg<'a>
     Arg::new(alloc, "timeout")
         .long("timeout")
         .value_name("SECONDS")
+        .help("How long a message or a reply may take, 1 to 3600 seconds; without it 30")
         .action(ArgAction::Set)
         .value_parser(clap::value_parser!(u16).range(1..=3600))
 }
@@ -74,6 +78,7 @@ fn idle<'a>(alloc: Global) -> Arg<'a>
     Arg::new(alloc, "idle")
         .long("idle")
         .value_name("SECONDS")
+        .help("How long a client may wait with its next message, 1 to 3600 seconds; without it as --timeout")
         .action(ArgAction::Set)
         .value_parser(clap::value_parser!(u16).range(1..=3600))
 }
@@ -87,6 +92,7 @@ fn listen<'a>(alloc: Global) -> Arg<'a>
     Arg::new(alloc, "listen")
         .long("listen")
         .value_name("ADDRESS")
+        .help("The IPv4 address to listen at; without it 127.0.0.1")
         .action(ArgAction::Set)
 }
 
@@ -95,6 +101,7 @@ fn command<'a>(alloc: Global) -> Result<Command<'a>, AllocError>
     ensures { IfOk result (Builds served_command) }
 {
     let command = named(alloc, "st_served")
+        .about("Serves labelled points in place and time at a TCP port")
         .arg(root(alloc))?
         .arg(port(alloc))?
         .arg(connections(alloc))?

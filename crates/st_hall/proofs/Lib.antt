@@ -1,5 +1,7 @@
 pub mod Fronts
 pub mod Adding
 pub mod Following
+pub mod Unheard
 pub mod Worlds
 pub mod Crossing
+pub mod Unheard

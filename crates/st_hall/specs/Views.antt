@@ -1,6 +1,8 @@
 -- What contracts see of a desk, a worker and a clerk.
-use Rattle.std.specs.Prelude.{ℕ, ◌≡◌, ◌≤◌, ◌⊎◌, List, [], ◌∷◌, ◌++◌, length, sum_by}
+use Rattle.std.specs.Prelude.{ℕ, ◌≡◌, ◌≤◌, ◌⊎◌, List, [], ◌∷◌, ◌++◌, length, sum_by, Option, None}
 use mathlib.Core.List.{IsPrefix}
+use Rattle.st_core.specs.declared.asked.Token.{Token}
+use Rattle.st_core.specs.Step.{asker_of}
 use Rattle.st_hall.specs.Steps.{Ask, State, Told, reply_of, state_after}
 
 -- the changes that a desk has seen, and how many receipts were got with it
@@ -42,6 +44,10 @@ EndsWith start list asked reply =
 abbrev pub EndsAfter : State → (seen list : List Ask) → Ask → Told → Type 0
 EndsAfter start seen list asked reply =
     (before : List Ask) × IsPrefix seen before × (list ≡ before ++ asked ∷ []) × (reply ≡ reply_of (state_after start before) asked)
+
+-- after a list that goes on what was seen, the token does not hold
+abbrev pub IsStranger : State → (seen : List Ask) → Option Token → Type 0
+IsStranger start seen token = (list : List Ask) × IsPrefix seen list × (asker_of (state_after start list).directory token ≡ None)
 
 -- one of two lists begins the other
 abbrev pub Beside : List Ask → List Ask → Type 0

@@ -1,20 +1,22 @@
 //! The clerk, who makes changes and publishes them.
-ghost use Rattle.std.specs.Prelude.{◌≡◌, ◌+◌, ◌^◌, ◌<◌, [], ◌∷◌, ◌++◌, drop, length, true, unwrap_or, IfOk, OnOk, MatchOption, MatchResult};
+ghost use Rattle.std.specs.Prelude.{◌≡◌, ◌+◌, ◌^◌, ◌<◌, [], ◌∷◌, ◌++◌, drop, length, true, is_some, unwrap_or, Err, IfOk, OnOk, MatchOption, MatchResult};
 ghost use mathlib.Core.List.{IsPrefix};
 ghost use Rattle.st_core.specs.Judging.{judgement};
-ghost use Rattle.st_core.specs.Step.{asks_for_change};
+ghost use Rattle.st_core.specs.Step.{asker_of, asks_for_change};
 ghost use Rattle.st_hall.specs.Steps.{judged_in, reply_of, state_after};
-ghost use Rattle.st_hall.specs.Views.{Beside, receipts};
+ghost use Rattle.st_hall.specs.Views.{Beside, IsStranger, receipts};
+ghost use Rattle.st_hall.specs.declared.fault.AskFault.TheVariants.{Stranger};
 ghost use Rattle.st_hall.specs.inner.Editions.{Agrees};
 
 use crate::desk::Desk;
 use crate::edition::{Edition, Queued};
+use crate::fault::AskFault;
 use crate::front::Front;
 use crate::history::Head;
 use crate::name::HallName;
 use crate::queue::{EditionWriter, enter, queue, show};
 use crate::receipt::{Receipt, receipt_of};
-use crate::steps::{decide, replace};
+use crate::steps::{decide, is_heard, replace};
 use core::mem::replace_with;
 use left_right::Absorb;
 use st_core::{Asked, Decision, JudgedRef, Reply, Store};
@@ -171,9 +173,11 @@ impl<H: HallName, R: Wait + Drop> Clerk<H, R> {
     }
 
     /// Adds a change to the list, and does not publish it: judges it once, by the directory after the whole list, and makes there
-    /// what it does to the directory. When out of memory nothing is added.
-    pub fn add(&mut self, desk: &mut Desk<H>, asked: &Asked) -> Result<Reply, AllocError>
+    /// what it does to the directory. When out of memory nothing is added, nor where the token does not hold there.
+    pub fn add(&mut self, desk: &mut Desk<H>, asked: &Asked) -> Result<Reply, AskFault>
         requires change { asks_for_change asked.now ≡ true }
+        ensures stranger { result ≡ Err Stranger → IsStranger H.start desk.old.seen asked.now.token }
+        ensures heard { OnOk result (is_some (asker_of (state_after H.start self.old.list).directory asked.now.token) ≡ true) }
         ensures after { OnOk result (IsPrefix desk.old.seen self.old.list) }
         ensures published { self.new.published ≡ self.old.published }
         ensures list { MatchResult result (λ _. self.new.list ≡ self.old.list ++ asked.now ∷ []) (λ _. self.new.list ≡ self.old.list) }
@@ -182,10 +186,12 @@ impl<H: HallName, R: Wait + Drop> Clerk<H, R> {
         ensures reply { IfOk result (λ r. r ≡ reply_of (state_after H.start self.old.list) asked.now) }
     {
         if !self.goes_on(desk) {
-            return Err(AllocError);
+            return Err(AskFault::NoMemory);
         }
-        let decided = self.decided(asked)?;
-        let (judged, decision) = decided;
+        let (judged, decision) = self.decided(asked)?;
+        if !is_heard(&judged) {
+            return Err(AskFault::Stranger);
+        }
         let entered = enter(
             &mut self.writer,
             &mut self.waiting,
@@ -202,7 +208,7 @@ impl<H: HallName, R: Wait + Drop> Clerk<H, R> {
             }
             Err(fault) => {
                 drop(decision);
-                Err(fault)
+                Err(fault.into())
             }
         }
     }
@@ -213,8 +219,10 @@ impl<H: HallName, R: Wait + Drop> Clerk<H, R> {
         rt: &W,
         desk: &mut Desk<H>,
         asked: &Asked,
-    ) -> Result<(Reply, Option<Front<H>>), AllocError>
+    ) -> Result<(Reply, Option<Front<H>>), AskFault>
         requires change { asks_for_change asked.now ≡ true }
+        ensures stranger { result ≡ Err Stranger → IsStranger H.start desk.old.seen asked.now.token }
+        ensures heard { OnOk result (is_some (asker_of (state_after H.start self.old.list).directory asked.now.token) ≡ true) }
         ensures after { OnOk result (IsPrefix desk.old.seen self.old.list) }
         ensures grows { IsPrefix self.old.published self.new.published }
         ensures list { MatchResult result (λ _. self.new.list ≡ self.old.list ++ asked.now ∷ []) (λ _. self.new.list ≡ self.old.list) }
@@ -235,14 +243,16 @@ impl<H: HallName, R: Wait + Drop> Clerk<H, R> {
 
     /// Makes a change: publishes what is not published yet, adds the change, and publishes it where there is memory. Its receipt
     /// has a front if it is published, and none if it is not. All that the desk had seen is published then. When out of memory the
-    /// change is not made; changes before it may have become published.
+    /// change is not made, nor is that of a stranger; changes before it may have become published.
     pub fn commit<W: Wait>(
         &mut self,
         rt: &W,
         desk: &mut Desk<H>,
         asked: Asked,
-    ) -> Result<Receipt<H>, AllocError>
+    ) -> Result<Receipt<H>, AskFault>
         requires change { asks_for_change asked ≡ true }
+        ensures stranger { result ≡ Err Stranger → IsStranger H.start desk.old.seen asked.token }
+        ensures heard { OnOk result (is_some (asker_of (state_after H.start self.old.list).directory asked.token) ≡ true) }
         ensures after { OnOk result (IsPrefix desk.old.seen self.old.list) }
         ensures grows { IsPrefix self.old.published self.new.published }
         ensures list { MatchResult result (λ _. self.new.list ≡ self.old.list ++ asked ∷ []) (λ _. self.new.list ≡ self.old.list) }

@@ -1,8 +1,10 @@
 //! Desks, which read a published copy and wait for nobody.
-ghost use Rattle.std.specs.Prelude.{◌≡◌, ◌⊎◌, IfOk, false};
+ghost use Rattle.std.specs.Prelude.{◌≡◌, ◌⊎◌, is_some, IfOk, false};
 ghost use mathlib.Core.List.{IsPrefix};
-ghost use Rattle.st_core.specs.Step.{asks_for_change};
-ghost use Rattle.st_hall.specs.Steps.{reply_of, state_after};
+ghost use Rattle.st_core.specs.Step.{asker_of, asks_for_change};
+ghost use Rattle.st_policy.specs.declared.refusal.Refusal.TheVariants.{Json};
+ghost use Rattle.st_core.specs.declared.asked.Call.TheVariants.{Bad};
+ghost use Rattle.st_hall.specs.Steps.{Ask, State, reply_of, state_after};
 ghost use Rattle.st_hall.specs.inner.Editions.{Agrees};
 
 use crate::edition::{Agreeing, Consistent, Edition};
@@ -11,7 +13,7 @@ use crate::name::HallName;
 use crate::steps::answer;
 use core::mem::replace_with;
 use left_right::reader::Reader;
-use st_core::{Asked, Reply};
+use st_core::{Asked, Call, Denial, Refusal, Reply, Token};
 use std::alloc::AllocError;
 use std::marker::Model;
 use std::sync::ledger::Share;
@@ -75,6 +77,17 @@ fn look<H: HallName>(
     }
 }
 
+// Whether a call that is no JSON object was refused for that, and not for its token.
+fn is_known(reply: &Reply) -> bool
+    ensures { (s : State) (asked : Ask) → asked.call ≡ Bad Json → reply.now ≡ reply_of s asked
+        → result ≡ is_some (asker_of s.directory asked.token) }
+{
+    match reply {
+        Reply::Refused(Refusal::Denied(Denial::Token)) => false,
+        _ => true,
+    }
+}
+
 impl<H: HallName> Desk<H> {
     pub(crate) fn new(reader: EditionReader<H>, front: Front<H>, share: Share<H>) -> Desk<H>
         requires { (share.parts ≡ 1) × (share.amount ≡ 0) }
@@ -105,6 +118,24 @@ impl<H: HallName> Desk<H> {
         let (front, reply) = replace_with(&mut self.reader, (&self.front, asked), look::<H>);
         self.front = front;
         reply
+    }
+
+    /// Whether a token holds after the changes that are then seen.
+    pub fn knows(&mut self, token: Option<Token>) -> Result<bool, AllocError>
+        ensures holds { IfOk result (λ holds. holds ≡ is_some (asker_of (state_after H.start self.new.seen).directory token)) }
+        ensures seen { IsPrefix self.old.seen self.new.seen }
+        ensures made { self.new.made ≡ self.old.made }
+    {
+        let asked = Asked {
+            token,
+            call: Call::Bad(Refusal::Json),
+        };
+        let told = self.read(&asked);
+        drop(asked);
+        let reply = told?;
+        let holds = is_known(&reply);
+        drop(reply);
+        Ok(holds)
     }
 
     /// The changes that were seen, as a front.

@@ -1,5 +1,6 @@
-//! Faults of the opening of a hall.
+//! Faults of the opening of a hall, and of what is asked of it.
 ghost use Rattle.std.specs.Prelude.{◌≡◌};
+ghost use Rattle.st_hall.specs.declared.fault.AskFault.TheVariants.{NoMemory as NoMemoryToAsk};
 ghost use Rattle.st_hall.specs.declared.fault.HallFault.TheVariants.{NoMemory};
 
 use std::alloc::AllocError;
@@ -21,5 +22,24 @@ impl From<AllocError> for HallFault {
 
     fn from(_: AllocError) -> HallFault {
         HallFault::NoMemory
+    }
+}
+
+/// Why what is asked of a hall has no reply.
+#[derive(Clone, Copy, PartialEq, Eq, Debug, Error)]
+pub enum AskFault {
+    /// A change whose token does not hold. It is in no list, and is not counted.
+    #[error("the token does not hold")]
+    Stranger,
+    /// Out of memory.
+    #[error("out of memory")]
+    NoMemory,
+}
+
+impl From<AllocError> for AskFault {
+    ghost from_gives = { λ _ e. e ≡ NoMemoryToAsk };
+
+    fn from(_: AllocError) -> AskFault {
+        AskFault::NoMemory
     }
 }

@@ -1,14 +1,15 @@
 //! What opens a hall, and a change by any thread.
-ghost use Rattle.std.specs.Prelude.{◌≡◌, ◌+◌, ◌<◌, [], drop, replicate, true, List, IfOk, IfSome, MatchResult};
+ghost use Rattle.std.specs.Prelude.{◌≡◌, ◌+◌, ◌<◌, [], drop, replicate, true, List, Err, IfOk, IfSome, MatchResult};
 ghost use Rattle.st_core.specs.Step.{asks_for_change};
 ghost use Rattle.st_hall.specs.Steps.{Ask};
-ghost use Rattle.st_hall.specs.Views.{EndsAfter, opening_seat};
+ghost use Rattle.st_hall.specs.Views.{EndsAfter, IsStranger, opening_seat};
+ghost use Rattle.st_hall.specs.declared.fault.AskFault.TheVariants.{Stranger};
 ghost use Rattle.st_hall.specs.inner.Editions.{Agrees};
 
 use crate::clerk::Clerk;
 use crate::desk::{Desk, EditionReader};
 use crate::edition::Edition;
-use crate::fault::HallFault;
+use crate::fault::{AskFault, HallFault};
 use crate::front::{Front, begin};
 use crate::name::{HallName, Unnamed, UnnamedFor};
 use crate::queue::EditionWriter;
@@ -200,14 +201,15 @@ impl<H: HallName> Hall<H> {
         Ok((clerk, one, two))
     }
 
-    /// Makes a change in any thread.
+    /// Makes a change in any thread. When out of memory it is not made, nor where its token does not hold.
     pub fn change<W: Wait, R: Wait + Drop>(
         rt: &W,
         clerk: &Mutex<Clerk<H, R>>,
         desk: &mut Desk<H>,
         asked: Asked,
-    ) -> Result<Receipt<H>, AllocError>
+    ) -> Result<Receipt<H>, AskFault>
         requires change { asks_for_change asked ≡ true }
+        ensures stranger { result ≡ Err Stranger → IsStranger H.start desk.old.seen asked.token }
         ensures made { MatchResult result (λ _. desk.new.made ≡ desk.old.made + 1) (λ _. desk.new.made ≡ desk.old.made) }
         ensures seen { desk.new.seen ≡ desk.old.seen }
         ensures asked { IfOk result (λ r. r.asked ≡ asked) }

@@ -18,7 +18,7 @@ mod worker;
 pub use clerk::Clerk;
 pub use desk::Desk;
 pub use edition::{Agreeing, Consistent, Edition, Queued};
-pub use fault::HallFault;
+pub use fault::{AskFault, HallFault};
 pub use front::Front;
 pub use hall::Hall;
 pub use name::{HallName, Unnamed, UnnamedFor};

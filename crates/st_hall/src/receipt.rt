@@ -1,10 +1,10 @@
 //! What a change is answered.
 ghost use Rattle.std.specs.Prelude.{◌≡◌, Ok, Err, MatchResult};
 
+use crate::fault::AskFault;
 use crate::front::Front;
 use crate::name::HallName;
 use st_core::{Asked, Reply};
-use std::alloc::AllocError;
 
 /// What a change is answered: the change itself, its reply, and the list that ends with it, where it was published at once.
 #[derive(Drop)]
@@ -17,8 +17,8 @@ pub struct Receipt<H: HallName> {
 // The receipt of a change that was made.
 pub(crate) fn receipt_of<H: HallName>(
     asked: Asked,
-    made: Result<(Reply, Option<Front<H>>), AllocError>,
-) -> Result<Receipt<H>, AllocError>
+    made: Result<(Reply, Option<Front<H>>), AskFault>,
+) -> Result<Receipt<H>, AskFault>
     ensures { MatchResult result
         (λ r. (r.asked ≡ asked) × (made ≡ Ok (r.reply, r.front)))
         (λ e. made ≡ Err e) }

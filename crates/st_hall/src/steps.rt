@@ -1,8 +1,8 @@
 //! What is asked of a copy, and of the clerk's directory.
-ghost use Rattle.std.specs.Prelude.{◌≡◌, true, false, unwrap_or, IfOk, OnOk, OnErr};
-ghost use Rattle.st_core.specs.Step.{asks_for_change};
+ghost use Rattle.std.specs.Prelude.{◌≡◌, true, false, is_some, unwrap_or, IfOk, OnOk, OnErr};
+ghost use Rattle.st_core.specs.Step.{asker_of, asks_for_change};
 ghost use Rattle.st_core.specs.Judging.{JudgesChange, judgement};
-ghost use Rattle.st_hall.specs.Steps.{State, judged_in, next, reply_of, settled};
+ghost use Rattle.st_hall.specs.Steps.{Ask, State, judged_in, next, reply_of, settled};
 
 use st_core::{Asked, Decision, Judged, JudgedRef, Reply, Store, judge};
 use st_dir::Directory;
@@ -47,6 +47,17 @@ pub(crate) fn decide<'a>(
             drop(judged);
             Err(fault)
         }
+    }
+}
+
+// Whether a judged change is heard, which is where its token holds.
+pub(crate) fn is_heard(judged: &JudgedRef) -> bool
+    ensures { (s : State) (asked : Ask) → asks_for_change asked ≡ true → judgement judged.now ≡ judged_in s asked
+        → result ≡ is_some (asker_of s.directory asked.token) }
+{
+    match judged {
+        JudgedRef::Unheard(_) => false,
+        JudgedRef::Heard { .. } => true,
     }
 }
 

@@ -1,17 +1,19 @@
 //! A worker, who answers requests one after the other at a desk.
-ghost use Rattle.std.specs.Prelude.{◌≡◌, ◌+◌, ◌-◌, ◌^◌, ◌⊎◌, true, false, min, List, Some, IfOk, IfSome, MatchResult};
+ghost use Rattle.std.specs.Prelude.{◌≡◌, ◌+◌, ◌-◌, ◌^◌, ◌⊎◌, true, false, min, List, Some, is_some, Err, IfOk, IfSome, MatchResult};
 ghost use mathlib.Core.List.{IsPrefix};
-ghost use Rattle.st_core.specs.Step.{asks_for_change};
+ghost use Rattle.st_core.specs.Step.{asker_of, asks_for_change};
 ghost use Rattle.st_hall.specs.Steps.{Ask, reply_of, state_after};
-ghost use Rattle.st_hall.specs.Views.{EndsAfter, EndsWith, Learns};
+ghost use Rattle.st_hall.specs.Views.{EndsAfter, EndsWith, IsStranger, Learns};
+ghost use Rattle.st_hall.specs.declared.fault.AskFault.TheVariants.{Stranger};
 
 use crate::clerk::Clerk;
 use crate::desk::Desk;
+use crate::fault::AskFault;
 use crate::front::Front;
 use crate::hall::Hall;
 use crate::name::HallName;
 use crate::receipt::Receipt;
-use st_core::{Asked, Reply};
+use st_core::{Asked, Reply, Token};
 use std::alloc::AllocError;
 use std::marker::Model;
 use std::sync::{Mutex, Wait};
@@ -136,6 +138,19 @@ impl<'a, H: HallName, R: Wait + Drop, G: Gate> Worker<'a, H, R, G> {
         self.desk.made()
     }
 
+    /// Whether a token holds after the changes that are then seen.
+    pub fn knows(&mut self, token: Option<Token>) -> Result<bool, AllocError>
+        ensures number { self.new.number ≡ self.old.number }
+        ensures calls { self.new.calls ≡ self.old.calls }
+        ensures learnt { self.new.learnt ≡ self.old.learnt }
+        ensures made { self.new.seat.made ≡ self.old.seat.made }
+        ensures seen { IsPrefix self.old.seat.seen self.new.seat.seen }
+        ensures holds { IfOk result (λ holds. holds
+            ≡ is_some (asker_of (state_after H.start self.new.seat.seen).directory token)) }
+    {
+        self.desk.knows(token)
+    }
+
     /// Begins a call, which is counted.
     pub fn begin(&mut self)
         ensures number { self.new.number ≡ self.old.number }
@@ -170,8 +185,9 @@ impl<'a, H: HallName, R: Wait + Drop, G: Gate> Worker<'a, H, R, G> {
     }
 
     // Makes a change, and learns its front.
-    fn change<W: Wait>(&mut self, rt: &W, asked: Asked) -> Result<Reply, AllocError>
+    fn change<W: Wait>(&mut self, rt: &W, asked: Asked) -> Result<Reply, AskFault>
         requires { asks_for_change asked ≡ true }
+        ensures stranger { result ≡ Err Stranger → IsStranger H.start self.old.seat.seen asked.token }
         ensures number { self.new.number ≡ self.old.number }
         ensures calls { self.new.calls ≡ self.old.calls }
         ensures made { MatchResult result (λ _. self.new.seat.made ≡ self.old.seat.made + 1)
@@ -188,9 +204,10 @@ impl<'a, H: HallName, R: Wait + Drop, G: Gate> Worker<'a, H, R, G> {
     }
 
     /// Answers the request of the call that began last. A change is made by the clerk, and its front is learnt where it has one. A
-    /// read waits at the gate first, and is then answered without waiting. When out of memory a change is not made, and a read may
-    /// have seen more changes.
-    pub fn ask<W: Wait>(&mut self, rt: &W, asked: Asked) -> Result<Reply, AllocError>
+    /// read waits at the gate first, and is then answered without waiting. When out of memory a change is not made, nor where its
+    /// token does not hold; a read may have seen more changes.
+    pub fn ask<W: Wait>(&mut self, rt: &W, asked: Asked) -> Result<Reply, AskFault>
+        ensures stranger { result ≡ Err Stranger → IsStranger H.start self.old.seat.seen asked.token }
         ensures number { self.new.number ≡ self.old.number }
         ensures calls { self.new.calls ≡ self.old.calls }
         ensures seen { IsPrefix self.old.seat.seen self.new.seat.seen }
@@ -213,7 +230,7 @@ impl<'a, H: HallName, R: Wait + Drop, G: Gate> Worker<'a, H, R, G> {
         } else {
             let reply = read(self.gate, self.number, self.calls, &mut self.desk, &asked);
             drop(asked);
-            reply
+            Ok(reply?)
         }
     }
 }

@@ -28,12 +28,19 @@ fn has_asker<A: Allocator>(directory: &Directory<A>, message: &Message<'_>) -> b
     }
 }
 
+/// Whether the body of a message is longer than 1,024 bytes, so that the token is judged before the body is read.
+pub fn is_long(message: &Message<'_>) -> bool
+    ensures { IsTrue result ↔ (1024 < length message.now.body.now) }
+{
+    message.body.len() > SHORT_BODY
+}
+
 /// Whether the message is refused before its body is read: its token does not hold, and its body is longer than 1,024 bytes.
 pub fn is_stranger<A: Allocator>(directory: &Directory<A>, message: &Message<'_>) -> bool
     ensures { IsTrue result ↔ (1024 < length message.now.body.now)
         × (asker_of directory.now (option_map token_from (token_in message.now)) ≡ None) }
 {
-    message.body.len() > SHORT_BODY && !has_asker(directory, message)
+    is_long(message) && !has_asker(directory, message)
 }
 
 /// The answer to a message whose token does not hold, whatever its body is. When out of memory it is a 503.

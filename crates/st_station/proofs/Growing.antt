@@ -7,7 +7,7 @@ use Rattle.st_connection.specs.Connection.{Run}
 use Rattle.st_hall.specs.Steps.{Ask, State}
 use Rattle.st_hall.specs.Views.{Seat, Post, Learns}
 use Rattle.st_hall.proofs.Fronts.{prefix_self, prefix_trans}
-use Rattle.st_station.specs.Seats.{Moves, SeatAnswers, read, made, untold, busy, unrouted, faulty}
+use Rattle.st_station.specs.Seats.{Moves, SeatAnswers, read, made, stranger, untold, busy, unrouted, faulty}
 use Rattle.st_station.specs.Posts.{Answers}
 
 abbrev pub Grows : Seat → Seat → Type 0
@@ -22,6 +22,7 @@ moved more s t m = (m.seen, omega (arith, m.made))
 one_grows : (start : State) (s t : Seat) (item : First) (answer : List ℕ) → SeatAnswers start s item answer t → Grows s t
 one_grows start s t item answer (read asks is m) = moved 0 s t m
 one_grows start s t item answer (made asks is ends m) = moved 1 s t m
+one_grows start s t item answer (stranger found none m) = moved 0 s t m
 one_grows start s t item answer (untold asks is ends m) = moved 1 s t m
 one_grows start s t item answer (busy m) = moved 0 s t m
 one_grows start s t item answer (unrouted none told) = stays s

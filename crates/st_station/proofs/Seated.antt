@@ -1,5 +1,5 @@
 -- Answers at a desk, by what was asked and told.
-use Rattle.std.proofs.Common.{rules, ◌≡◌, ◌⊎◌, inl, inr, ℕ, ◌+◌, Bool, true, false, List, [], Option, Some, None, refl, sym, ◌∙◌, ap, arith}
+use Rattle.std.proofs.Common.{rules, ◌≡◌, ◌⊎◌, inl, inr, ℕ, ◌+◌, Bool, true, false, List, [], Option, Some, None, option_map, refl, sym, ◌∙◌, ap, subst, arith}
 use Rattle.std.specs.Prelude.{Result, Ok, Err, IfOk, OnErr, MatchResult}
 use Rattle.std.proofs.lemmas.List.{append-nil}
 use mathlib.Core.List.{IsPrefix}
@@ -15,11 +15,13 @@ use Rattle.st_core.specs.Reads.{shown}
 use Rattle.st_core.specs.Step.{asker_of, asks_for_change, calls_for_change, judge_call, settle}
 use Rattle.st_core.specs.declared.judged.Judged.TheVariants.{Heard}
 use Rattle.st_connection.specs.Render.{busy_text}
-use Rattle.st_service.specs.Answers.{AsksBy, IsFound, TellsOrBusy, reply_text}
+use Rattle.st_service.specs.Answers.{AsksBy, IsFound, TellsOrBusy, reply_text, token_from, token_in}
 use Rattle.st_hall.specs.Steps.{Ask, State, Told, reply_of, state_after}
-use Rattle.st_hall.specs.Views.{Seat, EndsAfter}
-use Rattle.st_station.specs.Seats.{Moves}
-use Rattle.st_station.specs.Replies.{SeatReplies, reads, makes, leaves_untold, gives_up}
+use Rattle.st_hall.specs.Views.{Seat, Post, EndsAfter, IsStranger, Learns}
+use Rattle.st_hall.specs.declared.fault.AskFault.{AskFault}
+use Rattle.st_hall.proofs.Fronts.{prefix_trans}
+use Rattle.st_station.specs.Seats.{Moves, no_token}
+use Rattle.st_station.specs.Replies.{SeatReplies, reads, makes, refuses_stranger, leaves_untold, gives_up, asks_nothing}
 
 -- a change is told to be made, or is refused
 shown_change : (s : State) (asker : Text) (request : Request _) → is_change request ≡ true → shown s asker request ≡ Reply.Accepted
@@ -41,15 +43,51 @@ change_told : (s : State) (asked : Ask) → asks_for_change asked ≡ true → (
 unfolding reply_of
 change_told s asked e = judged_change s (asker_of s.directory asked.token) asked.call e
 
+-- a stranger is refused, or no memory was found for the text
+pub seated_stranger : (start : State) (s t : Seat) (m : Message) (bytes : List ℕ) → IsFound m
+    → IsStranger start s.seen (option_map token_from (token_in m)) → Moves 0 s t → TellsOrBusy no_token m.close m.bare bytes → SeatReplies start s m bytes t
+seated_stranger start s t m bytes is_found none moves (inl is) = refuses_stranger is_found none moves is
+seated_stranger start s t m bytes is_found none moves (inr (is, other)) = gives_up moves is
+
+-- what was seen before is seen still
+moved_on : (more : ℕ) (s u t : Seat) → Moves 0 s u → Moves more u t → Moves more s t
+moved_on more s u t before m = record { seen = prefix_trans s.seen u.seen t.seen before.seen m.seen; made = omega (arith, before.made, m.made) }
+
+ended_on : (start : State) (s u : Seat) (asked : Ask) (reply : Told) → Moves 0 s u → (list : List Ask) × EndsAfter start u.seen list asked reply
+    → (list : List Ask) × EndsAfter start s.seen list asked reply
+ended_on start s u asked reply before (list, (front, on, ends, told)) =
+    (list, (front, prefix_trans s.seen u.seen front before.seen on, ends, told))
+
+-- an answer at a later seat is one at the seat before
+pub seated_later : (start : State) (s u t : Seat) (m : Message) (bytes : List ℕ) → IsFound m → Moves 0 s u → SeatReplies start u m bytes t
+    → SeatReplies start s m bytes t
+seated_later start s u t m bytes found before (reads is_found asks is_read moves is) = reads is_found asks is_read (moved_on 0 s u t before moves) is
+seated_later start s u t m bytes found before (makes {asked} {reply} is_found asks changes ends moves is) =
+    makes is_found asks changes (ended_on start s u asked reply before ends) (moved_on 1 s u t before moves) is
+seated_later start s u t m bytes found before (refuses_stranger is_found (list, (on, none)) moves is) =
+    refuses_stranger is_found (list, (prefix_trans s.seen u.seen list before.seen on, none)) (moved_on 0 s u t before moves) is
+seated_later start s u t m bytes found before (leaves_untold {asked} {refusal} is_found asks changes ends moves is) =
+    leaves_untold {refusal = refusal} is_found asks changes (ended_on start s u asked (Reply.Refused refusal) before ends) (moved_on 1 s u t before moves) is
+seated_later start s u t m bytes found before (gives_up moves is) = gives_up (moved_on 0 s u t before moves) is
+seated_later start s u t m bytes found before (asks_nothing none told same) = absurd (none found)
+
+pub learns_later : (s u t : Post) → u.learnt ≡ s.learnt → Moves 0 s.seat u.seat → Learns u t → Learns s t
+learns_later s u t learnt before (inl same) = inl (same ∙ learnt)
+learns_later s u t learnt before (inr (on, knows)) = inr (prefix_trans s.seat.seen u.seat.seen t.learnt before.seen on, knows)
+
 module _ (start : State) (s t : Seat) (m : Message) (bytes : List ℕ) (asked : Ask) where
-  -- memory was wanting for what was asked
-  seated_wanting : bytes ≡ busy_text m.close m.bare → IsPrefix s.seen t.seen → (asks_for_change asked ≡ true → t.made ≡ s.made)
-      → (asks_for_change asked ≡ false → t.made ≡ s.made) → SeatReplies start s m bytes t
-  seated_wanting is seen changed kept = gives_up (record { seen = seen; made = go (asks_for_change asked) refl }) is
+  -- nothing was made of what was asked
+  unmade : IsPrefix s.seen t.seen → (asks_for_change asked ≡ true → t.made ≡ s.made) → (asks_for_change asked ≡ false → t.made ≡ s.made) → Moves 0 s t
+  unmade seen changed kept = record { seen = seen; made = go (asks_for_change asked) refl }
     where
       go : (b : Bool) → asks_for_change asked ≡ b → t.made ≡ s.made + 0
       go true e = let same = changed e in omega arith
       go false e = let same = kept e in omega arith
+
+  -- memory was wanting for what was asked
+  seated_wanting : bytes ≡ busy_text m.close m.bare → IsPrefix s.seen t.seen → (asks_for_change asked ≡ true → t.made ≡ s.made)
+      → (asks_for_change asked ≡ false → t.made ≡ s.made) → SeatReplies start s m bytes t
+  seated_wanting is seen changed kept = gives_up (unmade seen changed kept) is
 
   module _ (is_found : IsFound m) (asks : AsksBy m asked) where
     seated_read : (reply : Told) → asks_for_change asked ≡ false → Moves 0 s t → reply ≡ reply_of (state_after start t.seen) asked
@@ -79,18 +117,22 @@ module _ (start : State) (s t : Seat) (m : Message) (bytes : List ℕ) (asked : 
         go true e = seated_change reply e (record { seen = seen; made = counted e }) (ends e) text
         go false e = seated_read reply e (record { seen = seen; made = (let same = kept e in omega arith) }) (told e) text
 
--- what is asked is told, or no memory was found for it
-pub seated : {E : Type 0} (start : State) (s t : Seat) (m : Message) (bytes : List ℕ) (asked : Ask) → IsFound m → AsksBy m asked
-    → (result : Result Told E) → IsPrefix s.seen t.seen
+-- what is asked is told, or no memory was found for it, or nobody asks
+pub seated : (start : State) (s t : Seat) (m : Message) (bytes : List ℕ) (asked : Ask) → IsFound m → AsksBy m asked
+    → asked.token ≡ option_map token_from (token_in m) → (result : Result Told AskFault) → IsPrefix s.seen t.seen
     → (asks_for_change asked ≡ true → MatchResult result (λ _. t.made ≡ s.made + 1) (λ _. t.made ≡ s.made))
     → (asks_for_change asked ≡ true → IfOk result (λ r. (list : List Ask) × EndsAfter start s.seen list asked r))
     → (asks_for_change asked ≡ false → t.made ≡ s.made)
     → (asks_for_change asked ≡ false → IfOk result (λ r. r ≡ reply_of (state_after start t.seen) asked))
-    → IfOk result (λ r. TellsOrBusy r m.close m.bare bytes) → OnErr result (bytes ≡ busy_text m.close m.bare) → SeatReplies start s m bytes t
-seated start s t m bytes asked is_found asks (Ok reply) seen counted ends kept told text busy_is =
+    → (result ≡ Err AskFault.Stranger → IsStranger start s.seen asked.token)
+    → IfOk result (λ r. TellsOrBusy r m.close m.bare bytes) → (result ≡ Err AskFault.Stranger → TellsOrBusy no_token m.close m.bare bytes)
+    → (result ≡ Err AskFault.NoMemory → bytes ≡ busy_text m.close m.bare) → SeatReplies start s m bytes t
+seated start s t m bytes asked is_found asks token (Ok reply) seen counted ends kept told none text refused busy_is =
     seated_told start s t m bytes asked is_found asks reply seen counted ends kept told text
-seated start s t m bytes asked is_found asks (Err fault) seen counted ends kept told text busy_is =
-    seated_wanting start s t m bytes asked busy_is seen counted kept
+seated start s t m bytes asked is_found asks token (Err AskFault.NoMemory) seen counted ends kept told none text refused busy_is =
+    seated_wanting start s t m bytes asked (busy_is refl) seen counted kept
+seated start s t m bytes asked is_found asks token (Err AskFault.Stranger) seen counted ends kept told none text refused busy_is =
+    seated_stranger start s t m bytes is_found (subst (IsStranger start s.seen) token (none refl)) (unmade start s t m bytes asked seen counted kept) (refused refl)
 
 -- no memory was found for what is asked
 pub seated_unasked : (start : State) (s : Seat) (m : Message) (bytes : List ℕ) → bytes ≡ busy_text m.close m.bare → SeatReplies start s m bytes s

@@ -1,14 +1,14 @@
 -- What a message is answered at a worker's post, whichever head shows it, and the post that it leaves.
-use Rattle.std.specs.Prelude.{◌≡◌, ℕ, ◌+◌, ◌-◌, ◌^◌, min, true, false, List}
+use Rattle.std.specs.Prelude.{◌≡◌, ℕ, ◌+◌, ◌-◌, ◌^◌, min, true, false, List, option_map}
 use Rattle.st_http.specs.declared.message.Message.{Message}
 use Rattle.st_policy.specs.declared.refusal.Refusal.{Refusal}
 use Rattle.st_policy.specs.declared.reply.Reply.{Reply}
 use Rattle.st_core.specs.Step.{asks_for_change}
 use Rattle.st_connection.specs.Render.{busy_text}
-use Rattle.st_service.specs.Answers.{AsksBy, IsFound, reply_text, RepliesTo as ServiceReplies}
+use Rattle.st_service.specs.Answers.{AsksBy, IsFound, reply_text, token_from, token_in, RepliesTo as ServiceReplies}
 use Rattle.st_hall.specs.Steps.{Ask, State, Told, reply_of, state_after}
-use Rattle.st_hall.specs.Views.{Seat, Post, Learns, EndsAfter}
-use Rattle.st_station.specs.Seats.{Moves}
+use Rattle.st_hall.specs.Views.{Seat, Post, Learns, EndsAfter, IsStranger}
+use Rattle.st_station.specs.Seats.{Moves, no_token}
 
 -- At a seat a message may get this answer, and leave this seat.
 pub data SeatReplies (start : State) (s : Seat) (m : Message) (answer : List ℕ) (t : Seat) : Type 0 where
@@ -19,6 +19,9 @@ pub data SeatReplies (start : State) (s : Seat) (m : Message) (answer : List ℕ
   makes : {asked : Ask} {reply : Told} → IsFound m → AsksBy m asked → asks_for_change asked ≡ true
       → (list : List Ask) × EndsAfter start s.seen list asked reply → Moves 1 s t
       → answer ≡ reply_text reply m.close m.bare → SeatReplies start s m answer t
+  -- a stranger is told so, whatever the body; it is no change, and is not counted
+  refuses_stranger : IsFound m → IsStranger start s.seen (option_map token_from (token_in m)) → Moves 0 s t
+      → answer ≡ reply_text no_token m.close m.bare → SeatReplies start s m answer t
   -- out of memory for the text of a refusal, which is counted
   leaves_untold : {asked : Ask} {refusal : Refusal} → IsFound m → AsksBy m asked → asks_for_change asked ≡ true
       → (list : List Ask) × EndsAfter start s.seen list asked (Reply.Refused refusal) → Moves 1 s t

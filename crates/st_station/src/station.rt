@@ -1,22 +1,25 @@
 //! A station: a worker who answers the messages of connections.
-ghost use Rattle.std.specs.Prelude.{◌≡◌, false, refl, IfOk};
+ghost use Rattle.std.specs.Prelude.{◌≡◌, true, false, refl, option_map, Err, IfOk};
 ghost use mathlib.Core.Logic.{inl};
 ghost use Rattle.st_connection.specs.Connection.{EndsOn, Served};
-ghost use Rattle.st_hall.specs.Views.{Learns};
-ghost use Rattle.st_service.specs.Answers.{IsFound};
+ghost use Rattle.st_connection.specs.Render.{busy_text};
+ghost use Rattle.st_hall.specs.Views.{IsStranger, Learns};
+ghost use Rattle.st_hall.specs.declared.fault.AskFault.TheVariants.{NoMemory, Stranger};
+ghost use Rattle.st_service.specs.Answers.{IsFound, TellsOrBusy, token_from, token_in};
 ghost use Rattle.st_service.specs.Bytes.{bytes_of};
 ghost use Rattle.st_station.specs.Posts.{Answers};
 ghost use Rattle.st_station.specs.Replies.{RepliesTo, SeatReplies};
-ghost use Rattle.st_station.specs.Seats.{faulty};
+ghost use Rattle.st_station.specs.Seats.{Moves, faulty, no_token};
 ghost use Rattle.st_station.specs.inner.Shown.{post_shown};
 
 use st_connection::connection::{Ended, IoFault, MAX_READS};
 use st_connection::replies::Replies;
 use st_connection::streams::{Sink, Source};
 use st_connection::{Failed, Server};
-use st_hall::{Clerk, Desk, Gate, HallName, Worker};
+use st_core::Reply;
+use st_hall::{AskFault, Clerk, Desk, Gate, HallName, Worker};
 use st_http::message::Message;
-use st_service::{Answer, asked_of};
+use st_service::{Answer, asked_of, is_long, to_stranger, token_of};
 use std::alloc::{AllocError, Global};
 use std::marker::Model;
 use std::sync::{Mutex, Wait};
@@ -37,7 +40,59 @@ impl<'a, H: HallName, R: Wait + Drop, G: Gate, W: Wait> Model for Answerer<'a, H
     ghost view = { λ a. a.worker };
 }
 
+// The answer to what a message asked.
+fn tell(alloc: Global, message: &Message<'_>, told: Result<Reply, AskFault>) -> Answer
+    ensures ok { IfOk told (λ reply. TellsOrBusy reply message.now.close message.now.bare (bytes_of result)) }
+    ensures stranger { told ≡ Err Stranger → TellsOrBusy no_token message.now.close message.now.bare (bytes_of result) }
+    ensures busy { told ≡ Err NoMemory → bytes_of result ≡ busy_text message.now.close message.now.bare }
+{
+    let told = match told {
+        Ok(reply) => Ok(reply),
+        Err(AskFault::NoMemory) => Err(AllocError),
+        Err(AskFault::Stranger) => return to_stranger(alloc, message),
+    };
+    let answer = Answer::of(alloc, &told, message.close, message.bare);
+    drop(told);
+    answer
+}
+
 impl<'a, H: HallName, R: Wait + Drop, G: Gate, W: Wait> Answerer<'a, H, R, G, W> {
+    // Whether a message is refused before its body is read: the body is long, and the token does not hold after the changes that are
+    // then seen. When out of memory the body is read.
+    fn is_stranger(&mut self, message: &Message<'_>) -> bool
+        ensures number { self.new.number ≡ self.old.number }
+        ensures calls { self.new.calls ≡ self.old.calls }
+        ensures learnt { self.new.learnt ≡ self.old.learnt }
+        ensures moves { Moves 0 self.old.seat self.new.seat }
+        ensures stranger { result ≡ true → IsStranger H.start self.old.seat.seen (option_map token_from (token_in message.now)) }
+    {
+        if !is_long(message) {
+            return false;
+        }
+        match self.worker.knows(token_of(message)) {
+            Ok(holds) => !holds,
+            Err(AllocError) => false,
+        }
+    }
+
+    // Answers a message whose route is an endpoint, by what it asks, in the call that began last.
+    fn answer_asked(&mut self, message: &Message<'_>) -> Answer
+        requires { IsFound message.now }
+        ensures number { self.new.number ≡ self.old.number }
+        ensures calls { self.new.calls ≡ self.old.calls }
+        ensures learns { Learns self.old self.new }
+        ensures seat { SeatReplies H.start self.old.seat message.now (bytes_of result) self.new.seat }
+    {
+        let Ok(asked) = asked_of(self.alloc, self.alloc, message) else {
+            return Answer::Busy {
+                close: message.close,
+                bare: message.bare,
+            };
+        };
+        let told = self.worker.ask(self.rt, asked);
+        tell(self.alloc, message, told)
+    }
+
     // Answers a message whose route is an endpoint, in the call that began last.
     fn answer_found(&mut self, message: &Message<'_>) -> Answer
         requires { IsFound message.now }
@@ -46,15 +101,10 @@ impl<'a, H: HallName, R: Wait + Drop, G: Gate, W: Wait> Answerer<'a, H, R, G, W>
         ensures learns { Learns self.old self.new }
         ensures seat { SeatReplies H.start self.old.seat message.now (bytes_of result) self.new.seat }
     {
-        let close = message.close;
-        let bare = message.bare;
-        let Ok(asked) = asked_of(self.alloc, self.alloc, message) else {
-            return Answer::Busy { close, bare };
-        };
-        let told = self.worker.ask(self.rt, asked);
-        let answer = Answer::of(self.alloc, &told, close, bare);
-        drop(told);
-        answer
+        if self.is_stranger(message) {
+            return to_stranger(self.alloc, message);
+        }
+        self.answer_asked(message)
     }
 
     // Answers a message, in the call that began last.

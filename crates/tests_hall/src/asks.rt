@@ -6,7 +6,7 @@ use st_auth::Auths;
 use st_box::Query;
 use st_core::{Asked, Call, Reply, Token};
 use st_dir::{Name, TableName};
-use st_hall::{Desk, Front, HallName, Receipt};
+use st_hall::{AskFault, Desk, Front, HallName, Receipt};
 use st_index::{Id, Note, Row};
 use st_key::Point;
 use st_label::Label;
@@ -183,12 +183,12 @@ pub fn are_listed<H: HallName>(desk: &mut Desk<H>, wanted: &[&str]) -> bool {
 }
 
 /// Whether a change is told to be made.
-pub fn is_accepted(told: &Result<Reply, AllocError>) -> bool {
+pub fn is_accepted(told: &Result<Reply, AskFault>) -> bool {
     matches!(told, Ok(Reply::Accepted))
 }
 
 /// The front of a receipt.
-pub fn front_of<H: HallName>(told: &mut Result<Receipt<H>, AllocError>) -> Option<Front<H>> {
+pub fn front_of<H: HallName>(told: &mut Result<Receipt<H>, AskFault>) -> Option<Front<H>> {
     match told {
         Ok(receipt) => receipt.front.take(),
         Err(_) => None,

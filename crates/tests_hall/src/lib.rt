@@ -25,6 +25,8 @@ mod runs;
 #[cfg(test)]
 mod servers;
 #[cfg(test)]
+mod strangers;
+#[cfg(test)]
 mod taken_back;
 #[cfg(test)]
 mod words;

@@ -6,9 +6,9 @@ use crate::asks::create_user;
 use crate::halls::{Always, stores};
 use crate::messages::told_of;
 use st_core::{Reply, Store};
-use st_hall::{Clerk, Desk, Hall, HallName, Receipt, Unnamed};
+use st_hall::{AskFault, Clerk, Desk, Hall, HallName, Receipt, Unnamed};
 use st_station::Station;
-use std::alloc::{AllocError, Global};
+use std::alloc::Global;
 use std::marker::Brand;
 use std::sync::{Mutex, Wait};
 use std::test::*;
@@ -40,13 +40,14 @@ enum Way {
 }
 
 // What a change with this receipt comes to.
-fn end_of<H: HallName>(told: &Result<Receipt<H>, AllocError>) -> End {
+fn end_of<H: HallName>(told: &Result<Receipt<H>, AskFault>) -> End {
     match told {
         Ok(receipt) => match &receipt.reply {
             Reply::Accepted => End::Made,
             _ => End::NotMade,
         },
-        Err(_) => End::NoMemory,
+        Err(AskFault::NoMemory) => End::NoMemory,
+        Err(AskFault::Stranger) => End::NotMade,
     }
 }
 

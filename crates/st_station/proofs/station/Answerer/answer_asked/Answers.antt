@@ -1,6 +1,6 @@
 use Rattle.std.proofs.Common.{refl, sym}
 use Rattle.st_station.proofs.Seated.{seated, seated_unasked}
-use Rattle.st_station.proofs.station.Answerer.answer_found.Goals as goal
+use Rattle.st_station.proofs.station.Answerer.answer_asked.Goals as goal
 
 pub returns-in_default-clause-seat : goal.returns-in_default-clause-seat
 returns-in_default-clause-seat g c = seated_unasked g.H.HallName.start c.args.self.now.seat c.args.message.now _ refl

@@ -1,0 +1,55 @@
+-- What is not heard, and what a call that nobody makes is told.
+use Rattle.std.proofs.Common.{◌≡◌, true, false, Bool, Option, None, Some, is_some, refl, sym, ◌∙◌, ap}
+use Rattle.st_text.specs.Texts.{Text}
+use Rattle.st_policy.specs.declared.denial.Denial.{Denial}
+use Rattle.st_policy.specs.declared.refusal.Refusal.{Refusal}
+use Rattle.st_policy.specs.declared.reply.Reply.{Reply}
+use Rattle.st_core.specs.declared.asked.Call.{Call}
+use Rattle.st_core.specs.declared.judged.Judged.{Judged}
+use Rattle.st_core.specs.Step.{asker_of, asks_for_change, calls_for_change, judge_call, settle}
+use Rattle.st_hall.specs.Steps.{Ask, State, Told, judged_in, reply_of}
+
+is_heard : {A : Type 0} → Judged A → Bool
+is_heard (Judged.Unheard refusal) = false
+is_heard (Judged.Heard asker request refusal) = true
+
+-- a change is heard exactly where somebody asks
+somebody : (s : State) (asker : Option Text) (call : Call _) (judged : Judged _) → calls_for_change call ≡ true
+    → judged ≡ judge_call s.directory asker call → is_heard judged ≡ is_some asker
+somebody s None call judged change is = ap is_heard is
+somebody s (Some asker) (Call.Bad other) judged change is = cc
+somebody s (Some asker) (Call.Good request) judged change is = ap is_heard is
+
+pub heard_change : (s : State) (asked : Ask) (judged : Judged _) → asks_for_change asked ≡ true → judged ≡ judged_in s asked
+    → is_heard judged ≡ is_some (asker_of s.directory asked.token)
+unfolding judged_in
+heard_change s asked judged change is = somebody s (asker_of s.directory asked.token) asked.call judged change is
+
+-- where nobody is found, there is none
+pub is_nobody : {A : Type 0} (found : Option A) → false ≡ is_some found → found ≡ None
+is_nobody None is = refl
+is_nobody (Some x) is = cc
+
+-- what is told to a call that is no JSON object
+told_bad : Option Text → Told
+told_bad None = Reply.Refused (Refusal.Denied Denial.Token)
+told_bad (Some asker) = Reply.Refused Refusal.Json
+
+bad_told : (s : State) (asker : Option Text) → (settle s (judge_call s.directory asker (Call.Bad Refusal.Json))).reply ≡ told_bad asker
+bad_told s None = refl
+bad_told s (Some asker) = refl
+
+reply_to_bad : (s : State) (asked : Ask) → asked.call ≡ Call.Bad Refusal.Json → reply_of s asked ≡ told_bad (asker_of s.directory asked.token)
+unfolding reply_of
+reply_to_bad s asked is =
+    ap (λ (c : Call _). (settle s (judge_call s.directory (asker_of s.directory asked.token) c)).reply) is
+    ∙ bad_told s (asker_of s.directory asked.token)
+
+-- it is refused for its token exactly where nobody asks
+no_asker : (asker : Option Text) → Reply.Refused (Refusal.Denied Denial.Token) ≡ told_bad asker → false ≡ is_some asker
+no_asker None is = refl
+no_asker (Some asker) is = cc
+
+pub refused_for_token : (s : State) (asked : Ask) → asked.call ≡ Call.Bad Refusal.Json
+    → Reply.Refused (Refusal.Denied Denial.Token) ≡ reply_of s asked → false ≡ is_some (asker_of s.directory asked.token)
+refused_for_token s asked is told = no_asker (asker_of s.directory asked.token) (told ∙ reply_to_bad s asked is)
