@@ -14,14 +14,14 @@ use std::alloc::Global;
 use std::env::Env;
 use std::{env, io};
 
-/// A command of this name, with the version of the programs.
-pub fn named<'a>(alloc: Global, name: &'a str) -> Command<'a>
+/// A command of this name, with the version of the programs, and what its help says that it does.
+pub fn named<'a>(alloc: Global, name: &'a str, about: &'a str) -> Command<'a>
     ensures app { app_of result ≡ with_version (new_app name.entry.now) }
     ensures empty { (args_of result ≡ []) × (groups_of result ≡ []) }
     ensures local { (fields_of result).has_globals ≡ false }
     ensures negates { (fields_of result).subcommand_negates_reqs ≡ false }
 {
-    Command::new(alloc, name).version(VERSION)
+    Command::new(alloc, name).version(VERSION).about(about)
 }
 
 /// The option `--root DIGEST`.

@@ -11,6 +11,8 @@ use crate::fault::Fault;
 use clap::{Arg, ArgAction, ArgMatches, Command};
 use std::alloc::{AllocError, Global};
 
+const ABOUT: &str = "Serves labelled points in place and time over standard input and output";
+
 /// The arguments of `st_run`.
 #[derive(Drop)]
 pub struct RunArguments<'a> {
@@ -39,8 +41,7 @@ fn store<'a>(alloc: Global) -> Arg<'a>
 fn command<'a>(alloc: Global) -> Result<Command<'a>, AllocError>
     ensures { IfOk result (Builds run_command) }
 {
-    let command = named(alloc, "st_run")
-        .about("Serves labelled points in place and time over standard input and output")
+    let command = named(alloc, "st_run", ABOUT)
         .arg(root(alloc))?
         .arg(store(alloc))?
         .arg(names(alloc))?;

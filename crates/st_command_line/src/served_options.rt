@@ -12,6 +12,8 @@ use crate::fault::Fault;
 use clap::{Arg, ArgAction, ArgMatches, Command};
 use std::alloc::{AllocError, Global};
 
+const ABOUT: &str = "Serves labelled points in place and time at a TCP port";
+
 // The option `--port P`.
 fn port<'a>(alloc: Global) -> Arg<'a>
     ensures id { result.id.now ≡ codes "port" }
@@ -100,8 +102,7 @@ fn listen<'a>(alloc: Global) -> Arg<'a>
 fn command<'a>(alloc: Global) -> Result<Command<'a>, AllocError>
     ensures { IfOk result (Builds served_command) }
 {
-    let command = named(alloc, "st_served")
-        .about("Serves labelled points in place and time at a TCP port")
+    let command = named(alloc, "st_served", ABOUT)
         .arg(root(alloc))?
         .arg(port(alloc))?
         .arg(connections(alloc))?
