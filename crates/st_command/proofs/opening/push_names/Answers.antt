@@ -13,11 +13,11 @@ pushed : (before after all name : Text) (names : List Text) → before ++ names_
 unfolding names_text
 pushed before after all name names whole is = rw is (append_assoc before (name_text name) (names_text names) ∙ whole)
 
-step : (before after all : Text) (names : List (Bor Text)) (i : ℕ) (d : Bor Text) → i < length names
-    → before ++ names_text (texts (drop i names)) ≡ all → after ≡ before ++ name_text (get_or names i d).now
-    → after ++ names_text (texts (drop (suc i) names)) ≡ all
-step before after all names i d within whole is =
-    pushed before after all (get_or names i d).now (texts (drop (suc i) names)) (rw (drop-cons names i d within) at whole) is
+step : (before after all : Text) (names : List (Bor Text)) (i j : ℕ) (d : Bor Text) → i < length names
+    → j ≡ suc i → before ++ names_text (texts (drop i names)) ≡ all → after ≡ before ++ name_text (get_or names i d).now
+    → after ++ names_text (texts (drop j names)) ≡ all
+step before after all names i j d within next whole is =
+    rw next (pushed before after all (get_or names i d).now (texts (drop (suc i) names)) (rw (drop-cons names i d within) at whole) is)
 
 no_more : (before all : Text) (names : List Text) → names ≡ [] → before ++ names_text names ≡ all → before ≡ all
 unfolding names_text
@@ -25,8 +25,8 @@ no_more before all names none whole = sym (append-nil before) ∙ (rw none at wh
 
 pub loop-name-preserved : goal.loop-name-preserved
 loop-name-preserved c =
-    step (string_bytes c.loop-name.text) (string_bytes c.push_name.new.text) _ c.args.names.now c.loop-name.name-index _ c.loop-name-test.true
-        c.loop-name.invariant c.in_ok-push_name.ensures
+    step (string_bytes c.loop-name.text) (string_bytes c.push_name.new.text) _ c.args.names.now c.loop-name.name-index _ _ c.loop-name-test.true
+        (omega arith) c.loop-name.invariant c.in_ok-push_name.ensures
 
 pub returns : goal.returns
 returns c =
