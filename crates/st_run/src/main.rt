@@ -3,9 +3,8 @@
 
 mod sqlite;
 
-use sqlite::SqliteKeeper;
+use sqlite::run_files;
 use sqlite_std_file::Unknown;
-use st_command::run_words;
 use st_command_line::{give_up, show_run, words_of};
 use st_connection::{FromRead, FromWrite};
 use std::process::ExitCode;
@@ -17,21 +16,14 @@ fn main(rt: HostRuntime) -> ExitCode {
     let status = match words_of(&rt) {
         Ok(words) => match show_run(rt.alloc(), &words, &mut rt.stdout()) {
             Ok(true) => 0,
-            Ok(false) => {
-                let keeper = SqliteKeeper {
-                    runtime: &rt,
-                    start: Unknown,
-                };
-                run_words(
-                    &rt,
-                    rt.alloc(),
-                    keeper,
-                    &words,
-                    &mut reader,
-                    &mut writer,
-                    &mut faults,
-                )
-            }
+            Ok(false) => run_files(
+                &rt,
+                Unknown,
+                &words,
+                &mut reader,
+                &mut writer,
+                &mut faults,
+            ),
             Err(fault) => give_up("st_run", fault, &mut faults),
         },
         Err(fault) => give_up("st_run", fault, &mut faults),
