@@ -13,6 +13,7 @@ use crate::sending::{Stopped, flush, write_all};
 use crate::streams::{Failed, Sink};
 use st_http::message::Take;
 use st_http::routes::Routes;
+use std::convert::AsSlice;
 
 // Answers the first item of a text at once, where its client was told that its body is awaited.
 fn answer_told<X: Replies, W: Sink>(
