@@ -35,7 +35,7 @@ finds_message text m used (message h body bare, first, shows) = record {
 finds_message text m used (fault reason bare, first, shows) = absurd shows
 finds_message text m used (more waits, first, shows) = absurd shows
 
-finds_fault : (text : List ℕ) (f : Fault) → Takes text (takes.Fault f) → IsFirst text (fault f.reason f.bare)
+pub finds_fault : (text : List ℕ) (f : Fault) → Takes text (takes.Fault f) → IsFirst text (fault f.reason f.bare)
 finds_fault text f (message h body bare, first, shows) = absurd shows
 finds_fault text f (fault reason bare, first, shows) =
     let same : fault reason bare ≡ fault f.reason f.bare = cc in subst (λ (i : First). IsFirst text i) same first

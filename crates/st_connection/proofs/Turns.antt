@@ -53,7 +53,7 @@ module _ {S : Type 0} (step : S → First → List ℕ → S → Type 0) (old no
   all_items = items_whole s.given s.spoken.whole.items text s.spoken.whole.begins told (λ o. s.waits)
 
   -- all that was said
-  said : List ℕ
+  abbrev said : List ℕ
   said = concat s.spoken.whole.answers ++ interim told
 
   says_all : SaysAll text s.spoken.whole.answers said

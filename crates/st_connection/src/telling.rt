@@ -81,13 +81,17 @@ fn answer_on<X: Replies, W: Sink>(
     ensures room_stays { length block.new ≡ length block.old }
 {
     match answer_all(answerer, routes, text, block, writer, written) {
-        Ok(Stop::Waits(used, true)) => match write_all(writer, continue_text(), written) {
-            Ok(()) => Ok(Stop::Waits(used, true)),
-            Err(Failed) => Err(Stopped::Unwritten),
-        },
-        Ok(Stop::Waits(used, false)) => Ok(Stop::Waits(used, false)),
-        Ok(Stop::Closed) => Ok(Stop::Closed),
         Err(why) => Err(why),
+        Ok(Stop::Closed) => Ok(Stop::Closed),
+        Ok(Stop::Waits(used, due)) => {
+            if !due {
+                return Ok(Stop::Waits(used, false));
+            }
+            match write_all(writer, continue_text(), written) {
+                Ok(()) => Ok(Stop::Waits(used, true)),
+                Err(Failed) => Err(Stopped::Unwritten),
+            }
+        }
     }
 }
 
@@ -129,8 +133,12 @@ pub(crate) fn answer_text<X: Replies, W: Sink>(
         match answer_on(answerer, routes, &text[used..], block, writer, written) {
             Err(why) => return Err(why),
             Ok(Stop::Closed) => return Ok(Stop::Closed),
-            Ok(Stop::Waits(count, false)) => return Ok(Stop::Waits(used + count, false)),
-            Ok(Stop::Waits(count, true)) => used += count,
+            Ok(Stop::Waits(count, due)) => {
+                used += count;
+                if !due {
+                    return Ok(Stop::Waits(used, false));
+                }
+            }
         }
         told = true;
     }

@@ -1,5 +1,5 @@
 -- Clients that are told ahead that a body is awaited.
-use Rattle.std.proofs.Common.{◌≡◌, ◌∙◌, ◌⊎◌, inl, inr, ℕ, ◌+◌, ◌-◌, ◌≤◌, ◌<◌, Bool, true, false, Option, Ok, Err, List, [], ◌∷◌, ◌++◌, length, drop, refl, sym, ap, subst, arith, append_assoc, append-nil, length-append}
+use Rattle.std.proofs.Common.{◌≡◌, ◌∙◌, ◌⊎◌, inl, inr, ℕ, ◌+◌, ◌-◌, ◌*◌, ◌^◌, ◌≤◌, ◌<◌, if◌then◌else◌, Bool, true, false, Option, Ok, Err, List, [], ◌∷◌, ◌++◌, length, drop, refl, sym, ap, subst, arith, append_assoc, append-nil, length-append}
 use Rattle.std.specs.List.{concat}
 use Rattle.std.specs.Io.KnownBytes.{Appends}
 use Rattle.std.proofs.KnownBytes.{Appends-nil, Appends-trans}
@@ -12,9 +12,11 @@ use Rattle.st_connection.specs.declared.sending.Stopped.{Stopped}
 use Rattle.st_connection.specs.declared.sending.Stopped.TheVariants as stopped
 use Rattle.st_connection.specs.declared.connection.Next.TheVariants as nexts
 use Rattle.st_connection.specs.declared.connection.Stop.TheVariants as stops
-use Rattle.st_connection.proofs.Reading.{begins_one}
+use Rattle.st_http.proofs.FirstLemmas.{first_unique}
+use Rattle.st_connection.proofs.Reading.{begins_one, few_items}
+use Rattle.st_connection.proofs.Steps.{interim_few}
 use Rattle.st_connection.proofs.Joins.{whole_none, whole_join, spoken_join}
-use Rattle.st_connection.proofs.Blocks.{Gathered, gathered_none, gathered_one, gathered_out, gathered_breaks, amid_all, broken_join, loses_join, all_but_most}
+use Rattle.st_connection.proofs.Blocks.{Gathered, gathered_none, gathered_one, gathered_out, gathered_breaks, flushed, amid_all, broken_join, loses_join, all_but_most}
 use Rattle.st_connection.proofs.Passes.{piece, piece_is, piece_length, drop_again, whole_stays}
 
 -- ---- the first item, whose client was told ahead
@@ -45,7 +47,7 @@ module _ {S : Type 0} (step : S → First → List ℕ → S → Type 0) (hold :
         gathered_one step hold old old kept_old text text held held before before [] (gathered_none step hold old old text text held held before before [] kept_old (whole_none step old text held before) refl settled)
         (omega arith) closed new kept rest (interim told ++ answer) one which
 
-    pub told_out : Appends ho hn answer → wn ≡ wo + length answer → Whole step closed old new text rest held hn before wn
+    told_out : Appends ho hn answer → wn ≡ wo + length answer → Whole step closed old new text rest held hn before wn
     told_out out more_counted =
         gathered_out step hold closed old new kept text rest held held before before (interim told ++ answer) gathered hn wn
         (Appends-trans held ho hn (interim told) answer wrote out) (omega (arith, counted, more_counted, length-append (interim told) answer))
@@ -110,10 +112,31 @@ module _ {S : Type 0} (step : S → First → List ℕ → S → Type 0) (hold :
       wrote = subst (λ (l : List ℕ). Appends held hn l) (append-nil (interim told)) (Appends-trans held ho hn (interim told) [] wrote out);
     }
 
-    pub told_stops : (expects one.item ≡ told) → (last : S) (back : List ℕ) (why : Stopped) → Passed new kept last ho hn wo wn answer back (Err why)
+    told_stops_here : (expects one.item ≡ told) → (last : S) (back : List ℕ) (why : Stopped) → Passed new kept last ho hn wo wn answer back (Err why)
         → AnsweredTold step hold told old new last text held hn before wn (Err why)
-    told_stops expected last back stopped.Unwritten s = told_breaks s
-    told_stops expected last back stopped.Lost s = told_loses expected s.0 last s.1
+    told_stops_here expected last back stopped.Unwritten s = told_breaks s
+    told_stops_here expected last back stopped.Lost s = told_loses expected s.0 last s.1
+
+    -- in the state as the code has it
+    module _ (after last : S) (now : after ≡ new) where
+      pub told_stops : (expects one.item ≡ told) → (back : List ℕ) (why : Stopped) → Passed new kept last ho hn wo wn answer back (Err why)
+          → AnsweredTold step hold told old after last text held hn before wn (Err why)
+      told_stops expected back why s =
+          subst (λ (s : S). AnsweredTold step hold told old s last text held hn before wn (Err why)) (sym now) (told_stops_here expected last back why s)
+
+      pub told_closes : closed ≡ true → Passed new kept last ho hn wo wn answer [] (Ok tt) → AnsweredTold step hold told old after last text held hn before wn (Ok nexts.Closed)
+      told_closes e passed =
+          let out = flushed new kept last ho hn wo wn answer passed in
+          let whole = subst (λ (b : Bool). Whole step b old new text rest held hn before wn) e (told_out out.0 out.1) in
+          (rest, subst (λ (s : S). Whole step true old s text rest held hn before wn) (sym now) whole)
+
+      pub told_opens : closed ≡ false → (used : ℕ) → rest ≡ drop used text → 0 < used → used ≤ length text → Passed new kept last ho hn wo wn answer [] (Ok tt)
+          → AnsweredTold step hold told old after last text held hn before wn (Ok (nexts.Open used))
+      told_opens e used rest_is some within passed =
+          let out = flushed new kept last ho hn wo wn answer passed in
+          let whole = subst (λ (b : Bool). Whole step b old new text rest held hn before wn) e (told_out out.0 out.1) in
+          let there = subst (λ (t : List ℕ). Whole step false old new text t held hn before wn) rest_is whole in
+          (within, (λ t. some), subst (λ (s : S). Whole step false old s text (drop used text) held hn before wn) (sym now) there)
 
 -- ---- the word
 
@@ -194,9 +217,10 @@ module _ {S : Type 0} (step : S → First → List ℕ → S → Type 0) (hold :
       subst (λ (t : List ℕ). Whole step false old new text t ho hn wo wn) (drop_again text used count)
       (whole_join step old mid new text (piece text used) ho hm hn wo wm wn a false (drop count (piece text used)) b)
 
-  pub then_stops : (why : Stopped) → AnsweredOn step hold mid new last (piece text used) hm hn wm wn (Err why) → AnsweredText step hold old new last text ho hn wo wn (Err why)
-  then_stops stopped.Unwritten b = breaks_behind b
-  then_stops stopped.Lost b = loses_behind b
+  pub then_stops : (why : Stopped) (room : ℕ) → room ≡ hold → AnsweredOn step room mid new last (piece text used) hm hn wm wn (Err why)
+      → AnsweredText step hold old new last text ho hn wo wn (Err why)
+  then_stops stopped.Unwritten room same b = breaks_behind (subst (λ (n : ℕ). Broken step n mid new (piece text used) hm hn wm wn) same b)
+  then_stops stopped.Lost room same b = loses_behind b
 
   pub then_closes : AnsweredOn step hold mid new last (piece text used) hm hn wm wn (Ok stops.Closed) → AnsweredText step hold old new last text ho hn wo wn (Ok stops.Closed)
   then_closes b = closes_behind b
@@ -218,3 +242,24 @@ module _ {S : Type 0} (step : S → First → List ℕ → S → Type 0) (hold :
   pub then_told : (count : ℕ) → AnsweredOn step hold mid new last (piece text used) hm hn wm wn (Ok (stops.Waits count true))
       → Stands false true (drop (used + count) text) × Spoken step old new text (drop (used + count) text) true ho hn wo wn
   then_told count (within, stands, b) = (subst (λ (t : List ℕ). Stands false true t) (drop_again text used count) stands, then_spoken count true b)
+
+-- ---- how much was written, and how much is left
+
+pub whole_bound : {S : Type 0} (step : S → First → List ℕ → S → Type 0) (old new : S) (text rest : List ℕ) (ho hn : Option (List ℕ)) (wo wn : ℕ)
+    → Whole step false old new text rest ho hn wo wn → wn + 2 ^ 65 * length rest ≤ wo + 2 ^ 65 * length text
+whole_bound step old new text rest ho hn wo wn whole =
+    let f = few_items text whole.items rest whole.begins whole.ends in omega (arith, f, whole.counted, whole.few)
+
+pub spoken_bound : {S : Type 0} (step : S → First → List ℕ → S → Type 0) (old new : S) (text rest : List ℕ) (told : Bool) (ho hn : Option (List ℕ)) (wo wn : ℕ)
+    → Spoken step old new text rest told ho hn wo wn → wn + 2 ^ 65 * length rest ≤ wo + 2 ^ 65 * length text + 25
+spoken_bound step old new text rest told ho hn wo wn s =
+    let b = whole_bound step old new text rest ho s.held wo s.written s.whole in let n = interim_few told in omega (arith, b, n, s.counted)
+
+-- each pass of the loop but the first takes a byte at least
+pub smaller : (all used count later : ℕ) (told : Bool) → (told ≡ true → 0 < count) → used + count + later ≤ all
+    → all - (used + count + later) + 0 < all - used + (if told then 0 else 1)
+smaller all used count later true some le = let n : 0 < count = some refl in omega (arith, n, le)
+smaller all used count later false some le = omega (arith, le)
+
+pub told_first : (text : List ℕ) → Stands false true text → (item : First) → IsFirst text item → expects item ≡ true
+told_first text (first, is, e) item other = ap expects (first_unique text item first other is) ∙ e
