@@ -263,3 +263,6 @@ smaller all used count later false some le = omega (arith, le)
 
 pub told_first : (text : List ℕ) → Stands false true text → (item : First) → IsFirst text item → expects item ≡ true
 told_first text (first, is, e) item other = ap expects (first_unique text item first other is) ∙ e
+
+pub not_err : {A E : Type 0} (value : A) (fault : E) → Ok value ≡ Err fault → ⊥
+not_err value fault same = cc

@@ -1,11 +1,11 @@
-use Rattle.std.proofs.Common.{◌≡◌, ◌+◌, ◌-◌, ℕ, List, None, length, drop, refl, sym, ◌∙◌, subst, arith}
+use Rattle.std.proofs.Common.{◌≡◌, ◌+◌, ◌-◌, ℕ, List, None, false, length, drop, refl, sym, ◌∙◌, subst, arith}
 use Rattle.std.proofs.lemmas.List.{length-drop}
 use Rattle.st_http.specs.First.{First, IsFirst}
 use Rattle.st_connection.specs.Connection.{Told}
 use Rattle.st_connection.specs.Render.{interim}
 use Rattle.st_connection.proofs.Joins.{whole_none}
 use Rattle.st_connection.proofs.Passes.{piece, piece_is, piece_length}
-use Rattle.st_connection.proofs.Ahead.{first_stops, first_closes, first_waits, first_open, then_stops, then_closes, then_waits, then_told, whole_bound, spoken_bound, smaller, told_first}
+use Rattle.st_connection.proofs.Ahead.{first_stops, first_closes, first_waits, first_open, then_stops, then_closes, then_waits, then_told, whole_bound, spoken_bound, smaller, told_first, not_err}
 use Rattle.st_connection.proofs.telling.answer_text.Goals as goal
 
 pub items-init : goal.items-init
@@ -127,10 +127,10 @@ items-preserved g c =
       (then_told (Told g.X.Replies.answers) 0 _ _ c.args.text.now (c.items.used + c.in-Ok-Open.count) base _ before _ whole _ (g.X.Replies.kept c.answer_on.new.answerer) _ _ c.in-Ok-Waits-answer_on.count on).1;
       expected = λ e. told_first _ stands.0;
       within = omega (arith, a.0, n, m, on.0, c.items.invariant.within);
-      settled = c.in-Ok-Waits-answer_on.ensures.settled (λ e. cc);
+      settled = c.in-Ok-Waits-answer_on.ensures.settled (not_err _ _);
       room = c.in-Ok-Waits-answer_on.ensures.room_stays ∙ c.items.invariant.room;
-      sound = c.in-Ok-Waits-answer_on.ensures.ok (λ e. cc) ∙ c.in-Ok-Open.ensures.ok (λ e. cc) ∙ c.items.invariant.sound;
-      answerer_sound = c.in-Ok-Waits-answer_on.ensures.not_lost (λ e. cc);
+      sound = c.in-Ok-Waits-answer_on.ensures.ok (not_err _ _) ∙ c.in-Ok-Open.ensures.ok (not_err _ _) ∙ c.items.invariant.sound;
+      answerer_sound = c.in-Ok-Waits-answer_on.ensures.not_lost (not_err _ _);
     }
 
 pub items-smaller : goal.items-smaller
