@@ -9,7 +9,7 @@ use Rattle.st_core.specs.declared.judged.Judged.{Judged}
 use Rattle.st_core.specs.Step.{asker_of, asks_for_change, calls_for_change, judge_call, settle}
 use Rattle.st_hall.specs.Steps.{Ask, State, Told, judged_in, reply_of}
 
-is_heard : {A : Type 0} → Judged A → Bool
+abbrev pub is_heard : {A : Type 0} → Judged A → Bool
 is_heard (Judged.Unheard refusal) = false
 is_heard (Judged.Heard asker request refusal) = true
 
@@ -31,7 +31,7 @@ is_nobody None is = refl
 is_nobody (Some x) is = cc
 
 -- what is told to a call that is no JSON object
-told_bad : Option Text → Told
+abbrev pub told_bad : Option Text → Told
 told_bad None = Reply.Refused (Refusal.Denied Denial.Token)
 told_bad (Some asker) = Reply.Refused Refusal.Json
 
@@ -48,8 +48,18 @@ reply_to_bad s asked is =
 -- it is refused for its token exactly where nobody asks
 no_asker : (asker : Option Text) → Reply.Refused (Refusal.Denied Denial.Token) ≡ told_bad asker → false ≡ is_some asker
 no_asker None is = refl
-no_asker (Some asker) is = cc
+no_asker (Some asker) is = cc is
 
 pub refused_for_token : (s : State) (asked : Ask) → asked.call ≡ Call.Bad Refusal.Json
     → Reply.Refused (Refusal.Denied Denial.Token) ≡ reply_of s asked → false ≡ is_some (asker_of s.directory asked.token)
 refused_for_token s asked is told = no_asker (asker_of s.directory asked.token) (told ∙ reply_to_bad s asked is)
+
+-- told anything else, it was heard
+an_asker : (asker : Option Text) → (Reply.Refused (Refusal.Denied Denial.Token) ≡ told_bad asker → ⊥) → true ≡ is_some asker
+an_asker None other = absurd (other refl)
+an_asker (Some asker) other = refl
+
+pub told_otherwise : (s : State) (asked : Ask) (told : Told) → asked.call ≡ Call.Bad Refusal.Json → told ≡ reply_of s asked
+    → (told ≡ Reply.Refused (Refusal.Denied Denial.Token) → ⊥) → true ≡ is_some (asker_of s.directory asked.token)
+told_otherwise s asked told is reply other =
+    an_asker (asker_of s.directory asked.token) (λ e. other (reply ∙ (reply_to_bad s asked is ∙ sym e)))
