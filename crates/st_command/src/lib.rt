@@ -3,6 +3,7 @@
 
 mod keeper;
 mod kept;
+pub mod law;
 mod opening;
 mod run;
 

@@ -1,8 +1,9 @@
 //! What is kept of a change.
-ghost use Rattle.std.specs.Prelude.{◌≡◌, true, ℕ, List, IfOk, IsUtf8};
+ghost use Rattle.std.specs.Prelude.{◌≡◌, ◌⊎◌, true, ℕ, List, [], IfOk, IsUtf8};
 ghost use Rattle.st_http.specs.declared.routes.Endpoint.{Endpoint as Line};
 ghost use Rattle.st_http.specs.Routes.{ShowsRoute, found};
 ghost use Rattle.st_json.specs.Bodies.{has_body};
+ghost use Rattle.st_json_reply.specs.Replies.{text_of};
 ghost use Rattle.st_record.specs.Records.{IsRecordOf};
 ghost use Rattle.st_service.specs.Answers.{IsFound};
 
@@ -24,7 +25,7 @@ fn milliseconds<C: Clock>(clock: &C) -> i64 {
     }
 }
 
-// The record of a message by this user, which asks a change that gets this reply.
+// The record of a message by this user, which asks a change that gets this reply. It has nothing of the token but the user.
 pub(crate) fn noted<C: Clock>(
     alloc: Global,
     clock: &C,
@@ -35,8 +36,9 @@ pub(crate) fn noted<C: Clock>(
     requires is_found { IsFound message.now }
     requires text { (endpoint : Line) (name : List ℕ) → ShowsRoute message.now.route (found endpoint name) → has_body endpoint ≡ true
         → IsUtf8 message.now.body.now }
-    ensures { IfOk result (λ r. (endpoint : Line) (name : List ℕ) → ShowsRoute message.now.route (found endpoint name)
+    ensures made { IfOk result (λ r. (endpoint : Line) (name : List ℕ) → ShowsRoute message.now.route (found endpoint name)
         → IsRecordOf r user.now endpoint name message.now.body.now) }
+    ensures told { IfOk result (λ r. (r.result ≡ text_of reply.now) ⊎ (r.result ≡ [])) }
 {
     let Route::Found(endpoint, name) = message.route else {
         unreachable!()

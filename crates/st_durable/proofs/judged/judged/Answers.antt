@@ -21,5 +21,5 @@ pub returns-in-Ok-clause-heard : goal.returns-in-Ok-clause-heard
 returns-in-Ok-clause-heard g c =
     let heard = subst (λ d. judge d c.args.asked.now ≡ Heard c.in-Heard.asker.now c.in-Heard.request.now c.in-Heard.refusal) c.directory.ensures (sym c.in-Heard.ensures) in
     let record_of = subst (λ (u : List ℕ). (endpoint : Endpoint) (name : List ℕ) → ShowsRoute c.args.message.now.route (found endpoint name)
-    → IsRecordOf c.in-Ok.note u endpoint name c.args.message.now.body.now) c.as_str.ensures.value c.in-Ok.ensures in
+    → IsRecordOf c.in-Ok.note u endpoint name c.args.message.now.body.now) c.as_str.ensures.value c.in-Ok.ensures.made in
     applied c.args.store.now c.args.message.now c.args.asked.now c.requires.asks _ _ _ heard c.in-Ok.note c.requires.is_found c.requires.change record_of

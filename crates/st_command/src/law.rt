@@ -1,0 +1,30 @@
+//! Laws of stores that a journal keeps.
+ghost use Rattle.std.specs.Prelude.{◌≡◌, ℕ, Bool, List, Option};
+ghost use Rattle.std.specs.declared.alloc.Global.{Global as Heap};
+ghost use Rattle.st_text.specs.Texts.{Text};
+ghost use Rattle.st_core.specs.State.{State};
+ghost use Rattle.st_journal.specs.declared.record.Record.{Record};
+ghost use Rattle.st_journal.specs.Replays.{Replays};
+ghost use Rattle.st_service.specs.Answers.{Answers};
+ghost use Rattle.st_durable.specs.Applying.{Applies};
+ghost use Rattle.st_durable.specs.Found.{FoundAfter};
+ghost use Rattle.st_command.specs.Opening.{OpensWith};
+ghost use Rattle.st_command.specs.Kept.{ServesKept};
+
+use st_journal::Journal;
+
+/// Command lines that a journal says alike open one state.
+pub fn one_opening()
+    ensures { (digits other : Text) (names others : List Text) (one two : State Heap) (opening : Text)
+        → OpensWith digits names one opening → OpensWith other others two opening → one ≡ two }
+{}
+
+/// What a run wrote for a connection is a front of answers that lead to the state which is made again from what is left, at
+/// whatever moment the process ends. So nothing that was answered, in whole or in part, is taken back, and the next run goes on
+/// from there.
+pub fn nothing_is_taken_back<J: Journal>()
+    ensures { (first before found : State Heap) (left_old left_new held_old held_new : Option (List ℕ)) (read_failed : Bool) (status : ℕ)
+        (serves : ServesKept J.list J.misreads J.may_leave first before left_old left_new held_old held_new read_failed status)
+        → J.misreads serves.after.journal ≡ 0 → (left : List Record) → J.may_leave serves.after.journal left
+        → Replays Applies first left found → FoundAfter Answers before found held_old held_new }
+{}
