@@ -62,9 +62,10 @@ same_digests text texts one other ok oks =
     let long = decode_sized-ok text 32 one ok in
     let longs = decode_sized-ok texts 32 other oks in
     let p = decode_of-ok text one (sym (decode_sized-twice text 32 long) ∙ ok) in
-    let q = decode_of-ok texts other (sym (decode_sized-twice texts 32 longs) ∙ oks) in
-    (omega (arith, long, longs, p.2, q.2),
-      λ even. decode_of-same (encode_lower one) one other (decode_of-encode_lower one p.3) (ap decode_of even ∙ decode_of-encode_lower other q.3))
+    let q = decode_of-ok texts other (sym (decode_sized-twice texts 32 longs) ∙ oks) in (
+      omega (arith, long, longs, p.2, q.2),
+      λ even. decode_of-same (encode_lower one) one other (decode_of-encode_lower one p.3) (ap decode_of even ∙ decode_of-encode_lower other q.3),
+    )
 
 pub one_opening : (digits other : Text) (names others : List Text) (one two : State Global) (opening : Text)
     → OpensWith digits names one opening → OpensWith other others two opening → one ≡ two
@@ -74,7 +75,7 @@ one_opening digits other names others one two opening a b =
     let same : opening_text da names ≡ opening_text db others = sym a.opening_is ∙ b.opening_is in
     let d = same_digests digits other da db a.opens.written b.opens.written in
     let even : length (encode_lower da) ≡ length (encode_lower db) =
-        length-encode_with lower_digits da ∙ ap (λ (n : ℕ). 2 * n) d.0 ∙ sym (length-encode_with lower_digits db) in
+    length-encode_with lower_digits da ∙ ap (λ (n : ℕ). 2 * n) d.0 ∙ sym (length-encode_with lower_digits db) in
     let parts = same_front (encode_lower da) (encode_lower db) (names_text names) (names_text others) even same in
     let all = same_names names others (are_short names a.opens.good) (are_short others b.opens.good) parts.1 in
     let by_digest : first_state da names ≡ first_state db names = ap (λ (digest : List ℕ). first_state digest names) (d.1 parts.0) in

@@ -101,7 +101,7 @@ module _ {S : Type 0} (step : Answering S) (old new kept found : S) (items : Lis
   to_kept : KeptPast (Told step) old kept new items answers sent → found ≡ kept → Front step old found sent
   to_kept past is =
       let b = behind_of step past.mid kept past.amid.first past.amid.later past.amid.told past.said past.amid.before
-          (subst (λ (l : List First). MayHear l past.said) past.amid.items_are past.hears) in
+      (subst (λ (l : List First). MayHear l past.said) past.amid.items_are past.hears) in
       record {
         items = past.done ++ past.amid.first;
         answers = past.out ++ past.amid.told;
@@ -117,7 +117,7 @@ module _ {S : Type 0} (step : Answering S) (old new kept found : S) (items : Lis
   past_new past is =
       let later = run_join (Told step) past.mid kept new past.amid.first past.amid.later past.amid.told past.amid.untold past.amid.before past.amid.behind in
       let b = behind_of step past.mid new (past.amid.first ++ past.amid.later) [] (past.amid.told ++ past.amid.untold) past.said later
-          (subst (λ (l : List First). MayHear l past.said) (past.amid.items_are ∙ sym (append-nil (past.amid.first ++ past.amid.later))) past.hears) in
+      (subst (λ (l : List First). MayHear l past.said) (past.amid.items_are ∙ sym (append-nil (past.amid.first ++ past.amid.later))) past.hears) in
       to_new b.said b.missing b.may
       (ap (λ (l : List (List ℕ)). concat l ++ b.said) (past.answers_are ∙ ap (λ (l : List (List ℕ)). past.out ++ l) past.amid.answers_are)
       ∙ joins past.out (past.amid.told ++ past.amid.untold) past.said past.sent_is b) is

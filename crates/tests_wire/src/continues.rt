@@ -27,7 +27,8 @@ HTTP/1.1 404 Not Found\r\nContent-Type: application/json\r\nContent-Length: 17\r
 HTTP/1.1 404 Not Found\r\nContent-Type: application/json\r\nContent-Length: 17\r\nConnection: close\r\n\r\n{\"error\":\"route\"}";
 
 // The head of a message, and a part of its body.
-const BEGUN: &[u8] = b"POST /tables/points/put HTTP/1.1\r\nHost: a\r\nExpect: 100-continue\r\nContent-Length: 48\r\n\r\n{\"id\"";
+const BEGUN: &[u8] =
+    b"POST /tables/points/put HTTP/1.1\r\nHost: a\r\nExpect: 100-continue\r\nContent-Length: 48\r\n\r\n{\"id\"";
 
 // How long that head is.
 const HEAD: usize = 87;
@@ -70,7 +71,8 @@ fn the_word_comes_with_the_whole_head(rt: HostRuntime) {
 #[test]
 fn a_fault_gets_its_answer_and_no_word(rt: HostRuntime) {
     let alloc = rt.alloc();
-    let long = b"POST / HTTP/1.1\r\nHost: a\r\nExpect: 100-continue\r\nContent-Length: 65537\r\n\r\n";
+    let long =
+        b"POST / HTTP/1.1\r\nHost: a\r\nExpect: 100-continue\r\nContent-Length: 65537\r\n\r\n";
     let refused = b"HTTP/1.1 413 Payload Too Large\r\nContent-Type: application/json\r\n\
 Content-Length: 16\r\nConnection: close\r\n\r\n{\"error\":\"size\"}";
     for size in [1, long.len()] {

@@ -9,4 +9,4 @@ returns g c first before found left_old left_new held_old held_new read_failed s
     let after = serves.after in
     let is = again first after.kept (answered after) found left (serves.leaves clean left leaves) made in
     found_after Answers before (answered after) after.kept found left_old left_new held_old held_new read_failed after.failed serves.ended
-        serves.served serves.kept is
+    serves.served serves.kept is
