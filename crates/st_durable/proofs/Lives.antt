@@ -130,10 +130,10 @@ module _ {S : Type 0} (step : Answering S) (old new kept found : S) (items : Lis
       → (result ≢ Ok Lost → kept ≡ new) → (found ≡ kept) ⊎ (found ≡ new) → Front step old found sent
   front (Ok Clean) failed given e settled is = whole e.3 (at_new (settled (λ l. cc)) is)
   front (Ok Closed) failed given e settled is = whole e.2 (at_new (settled (λ l. cc)) is)
-  front (Ok Cut) failed given e settled is = says_all e.3 (at_new (settled (λ l. cc)) is)
-  front (Ok TurnsSpent) failed given e settled is = says_all e.2 (at_new (settled (λ l. cc)) is)
-  front (Ok Lost) failed given e settled (inl is) = to_kept e.1 is
-  front (Ok Lost) failed given e settled (inr is) = past_new e.1 is
+  front (Ok Cut) failed given (all, stays, some, says) settled is = says_all says (at_new (settled (λ l. cc)) is)
+  front (Ok TurnsSpent) failed given (all, stays, says) settled is = says_all says (at_new (settled (λ l. cc)) is)
+  front (Ok Lost) failed given (begins, past) settled (inl is) = to_kept past is
+  front (Ok Lost) failed given (begins, past) settled (inr is) = past_new past is
   front (Err broken) failed given (begins, counted, (said, may, (missing, all, few)), read) settled is =
       to_new said missing (may_front said may) all (at_new (settled (λ l. cc)) is)
 
