@@ -1,29 +1,30 @@
 -- What is not heard, and what a call that nobody makes is told.
 use Rattle.std.proofs.Common.{◌≡◌, true, false, Bool, Option, None, Some, is_some, refl, sym, ◌∙◌, ap}
+use Rattle.std.specs.declared.alloc.Global.{Global}
 use Rattle.st_text.specs.Texts.{Text}
 use Rattle.st_policy.specs.declared.denial.Denial.{Denial}
 use Rattle.st_policy.specs.declared.refusal.Refusal.{Refusal}
 use Rattle.st_policy.specs.declared.reply.Reply.{Reply}
 use Rattle.st_core.specs.declared.asked.Call.{Call}
 use Rattle.st_core.specs.declared.judged.Judged.{Judged}
-use Rattle.st_core.specs.Step.{asker_of, asks_for_change, calls_for_change, judge_call, settle}
-use Rattle.st_hall.specs.Steps.{Ask, State, Told, judged_in, reply_of}
+use Rattle.st_dir.specs.Directory.{Directory}
+use Rattle.st_core.specs.Step.{asker_of, asks_for_change, calls_for_change, judge, judge_call, settle}
+use Rattle.st_hall.specs.Steps.{Ask, State, Told, reply_of}
 
 abbrev pub is_heard : {A : Type 0} → Judged A → Bool
 is_heard (Judged.Unheard refusal) = false
 is_heard (Judged.Heard asker request refusal) = true
 
 -- a change is heard exactly where somebody asks
-somebody : (s : State) (asker : Option Text) (call : Call _) (judged : Judged _) → calls_for_change call ≡ true
-    → judged ≡ judge_call s.directory asker call → is_heard judged ≡ is_some asker
-somebody s None call judged change is = ap is_heard is
-somebody s (Some asker) (Call.Bad other) judged change is = cc
-somebody s (Some asker) (Call.Good request) judged change is = ap is_heard is
+somebody : (d : Directory Global) (asker : Option Text) (call : Call Global) (judged : Judged Global) → calls_for_change call ≡ true
+    → judged ≡ judge_call d asker call → is_heard judged ≡ is_some asker
+somebody d None call judged change is = ap is_heard is
+somebody d (Some asker) (Call.Bad other) judged change is = cc
+somebody d (Some asker) (Call.Good request) judged change is = ap is_heard is
 
-pub heard_change : (s : State) (asked : Ask) (judged : Judged _) → asks_for_change asked ≡ true → judged ≡ judged_in s asked
-    → is_heard judged ≡ is_some (asker_of s.directory asked.token)
-unfolding judged_in
-heard_change s asked judged change is = somebody s (asker_of s.directory asked.token) asked.call judged change is
+pub heard_change : (d : Directory Global) (asked : Ask) (judged : Judged Global) → asks_for_change asked ≡ true → judged ≡ judge d asked
+    → is_heard judged ≡ is_some (asker_of d asked.token)
+heard_change d asked judged change is = somebody d (asker_of d asked.token) asked.call judged change is
 
 -- where nobody is found, there is none
 pub is_nobody : {A : Type 0} (found : Option A) → false ≡ is_some found → found ≡ None
