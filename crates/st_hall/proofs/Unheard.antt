@@ -1,15 +1,17 @@
 -- What is not heard, and what a call that nobody makes is told.
-use Rattle.std.proofs.Common.{◌≡◌, true, false, Bool, Option, None, Some, is_some, refl, sym, ◌∙◌, ap}
+use Rattle.std.proofs.Common.{◌≡◌, true, false, Bool, List, Option, None, Some, Result, Ok, Err, OnOk, is_some, refl, sym, ◌∙◌, ap}
+use mathlib.Core.List.{IsPrefix}
 use Rattle.std.specs.declared.alloc.Global.{Global}
 use Rattle.st_text.specs.Texts.{Text}
 use Rattle.st_policy.specs.declared.denial.Denial.{Denial}
 use Rattle.st_policy.specs.declared.refusal.Refusal.{Refusal}
 use Rattle.st_policy.specs.declared.reply.Reply.{Reply}
 use Rattle.st_core.specs.declared.asked.Call.{Call}
+use Rattle.st_core.specs.declared.asked.Token.{Token}
 use Rattle.st_core.specs.declared.judged.Judged.{Judged}
 use Rattle.st_dir.specs.Directory.{Directory}
 use Rattle.st_core.specs.Step.{asker_of, asks_for_change, calls_for_change, judge, judge_call, settle}
-use Rattle.st_hall.specs.Steps.{Ask, State, Told, reply_of}
+use Rattle.st_hall.specs.Steps.{Ask, State, Told, reply_of, state_after}
 
 abbrev pub is_heard : {A : Type 0} → Judged A → Bool
 is_heard (Judged.Unheard refusal) = false
@@ -64,3 +66,10 @@ pub told_otherwise : (s : State) (asked : Ask) (told : Told) → asked.call ≡ 
     → (told ≡ Reply.Refused (Refusal.Denied Denial.Token) → ⊥) → true ≡ is_some (asker_of s.directory asked.token)
 told_otherwise s asked told is reply other =
     an_asker (asker_of s.directory asked.token) (λ e. other (reply ∙ (reply_to_bad s asked is ∙ sym e)))
+
+-- a change that is made was heard after a list that goes on what was seen
+pub heard_after : {A E : Type 0} (start : State) (seen before : List Ask) (token : Option Token) (r : Result A E) → OnOk r (IsPrefix seen before)
+    → OnOk r (is_some (asker_of (state_after start before).directory token) ≡ true)
+    → OnOk r ((list : List Ask) × IsPrefix seen list × (is_some (asker_of (state_after start list).directory token) ≡ true))
+heard_after start seen before token (Ok x) on heard = (before, on, heard)
+heard_after start seen before token (Err e) on heard = tt

@@ -179,6 +179,7 @@ impl<H: HallName, R: Wait + Drop> Clerk<H, R> {
     pub fn add(&mut self, desk: &mut Desk<H>, asked: &Asked) -> Result<Reply, AskFault>
         requires change { asks_for_change asked.now ≡ true }
         ensures stranger { result ≡ Err Stranger → IsStranger H.start desk.old.seen asked.now.token }
+        ensures unheard { result ≡ Err Stranger → asker_of (state_after H.start self.old.list).directory asked.now.token ≡ None }
         ensures heard { OnOk result (is_some (asker_of (state_after H.start self.old.list).directory asked.now.token) ≡ true) }
         ensures after { OnOk result (IsPrefix desk.old.seen self.old.list) }
         ensures published { self.new.published ≡ self.old.published }
@@ -222,6 +223,7 @@ impl<H: HallName, R: Wait + Drop> Clerk<H, R> {
     ) -> Result<(Reply, Option<Front<H>>), AskFault>
         requires change { asks_for_change asked.now ≡ true }
         ensures stranger { result ≡ Err Stranger → IsStranger H.start desk.old.seen asked.now.token }
+        ensures unheard { result ≡ Err Stranger → asker_of (state_after H.start self.old.list).directory asked.now.token ≡ None }
         ensures heard { OnOk result (is_some (asker_of (state_after H.start self.old.list).directory asked.now.token) ≡ true) }
         ensures after { OnOk result (IsPrefix desk.old.seen self.old.list) }
         ensures grows { IsPrefix self.old.published self.new.published }
@@ -252,6 +254,7 @@ impl<H: HallName, R: Wait + Drop> Clerk<H, R> {
     ) -> Result<Receipt<H>, AskFault>
         requires change { asks_for_change asked ≡ true }
         ensures stranger { result ≡ Err Stranger → IsStranger H.start desk.old.seen asked.token }
+        ensures unheard { result ≡ Err Stranger → asker_of (state_after H.start self.old.list).directory asked.token ≡ None }
         ensures heard { OnOk result (is_some (asker_of (state_after H.start self.old.list).directory asked.token) ≡ true) }
         ensures after { OnOk result (IsPrefix desk.old.seen self.old.list) }
         ensures grows { IsPrefix self.old.published self.new.published }
