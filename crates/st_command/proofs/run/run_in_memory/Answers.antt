@@ -1,9 +1,10 @@
 use Rattle.std.specs.Borrow.{Bor}
-use Rattle.std.proofs.Common.{List, inr, map, refl, subst, sym}
+use Rattle.std.proofs.Common.{List, inl, inr, map, refl, subst, sym}
 use Rattle.std.proofs.lemmas.Result.{err_from_is_err_and}
 use Rattle.st_text.specs.Texts.{Text}
 use Rattle.st_command_line.specs.Common.{RefusesWords, SaysRoot}
 use Rattle.st_command_line.specs.RunArguments.{run_command}
+use Rattle.st_command.specs.Opening.{Opens}
 use Rattle.st_command.proofs.run.run_in_memory.Goals as goal
 
 pub returns-in_err-service : goal.returns-in_err-service
@@ -20,3 +21,19 @@ returns-in_err-service g c = λ words says.
       sound = c.requires.reader_sound;
       unwritten = refl;
     }))
+
+pub returns : goal.returns
+returns g c = λ words says.
+    let said = c.args.said.now in
+    let before = c.in_ok-service.service in
+    let opens = subst (λ (names : List (Bor Text)). Opens said.digest.now (map (λ name. name.now) names) before) c.deref.ensures.value
+        c.in_ok-service.ensures.ok in
+    inl (record {
+      said = said;
+      says = says;
+      in_memory = c.requires.in_memory;
+      before = before;
+      opens = opens;
+      after = c.converse.new.service;
+      serves = c.converse.ensures;
+    })
