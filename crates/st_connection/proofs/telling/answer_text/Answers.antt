@@ -1,10 +1,10 @@
-use Rattle.std.proofs.Common.{◌≡◌, ◌+◌, ◌-◌, ℕ, List, None, false, length, drop, refl, sym, ◌∙◌, subst, arith}
+use Rattle.std.proofs.Common.{◌+◌, ◌-◌, ℕ, List, None, false, length, refl, ◌∙◌, subst, arith}
 use Rattle.std.proofs.lemmas.List.{length-drop}
-use Rattle.st_http.specs.First.{First, IsFirst}
+use Rattle.st_http.specs.First.{IsFirst}
 use Rattle.st_connection.specs.Connection.{Told}
 use Rattle.st_connection.specs.Render.{interim}
 use Rattle.st_connection.proofs.Joins.{whole_none}
-use Rattle.st_connection.proofs.Passes.{piece, piece_is, piece_length}
+use Rattle.st_connection.proofs.Passes.{piece_is, piece_length}
 use Rattle.st_connection.proofs.Ahead.{first_stops, first_closes, first_waits, first_open, then_stops, then_closes, then_waits, then_told, whole_bound, spoken_bound, smaller, told_first, not_err}
 use Rattle.st_connection.proofs.telling.answer_text.Goals as goal
 
