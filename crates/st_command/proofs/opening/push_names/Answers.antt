@@ -26,9 +26,9 @@ no_more before all names none whole = sym (append-nil before) ∙ (rw none at wh
 pub loop-name-preserved : goal.loop-name-preserved
 loop-name-preserved c =
     step (string_bytes c.loop-name.text) (string_bytes c.push_name.new.text) _ c.args.names.now c.loop-name.name-index _ _ c.loop-name-test.true
-        (omega arith) c.loop-name.invariant c.in_ok-push_name.ensures
+    (omega arith) c.loop-name.invariant c.in_ok-push_name.ensures
 
 pub returns : goal.returns
 returns c =
     no_more (string_bytes c.loop-name.text) _ (texts (drop c.loop-name.name-index c.args.names.now))
-        (ap texts (drop_all c.loop-name.name-index c.args.names.now (omega (arith, c.loop-name-test.false)))) c.loop-name.invariant
+    (ap texts (drop_all c.loop-name.name-index c.args.names.now (omega (arith, c.loop-name-test.false)))) c.loop-name.invariant

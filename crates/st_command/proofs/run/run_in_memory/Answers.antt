@@ -27,7 +27,7 @@ returns g c = λ words says.
     let said = c.args.said.now in
     let before = c.in_ok-service.service in
     let opens = subst (λ (names : List (Bor Text)). Opens said.digest.now (map (λ name. name.now) names) before) c.deref.ensures.value
-        c.in_ok-service.ensures.ok in
+    c.in_ok-service.ensures.ok in
     inl (record {
       said = said;
       says = says;

@@ -28,7 +28,7 @@ returns g c = λ words says.
     let first = c.in_ok-state.state in
     let opening = string_bytes c.in_ok-state.opening in
     let opens = subst (λ (names : List (Bor Text)). OpensWith said.digest.now (map (λ name. name.now) names) first opening) c.deref.ensures.value
-        c.in_ok-state.ensures.ok in
+    c.in_ok-state.ensures.ok in
     inr (record {
       said = said;
       says = says;
