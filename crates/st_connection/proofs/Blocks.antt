@@ -318,7 +318,7 @@ module _ {S : Type 0} (step : S → First → List ℕ → S → Type 0) where
     reaches = (
       b.reaches.0,
       ap (λ (l : List ℕ). l ++ b.said) (concat-append a.answers b.answers) ∙ append_assoc (concat a.answers) (concat b.answers) b.said
-      ∙ ap (λ (l : List ℕ). concat a.answers ++ l) b.reaches.1 ∙ sym (append_assoc (concat a.answers) b.sent b.reaches.0),
+          ∙ ap (λ (l : List ℕ). concat a.answers ++ l) b.reaches.1 ∙ sym (append_assoc (concat a.answers) b.sent b.reaches.0),
       let j = all_but_join a.answers b.answers in omega (arith, j, b.reaches.2, length-append (concat a.answers) b.sent),
     );
     wrote = Appends-trans ho hm hn (concat a.answers) b.sent a.wrote b.wrote;

@@ -121,10 +121,10 @@ items-preserved g c =
     let m = piece_length c.args.text.now (c.items.used + c.in-Ok-Open.count) in
     record {
       spoken = λ base before wrote counted.
-      let sp = c.items.invariant.spoken base before wrote counted in
-      let b = rw c.in-Ok-Open.field-0-is at (c.in-Ok-Open.ensures.answered 0 sp.held sp.written sp.wrote sp.counted) in
-      let whole = first_open (Told g.X.Replies.answers) 0 _ _ c.args.text.now c.items.used base sp.held before sp.written sp.whole _ (g.X.Replies.kept c.answer_told.new.answerer) _ _ c.items.told c.in-Ok-Open.count b in
-      (then_told (Told g.X.Replies.answers) 0 _ _ c.args.text.now (c.items.used + c.in-Ok-Open.count) base _ before _ whole _ (g.X.Replies.kept c.answer_on.new.answerer) _ _ c.in-Ok-Waits-answer_on.count on).1;
+          let sp = c.items.invariant.spoken base before wrote counted in
+          let b = rw c.in-Ok-Open.field-0-is at (c.in-Ok-Open.ensures.answered 0 sp.held sp.written sp.wrote sp.counted) in
+          let whole = first_open (Told g.X.Replies.answers) 0 _ _ c.args.text.now c.items.used base sp.held before sp.written sp.whole _ (g.X.Replies.kept c.answer_told.new.answerer) _ _ c.items.told c.in-Ok-Open.count b in
+          (then_told (Told g.X.Replies.answers) 0 _ _ c.args.text.now (c.items.used + c.in-Ok-Open.count) base _ before _ whole _ (g.X.Replies.kept c.answer_on.new.answerer) _ _ c.in-Ok-Waits-answer_on.count on).1;
       expected = λ e. told_first _ stands.0;
       within = omega (arith, a.0, n, m, on.0, c.items.invariant.within);
       settled = c.in-Ok-Waits-answer_on.ensures.settled (not_err _ _);
