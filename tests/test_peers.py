@@ -1,5 +1,6 @@
 """What a client may do to the built `st_served`, and what the machine may refuse it: accepting goes on, and no end is a reset."""
 import http.client
+import json
 import os
 import resource
 import socket
@@ -96,3 +97,47 @@ def test_a_client_that_is_too_slow_is_parted_from_without_a_reset() -> None:
         time.sleep(1.5)
         client.sendall(b"Host: a\r\n\r\n")
         assert received(client) == b""
+
+
+def put_of(note: str) -> bytes:
+    """The body of a put of one row with this note."""
+    return json.dumps({"id": "p", "label": "", "note": note, "point": [1, 2, 3]}).encode()
+
+
+def test_curl_loses_no_second_where_it_waits_with_a_body(tmp_path: Path) -> None:
+    body = tmp_path / "body"
+    body.write_bytes(b"{}".ljust(2_000))
+    with running() as server:
+        url = f"http://127.0.0.1:{server.port}/tables/points/put"
+        form = " %{http_code} %{time_total}"
+        words = ["curl", "-s", "-S", "--expect100-timeout", "5", "-H", "Expect: 100-continue", "-w", form, "--data-binary", f"@{body}", url]
+        told = subprocess.run(words, capture_output=True, text=True, timeout=30)
+    answer, status, seconds = told.stdout.split()
+    assert (told.returncode, answer, status, told.stderr) == (0, '{"error":"token"}', "401", "")
+    assert float(seconds) < 1
+
+
+def test_a_body_is_awaited_aloud_once_before_the_reply() -> None:
+    body = put_of("n" * 100)
+    with running() as server:
+        connection = http.client.HTTPConnection("127.0.0.1", server.port, timeout=10)
+        connection.putrequest("POST", "/tables/points/put")
+        connection.putheader("Authorization", f"Bearer {token('root')}")
+        connection.putheader("Content-Length", str(len(body)))
+        connection.putheader("Expect", "100-continue")
+        connection.endheaders()
+        assert connection.sock.recv(1_000) == b"HTTP/1.1 100 Continue\r\n\r\n"
+        connection.send(body)
+        reply = connection.getresponse()
+        assert (reply.status, reply.read()) == (200, b'{"ok":true}')
+
+
+def test_a_body_that_comes_with_its_head_is_awaited_aloud_too() -> None:
+    body = put_of("n")
+    with running() as server:
+        client = socket.create_connection(("127.0.0.1", server.port), timeout=10)
+        head = f"POST /tables/points/put HTTP/1.1\r\nHost: a\r\nAuthorization: Bearer {token('root')}\r\nExpect: 100-continue\r\n"
+        client.sendall(f"{head}Connection: close\r\nContent-Length: {len(body)}\r\n\r\n".encode() + body)
+        told, reply = received(client).split(b"\r\n\r\n", 1)
+    assert told == b"HTTP/1.1 100 Continue"
+    assert reply.startswith(b"HTTP/1.1 200 OK\r\n") and reply.endswith(b'{"ok":true}')

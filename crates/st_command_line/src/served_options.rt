@@ -52,7 +52,9 @@ fn workers<'a>(alloc: Global) -> Arg<'a>
     Arg::new(alloc, "workers")
         .long("workers")
         .value_name("N")
-        .help("The threads that serve connections, 1 to 256; without it 64, or 2 with --connections")
+        .help(
+            "The threads that serve connections, 1 to 256; without it 64, or 2 with --connections",
+        )
         .action(ArgAction::Set)
         .value_parser(clap::value_parser!(u16).range(1..=256))
 }
@@ -80,7 +82,9 @@ fn idle<'a>(alloc: Global) -> Arg<'a>
     Arg::new(alloc, "idle")
         .long("idle")
         .value_name("SECONDS")
-        .help("How long a client may wait with its next message, 1 to 3600 seconds; without it as --timeout")
+        .help(
+            "How long a client may wait with its next message, 1 to 3600 seconds; without it as --timeout",
+        )
         .action(ArgAction::Set)
         .value_parser(clap::value_parser!(u16).range(1..=3600))
 }

@@ -6,7 +6,7 @@ use Rattle.std.proofs.KnownBytes.{Appends-trans}
 use Rattle.std.proofs.lemmas.List.Folds.{concat-append}
 use Rattle.st_http.specs.First.{First}
 use Rattle.st_connection.specs.Items.{Begins, is_closed}
-use Rattle.st_connection.specs.Connection.{Run, Reaches, ReachesWithin, all_but_last, Amid}
+use Rattle.st_connection.specs.Connection.{Run, Reaches, ReachesWithin, all_but_last, Amid, MayHear}
 use Rattle.st_connection.specs.inner.Stages.{Whole, Broken, Loses, One, Sent, Passed}
 use Rattle.st_connection.specs.declared.sending.Stopped.{Stopped}
 use Rattle.st_connection.specs.declared.sending.Stopped.TheVariants as stopped
@@ -27,15 +27,14 @@ same_front (a ∷ answer) (b ∷ sent) rests missing e le =
     (r.0, ap (λ (l : List ℕ). l ++ sent) (sym heads) ∙ ap (λ (l : List ℕ). a ∷ l) r.1, r.2)
 
 -- where nothing is held back, each answer but the last is out whole
-pub reaches_now : (answers : List (List ℕ)) (sent : List ℕ) → ReachesWithin 0 answers sent → Reaches answers sent
-reaches_now [] [] (missing, e, le) = refl
-reaches_now [] (s ∷ sent) (missing, e, le) = cc
-reaches_now (answer ∷ []) sent (missing, e, le) = (missing, sym (append-nil answer) ∙ e)
-reaches_now (answer ∷ next ∷ answers) sent (missing, e, le) =
+pub reaches_now : (answers : List (List ℕ)) (said sent : List ℕ) → ReachesWithin 0 answers said sent → Reaches answers said sent
+reaches_now [] said sent (missing, e, le) = (missing, e)
+reaches_now (answer ∷ []) said sent (missing, e, le) = (missing, ap (λ (l : List ℕ). l ++ said) (sym (append-nil answer)) ∙ e)
+reaches_now (answer ∷ next ∷ answers) said sent (missing, e, le) =
     let fits : length answer ≤ length sent = omega (arith, le, length-append answer (concat (all_but_last (next ∷ answers)))) in
-    let r = same_front answer sent (concat (next ∷ answers)) missing e fits in
+    let r = same_front answer sent (concat (next ∷ answers) ++ said) missing (sym (append_assoc answer (concat (next ∷ answers)) said) ∙ e) fits in
     let n : length sent ≡ length answer + length r.0 = ap length r.1 ∙ length-append answer r.0 in
-    (r.0, r.1, reaches_now (next ∷ answers) r.0 (missing, r.2, omega (arith, le, n, length-append answer (concat (all_but_last (next ∷ answers))))))
+    (r.0, r.1, reaches_now (next ∷ answers) said r.0 (missing, r.2, omega (arith, le, n, length-append answer (concat (all_but_last (next ∷ answers))))))
 
 pub all_but_most : (answers : List (List ℕ)) → length (concat (all_but_last answers)) ≤ length (concat answers)
 all_but_most [] = omega arith
@@ -60,6 +59,11 @@ all_but_join (a ∷ b ∷ answers) replies =
 
 concat_end : (answers : List (List ℕ)) (answer : List ℕ) → concat (answers ++ answer ∷ []) ≡ concat answers ++ answer
 concat_end answers answer = concat-append answers (answer ∷ []) ∙ ap (λ (l : List ℕ). concat answers ++ l) (append-nil answer)
+
+-- they may have been told nothing
+pub hears_none : (items : List First) → MayHear items []
+hears_none [] = refl
+hears_none (item ∷ items) = inl refl
 
 -- ---- a block
 
@@ -103,7 +107,7 @@ module _ {S : Type 0} (step : S → First → List ℕ → S → Type 0) where
     pub ends : is_closed items ≡ closed
     pub run : Run step mid items answers now
     pub bytes_are : bytes ≡ concat answers
-    pub few : length (concat answers) ≤ 2 ^ 64 * length items
+    pub few : length (concat answers) ≤ 2 ^ 65 * length items
     pub most : length (concat (all_but_last answers)) ≤ hold
     pub amid : Amid step mid kept now items answers
 
@@ -148,9 +152,11 @@ module _ {S : Type 0} (step : S → First → List ℕ → S → Type 0) where
       sent = concat a.whole.answers ++ s.sent;
       begins = begins_join text a.whole.items a.between a.items rest a.whole.begins a.whole.ends a.begins;
       run = run_join step old a.mid now a.whole.items a.items a.whole.answers a.answers a.whole.run a.run;
+      said = [];
+      may = inl refl;
       reaches = (
         s.missing,
-        concat-append a.whole.answers a.answers ∙ ap (λ (l : List ℕ). concat a.whole.answers ++ l) (sym a.bytes_are ∙ s.prefix) ∙ sym (append_assoc (concat a.whole.answers) s.sent s.missing),
+        append-nil (concat (a.whole.answers ++ a.answers)) ∙ concat-append a.whole.answers a.answers ∙ ap (λ (l : List ℕ). concat a.whole.answers ++ l) (sym a.bytes_are ∙ s.prefix) ∙ sym (append_assoc (concat a.whole.answers) s.sent s.missing),
         let j = all_but_join a.whole.answers a.answers in omega (arith, j, a.most, length-append (concat a.whole.answers) s.sent),
       );
       wrote = Appends-trans ho hn hm (concat a.whole.answers) s.sent a.whole.wrote s.wrote;
@@ -174,7 +180,9 @@ module _ {S : Type 0} (step : S → First → List ℕ → S → Type 0) where
         mid = a.mid;
         items_are = refl;
         answers_are = refl;
-        sent_is = refl;
+        said = [];
+        hears = hears_none a.items;
+        sent_is = sym (append-nil (concat a.whole.answers));
         run = a.whole.run;
         amid = elim which [
           | inl same ↦ subst (λ (s : S). Amid step a.mid s now a.items a.answers) (sym same) a.amid
@@ -291,8 +299,9 @@ all_behind now ko kn last ho hm hn wo wm wn bytes answer back f s none all =
 
 -- ---- behind what is out whole
 
-pub reaches_all : (hold : ℕ) (answers : List (List ℕ)) → ReachesWithin hold answers (concat answers)
-reaches_all hold answers = ([], sym (append-nil (concat answers)), let m = all_but_most answers in omega (arith, m))
+pub reaches_all : (hold : ℕ) (answers : List (List ℕ)) (said : List ℕ) → ReachesWithin hold answers said (concat answers ++ said)
+reaches_all hold answers said =
+    ([], sym (append-nil (concat answers ++ said)), let m = all_but_most answers in omega (arith, m, length-append (concat answers) said))
 
 module _ {S : Type 0} (step : S → First → List ℕ → S → Type 0) where
   pub broken_join : (hold : ℕ) (old mid new : S) (text rest : List ℕ) (ho hm hn : Option (List ℕ)) (wo wm wn : ℕ) → Whole step false old mid text rest ho hm wo wm
@@ -304,9 +313,12 @@ module _ {S : Type 0} (step : S → First → List ℕ → S → Type 0) where
     sent = concat a.answers ++ b.sent;
     begins = begins_join text a.items rest b.items b.rest a.begins a.ends b.begins;
     run = run_join step old mid new a.items b.items a.answers b.answers a.run b.run;
+    said = b.said;
+    may = b.may;
     reaches = (
       b.reaches.0,
-      concat-append a.answers b.answers ∙ ap (λ (l : List ℕ). concat a.answers ++ l) b.reaches.1 ∙ sym (append_assoc (concat a.answers) b.sent b.reaches.0),
+      ap (λ (l : List ℕ). l ++ b.said) (concat-append a.answers b.answers) ∙ append_assoc (concat a.answers) (concat b.answers) b.said
+          ∙ ap (λ (l : List ℕ). concat a.answers ++ l) b.reaches.1 ∙ sym (append_assoc (concat a.answers) b.sent b.reaches.0),
       let j = all_but_join a.answers b.answers in omega (arith, j, b.reaches.2, length-append (concat a.answers) b.sent),
     );
     wrote = Appends-trans ho hm hn (concat a.answers) b.sent a.wrote b.wrote;
@@ -330,7 +342,11 @@ module _ {S : Type 0} (step : S → First → List ℕ → S → Type 0) where
       mid = b.past.mid;
       items_are = ap (λ (l : List First). a.items ++ l) b.past.items_are ∙ sym (append_assoc a.items b.past.done b.past.others);
       answers_are = ap (λ (l : List (List ℕ)). a.answers ++ l) b.past.answers_are ∙ sym (append_assoc a.answers b.past.out b.past.back);
-      sent_is = ap (λ (l : List ℕ). concat a.answers ++ l) b.past.sent_is ∙ sym (concat-append a.answers b.past.out);
+      said = b.past.said;
+      hears = b.past.hears;
+      sent_is =
+          ap (λ (l : List ℕ). concat a.answers ++ l) b.past.sent_is ∙ sym (append_assoc (concat a.answers) (concat b.past.out) b.past.said)
+          ∙ ap (λ (l : List ℕ). l ++ b.past.said) (sym (concat-append a.answers b.past.out));
       run = run_join step old mid b.past.mid a.items b.past.done a.answers b.past.out a.run b.past.run;
       amid = b.past.amid;
     };

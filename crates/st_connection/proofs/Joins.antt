@@ -6,7 +6,7 @@ use Rattle.std.proofs.KnownBytes.{Appends-nil, Appends-trans}
 use Rattle.std.proofs.lemmas.List.Folds.{concat-append}
 use Rattle.st_http.specs.First.{First}
 use Rattle.st_connection.specs.Connection.{Run}
-use Rattle.st_connection.specs.inner.Stages.{Whole}
+use Rattle.st_connection.specs.inner.Stages.{Whole, Spoken}
 use Rattle.st_connection.proofs.Reading.{closed_join, begins_grows, begins_join, begins_none}
 
 pub run_join : {S : Type 0} (step : S → First → List ℕ → S → Type 0) (old mid new : S) (items others : List First) (answers replies : List (List ℕ))
@@ -57,3 +57,14 @@ module _ {S : Type 0} (step : S → First → List ℕ → S → Type 0) where
     counted = a.counted;
     few = a.few;
   }
+
+pub spoken_join : {S : Type 0} (step : S → First → List ℕ → S → Type 0) (old mid new : S) (text rest : List ℕ) (ho hm hn : Option (List ℕ)) (wo wm wn : ℕ)
+    → Whole step false old mid text rest ho hm wo wm → (end : List ℕ) (told : Bool) → Spoken step mid new rest end told hm hn wm wn
+    → Spoken step old new text end told ho hn wo wn
+spoken_join step old mid new text rest ho hm hn wo wm wn a end told b = record {
+  held = b.held;
+  written = b.written;
+  whole = whole_join step old mid new text rest ho hm b.held wo wm b.written a false end b.whole;
+  wrote = b.wrote;
+  counted = b.counted;
+}

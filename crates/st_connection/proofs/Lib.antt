@@ -5,6 +5,7 @@ pub mod Writing
 pub mod Steps
 pub mod Passes
 pub mod Buffer
+pub mod Ahead
 pub mod Turns
 pub mod Blocks
 pub mod AtOnce

@@ -1,11 +1,11 @@
 -- The items of a text, as far as the loop over them has come.
 use Rattle.std.proofs.Common.{◌≡◌, ◌∙◌, ◌⊎◌, inl, inr, Bool, Ok, Err, [], ◌++◌, sym, ℕ, ◌+◌, ◌-◌, ◌*◌, ◌^◌, ◌<◌, ◌≤◌, true, false, Option, List, length, take, drop, ap, subst, arith, refl, append_assoc, append-nil, length-append, length-take}
 use Rattle.std.proofs.lemmas.Grind.{common_steps}
-use Rattle.st_http.specs.First.{First, more, IsFirst}
+use Rattle.st_http.specs.First.{First, IsFirst}
 use Rattle.std.specs.Io.KnownBytes.{Appends}
 use Rattle.std.specs.List.{concat}
 use Rattle.std.proofs.KnownBytes.{Appends-trans}
-use Rattle.st_connection.specs.inner.Stages.{Whole, Broken, Loses, One, Passed, Answered, AnsweredNext}
+use Rattle.st_connection.specs.inner.Stages.{Whole, Broken, Loses, One, Passed, Stands, Answered, AnsweredNext}
 use Rattle.st_connection.specs.declared.sending.Stopped.{Stopped}
 use Rattle.st_connection.specs.declared.connection.Next.TheVariants as nexts
 use Rattle.st_connection.specs.declared.connection.Stop.TheVariants as stops
@@ -17,17 +17,17 @@ use Rattle.st_connection.proofs.Reading.{few_items}
 abbrev pub piece : List ℕ → ℕ → List ℕ
 piece text used = take (length text - used) (drop used text)
 
-piece_is : (text : List ℕ) (used : ℕ) → piece text used ≡ drop used text
+pub piece_is : (text : List ℕ) (used : ℕ) → piece text used ≡ drop used text
 piece_is text used = grind (arith, common_steps)
 
-drop_again : (text : List ℕ) (used count : ℕ) → drop count (piece text used) ≡ drop (used + count) text
+pub drop_again : (text : List ℕ) (used count : ℕ) → drop count (piece text used) ≡ drop (used + count) text
 drop_again text used count = ap (drop count) (piece_is text used) ∙ grind (arith, common_steps)
 
 pub piece_length : (text : List ℕ) (used : ℕ) → length (piece text used) ≡ length text - used
 piece_length text used = grind (arith, common_steps)
 
 module _ {S : Type 0} (step : S → First → List ℕ → S → Type 0) (hold : ℕ) (old mid kept : S) (text : List ℕ) (used : ℕ) (ho hm : Option (List ℕ)) (wo wm : ℕ) (bytes : List ℕ) (a : Gathered step hold false old mid kept text (drop used text) ho hm wo wm bytes) where
-  pub written_bound : wm ≤ wo + 2 ^ 64 * length text
+  pub written_bound : wm ≤ wo + 2 ^ 65 * length text
   written_bound =
       let f = few_items text a.whole.items a.between a.whole.begins a.whole.ends in
       let n : length a.whole.items ≤ length text = omega (arith, f) in omega (arith, a.whole.counted, a.whole.few, n)
@@ -74,8 +74,8 @@ same_one step hold old mid kept text used ho hm wo wm bytes a new last hn wn bac
     subst (λ (s : _). Gathered step hold false old s last text (drop used text) ho hn wo wn back) (sym now)
     (held_still step hold false old mid kept text (drop used text) ho hm wo wm bytes a hn wn back last same wrote counted keeps)
 
-pub first_of_rest : (text : List ℕ) (used : ℕ) → IsFirst (piece text used) more → IsFirst (drop used text) more
-first_of_rest text used first = subst (λ (t : List ℕ). IsFirst t more) (piece_is text used) first
+stands_so : (text : List ℕ) (used : ℕ) (due : Bool) → Stands false due (piece text used) → Stands false due (drop used text)
+stands_so text used due stands = subst (λ (t : List ℕ). Stands false due t) (piece_is text used) stands
 
 -- ---- the ends of the loop
 
@@ -89,9 +89,11 @@ whole_stops step hold closed old now text rest ho hn wo wn a kept last hm wm byt
   sent = concat a.answers ++ s.sent;
   begins = a.begins;
   run = a.run;
+  said = [];
+  may = inl refl;
   reaches = (
     s.missing,
-    sym (append-nil (concat a.answers)) ∙ ap (λ (l : List ℕ). concat a.answers ++ l) (sym none ∙ s.prefix) ∙ sym (append_assoc (concat a.answers) s.sent s.missing),
+    ap (λ (l : List ℕ). concat a.answers ++ l) (sym none ∙ s.prefix) ∙ sym (append_assoc (concat a.answers) s.sent s.missing),
     let m = all_but_most a.answers in omega (arith, m, length-append (concat a.answers) s.sent),
   );
   wrote = Appends-trans ho hn hm (concat a.answers) s.sent a.wrote s.wrote;
@@ -112,7 +114,9 @@ whole_stops {S = S} step hold closed old now text rest ho hn wo wn a kept last h
     mid = now;
     items_are = sym (append-nil a.items);
     answers_are = sym (append-nil a.answers);
-    sent_is = refl;
+    said = [];
+    hears = refl;
+    sent_is = sym (append-nil (concat a.answers));
     run = a.run;
     amid = amid_all step now now last [] [] refl (elim s.1 [
       | inl keeps ↦ keeps ∙ same
@@ -122,7 +126,7 @@ whole_stops {S = S} step hold closed old now text rest ho hn wo wn a kept last h
   wrote = subst (λ (l : List ℕ). Appends ho hm l) (append-nil (concat a.answers)) (Appends-trans ho hn hm (concat a.answers) [] a.wrote s.0);
 }
 
-whole_stays : {S : Type 0} (step : S → First → List ℕ → S → Type 0) (closed : Bool) (old now : S) (text rest : List ℕ) (ho hn : Option (List ℕ)) (wo wn : ℕ)
+pub whole_stays : {S : Type 0} (step : S → First → List ℕ → S → Type 0) (closed : Bool) (old now : S) (text rest : List ℕ) (ho hn : Option (List ℕ)) (wo wn : ℕ)
     → Whole step closed old now text rest ho hn wo wn → (hm : Option (List ℕ)) (wm : ℕ) (bytes : List ℕ) → bytes ≡ [] → Appends hn hm bytes → wm ≡ wn + length bytes
     → Whole step closed old now text rest ho hm wo wm
 whole_stays step closed old now text rest ho hn wo wn a hm wm bytes none wrote counted = record {
@@ -145,29 +149,29 @@ gathered_stops step hold closed old now kept text rest ho hn wo wn bytes a last 
     gathered_lost step hold closed old now kept text rest ho hn wo wn bytes a hm last s.0 s.1
 
 module _ {S : Type 0} (step : S → First → List ℕ → S → Type 0) (hold : ℕ) (old mid kept : S) (text : List ℕ) (used : ℕ) (ho hm : Option (List ℕ)) (wo wm : ℕ) (bytes : List ℕ) (a : Gathered step hold false old mid kept text (drop used text) ho hm wo wm bytes) (le : length bytes ≤ hold) (new last : S) (hn : Option (List ℕ)) (wn : ℕ) (back : List ℕ) where
-  pub next_breaks : (why : Stopped) → AnsweredNext step mid new kept last (piece text used) hm hn wm wn bytes back (Err why) → Answered step hold old new last text ho hn wo wn (Err why)
+  pub next_breaks : (why : Stopped) → AnsweredNext step false mid new kept last (piece text used) hm hn wm wn bytes back (Err why) → Answered step hold old new last text ho hn wo wn (Err why)
   next_breaks why (answer, after, rest, closed, one, which, passed) =
       gathered_stops step hold closed old new after text rest ho hm wo wm (bytes ++ answer)
       (one_more step hold old mid kept text used ho hm wo wm bytes a le closed new after rest answer one which) last hn wn why back passed
 
   module _ (new2 last2 : S) (now : new2 ≡ new) (hk : Option (List ℕ)) (wk : ℕ) where
-    still : AnsweredNext step mid new kept last (piece text used) hm hn wm wn bytes back (Ok nexts.Waits) → Gathered step hold false old new last text (drop used text) ho hn wo wn back
-    still (first, now_same, kept_same, back_same, wrote, counted) = same_one step hold old mid kept text used ho hm wo wm bytes a new last hn wn back (now_same, kept_same, back_same, wrote, counted)
+    still : (due : Bool) → AnsweredNext step false mid new kept last (piece text used) hm hn wm wn bytes back (Ok (nexts.Waits due)) → Gathered step hold false old new last text (drop used text) ho hn wo wn back
+    still due (stands, now_same, kept_same, back_same, wrote, counted) = same_one step hold old mid kept text used ho hm wo wm bytes a new last hn wn back (now_same, kept_same, back_same, wrote, counted)
 
-    pub waits : used ≤ length text → AnsweredNext step mid new kept last (piece text used) hm hn wm wn bytes back (Ok nexts.Waits) → Passed new last last2 hn hk wn wk back [] (Ok tt)
-        → Answered step hold old new2 last2 text ho hk wo wk (Ok (stops.Waits used))
-    waits within n passed =
+    pub waits : (due : Bool) → used ≤ length text → AnsweredNext step false mid new kept last (piece text used) hm hn wm wn bytes back (Ok (nexts.Waits due)) → Passed new last last2 hn hk wn wk back [] (Ok tt)
+        → Answered step hold old new2 last2 text ho hk wo wk (Ok (stops.Waits used due))
+    waits due within n passed =
         let f = flushed new last last2 hn hk wn wk back passed in
-        let w = gathered_out step hold false old new last text (drop used text) ho hn wo wn back (still n) hk wk f.0 f.1 in
-        (within, first_of_rest text used n.0, subst (λ (s : S). Whole step false old s text (drop used text) ho hk wo wk) (sym now) w)
+        let w = gathered_out step hold false old new last text (drop used text) ho hn wo wn back (still due n) hk wk f.0 f.1 in
+        (within, stands_so text used due n.0, subst (λ (s : S). Whole step false old s text (drop used text) ho hk wo wk) (sym now) w)
 
-    pub waits_breaks : AnsweredNext step mid new kept last (piece text used) hm hn wm wn bytes back (Ok nexts.Waits) → (why : Stopped) → Passed new last last2 hn hk wn wk back [] (Err why)
+    pub waits_breaks : (due : Bool) → AnsweredNext step false mid new kept last (piece text used) hm hn wm wn bytes back (Ok (nexts.Waits due)) → (why : Stopped) → Passed new last last2 hn hk wn wk back [] (Err why)
         → Answered step hold old new2 last2 text ho hk wo wk (Err why)
-    waits_breaks n why passed =
+    waits_breaks due n why passed =
         subst (λ (s : S). Answered step hold old s last2 text ho hk wo wk (Err why)) (sym now)
-        (gathered_stops step hold false old new last text (drop used text) ho hn wo wn back (still n) last2 hk wk why [] passed)
+        (gathered_stops step hold false old new last text (drop used text) ho hn wo wn back (still due n) last2 hk wk why [] passed)
 
-    pub closes : AnsweredNext step mid new kept last (piece text used) hm hn wm wn bytes back (Ok nexts.Closed) → Passed new last last2 hn hk wn wk back [] (Ok tt)
+    pub closes : AnsweredNext step false mid new kept last (piece text used) hm hn wm wn bytes back (Ok nexts.Closed) → Passed new last last2 hn hk wn wk back [] (Ok tt)
         → Answered step hold old new2 last2 text ho hk wo wk (Ok stops.Closed)
     closes (answer, after, rest, one, which, before) passed =
         let f = flushed new last last2 hn hk wn wk back passed in (
@@ -179,7 +183,7 @@ module _ {S : Type 0} (step : S → First → List ℕ → S → Type 0) (hold :
               ]),
         )
 
-    pub closes_breaks : AnsweredNext step mid new kept last (piece text used) hm hn wm wn bytes back (Ok nexts.Closed) → (why : Stopped) → Passed new last last2 hn hk wn wk back [] (Err why)
+    pub closes_breaks : AnsweredNext step false mid new kept last (piece text used) hm hn wm wn bytes back (Ok nexts.Closed) → (why : Stopped) → Passed new last last2 hn hk wn wk back [] (Err why)
         → Answered step hold old new2 last2 text ho hk wo wk (Err why)
     closes_breaks (answer, after, rest, one, which, before) why passed =
         subst (λ (s : S). Answered step hold old s last2 text ho hk wo wk (Err why)) (sym now)
@@ -192,6 +196,6 @@ pub block_length : (block : List ℕ) (n hold : ℕ) → n ≤ hold → length (
 block_length block n hold le = omega (arith, le, length-take n block)
 
 pub next_count : {S : Type 0} (step : S → First → List ℕ → S → Type 0) (mid new kept last : S) (text : List ℕ) (hm hn : Option (List ℕ)) (wm wn : ℕ) (bytes back : List ℕ)
-    → AnsweredNext step mid new kept last text hm hn wm wn bytes back (Ok nexts.Closed) → length bytes < 2 ^ 64 → wn < wm + 2 * 2 ^ 64
+    → AnsweredNext step false mid new kept last text hm hn wm wn bytes back (Ok nexts.Closed) → length bytes < 2 ^ 64 → wn < wm + 3 * 2 ^ 64
 next_count step mid new kept last text hm hn wm wn bytes back (answer, after, rest, one, which, inl (same, wrote, counted, keeps)) le = omega (arith, counted)
 next_count step mid new kept last text hm hn wm wn bytes back (answer, after, rest, one, which, inr (none, wrote, counted, all)) le = omega (arith, counted, one.fits, le, length-append bytes answer)

@@ -1,31 +1,31 @@
 -- The items at the front of a text, and how they stay under more bytes.
-use Rattle.std.proofs.Common.{◌≡◌, ◌≢◌, ◌∙◌, ℕ, ◌+◌, ◌<◌, ◌≤◌, Bool, true, false, List, [], ◌∷◌, ◌++◌, length, refl, sym, ap, subst, arith, length-drop}
+use Rattle.std.proofs.Common.{◌≡◌, ◌∙◌, ℕ, ◌+◌, ◌<◌, ◌≤◌, Bool, true, false, List, [], ◌∷◌, ◌++◌, length, refl, sym, ap, subst, arith, length-drop}
 use Rattle.std.proofs.lemmas.List.{drop-append-le}
 use Rattle.std.proofs.lemmas.List.Folds.{list_any-append}
 use Rattle.std.proofs.lemmas.Grind.{common_steps}
 use Rattle.httparse.specs.Grammar.{RequestHead}
 use Rattle.st_http.specs.declared.fields.Reason.{Reason}
 use Rattle.st_http.specs.Fields.{closes_after}
-use Rattle.st_http.specs.First.{First, message, fault, more, IsFirst, fields_of, size_of}
+use Rattle.st_http.specs.First.{First, IsItem, message, fault, more, IsFirst, fields_of, size_of}
 use Rattle.st_http.specs.Items.{after_message, Items, none, faulty, last, next}
 use Rattle.st_http.proofs.FirstLemmas.{first_unique, first_kept}
 use Rattle.st_http.proofs.ItemLemmas.{message_size}
 use Rattle.st_connection.specs.Items.{closes, after_item, is_closed, Begins}
 
 -- what follows a text follows what its item leaves
-after_grows : (text after : List ℕ) (item : First) → IsFirst text item → item ≢ more → closes item ≡ false
+after_grows : (text after : List ℕ) (item : First) → IsFirst text item → IsItem item → closes item ≡ false
     → after_item (text ++ after) item ≡ after_item text item ++ after
 after_grows text after (message h body bare) is some stays = drop-append-le (size_of h body) text after (message_size text h body bare is).1
 after_grows text after (fault reason bare) is some stays = cc
-after_grows text after more is some stays = absurd (some refl)
+after_grows text after (more waits) is some stays = absurd some
 
 -- an item after which the connection stays takes a byte at least
-after_shorter : (text : List ℕ) (item : First) → IsFirst text item → item ≢ more → closes item ≡ false
+after_shorter : (text : List ℕ) (item : First) → IsFirst text item → IsItem item → closes item ≡ false
     → length (after_item text item) < length text
 after_shorter text (message h body bare) is some stays =
     let l = message_size text h body bare is in omega (arith, l.0, l.1, length-drop (size_of h body) text)
 after_shorter text (fault reason bare) is some stays = cc
-after_shorter text more is some stays = absurd (some refl)
+after_shorter text (more waits) is some stays = absurd some
 
 first_open : (item : First) (items : List First) → is_closed (item ∷ items) ≡ false → closes item ≡ false
 first_open item items h = grind (arith, common_steps, h)
@@ -43,7 +43,7 @@ pub begins_none : (text : List ℕ) → Begins text [] text
 unfolding Begins
 begins_none text = refl
 
-pub begins_one : (text : List ℕ) (item : First) → IsFirst text item → item ≢ more → Begins text (item ∷ []) (after_item text item)
+pub begins_one : (text : List ℕ) (item : First) → IsFirst text item → IsItem item → Begins text (item ∷ []) (after_item text item)
 unfolding Begins
 begins_one text item is some = (is, some, (λ closing. refl), refl)
 
@@ -99,14 +99,14 @@ open_after item items a b = grind (arith, common_steps, a, b)
 
 -- a text that begins with items has these and no more, where one closes or nothing whole follows
 pub items_whole : (text : List ℕ) (items : List First) (rest : List ℕ) → Begins text items rest
-    → (is_closed items ≡ false → IsFirst rest more) → Items text items rest
+    → (waits : Bool) → (is_closed items ≡ false → IsFirst rest (more waits)) → Items text items rest
 unfolding Begins
-items_whole text [] rest b waits = subst (λ (t : List ℕ). Items t [] rest) b (none (waits refl))
-items_whole text (message h body bare ∷ items) rest (is, some, ends, later) waits =
+items_whole text [] rest b flag waits = subst (λ (t : List ℕ). Items t [] rest) b (none (waits refl))
+items_whole text (message h body bare ∷ items) rest (is, some, ends, later) flag waits =
     message_whole text h body bare items rest is ends later
-    (λ stays. items_whole (after_message text h body) items rest later (λ o. waits (open_after (message h body bare) items stays o)))
-items_whole text (fault reason bare ∷ items) rest (is, some, ends, later) waits = fault_whole text reason bare items rest is (ends refl) later
-items_whole text (more ∷ items) rest (is, some, ends, later) waits = absurd (some refl)
+    (λ stays. items_whole (after_message text h body) items rest later flag (λ o. waits (open_after (message h body bare) items stays o)))
+items_whole text (fault reason bare ∷ items) rest (is, some, ends, later) flag waits = fault_whole text reason bare items rest is (ends refl) later
+items_whole text (more due ∷ items) rest (is, some, ends, later) flag waits = absurd some
 
 -- an item that closes is the last
 ends_there : (item only : First) (items : List First) → item ≡ only → closes only ≡ true → (closes item ≡ true → items ≡ [])
@@ -118,7 +118,7 @@ front_of : {text : List ℕ} {all : List First} {end : List ℕ} → Items text 
     → (others : List First) × (all ≡ items ++ others)
 unfolding Begins
 front_of {text} {all} {end} q [] rest b = (all, refl)
-front_of (none {text} f) (item ∷ items) rest (is, some, ends, later) = absurd (some (first_unique text item more is f))
+front_of (none {text} {waits} f) (item ∷ items) rest (is, some, ends, later) = absurd (subst IsItem (first_unique text item (more waits) is f) some)
 front_of (faulty {text} {reason} {bare} f) (item ∷ items) rest (is, some, ends, later) =
     ends_there item (fault reason bare) items (first_unique text item (fault reason bare) is f) refl ends
 front_of (last {text} {h} {body} {bare} f closing) (item ∷ items) rest (is, some, ends, later) =

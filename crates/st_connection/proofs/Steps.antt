@@ -1,14 +1,18 @@
 -- One item, answered.
-use Rattle.std.proofs.Common.{◌≡◌, ℕ, ◌^◌, ◌<◌, ◌≤◌, ◌⊎◌, Bool, true, false, Option, Ok, Err, List, ◌++◌, length, drop, refl, sym, ap, ◌∙◌, subst, arith}
+use Rattle.std.proofs.Common.{◌≡◌, ℕ, ◌^◌, ◌<◌, ◌≤◌, ◌⊎◌, Bool, true, false, Option, Ok, Err, List, ◌++◌, length, drop, refl, sym, ap, ◌∙◌, subst, arith, length-append}
 use Rattle.httparse.specs.Grammar.{RequestHead}
 use Rattle.st_http.specs.declared.message.Take.TheVariants as takes
 use Rattle.st_http.specs.declared.message.Message.{Message}
 use Rattle.st_http.specs.declared.message.Fault.{Fault}
-use Rattle.st_http.specs.Message.{Takes, ShowsMessage}
-use Rattle.st_http.specs.First.{First, message, fault, more, IsFirst, size_of}
+use Rattle.st_http.specs.declared.message.Take.{Take}
+use Rattle.st_http.specs.Message.{Takes, Shows, ShowsMessage}
+use Rattle.st_http.specs.First.{First, message, fault, more, IsFirst, expects, size_of}
 use Rattle.st_http.specs.Items.{after_message}
+use Rattle.st_http.proofs.FirstLemmas.{first_unique}
 use Rattle.st_http.proofs.ItemLemmas.{message_size}
-use Rattle.st_connection.specs.inner.Stages.{One, Passed, AnsweredNext}
+use Rattle.st_connection.specs.Connection.{Told}
+use Rattle.st_connection.specs.Render.{continue_text, interim}
+use Rattle.st_connection.specs.inner.Stages.{One, Passed, Stands, AnsweredNext}
 use Rattle.st_connection.specs.declared.sending.Stopped.{Stopped}
 use Rattle.st_connection.specs.declared.connection.Next.TheVariants as nexts
 
@@ -29,37 +33,64 @@ finds_message text m used (message h body bare, first, shows) = record {
   used_is = shows.1;
 }
 finds_message text m used (fault reason bare, first, shows) = absurd shows
-finds_message text m used (more, first, shows) = absurd shows
+finds_message text m used (more waits, first, shows) = absurd shows
 
-finds_fault : (text : List ℕ) (f : Fault) → Takes text (takes.Fault f) → IsFirst text (fault f.reason f.bare)
+pub finds_fault : (text : List ℕ) (f : Fault) → Takes text (takes.Fault f) → IsFirst text (fault f.reason f.bare)
 finds_fault text f (message h body bare, first, shows) = absurd shows
 finds_fault text f (fault reason bare, first, shows) =
     let same : fault reason bare ≡ fault f.reason f.bare = cc in subst (λ (i : First). IsFirst text i) same first
-finds_fault text f (more, first, shows) = absurd shows
+finds_fault text f (more waits, first, shows) = absurd shows
 
-pub finds_more : (text : List ℕ) → Takes text takes.More → IsFirst text more
-finds_more text (message h body bare, first, shows) = absurd shows
-finds_more text (fault reason bare, first, shows) = absurd shows
-finds_more text (more, first, shows) = first
+pub finds_more : (text : List ℕ) (waits : Bool) → Takes text (takes.More waits) → IsFirst text (more waits)
+finds_more text waits (message h body bare, first, shows) = absurd shows
+finds_more text waits (fault reason bare, first, shows) = absurd shows
+finds_more text waits (more flag, first, shows) = subst (λ (b : Bool). IsFirst text (more b)) (sym shows) first
 
-module _ {S : Type 0} (step : S → First → List ℕ → S → Type 0) (old new : S) (text answer : List ℕ) (fits : length answer < 2 ^ 64) where
+-- ---- whether its client is told ahead
+
+pub told_so : (text : List ℕ) (taken : Take) (flag told : Bool) → Takes text taken → ((first : First) → Shows first taken → flag ≡ expects first)
+    → flag ≡ told → (item : First) → IsFirst text item → expects item ≡ told
+told_so text taken flag told (first, is, shows) says e item other = ap expects (first_unique text item first other is) ∙ sym (says first shows) ∙ e
+
+pub stands_due : (text : List ℕ) (taken : Take) (flag : Bool) → Takes text taken → ((first : First) → Shows first taken → flag ≡ expects first)
+    → flag ≡ true → Stands false true text
+stands_due text taken flag (first, is, shows) says e = (first, is, sym (says first shows) ∙ e)
+
+pub waits_so : (text : List ℕ) (waits told : Bool) → Takes text (takes.More waits) → ((item : First) → IsFirst text item → expects item ≡ told)
+    → IsFirst text (more told)
+waits_so text waits told t expected =
+    let m = finds_more text waits t in subst (λ (b : Bool). IsFirst text (more b)) (expected (more waits) m) m
+
+-- ---- its answer
+
+pub interim_few : (due : Bool) → length (interim due) ≤ 25
+interim_few true = let n : length continue_text ≡ 25 = refl in omega (arith, n)
+interim_few false = omega arith
+
+module _ {S : Type 0} (step : S → First → List ℕ → S → Type 0) (old new : S) (text answer : List ℕ) (fits : length answer < 2 ^ 64) (told : Bool) (expected : (item : First) → IsFirst text item → expects item ≡ told) where
+  fits_behind : length (interim told ++ answer) < 2 ^ 65
+  fits_behind = let n = interim_few told in omega (arith, fits, n, length-append (interim told) answer)
+
+  stepped_so : (item : First) → IsFirst text item → step old item answer new → Told step old item (interim told ++ answer) new
+  stepped_so item is stepped = (answer, ap (λ (b : Bool). interim b ++ answer) (sym (expected item is)), stepped)
+
   module _ (m : Message) (used : ℕ) (takes : Takes text (takes.Message m used)) (replied : (h : RequestHead) (body : List ℕ) (bare : Bool) → ShowsMessage h body bare m → step old (message h body bare) answer new) where
-    pub message_one : (rest : List ℕ) × One step m.close old new text rest answer
+    pub message_one : (rest : List ℕ) × One (Told step) m.close old new text rest (interim told ++ answer)
     message_one =
         let f = finds_message text m used takes in (
           after_message text f.head f.body,
           record {
             item = message f.head f.body m.bare;
             is = f.is;
-            some = λ e. cc;
+            some = tt;
             closing = sym f.shows.close;
             rest_is = refl;
-            stepped = replied f.head f.body m.bare f.shows;
-            fits = fits;
+            stepped = stepped_so _ f.is (replied f.head f.body m.bare f.shows);
+            fits = fits_behind;
           },
         )
 
-    pub message_stays : m.close ≡ false → (0 < used) × (used ≤ length text) × One step false old new text (drop used text) answer
+    pub message_stays : m.close ≡ false → (0 < used) × (used ≤ length text) × One (Told step) false old new text (drop used text) (interim told ++ answer)
     message_stays stays =
         let f = finds_message text m used takes in
         let size = message_size text f.head f.body m.bare f.is in (
@@ -68,39 +99,39 @@ module _ {S : Type 0} (step : S → First → List ℕ → S → Type 0) (old ne
           record {
             item = message f.head f.body m.bare;
             is = f.is;
-            some = λ e. cc;
+            some = tt;
             closing = sym f.shows.close ∙ stays;
             rest_is = ap (λ (n : ℕ). drop n text) f.used_is;
-            stepped = replied f.head f.body m.bare f.shows;
-            fits = fits;
+            stepped = stepped_so _ f.is (replied f.head f.body m.bare f.shows);
+            fits = fits_behind;
           },
         )
 
-  pub fault_one : (f : Fault) → Takes text (takes.Fault f) → step old (fault f.reason f.bare) answer new → One step true old new text text answer
+  pub fault_one : (f : Fault) → Takes text (takes.Fault f) → step old (fault f.reason f.bare) answer new → One (Told step) true old new text text (interim told ++ answer)
   fault_one f takes stepped = record {
     item = fault f.reason f.bare;
     is = finds_fault text f takes;
-    some = λ e. cc;
+    some = tt;
     closing = refl;
     rest_is = refl;
-    stepped = stepped;
-    fits = fits;
+    stepped = stepped_so _ (finds_fault text f takes) stepped;
+    fits = fits_behind;
   }
 
 -- ---- what became of its answer, where that changed no state
 
 module _ {S : Type 0} (step : S → First → List ℕ → S → Type 0) (old mid new kept_old kept kept_new : S) (now : new ≡ mid) (text : List ℕ) (ho hn : Option (List ℕ)) (wo wn : ℕ) (held back answer rest : List ℕ) (which : (kept ≡ kept_old) ⊎ (kept ≡ mid)) where
   pub next_stops : (closed : Bool) → One step closed old mid text rest answer → (why : Stopped) → Passed mid kept kept_new ho hn wo wn (held ++ answer) back (Err why)
-      → AnsweredNext step old new kept_old kept_new text ho hn wo wn held back (Err why)
+      → AnsweredNext step false old new kept_old kept_new text ho hn wo wn held back (Err why)
   next_stops closed one why passed =
-      subst (λ (s : S). AnsweredNext step old s kept_old kept_new text ho hn wo wn held back (Err why)) (sym now) (answer, kept, rest, closed, one, which, passed)
+      subst (λ (s : S). AnsweredNext step false old s kept_old kept_new text ho hn wo wn held back (Err why)) (sym now) (answer, kept, rest, closed, one, which, passed)
 
   pub next_closed : One step true old mid text rest answer → Passed mid kept kept_new ho hn wo wn (held ++ answer) back (Ok tt)
-      → AnsweredNext step old new kept_old kept_new text ho hn wo wn held back (Ok nexts.Closed)
+      → AnsweredNext step false old new kept_old kept_new text ho hn wo wn held back (Ok nexts.Closed)
   next_closed one passed =
-      subst (λ (s : S). AnsweredNext step old s kept_old kept_new text ho hn wo wn held back (Ok nexts.Closed)) (sym now) (answer, kept, rest, one, which, passed)
+      subst (λ (s : S). AnsweredNext step false old s kept_old kept_new text ho hn wo wn held back (Ok nexts.Closed)) (sym now) (answer, kept, rest, one, which, passed)
 
   pub next_open : (used : ℕ) → (0 < used) × (used ≤ length text) × One step false old mid text (drop used text) answer → Passed mid kept kept_new ho hn wo wn (held ++ answer) back (Ok tt)
-      → AnsweredNext step old new kept_old kept_new text ho hn wo wn held back (Ok (nexts.Open used))
+      → AnsweredNext step false old new kept_old kept_new text ho hn wo wn held back (Ok (nexts.Open used))
   next_open used (some, within, one) passed =
-      subst (λ (s : S). AnsweredNext step old s kept_old kept_new text ho hn wo wn held back (Ok (nexts.Open used))) (sym now) (answer, kept, some, within, one, which, passed)
+      subst (λ (s : S). AnsweredNext step false old s kept_old kept_new text ho hn wo wn held back (Ok (nexts.Open used))) (sym now) (answer, kept, some, within, one, which, passed)

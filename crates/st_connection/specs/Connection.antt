@@ -5,10 +5,11 @@ use Rattle.std.specs.List.{concat}
 use Rattle.std.specs.Io.KnownBytes.{Appends, Consumes, IsAtEnd}
 use Rattle.httparse.specs.Grammar.{RequestHead}
 use Rattle.st_http.specs.declared.message.Message.{Message}
-use Rattle.st_http.specs.First.{First, message}
+use Rattle.st_http.specs.First.{First, message, IsFirst, expects}
 use Rattle.st_http.specs.Items.{Items}
 use Rattle.st_http.specs.Message.{ShowsMessage}
 use Rattle.st_connection.specs.Items.{Begins, is_closed}
+use Rattle.st_connection.specs.Render.{interim}
 use Rattle.st_connection.specs.declared.connection.Ended.{Ended}
 use Rattle.st_connection.specs.declared.connection.Ended.TheVariants.{Clean, Closed, Cut, TurnsSpent, Lost}
 use Rattle.st_connection.specs.declared.connection.IoFault.{IoFault}
@@ -29,13 +30,27 @@ Run {S = S} step old (item ∷ items) (answer ∷ answers) new = (mid : S) × st
 Run step old [] (answer ∷ answers) new = ⊥
 Run step old (item ∷ items) [] new = ⊥
 
+-- ---- the interim response
+
+-- An item is told its answer, behind the interim response where its client may wait for one, whether or not the body came with the head.
+abbrev pub Told : {S : Type 0} → Answering S → Answering S
+Told step old item text new = (answer : List ℕ) × (text ≡ interim (expects item) ++ answer) × step old item answer new
+
+-- What the first item of a rest is told ahead: the interim response where it expects one, or nothing.
+abbrev pub Ahead : List ℕ → List ℕ → Type 0
+Ahead rest said = (first : First) × IsFirst rest first × (said ≡ interim (expects first))
+
 -- ---- each answer is written at once
 
--- What is out is a front of the answers, and of these each but the last is out whole.
-abbrev pub Reaches : List (List ℕ) → List ℕ → Type 0
-Reaches [] sent = sent ≡ []
-Reaches (answer ∷ []) sent = (missing : List ℕ) × (answer ≡ sent ++ missing)
-Reaches (answer ∷ next ∷ answers) sent = (later : List ℕ) × (sent ≡ answer ++ later) × Reaches (next ∷ answers) later
+-- What is out is a front of the answers and of what is said behind them, and each answer but the last is out whole.
+abbrev pub Reaches : List (List ℕ) → List ℕ → List ℕ → Type 0
+Reaches [] said sent = (missing : List ℕ) × (said ≡ sent ++ missing)
+Reaches (answer ∷ []) said sent = (missing : List ℕ) × (answer ++ said ≡ sent ++ missing)
+Reaches (answer ∷ next ∷ answers) said sent = (later : List ℕ) × (sent ≡ answer ++ later) × Reaches (next ∷ answers) said later
+
+-- All answers are out, and what the rest is told ahead.
+abbrev pub SaysAll : List ℕ → List (List ℕ) → List ℕ → Type 0
+SaysAll rest answers sent = (said : List ℕ) × Ahead rest said × (sent ≡ concat answers ++ said)
 
 -- How a call ends, by what was read, answered and written.
 abbrev pub EndsSo : Result Ended IoFault → Bool → List ℕ → List First → List ℕ → List (List ℕ) → List ℕ → Type 0
@@ -44,16 +59,17 @@ EndsSo (Ok Clean) read_failed given items rest answers sent =
 EndsSo (Ok Closed) read_failed given items rest answers sent =
     Items given items rest × (is_closed items ≡ true) × (sent ≡ concat answers)
 EndsSo (Ok Cut) read_failed given items rest answers sent =
-    Items given items rest × (is_closed items ≡ false) × (rest ≢ []) × (sent ≡ concat answers)
+    Items given items rest × (is_closed items ≡ false) × (rest ≢ []) × SaysAll rest answers sent
 EndsSo (Ok TurnsSpent) read_failed given items rest answers sent =
-    Items given items rest × (is_closed items ≡ false) × (sent ≡ concat answers)
+    Items given items rest × (is_closed items ≡ false) × SaysAll rest answers sent
 EndsSo (Ok Lost) read_failed given items rest answers sent = ⊥
 EndsSo (Err broken) read_failed given items rest answers sent =
-    Begins given items rest × (broken.written ≡ length sent) × Reaches answers sent
-    × (read_failed ≡ true → Items given items rest × (is_closed items ≡ false) × (sent ≡ concat answers))
+    Begins given items rest × (broken.written ≡ length sent)
+    × ((said : List ℕ) × ((said ≡ []) ⊎ Ahead rest said) × Reaches answers said sent)
+    × (read_failed ≡ true → Items given items rest × (is_closed items ≡ false) × SaysAll rest answers sent)
 
--- What the reader gave begins with items. They got answers and led from the old state to the new one. What was sent is these answers,
--- or a front of them, as the end says.
+-- What the reader gave begins with items. They got answers, each behind its interim response, and led from the old state to the new
+-- one. What was sent is these answers, or a front of them, as the end says.
 pub record Served {S : Type 0} (step : Answering S) (old new : S) (left_old left_new held_old held_new : Option (List ℕ))
     (read_failed : Bool) (result : Result Ended IoFault) : Type 0 where
   pub given : List ℕ
@@ -61,7 +77,7 @@ pub record Served {S : Type 0} (step : Answering S) (old new : S) (left_old left
   pub items : List First
   pub rest : List ℕ
   pub answers : List (List ℕ)
-  pub run : Run step old items answers new
+  pub run : Run (Told step) old items answers new
   pub sent : List ℕ
   pub wrote : Appends held_old held_new sent
   pub ending : EndsSo result read_failed given items rest answers sent
@@ -81,10 +97,10 @@ all_but_last [] = []
 all_but_last (answer ∷ []) = []
 all_but_last (answer ∷ next ∷ answers) = answer ∷ all_but_last (next ∷ answers)
 
--- What is out is a front of the answers, and of those before the last it lacks at most so many bytes.
-abbrev pub ReachesWithin : ℕ → List (List ℕ) → List ℕ → Type 0
-ReachesWithin hold answers sent =
-    (missing : List ℕ) × (concat answers ≡ sent ++ missing) × (length (concat (all_but_last answers)) ≤ length sent + hold)
+-- What is out is a front of the answers and of what is said behind them. Of the answers before the last it lacks at most so many bytes.
+abbrev pub ReachesWithin : ℕ → List (List ℕ) → List ℕ → List ℕ → Type 0
+ReachesWithin hold answers said sent =
+    (missing : List ℕ) × (concat answers ++ said ≡ sent ++ missing) × (length (concat (all_but_last answers)) ≤ length sent + hold)
 
 -- The kept state is that after the first of the items, and the others lead on from it.
 pub record Amid {S : Type 0} (step : Answering S) (old kept new : S) (items : List First) (answers : List (List ℕ)) : Type 0 where
@@ -97,7 +113,13 @@ pub record Amid {S : Type 0} (step : Answering S) (old kept new : S) (items : Li
   pub before : Run step old first told kept
   pub behind : Run step kept later untold new
 
--- What is out are whole answers. The kept state is that after some of the items, at least those that these answer.
+-- The first of these items may have been told this ahead.
+abbrev pub MayHear : List First → List ℕ → Type 0
+MayHear [] said = said ≡ []
+MayHear (item ∷ items) said = (said ≡ []) ⊎ (said ≡ interim (expects item))
+
+-- What is out are whole answers, and perhaps the interim response of the next item. The kept state is that after some of the items, at
+-- least those that these answer.
 pub record KeptPast {S : Type 0} (step : Answering S) (old kept new : S) (items : List First) (answers : List (List ℕ))
     (sent : List ℕ) : Type 0 where
   pub done : List First
@@ -107,7 +129,9 @@ pub record KeptPast {S : Type 0} (step : Answering S) (old kept new : S) (items 
   pub mid : S
   pub items_are : items ≡ done ++ others
   pub answers_are : answers ≡ out ++ back
-  pub sent_is : sent ≡ concat out
+  pub said : List ℕ
+  pub hears : MayHear others said
+  pub sent_is : sent ≡ concat out ++ said
   pub run : Run step old done out mid
   pub amid : Amid step mid kept new others back
 
@@ -117,8 +141,9 @@ abbrev pub EndsWithin : {S : Type 0} → Answering S → ℕ → S → S → S �
 EndsWithin step hold old new kept (Ok Lost) read_failed given items rest answers sent =
     Begins given items rest × KeptPast step old kept new items answers sent
 EndsWithin step hold old new kept (Err broken) read_failed given items rest answers sent =
-    Begins given items rest × (broken.written ≡ length sent) × ReachesWithin hold answers sent
-    × (read_failed ≡ true → Items given items rest × (is_closed items ≡ false) × (sent ≡ concat answers))
+    Begins given items rest × (broken.written ≡ length sent)
+    × ((said : List ℕ) × ((said ≡ []) ⊎ Ahead rest said) × ReachesWithin hold answers said sent)
+    × (read_failed ≡ true → Items given items rest × (is_closed items ≡ false) × SaysAll rest answers sent)
 EndsWithin step hold old new kept (Ok ended) read_failed given items rest answers sent =
     EndsSo (Ok ended) read_failed given items rest answers sent
 
@@ -130,10 +155,10 @@ pub record ServedWithin {S : Type 0} (step : Answering S) (hold : ℕ) (old new 
   pub items : List First
   pub rest : List ℕ
   pub answers : List (List ℕ)
-  pub run : Run step old items answers new
+  pub run : Run (Told step) old items answers new
   pub sent : List ℕ
   pub wrote : Appends held_old held_new sent
-  pub ending : EndsWithin step hold old new kept result read_failed given items rest answers sent
+  pub ending : EndsWithin (Told step) hold old new kept result read_failed given items rest answers sent
 
 -- All that was answered is kept, but where the call ended as lost, which says that the answerer has failed.
 pub record KeptUnlessLost {S : Type 0} (kept now : S) (has_failed : Bool) (result : Result Ended IoFault) : Type 0 where

@@ -1,12 +1,13 @@
 //! One connection, from its first byte to its end.
 ghost use Rattle.std.specs.Prelude.{◌≡◌, ◌≢◌, ◌+◌, ◌*◌, ◌^◌, ◌<◌, ◌≤◌, Err, true, false, length, take};
-ghost use Rattle.st_connection.specs.Connection.{EndsOn, KeptUnlessLost, ServedWithin};
+ghost use Rattle.st_connection.specs.Connection.{EndsOn, KeptUnlessLost, ServedWithin, Told};
 ghost use Rattle.st_connection.specs.inner.Stages.{Answered, AnsweredNext};
 
 use crate::constant::fault_text;
 use crate::replies::Replies;
 use crate::sending::{Stopped, flush, pass};
 use crate::streams::{Sink, Source};
+use crate::telling::answer_text;
 use st_http::message::Take;
 use st_http::routes::Routes;
 use std::convert::AsSlice;
@@ -45,22 +46,24 @@ pub const PIECE: usize = 65_536;
 pub const ROOM: usize = 139_264;
 
 // What was done about the first item of a text.
-enum Next {
-    // None stands there yet.
-    Waits,
+pub(crate) enum Next {
+    // Nothing: it is not whole yet, or its client is to be told first that its body is awaited, as the flag says.
+    Waits(bool),
     // A message of so many bytes was answered, and the connection stays.
     Open(usize),
     // The connection is closed.
     Closed,
 }
 
-// How the items of a text end: after so many bytes more is waited for, or the connection is closed.
-enum Stop {
-    Waits(usize),
+// How the items of a text end.
+pub(crate) enum Stop {
+    // After so many bytes. The flag says whether the client of the next item is told that its body is awaited.
+    Waits(usize, bool),
+    // The connection is closed.
     Closed,
 }
 
-// Answers the first item of a text.
+// Answers the first item of a text, unless its client is to be told first that its body is awaited.
 fn answer_next<X: Replies, W: Sink>(
     answerer: &mut X,
     routes: &Routes,
@@ -73,7 +76,7 @@ fn answer_next<X: Replies, W: Sink>(
     requires room { written.old + 2 * 2 ^ 64 < 2 ^ 128 }
     requires within { held.old ≤ length block.old }
     requires sound { X.has_failed answerer.old ≡ false }
-    ensures answered { AnsweredNext X.answers (X.now answerer.old) (X.now answerer.new)
+    ensures answered { AnsweredNext (Told X.answers) false (X.now answerer.old) (X.now answerer.new)
         (X.kept answerer.old) (X.kept answerer.new) text.now
         (W.held writer.old) (W.held writer.new) written.old written.new (take held.old block.old) (take held.new block.new) result }
     ensures unwritten { result ≡ Err Stopped.Unwritten → W.has_failed writer.new ≡ true }
@@ -84,8 +87,12 @@ fn answer_next<X: Replies, W: Sink>(
     ensures room_stays { length block.new ≡ length block.old }
     ensures within_stays { held.new ≤ length block.old }
 {
-    match routes.take(text) {
-        Take::More => Ok(Next::Waits),
+    let taken = routes.take(text);
+    if taken.expects() {
+        return Ok(Next::Waits(true));
+    }
+    match taken {
+        Take::More(_) => Ok(Next::Waits(false)),
         Take::Fault(fault) => {
             let answer = fault_text(fault.reason, fault.bare);
             if let Err(why) = pass(answerer, answer, block, held, writer, written) {
@@ -107,8 +114,8 @@ fn answer_next<X: Replies, W: Sink>(
     }
 }
 
-// Answers the items of a text.
-fn answer_all<X: Replies, W: Sink>(
+// Answers the items of a text, up to one whose client is to be told that its body is awaited.
+pub(crate) fn answer_all<X: Replies, W: Sink>(
     answerer: &mut X,
     routes: &Routes,
     text: &[u8],
@@ -116,10 +123,10 @@ fn answer_all<X: Replies, W: Sink>(
     writer: &mut W,
     written: &mut u128,
 ) -> Result<Stop, Stopped>
-    requires room { written.old + 2 ^ 64 * (length text.now + 3) < 2 ^ 128 }
+    requires room { written.old + 2 ^ 65 * (length text.now + 3) < 2 ^ 128 }
     requires settled { X.kept answerer.old ≡ X.now answerer.old }
     requires sound { X.has_failed answerer.old ≡ false }
-    ensures answered { Answered X.answers (length block.old) (X.now answerer.old) (X.now answerer.new) (X.kept answerer.new) text.now
+    ensures answered { Answered (Told X.answers) (length block.old) (X.now answerer.old) (X.now answerer.new) (X.kept answerer.new) text.now
         (W.held writer.old) (W.held writer.new) written.old written.new result }
     ensures settled { result ≢ Err Stopped.Lost → X.kept answerer.new ≡ X.now answerer.new }
     ensures lost { result ≡ Err Stopped.Lost → X.has_failed answerer.new ≡ true }
@@ -142,9 +149,9 @@ fn answer_all<X: Replies, W: Sink>(
         ) {
             Err(why) => return Err(why),
             Ok(Next::Open(count)) => used += count,
-            Ok(Next::Waits) => {
+            Ok(Next::Waits(due)) => {
                 return match flush(answerer, &block[..held], writer, written) {
-                    Ok(()) => Ok(Stop::Waits(used)),
+                    Ok(()) => Ok(Stop::Waits(used, due)),
                     Err(why) => Err(why),
                 };
             }
@@ -159,7 +166,8 @@ fn answer_all<X: Replies, W: Sink>(
 }
 
 /// Serves a connection: answers each item that the reader gives, in order, before it reads on. Answers are held back while
-/// `block` has room for them and a further item was read, and are settled before a byte of them is written.
+/// `block` has room for them and a further item was read, and are settled before a byte of them is written. A client that may wait
+/// with a body is told once that it is awaited, before its answer.
 pub fn serve_connection<X: Replies, R: Source, W: Sink>(
     answerer: &mut X,
     routes: &Routes,
@@ -181,6 +189,7 @@ pub fn serve_connection<X: Replies, R: Source, W: Sink>(
 {
     let mut written: u128 = 0;
     let mut filled = 0;
+    let mut told = false;
     'reads: for turn in 0..MAX_READS {
         let Ok(count) = reader.read(&mut buffer[filled..filled + PIECE]) else {
             return Err(IoFault { written });
@@ -193,10 +202,11 @@ pub fn serve_connection<X: Replies, R: Source, W: Sink>(
             });
         }
         filled += count;
-        match answer_all(
+        match answer_text(
             answerer,
             routes,
             &buffer[..filled],
+            told,
             block,
             writer,
             &mut written,
@@ -204,9 +214,10 @@ pub fn serve_connection<X: Replies, R: Source, W: Sink>(
             Err(Stopped::Unwritten) => return Err(IoFault { written }),
             Err(Stopped::Lost) => return Ok(Ended::Lost),
             Ok(Stop::Closed) => return Ok(Ended::Closed),
-            Ok(Stop::Waits(used)) => {
+            Ok(Stop::Waits(used, ahead)) => {
                 buffer.copy_within(used..filled, 0);
                 filled -= used;
+                told = ahead;
                 reader.answered(filled);
             }
         }

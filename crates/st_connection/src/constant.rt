@@ -1,6 +1,7 @@
 //! The answers whose texts are constant.
 ghost use Rattle.std.specs.Prelude.{◌≡◌, true, false};
 ghost use Rattle.st_connection.specs.Render.{fault_text as fault_text_of, busy_text as busy_text_of, accepted_text as accepted_text_of};
+ghost use Rattle.st_connection.specs.Render.{continue_text as continue_text_of};
 
 use st_http::fields::Reason;
 
@@ -86,4 +87,11 @@ pub fn accepted_text(close: bool, bare: bool) -> &'static [u8]
         (true, true) =>
             b"HTTP/1.1 200 OK\r\nContent-Type: application/json\r\nConnection: close\r\n\r\n",
     }
+}
+
+// The interim response, which says that a body is awaited.
+pub(crate) fn continue_text() -> &'static [u8]
+    ensures { result.now ≡ continue_text_of }
+{
+    b"HTTP/1.1 100 Continue\r\n\r\n"
 }

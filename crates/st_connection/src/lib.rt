@@ -8,6 +8,7 @@ pub mod replies;
 mod sending;
 mod server;
 pub mod streams;
+mod telling;
 
 pub use connection::{Ended, IoFault};
 pub use server::Server;

@@ -14,7 +14,11 @@ pub(crate) enum Stopped {
 }
 
 // Writes the bytes, as far as the writer takes them.
-fn write_all<W: Sink>(writer: &mut W, bytes: &[u8], written: &mut u128) -> Result<(), Failed>
+pub(crate) fn write_all<W: Sink>(
+    writer: &mut W,
+    bytes: &[u8],
+    written: &mut u128,
+) -> Result<(), Failed>
     requires { written.old + length bytes.now < 2 ^ 128 }
     ensures sent { Sent (W.held writer.old) (W.held writer.new) written.old written.new bytes.now (is_ok result) }
     ensures failed { OnErr result (W.has_failed writer.new ≡ true) }

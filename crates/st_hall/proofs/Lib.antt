@@ -4,4 +4,3 @@ pub mod Following
 pub mod Unheard
 pub mod Worlds
 pub mod Crossing
-pub mod Unheard

@@ -1,5 +1,5 @@
 //! The clerk, who makes changes and publishes them.
-ghost use Rattle.std.specs.Prelude.{◌≡◌, ◌+◌, ◌^◌, ◌<◌, [], ◌∷◌, ◌++◌, drop, length, true, is_some, unwrap_or, Err, IfOk, OnOk, MatchOption, MatchResult};
+ghost use Rattle.std.specs.Prelude.{◌≡◌, ◌+◌, ◌^◌, ◌<◌, [], ◌∷◌, ◌++◌, drop, length, true, is_some, unwrap_or, Err, None, IfOk, OnOk, MatchOption, MatchResult};
 ghost use mathlib.Core.List.{IsPrefix};
 ghost use Rattle.st_core.specs.Judging.{judgement};
 ghost use Rattle.st_core.specs.Step.{asker_of, asks_for_change};
@@ -16,7 +16,7 @@ use crate::history::Head;
 use crate::name::HallName;
 use crate::queue::{EditionWriter, enter, queue, show};
 use crate::receipt::{Receipt, receipt_of};
-use crate::steps::{decide, is_heard, replace};
+use crate::steps::{decide, replace};
 use core::mem::replace_with;
 use left_right::Absorb;
 use st_core::{Asked, Decision, JudgedRef, Reply, Store};
@@ -162,8 +162,10 @@ impl<H: HallName, R: Wait + Drop> Clerk<H, R> {
     }
 
     // What a change comes to after the whole list: how it is judged, what it is told, and the directory that it leaves.
-    fn decided<'a>(&self, asked: &'a Asked) -> Result<(JudgedRef<'a>, Decision), AllocError>
+    fn decided<'a>(&self, asked: &'a Asked) -> Result<(JudgedRef<'a>, Decision), AskFault>
         requires { asks_for_change asked.now ≡ true }
+        ensures stranger { result ≡ Err Stranger → asker_of (state_after H.start self.now.list).directory asked.now.token ≡ None }
+        ensures heard { OnOk result (is_some (asker_of (state_after H.start self.now.list).directory asked.now.token) ≡ true) }
         ensures judged { IfOk result (λ d. judgement d.0 ≡ judged_in (state_after H.start self.now.list) asked.now) }
         ensures reply { IfOk result (λ d. d.1.reply ≡ reply_of (state_after H.start self.now.list) asked.now) }
         ensures directory { IfOk result (λ d. unwrap_or d.1.directory (state_after H.start self.now.list).directory
@@ -177,6 +179,7 @@ impl<H: HallName, R: Wait + Drop> Clerk<H, R> {
     pub fn add(&mut self, desk: &mut Desk<H>, asked: &Asked) -> Result<Reply, AskFault>
         requires change { asks_for_change asked.now ≡ true }
         ensures stranger { result ≡ Err Stranger → IsStranger H.start desk.old.seen asked.now.token }
+        ensures unheard { result ≡ Err Stranger → asker_of (state_after H.start self.old.list).directory asked.now.token ≡ None }
         ensures heard { OnOk result (is_some (asker_of (state_after H.start self.old.list).directory asked.now.token) ≡ true) }
         ensures after { OnOk result (IsPrefix desk.old.seen self.old.list) }
         ensures published { self.new.published ≡ self.old.published }
@@ -188,10 +191,8 @@ impl<H: HallName, R: Wait + Drop> Clerk<H, R> {
         if !self.goes_on(desk) {
             return Err(AskFault::NoMemory);
         }
-        let (judged, decision) = self.decided(asked)?;
-        if !is_heard(&judged) {
-            return Err(AskFault::Stranger);
-        }
+        let decided = self.decided(asked)?;
+        let (judged, decision) = decided;
         let entered = enter(
             &mut self.writer,
             &mut self.waiting,
@@ -222,6 +223,7 @@ impl<H: HallName, R: Wait + Drop> Clerk<H, R> {
     ) -> Result<(Reply, Option<Front<H>>), AskFault>
         requires change { asks_for_change asked.now ≡ true }
         ensures stranger { result ≡ Err Stranger → IsStranger H.start desk.old.seen asked.now.token }
+        ensures unheard { result ≡ Err Stranger → asker_of (state_after H.start self.old.list).directory asked.now.token ≡ None }
         ensures heard { OnOk result (is_some (asker_of (state_after H.start self.old.list).directory asked.now.token) ≡ true) }
         ensures after { OnOk result (IsPrefix desk.old.seen self.old.list) }
         ensures grows { IsPrefix self.old.published self.new.published }
@@ -252,6 +254,7 @@ impl<H: HallName, R: Wait + Drop> Clerk<H, R> {
     ) -> Result<Receipt<H>, AskFault>
         requires change { asks_for_change asked ≡ true }
         ensures stranger { result ≡ Err Stranger → IsStranger H.start desk.old.seen asked.token }
+        ensures unheard { result ≡ Err Stranger → asker_of (state_after H.start self.old.list).directory asked.token ≡ None }
         ensures heard { OnOk result (is_some (asker_of (state_after H.start self.old.list).directory asked.token) ≡ true) }
         ensures after { OnOk result (IsPrefix desk.old.seen self.old.list) }
         ensures grows { IsPrefix self.old.published self.new.published }

@@ -1,7 +1,8 @@
 //! What opens a hall, and a change by any thread.
-ghost use Rattle.std.specs.Prelude.{◌≡◌, ◌+◌, ◌<◌, [], drop, replicate, true, List, Err, IfOk, IfSome, MatchResult};
-ghost use Rattle.st_core.specs.Step.{asks_for_change};
-ghost use Rattle.st_hall.specs.Steps.{Ask};
+ghost use Rattle.std.specs.Prelude.{◌≡◌, ◌+◌, ◌<◌, [], drop, replicate, true, is_some, List, Err, IfOk, IfSome, OnOk, MatchResult};
+ghost use mathlib.Core.List.{IsPrefix};
+ghost use Rattle.st_core.specs.Step.{asker_of, asks_for_change};
+ghost use Rattle.st_hall.specs.Steps.{Ask, state_after};
 ghost use Rattle.st_hall.specs.Views.{EndsAfter, IsStranger, opening_seat};
 ghost use Rattle.st_hall.specs.declared.fault.AskFault.TheVariants.{Stranger};
 ghost use Rattle.st_hall.specs.inner.Editions.{Agrees};
@@ -210,6 +211,8 @@ impl<H: HallName> Hall<H> {
     ) -> Result<Receipt<H>, AskFault>
         requires change { asks_for_change asked ≡ true }
         ensures stranger { result ≡ Err Stranger → IsStranger H.start desk.old.seen asked.token }
+        ensures heard { OnOk result ((list : List Ask) × IsPrefix desk.old.seen list
+            × (is_some (asker_of (state_after H.start list).directory asked.token) ≡ true)) }
         ensures made { MatchResult result (λ _. desk.new.made ≡ desk.old.made + 1) (λ _. desk.new.made ≡ desk.old.made) }
         ensures seen { desk.new.seen ≡ desk.old.seen }
         ensures asked { IfOk result (λ r. r.asked ≡ asked) }

@@ -1,9 +1,13 @@
 //! What is asked of a copy, and of the clerk's directory.
-ghost use Rattle.std.specs.Prelude.{◌≡◌, true, false, is_some, unwrap_or, IfOk, OnOk, OnErr};
-ghost use Rattle.st_core.specs.Step.{asker_of, asks_for_change};
+ghost use Rattle.std.specs.Prelude.{◌≡◌, true, false, None, is_some, unwrap_or, Err, IfOk, OnOk, OnErr};
+ghost use Rattle.std.specs.declared.alloc.Global.{Global};
+ghost use Rattle.st_dir.specs.Directory.{Directory as Users};
+ghost use Rattle.st_core.specs.Step.{asker_of, asks_for_change, judge as judge_by};
 ghost use Rattle.st_core.specs.Judging.{JudgesChange, judgement};
 ghost use Rattle.st_hall.specs.Steps.{Ask, State, judged_in, next, reply_of, settled};
+ghost use Rattle.st_hall.specs.declared.fault.AskFault.TheVariants.{Stranger};
 
+use crate::fault::AskFault;
 use st_core::{Asked, Decision, Judged, JudgedRef, Reply, Store, judge};
 use st_dir::Directory;
 use std::alloc::AllocError;
@@ -28,36 +32,43 @@ pub(crate) fn answer(store: &Store, asked: &Asked) -> Result<Reply, AllocError>
     store.answer(asked)
 }
 
+// Whether a judged change is heard, which is where its token holds.
+fn is_heard(judged: &JudgedRef) -> bool
+    ensures { (d : Users Global) (asked : Ask) → asks_for_change asked ≡ true → judgement judged.now ≡ judge_by d asked
+        → result ≡ is_some (asker_of d asked.token) }
+{
+    match judged {
+        JudgedRef::Unheard(_) => false,
+        JudgedRef::Heard { .. } => true,
+    }
+}
+
 #[tactic(auto, unfolding(crate::specs::Steps::judged_in, crate::specs::Steps::reply_of, crate::specs::Steps::next))]
-// How a directory judges a change, what it is told, and the directory after it where that is another.
+// How a directory judges a change, what it is told, and the directory after it where that is another; or that its token does not
+// hold there.
 pub(crate) fn decide<'a>(
     directory: &Directory,
     asked: &'a Asked,
-) -> Result<(JudgedRef<'a>, Decision), AllocError>
+) -> Result<(JudgedRef<'a>, Decision), AskFault>
     requires { asks_for_change asked.now ≡ true }
+    ensures stranger { result ≡ Err Stranger → asker_of directory.now asked.now.token ≡ None }
+    ensures heard { OnOk result (is_some (asker_of directory.now asked.now.token) ≡ true) }
     ensures judged { IfOk result (λ d. (s : State) → s.directory ≡ directory.now → judgement d.0 ≡ judged_in s asked.now) }
     ensures reply { IfOk result (λ d. (s : State) → s.directory ≡ directory.now → d.1.reply ≡ reply_of s asked.now) }
     ensures directory { IfOk result (λ d. (s : State) → s.directory ≡ directory.now
         → unwrap_or d.1.directory directory.now ≡ (next s asked.now).directory) }
 {
     let judged = judge(directory, asked);
+    if !is_heard(&judged) {
+        drop(judged);
+        return Err(AskFault::Stranger);
+    }
     match Decision::of(directory, &judged) {
         Ok(decision) => Ok((judged, decision)),
         Err(fault) => {
             drop(judged);
-            Err(fault)
+            Err(fault.into())
         }
-    }
-}
-
-// Whether a judged change is heard, which is where its token holds.
-pub(crate) fn is_heard(judged: &JudgedRef) -> bool
-    ensures { (s : State) (asked : Ask) → asks_for_change asked ≡ true → judgement judged.now ≡ judged_in s asked
-        → result ≡ is_some (asker_of s.directory asked.token) }
-{
-    match judged {
-        JudgedRef::Unheard(_) => false,
-        JudgedRef::Heard { .. } => true,
     }
 }
 

@@ -1,10 +1,10 @@
 //! A worker, who answers requests one after the other at a desk.
-ghost use Rattle.std.specs.Prelude.{◌≡◌, ◌+◌, ◌-◌, ◌^◌, ◌⊎◌, true, false, min, List, Some, is_some, Err, IfOk, IfSome, MatchResult};
+ghost use Rattle.std.specs.Prelude.{◌≡◌, ◌+◌, ◌-◌, ◌^◌, ◌⊎◌, true, false, min, List, Some, is_some, Err, IfOk, IfSome, OnErr, MatchResult};
 ghost use mathlib.Core.List.{IsPrefix};
 ghost use Rattle.st_core.specs.Step.{asker_of, asks_for_change};
 ghost use Rattle.st_hall.specs.Steps.{Ask, reply_of, state_after};
 ghost use Rattle.st_hall.specs.Views.{EndsAfter, EndsWith, IsStranger, Learns};
-ghost use Rattle.st_hall.specs.declared.fault.AskFault.TheVariants.{Stranger};
+ghost use Rattle.st_hall.specs.declared.fault.AskFault.TheVariants.{NoMemory, Stranger};
 
 use crate::clerk::Clerk;
 use crate::desk::Desk;
@@ -98,14 +98,15 @@ fn read<H: HallName, G: Gate>(
     call: u64,
     desk: &mut Desk<H>,
     asked: &Asked,
-) -> Result<Reply, AllocError>
+) -> Result<Reply, AskFault>
     requires { asks_for_change asked.now ≡ false }
+    ensures busy { OnErr result (result ≡ Err NoMemory) }
     ensures reply { IfOk result (λ r. r ≡ reply_of (state_after H.start desk.new.seen) asked.now) }
     ensures seen { IsPrefix desk.old.seen desk.new.seen }
     ensures made { desk.new.made ≡ desk.old.made }
 {
     wait_at(gate, worker, call);
-    desk.read(asked)
+    Ok(desk.read(asked)?)
 }
 
 impl<'a, H: HallName, R: Wait + Drop, G: Gate> Worker<'a, H, R, G> {
@@ -230,7 +231,7 @@ impl<'a, H: HallName, R: Wait + Drop, G: Gate> Worker<'a, H, R, G> {
         } else {
             let reply = read(self.gate, self.number, self.calls, &mut self.desk, &asked);
             drop(asked);
-            Ok(reply?)
+            reply
         }
     }
 }

@@ -1,5 +1,5 @@
 -- A text has one first item, and keeps it.
-use Rattle.std.proofs.Common.{◌≡◌, ◌≢◌, ◌∙◌, ℕ, ◌+◌, ◌-◌, ◌<◌, ◌≤◌, Bool, true, false, not, cond, List, [], ◌∷◌, ◌++◌, length, drop, take, refl, sym, ap, subst, arith, length-append, length-drop, Result, Ok, Err}
+use Rattle.std.proofs.Common.{◌≡◌, ◌∙◌, ℕ, ◌+◌, ◌-◌, ◌<◌, ◌≤◌, Bool, true, false, not, cond, List, [], ◌∷◌, ◌++◌, length, drop, take, refl, sym, ap, subst, arith, length-append, length-drop, Result, Ok, Err}
 use Rattle.std.specs.Prelude.{codes, nat_lt, nat_le}
 use Rattle.std.specs.Str.Parse.{digits_value}
 use Rattle.std.proofs.lemmas.Bool.{ltb-true, ltb-false, le-ltb}
@@ -11,7 +11,7 @@ use Rattle.st_http.specs.declared.fields.Reason.{Reason}
 use Rattle.st_http.specs.declared.fields.Reason.TheVariants as reasons
 use Rattle.st_http.specs.Head.{window, Reading, whole, begun, hopeless, Reads}
 use Rattle.st_http.specs.Fields.{Fields, body_length_of, length_by, is_number, breaks_host, has_coding, values_of}
-use Rattle.st_http.specs.First.{First, message, fault, more, with_body, fields_of, first_of, IsFirst}
+use Rattle.st_http.specs.First.{First, IsItem, message, fault, more, with_body, waits_with, fields_of, first_of, IsFirst}
 use Rattle.st_http.proofs.WindowLemmas.{window_grows, window_full, window-length, window_short, hopeless_stays}
 use Rattle.st_http.proofs.BareLemmas.{bare_by_head, bare_by_length, bare_by_garbage, bare_unique}
 
@@ -34,17 +34,17 @@ first_unique text a b (x, bare_x, reads_x, tells_x, is_x) (y, bare_y, reads_y, t
     ∙ sym is_y
 
 -- with more text the body is the same
-body_stays : (h : RequestHead) (text after : List ℕ) (bare : Bool) (r : Result ℕ Reason) → with_body h text bare r ≢ more
+body_stays : (h : RequestHead) (text after : List ℕ) (bare : Bool) (r : Result ℕ Reason) → IsItem (with_body h text bare r)
     → with_body h text bare r ≡ with_body h (text ++ after) bare r
 body_stays h text after bare (Ok n) some = go (nat_le n (length text)) refl some
   where
-    go : (t : Bool) → nat_le n (length text) ≡ t → cond t (message h (take n text) bare) more ≢ more
-        → cond t (message h (take n text) bare) more ≡ with_body h (text ++ after) bare (Ok n)
+    go : (t : Bool) → nat_le n (length text) ≡ t → IsItem (cond t (message h (take n text) bare) (more (waits_with h n)))
+        → cond t (message h (take n text) bare) (more (waits_with h n)) ≡ with_body h (text ++ after) bare (Ok n)
     go true e here =
         let fits : n ≤ length text = grind (arith, nat_tests) in
         let room : nat_le n (length (text ++ after)) ≡ true = simp length-append (grind (arith, nat_tests)) in
         rw room (ap (λ (body : List ℕ). message h body bare) (sym (take-append-le n text after fits)))
-    go false e here = absurd (here refl)
+    go false e here = absurd here
 body_stays h text after bare (Err reason) some = refl
 
 head_fits : (text rest : List ℕ) (h : RequestHead) → ReadsRequest (window text) h rest → length (print_request h) ≤ length text
@@ -52,10 +52,10 @@ head_fits text rest h reads =
     omega (arith, window-length text, ap length reads.1, length-append (print_request h) rest)
 
 whole_stays : (text after rest : List ℕ) (h : RequestHead) (bare : Bool) → ReadsRequest (window text) h rest
-    → first_of text bare (whole h) ≢ more → first_of text bare (whole h) ≡ first_of (text ++ after) bare (whole h)
+    → IsItem (first_of text bare (whole h)) → first_of text bare (whole h) ≡ first_of (text ++ after) bare (whole h)
 whole_stays text after rest h bare reads some = go (nat_lt 64 (length h.fields)) some
   where
-    go : (t : Bool) → cond t (fault reasons.Headers bare) (with_body h (drop (length (print_request h)) text) bare (body_length_of h.minor (fields_of h))) ≢ more
+    go : (t : Bool) → IsItem (cond t (fault reasons.Headers bare) (with_body h (drop (length (print_request h)) text) bare (body_length_of h.minor (fields_of h))))
         → cond t (fault reasons.Headers bare) (with_body h (drop (length (print_request h)) text) bare (body_length_of h.minor (fields_of h)))
         ≡ cond t (fault reasons.Headers bare) (with_body h (drop (length (print_request h)) (text ++ after)) bare (body_length_of h.minor (fields_of h)))
     go true here = refl
@@ -63,7 +63,7 @@ whole_stays text after rest h bare reads some = go (nat_lt 64 (length h.fields))
         body_stays h (drop (length (print_request h)) text) after bare (body_length_of h.minor (fields_of h)) here
         ∙ ap (λ (t : List ℕ). with_body h t bare (body_length_of h.minor (fields_of h))) (sym (drop-append-le (length (print_request h)) text after (head_fits text rest h reads)))
 
-pub first_kept : (text after : List ℕ) (first : First) → first ≢ more → IsFirst text first → IsFirst (text ++ after) first
+pub first_kept : (text after : List ℕ) (first : First) → IsItem first → IsFirst text first → IsFirst (text ++ after) first
 first_kept text after first some (whole h, bare, reads, tells, is) =
     let grown = window_grows text after in
     let longer = ReadsRequest-append (window text) h reads.0 grown.0 reads.1 in (
@@ -71,12 +71,12 @@ first_kept text after first some (whole h, bare, reads, tells, is) =
       bare,
       (reads.0 ++ grown.0, subst (λ (t : List ℕ). ReadsRequest t h (reads.0 ++ grown.0)) (sym grown.1) longer),
       bare_by_head text after reads.0 h bare reads.1 tells,
-      is ∙ whole_stays text after reads.0 h bare reads.1 (λ e. some (is ∙ e)),
+      is ∙ whole_stays text after reads.0 h bare reads.1 (subst IsItem is some),
     )
 first_kept text after first some (begun, bare, reads, tells, is) = go (nat_lt (length text) 8192) refl is
   where
-    go : (t : Bool) → nat_lt (length text) 8192 ≡ t → first ≡ cond t more (fault reasons.Headers bare) → IsFirst (text ++ after) first
-    go true e here = absurd (some here)
+    go : (t : Bool) → nat_lt (length text) 8192 ≡ t → first ≡ cond t (more false) (fault reasons.Headers bare) → IsFirst (text ++ after) first
+    go true e here = absurd (subst IsItem here some)
     go false e here =
         let full : 8192 ≤ length text = ltb-false _ _ e in
         let test : nat_lt (length (text ++ after)) 8192 ≡ false = le-ltb _ _ (omega (arith, length-append text after)) in
@@ -120,13 +120,13 @@ body_fits minor n fields e =
     go false false f = length_by_fits (values_of (codes "content-length") fields) n f
 
 -- a text that waits for more is short
-pub more_short : (text : List ℕ) → IsFirst text more → length text < 8192 + 65536
-more_short text (whole h, bare, reads, tells, is) = go (nat_lt 64 (length h.fields)) is
+pub more_short : (text : List ℕ) (waits : Bool) → IsFirst text (more waits) → length text < 8192 + 65536
+more_short text waits (whole h, bare, reads, tells, is) = go (nat_lt 64 (length h.fields)) is
   where
     after : List ℕ
     after = drop (length (print_request h)) text
 
-    by_length : (n : ℕ) (t : Bool) → n ≤ 65536 → nat_le n (length after) ≡ t → more ≡ cond t (message h (take n after) bare) more
+    by_length : (n : ℕ) (t : Bool) → n ≤ 65536 → nat_le n (length after) ≡ t → more waits ≡ cond t (message h (take n after) bare) (more (waits_with h n))
         → length text < 8192 + 65536
     by_length n true few test e = absurd (cc)
     by_length n false few test e =
@@ -136,19 +136,19 @@ more_short text (whole h, bare, reads, tells, is) = go (nat_lt 64 (length h.fiel
         = omega (arith, window_short text, ap length reads.1.1, length-append (print_request h) reads.0) in
         omega (short, cut, head, few, arith)
 
-    by_rule : (r : Result ℕ Reason) → body_length_of h.minor (fields_of h) ≡ r → more ≡ with_body h after bare r
+    by_rule : (r : Result ℕ Reason) → body_length_of h.minor (fields_of h) ≡ r → more waits ≡ with_body h after bare r
         → length text < 8192 + 65536
     by_rule (Ok n) says e = by_length n (nat_le n (length after)) (body_fits h.minor n (fields_of h) says) refl e
     by_rule (Err reason) says e = absurd (cc)
 
-    go : (t : Bool) → more ≡ cond t (fault reasons.Headers bare) (with_body h after bare (body_length_of h.minor (fields_of h)))
+    go : (t : Bool) → more waits ≡ cond t (fault reasons.Headers bare) (with_body h after bare (body_length_of h.minor (fields_of h)))
         → length text < 8192 + 65536
     go true e = absurd (cc)
     go false e = by_rule (body_length_of h.minor (fields_of h)) refl e
-more_short text (begun, bare, reads, tells, is) = go (nat_lt (length text) 8192) refl is
+more_short text waits (begun, bare, reads, tells, is) = go (nat_lt (length text) 8192) refl is
   where
-    go : (t : Bool) → nat_lt (length text) 8192 ≡ t → more ≡ cond t more (fault reasons.Headers bare) → length text < 8192 + 65536
+    go : (t : Bool) → nat_lt (length text) 8192 ≡ t → more waits ≡ cond t (more false) (fault reasons.Headers bare) → length text < 8192 + 65536
     go true e here =
         let short : length text < 8192 = ltb-true _ _ e in omega (short, arith)
     go false e here = absurd (cc)
-more_short text (hopeless, bare, reads, tells, is) = absurd (cc)
+more_short text waits (hopeless, bare, reads, tells, is) = absurd (cc)

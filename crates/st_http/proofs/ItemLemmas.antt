@@ -9,7 +9,7 @@ use Rattle.st_http.specs.declared.fields.Reason.{Reason}
 use Rattle.st_http.specs.declared.fields.Reason.TheVariants as reasons
 use Rattle.st_http.specs.Head.{window, TellsBare, whole, begun, hopeless}
 use Rattle.st_http.specs.Fields.{body_length_of, closes_after}
-use Rattle.st_http.specs.First.{First, message, fault, more, with_body, fields_of, IsFirst, size_of}
+use Rattle.st_http.specs.First.{First, message, fault, more, with_body, waits_with, fields_of, IsFirst, size_of}
 use Rattle.st_http.specs.Items.{IsMessage, after_message, Items, none, faulty, last, next}
 use Rattle.st_http.proofs.WindowLemmas.{window_short}
 use Rattle.st_http.proofs.FirstLemmas.{first_unique, first_kept}
@@ -53,7 +53,7 @@ message_from_first text h body bare (whole k, flag, reads, tells, is) = go (nat_
     after = drop (length (print_request k)) text
 
     by_length : (n : ℕ) (t : Bool) → length k.fields ≤ 64 → body_length_of k.minor (fields_of k) ≡ Ok n
-        → nat_le n (length after) ≡ t → message h body bare ≡ cond t (message k (take n after) flag) more → IsMessage text h body bare
+        → nat_le n (length after) ≡ t → message h body bare ≡ cond t (message k (take n after) flag) (more (waits_with k n)) → IsMessage text h body bare
     by_length n true few says test e =
         let fits : n ≤ length after = grind (arith, nat_tests) in
         let heads : k ≡ h = cc in
@@ -76,7 +76,7 @@ message_from_first text h body bare (whole k, flag, reads, tells, is) = go (nat_
     go false test e = by_rule (body_length_of k.minor (fields_of k)) (ltb-false _ _ test) refl e
 message_from_first text h body bare (begun, flag, reads, tells, is) = go (nat_lt (length text) 8192) is
   where
-    go : (t : Bool) → message h body bare ≡ cond t more (fault reasons.Headers flag) → IsMessage text h body bare
+    go : (t : Bool) → message h body bare ≡ cond t (more false) (fault reasons.Headers flag) → IsMessage text h body bare
     go true e = absurd (cc)
     go false e = absurd (cc)
 message_from_first text h body bare (hopeless, flag, reads, tells, is) = absurd (cc)
@@ -113,11 +113,11 @@ same_head text h k b d x y f g = let e = first_unique text (message h b x) (mess
 clash : (text : List ℕ) (a b : First) → IsFirst text a → IsFirst text b → (a ≡ b → ⊥) → ⊥
 clash text a b f g differ = differ (first_unique text a b f g)
 
-none_same : {t : List ℕ} {b : List First} {y : List ℕ} → Items t b y → IsFirst t more → ([] ≡ b) × (t ≡ y)
-none_same (none g) f = (refl, refl)
-none_same (faulty g) f = absurd (clash _ _ _ f g (λ e. cc))
-none_same (last g closes) f = absurd (clash _ _ _ f g (λ e. cc))
-none_same (next g closes tail) f = absurd (clash _ _ _ f g (λ e. cc))
+none_same : {t : List ℕ} {b : List First} {y : List ℕ} → Items t b y → (waits : Bool) → IsFirst t (more waits) → ([] ≡ b) × (t ≡ y)
+none_same (none g) waits f = (refl, refl)
+none_same (faulty g) waits f = absurd (clash _ _ _ f g (λ e. cc))
+none_same (last g closes) waits f = absurd (clash _ _ _ f g (λ e. cc))
+none_same (next g closes tail) waits f = absurd (clash _ _ _ f g (λ e. cc))
 
 fault_same : {t : List ℕ} {b : List First} {y : List ℕ} → Items t b y → (reason : Reason) (bare : Bool) → IsFirst t (fault reason bare)
     → (fault reason bare ∷ [] ≡ b) × (t ≡ y)
@@ -157,7 +157,7 @@ next_same (next {text} {h = k} {body = d} {items = others} {rest = left} g close
     (λ i. firsts i ∷ same.0 i, same.1)
 
 items_same : {text : List ℕ} {a : List First} {x : List ℕ} → Items text a x → (b : List First) (y : List ℕ) → Items text b y → (a ≡ b) × (x ≡ y)
-items_same (none f) b y q = none_same q f
+items_same (none {text} {waits} f) b y q = none_same q waits f
 items_same (faulty {text} {reason} {bare} f) b y q = fault_same q reason bare f
 items_same (last {text} {h} {body} {bare} f closes) b y q = last_same q h body bare f closes
 items_same (next {text} {h} {body} {bare} {items} {rest} f closes tail) b y q =
@@ -181,8 +181,8 @@ pub takes_within : (text : List ℕ) (taken : Take) → Takes text taken → IsW
 takes_within text (takes.Message m used) (message h body bare, first, shows) =
     let long = message_size text h body bare first in rw shows.1 long
 takes_within text (takes.Message m used) (fault reason bare, first, shows) = absurd shows
-takes_within text (takes.Message m used) (more, first, shows) = absurd shows
-takes_within text takes.More t = tt
+takes_within text (takes.Message m used) (more waits, first, shows) = absurd shows
+takes_within text (takes.More flag) t = tt
 takes_within text (takes.Fault f) t = tt
 
 pub items_next : (text after : List ℕ) (h : RequestHead) (body : List ℕ) (bare : Bool) (items : List First) (rest : List ℕ)
@@ -190,6 +190,6 @@ pub items_next : (text after : List ℕ) (h : RequestHead) (body : List ℕ) (ba
     → Items (after_message text h body ++ after) items rest → Items (text ++ after) (message h body bare ∷ items) rest
 items_next text after h body bare items rest first closes more_items =
     let long = message_size text h body bare first in
-    let kept = first_kept text after (message h body bare) (λ e. cc) first in
+    let kept = first_kept text after (message h body bare) tt first in
     let tail = drop-append-le (size_of h body) text after long.1 in
     next kept closes (subst (λ (t : List ℕ). Items t items rest) (sym tail) more_items)

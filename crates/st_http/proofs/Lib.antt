@@ -1,11 +1,12 @@
 pub mod TargetLemmas
 pub mod LengthLemmas
 pub mod FieldLemmas
-pub mod CloseLemmas
+pub mod ListLemmas
 pub mod WindowLemmas
 pub mod BareLemmas
 pub mod FirstLemmas
 pub mod ItemLemmas
+pub mod ExpectLemmas
 pub mod MessageLemmas
 pub mod RouteLemmas
 pub mod EndpointLemmas

@@ -23,10 +23,10 @@ module _ (text p : List ℕ) (bare : Bool) (e : p ≡ window text) (is_bare : Is
       let room : nat_lt 64 (length h.fields) ≡ false = le-ltb _ _ few in
       (_, (whole h, bare, (rest, subst (λ (t : List ℕ). ReadsRequest t h rest) e reads), tells_text text p bare e is_bare, rw room refl), shows)
 
-  pub takes_begun : Reads p begun → length text < 8192 → Takes text takes.More
+  pub takes_begun : Reads p begun → length text < 8192 → Takes text (takes.More false)
   takes_begun reads short =
       let test : nat_lt (length text) 8192 ≡ true = lt-ltb _ _ short in
-      (more, (begun, bare, subst (λ (t : List ℕ). Reads t begun) e reads, tells_text text p bare e is_bare, rw test refl), tt)
+      (more false, (begun, bare, subst (λ (t : List ℕ). Reads t begun) e reads, tells_text text p bare e is_bare, rw test refl), refl)
 
   pub faults_begun : Reads p begun → 8192 ≤ length text → Takes text (takes.Fault (record { reason = reasons.Headers; bare = bare }))
   faults_begun reads long =

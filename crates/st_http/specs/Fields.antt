@@ -69,6 +69,11 @@ field_lists name word field = has_name name field && lists word field.1
 unfoldable pub closes_after : ℕ → Fields → Bool
 closes_after minor fields = minor == 0 || list_any (field_lists (codes "connection") (codes "close")) fields
 
+-- the client may wait with the body until it hears `100 Continue` (RFC 9110, "Expect"): not in HTTP/1.0, nor where there is no body
+unfoldable pub expects_continue : ℕ → Fields → ℕ → Bool
+expects_continue minor fields size =
+    minor == 1 && nat_lt 0 size && list_any (field_lists (codes "expect") (codes "100-continue")) fields
+
 -- the status code of the reply to a text that is not a message (RFC 9110, "Status Codes", and RFC 6585 for 431)
 abbrev pub reason_status : Reason → ℕ
 reason_status reasons.Head = 400

@@ -22,7 +22,7 @@ after_message text h body = drop (size_of h body) text
 -- the messages of a text, then perhaps a fault, none after an item that closes the connection
 -- (RFC 9112, "Persistence"), and what is left
 pub data Items : List ℕ → List First → List ℕ → Type 0 where
-  none : {text : List ℕ} → IsFirst text more → Items text [] text
+  none : {text : List ℕ} {waits : Bool} → IsFirst text (more waits) → Items text [] text
   faulty : {text : List ℕ} {reason : Reason} {bare : Bool} → IsFirst text (fault reason bare) → Items text (fault reason bare ∷ []) text
   last : {text : List ℕ} {h : RequestHead} {body : List ℕ} {bare : Bool} → IsFirst text (message h body bare)
       → closes_after h.minor (fields_of h) ≡ true → Items text (message h body bare ∷ []) (after_message text h body)

@@ -1,5 +1,5 @@
 -- What the code answers for the first item of a text.
-use Rattle.std.specs.Prelude.{◌≡◌, ℕ, ◌<◌, ◌≤◌, Bool, List, option_map, ⊤}
+use Rattle.std.specs.Prelude.{◌≡◌, ℕ, ◌<◌, ◌≤◌, Bool, List, length, option_map, ⊤}
 use Rattle.httparse.specs.Grammar.{RequestHead}
 use Rattle.st_http.specs.declared.message.Take.{Take}
 use Rattle.st_http.specs.declared.message.Take.TheVariants as takes
@@ -7,7 +7,7 @@ use Rattle.st_http.specs.declared.message.Message.{Message}
 use Rattle.st_http.specs.Routes.{ShowsRoute, routed}
 use Rattle.st_http.specs.Token.{token_of}
 use Rattle.st_http.specs.Fields.{closes_after}
-use Rattle.st_http.specs.First.{First, message, fault, more, IsFirst, fields_of, size_of}
+use Rattle.st_http.specs.First.{First, message, fault, more, IsFirst, fields_of, waits_with, size_of}
 
 -- the message of this head and this body
 pub record ShowsMessage (h : RequestHead) (body : List ℕ) (bare : Bool) (m : Message) : Type 0 where
@@ -16,17 +16,18 @@ pub record ShowsMessage (h : RequestHead) (body : List ℕ) (bare : Bool) (m : M
   pub body_is : m.body.now ≡ body
   pub close : m.close ≡ closes_after h.minor (fields_of h)
   pub bare_is : m.bare ≡ bare
+  pub expects_is : m.expects ≡ waits_with h (length body)
 
 abbrev pub Shows : First → Take → Type 0
 Shows (message h body bare) (takes.Message m used) = ShowsMessage h body bare m × (used ≡ size_of h body)
-Shows (message h body bare) takes.More = ⊥
+Shows (message h body bare) (takes.More flag) = ⊥
 Shows (message h body bare) (takes.Fault f) = ⊥
 Shows (fault reason bare) (takes.Message m used) = ⊥
-Shows (fault reason bare) takes.More = ⊥
+Shows (fault reason bare) (takes.More flag) = ⊥
 Shows (fault reason bare) (takes.Fault f) = (f.reason ≡ reason) × (f.bare ≡ bare)
-Shows more (takes.Message m used) = ⊥
-Shows more takes.More = ⊤
-Shows more (takes.Fault f) = ⊥
+Shows (more waits) (takes.Message m used) = ⊥
+Shows (more waits) (takes.More flag) = flag ≡ waits
+Shows (more waits) (takes.Fault f) = ⊥
 
 -- the answer is the first item of the text
 abbrev pub Takes : List ℕ → Take → Type 0
@@ -35,5 +36,5 @@ Takes text taken = (first : First) × IsFirst text first × Shows first taken
 -- a message has a byte at least, and no more than the text has
 abbrev pub IsWithin : ℕ → Take → Type 0
 IsWithin n (takes.Message m used) = (0 < used) × (used ≤ n)
-IsWithin n takes.More = ⊤
+IsWithin n (takes.More flag) = ⊤
 IsWithin n (takes.Fault f) = ⊤

@@ -1,6 +1,6 @@
 //! Laws of the definitions, for every text.
-ghost use Rattle.std.specs.Prelude.{◌≡◌, ◌≢◌, ◌<◌, ◌≤◌, ◌+◌, ◌∷◌, false, true, Bool, ◌↔◌, ◌++◌, List, ℕ, length, Some};
-ghost use Rattle.st_http.specs.First.{First, message, more, IsFirst, fields_of, size_of};
+ghost use Rattle.std.specs.Prelude.{◌≡◌, ◌<◌, ◌≤◌, ◌+◌, ◌∷◌, false, true, Bool, ◌↔◌, ◌++◌, List, ℕ, length, Some};
+ghost use Rattle.st_http.specs.First.{First, IsItem, message, more, IsFirst, expects, fields_of, size_of};
 ghost use Rattle.st_http.specs.Items.{IsMessage, Items, after_message};
 ghost use Rattle.st_http.specs.Fields.{Fields, closes_after};
 ghost use Rattle.st_http.specs.Token.{token_of};
@@ -14,12 +14,17 @@ pub fn one_first()
 
 /// What a text begins with stays when text is appended, unless it was too short to tell.
 pub fn first_stays()
-    ensures { (text after : List ℕ) (first : First) → first ≢ more → IsFirst text first → IsFirst (text ++ after) first }
+    ensures { (text after : List ℕ) (first : First) → IsItem first → IsFirst text first → IsFirst (text ++ after) first }
+{}
+
+/// Where the client may wait with the body, it may, and for the same, whatever of the body came.
+pub fn expects_stays()
+    ensures { (text after : List ℕ) (first : First) → IsFirst text (more true) → IsFirst (text ++ after) first → expects first ≡ true }
 {}
 
 /// A text that is too short to tell has fewer bytes than the longest head and the longest body together.
 pub fn more_is_short()
-    ensures { (text : List ℕ) → IsFirst text more → length text < 8192 + 65536 }
+    ensures { (text : List ℕ) (waits : Bool) → IsFirst text (more waits) → length text < 8192 + 65536 }
 {}
 
 /// A text begins with a message exactly where it begins with its head and its body.

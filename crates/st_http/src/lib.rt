@@ -5,6 +5,7 @@ mod close;
 pub mod fields;
 pub mod head;
 pub mod law;
+mod lists;
 pub mod message;
 mod path;
 pub mod reply;

@@ -4,10 +4,10 @@ ghost use Rattle.httparse.specs.Grammar.{RequestHead, print_request};
 ghost use Rattle.httparse.specs.Spans.{IsRequestWithin, IsRequestOf, IsRequestAt};
 ghost use Rattle.st_http.specs.Head.{window as window_of};
 ghost use Rattle.st_http.specs.Fields.{body_length_of};
-ghost use Rattle.st_http.specs.First.{with_body, fields_of};
+ghost use Rattle.st_http.specs.First.{First, expects, with_body, fields_of};
 ghost use Rattle.st_http.specs.Message.{Shows, Takes, IsWithin};
 
-use crate::close::closes;
+use crate::close::{closes, expects};
 use crate::fields::{Reason, body_length};
 use crate::head::{FIELD_LIMIT, HEAD_LIMIT, HeadRead, is_bare, read_head};
 use crate::routes::{Route, Routes};
@@ -28,6 +28,8 @@ pub struct Message<'a> {
     pub close: bool,
     /// Whether it is a HEAD request, so that the reply has no body (RFC 9110, "HEAD").
     pub bare: bool,
+    /// Whether its client may have waited with the body to hear `100 Continue` (RFC 9110, "Expect").
+    pub expects: bool,
 }
 
 /// Why the text is not a message. The connection is closed after the reply.
@@ -44,10 +46,24 @@ pub struct Fault {
 pub enum Take<'a> {
     /// A message, and its length in bytes.
     Message(Message<'a>, usize),
-    /// The text is too short to tell; it has fewer than `HEAD_LIMIT + BODY_LIMIT` bytes.
-    More,
+    /// The text is too short to tell; it has fewer than `HEAD_LIMIT + BODY_LIMIT` bytes. The flag says whether its head is whole
+    /// and its client may wait with the body to hear `100 Continue`.
+    More(bool),
     /// The text is not a message, whatever follows.
     Fault(Fault),
+}
+
+impl Take<'_> {
+    /// Whether the client of what stands there may wait with its body to hear `100 Continue`, whether or not the body came.
+    pub fn expects(&self) -> bool
+        ensures { (first : First) → Shows first self.now → result ≡ expects first }
+    {
+        match self {
+            Take::Message(message, _) => message.expects,
+            Take::More(expects) => *expects,
+            Take::Fault(_) => false,
+        }
+    }
 }
 
 // The text up to a limit.
@@ -93,9 +109,10 @@ fn item<'a>(
         Ok(length) => length,
         Err(reason) => return Take::Fault(Fault { reason, bare }),
     };
+    let expects = expects(head.version, window, fields, length);
     let after = &text[head.len..];
     if after.len() < length {
-        return Take::More;
+        return Take::More(expects);
     }
     let Ok(target) = from_utf8(head.path.of(window)) else {
         unreachable!();
@@ -106,6 +123,7 @@ fn item<'a>(
         body: &after[..length],
         close: closes(head.version, window, fields),
         bare,
+        expects,
     };
     Take::Message(message, head.len + length)
 }
@@ -121,7 +139,7 @@ impl Routes {
         let mut headers = [EMPTY_HEADER_SPAN; FIELD_LIMIT];
         let reason = match read_head(window, &mut headers) {
             HeadRead::Whole(head) => return item(self, text, window, head, &headers, bare),
-            HeadRead::Begun if text.len() < HEAD_LIMIT => return Take::More,
+            HeadRead::Begun if text.len() < HEAD_LIMIT => return Take::More(false),
             HeadRead::Begun => Reason::Headers,
             HeadRead::Crowded => Reason::Headers,
             HeadRead::Hopeless => Reason::Head,

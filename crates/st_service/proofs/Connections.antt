@@ -2,7 +2,7 @@
 use Rattle.std.proofs.Common.{◌≡◌, ℕ, List, [], ◌∷◌, ◌++◌, Option, Some, None, option_map, refl, sym, ◌∙◌, ap, subst}
 use Rattle.std.specs.List.{All}
 use Rattle.std.proofs.lemmas.List.Elements.{All-head, All-tail}
-use Rattle.st_http.specs.First.{First}
+use Rattle.st_http.specs.First.{First, message, fault, expects}
 use Rattle.st_core.specs.declared.asked.Asked.{Asked}
 use Rattle.st_core.specs.State.{State}
 use Rattle.st_core.specs.Step.{step, after}
@@ -11,7 +11,8 @@ use Rattle.st_service.specs.Runs.{IsBusy}
 use Rattle.st_service.specs.Worlds.{Event, IsUnrouted, ItemAsks, IsHistory, requests, next_state, unrouted_text, item_text}
 use Rattle.st_service.specs.Worlds as worlds
 use Rattle.st_service.proofs.Histories.{asks_one}
-use Rattle.st_connection.specs.Connection.{Run}
+use Rattle.st_connection.specs.Connection.{Run, Told}
+use Rattle.st_connection.specs.Render.{interim}
 
 abbrev NotBusy : List (List ℕ) → Type 0
 NotBusy texts = All (λ answer. IsBusy answer → ⊥) texts
@@ -27,29 +28,42 @@ module _ {A : Type 0} where
     pub asked : Option (Asked A)
     pub answered : Answered s mid item answer asked
 
-  answered_so : {s mid : State A} {item : First} {answer : List ℕ} → Answers s item answer mid → (IsBusy answer → ⊥) → AnsweredSo s mid item answer
-  answered_so (told {endpoint = endpoint} {name = name} {asked = asked} at asks) some = record {
+  -- where it is not a 503, behind whatever was said before it
+  raw_so : {s mid : State A} {item : First} {answer : List ℕ} → Answers s item answer mid → (text : List ℕ) → text ≡ interim (expects item) ++ answer → (IsBusy text → ⊥)
+      → AnsweredSo s mid item text
+  raw_so (told {endpoint = endpoint} {name = name} {asked = asked} at asks) text is some = record {
     asked = Some asked;
-    answered = record { asks = (endpoint, name, at, asks); text = refl; state = refl };
+    answered = record { asks = (endpoint, name, at, asks); text = is; state = refl };
   }
-  answered_so (busy {h = h} {bare = bare}) some = absurd (some (close_of h, bare, refl))
-  answered_so (untold {h = h} {bare = bare} at asks refused) some = absurd (some (close_of h, bare, refl))
-  answered_so (unrouted {h = h} {bare = bare} at) some = record {
+  raw_so (busy {h = h} {body = body} {bare = bare}) text is some = absurd (some (expects (message h body bare), close_of h, bare, is))
+  raw_so (untold {h = h} {body = body} {bare = bare} at asks refused) text is some = absurd (some (expects (message h body bare), close_of h, bare, is))
+  raw_so (unrouted {h = h} {body = body} {bare = bare} at) text is some = record {
     asked = None;
-    answered = record { asks = subst IsUnrouted (sym at) tt; text = ap (λ r. unrouted_text r (close_of h) bare) (sym at); state = refl };
+    answered = record {
+      asks = subst IsUnrouted (sym at) tt;
+      text = is ∙ ap (λ r. interim (expects (message h body bare)) ++ unrouted_text r (close_of h) bare) (sym at);
+      state = refl;
+    };
   }
-  answered_so (mismatched {h = h} {bare = bare} at) some = record {
+  raw_so (mismatched {h = h} {body = body} {bare = bare} at) text is some = record {
     asked = None;
-    answered = record { asks = subst IsUnrouted (sym at) tt; text = ap (λ r. unrouted_text r (close_of h) bare) (sym at); state = refl };
+    answered = record {
+      asks = subst IsUnrouted (sym at) tt;
+      text = is ∙ ap (λ r. interim (expects (message h body bare)) ++ unrouted_text r (close_of h) bare) (sym at);
+      state = refl;
+    };
   }
-  answered_so faulty some = record { asked = None; answered = record { asks = tt; text = refl; state = refl } }
+  raw_so faulty text is some = record { asked = None; answered = record { asks = tt; text = is; state = refl } }
+
+  answered_so : {s mid : State A} {item : First} {text : List ℕ} → Told Answers s item text mid → (IsBusy text → ⊥) → AnsweredSo s mid item text
+  answered_so {text = text} (answer, is, one) some = raw_so one text is some
 
   -- the items of such a run are a history
   pub record Heard (s t : State A) (items : List First) (texts : List (List ℕ)) : Type 0 where
     pub history : List (Event A)
     pub is_history : IsHistory items history
 
-  pub heard : (s t : State A) (items : List First) (texts : List (List ℕ)) → Run Answers s items texts t → NotBusy texts → Heard s t items texts
+  pub heard : (s t : State A) (items : List First) (texts : List (List ℕ)) → Run (Told Answers) s items texts t → NotBusy texts → Heard s t items texts
   heard s t [] [] run some = record { history = []; is_history = tt }
   heard s t [] (text ∷ texts) run some = absurd run
   heard s t (item ∷ items) [] run some = absurd run
@@ -66,7 +80,7 @@ module _ {A : Type 0} where
     pub texts_are : texts ≡ worlds.answers s history
     pub ends : t ≡ after s (requests history)
 
-  pub defined : (s t : State A) (items : List First) (texts : List (List ℕ)) (history : List (Event A)) → Run Answers s items texts t → NotBusy texts
+  pub defined : (s t : State A) (items : List First) (texts : List (List ℕ)) (history : List (Event A)) → Run (Told Answers) s items texts t → NotBusy texts
       → IsHistory items history → Defined s t texts history
   defined s t [] [] [] run some h = record { texts_are = refl; ends = run }
   defined s t [] [] (event ∷ events) run some h = absurd h
@@ -90,9 +104,9 @@ module _ {A : Type 0} where
       last (Some asked) e = simp e
 
   -- a run and another after it are one
-  pub joined : (s m t : State A) (items others : List First) (texts more : List (List ℕ)) → Run Answers s items texts m → Run Answers m others more t
-      → Run Answers s (items ++ others) (texts ++ more) t
-  joined s m t [] others [] more run rest = subst (λ x. Run Answers x others more t) run rest
+  pub joined : (s m t : State A) (items others : List First) (texts more : List (List ℕ)) → Run (Told Answers) s items texts m → Run (Told Answers) m others more t
+      → Run (Told Answers) s (items ++ others) (texts ++ more) t
+  joined s m t [] others [] more run rest = subst (λ x. Run (Told Answers) x others more t) run rest
   joined s m t [] others (text ∷ texts) more run rest = absurd run
   joined s m t (item ∷ items) others [] more run rest = absurd run
   joined s m t (item ∷ items) others (text ∷ texts) more (mid, one, run) rest = (mid, one, joined mid m t items others texts more run rest)

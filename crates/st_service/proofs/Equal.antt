@@ -1,9 +1,10 @@
 -- What a user is answered, by the user's own items and the replies to them.
-use Rattle.std.proofs.Common.{◌≡◌, ℕ, List, [], ◌∷◌, map, filter, Bool, true, false, Option, Some, None, refl, sym, ◌∙◌, ap, subst}
+use Rattle.std.proofs.Common.{◌≡◌, ℕ, List, [], ◌∷◌, ◌++◌, map, filter, Bool, true, false, Option, Some, None, refl, sym, ◌∙◌, ap, subst}
 use Rattle.std.specs.Prelude.{filter_map}
 use Rattle.st_text.specs.Texts.{Text}
-use Rattle.st_http.specs.First.{First, message, fault, more}
+use Rattle.st_http.specs.First.{First, message, fault, more, expects}
 use Rattle.st_http.specs.Routes.{Routed, found, no_route, bad_method, routed}
+use Rattle.st_connection.specs.Render.{interim}
 use Rattle.st_core.specs.declared.asked.Asked.{Asked}
 use Rattle.st_policy.specs.declared.reply.Reply.{Reply}
 use Rattle.st_core.specs.State.{State}
@@ -22,8 +23,8 @@ fault_text_of (Some (Some allow)) close bare = bad_method_text allow close bare
 
 abbrev form_text : {A : Type 0} → Option Form → Option (Reply A) → List ℕ
 form_text None reply = []
-form_text (Some form) None = fault_text_of form.unrouted form.close form.bare
-form_text (Some form) (Some reply) = reply_text reply form.close form.bare
+form_text (Some form) None = interim form.expects ++ fault_text_of form.unrouted form.close form.bare
+form_text (Some form) (Some reply) = interim form.expects ++ reply_text reply form.close form.bare
 
 route_text : (r : Routed) (close bare : Bool) → fault_text_of (route_fault r) close bare ≡ unrouted_text r close bare
 route_text (found endpoint name) close bare = refl
@@ -33,10 +34,11 @@ route_text (bad_method allow) close bare = refl
 -- a user's own item is a message, and its answer hangs on its form
 text_is : {A : Type 0} (user : Text) (item : First) (reply : Option (Reply A)) → is_of user item ≡ true
     → form_text (form_of item) reply ≡ item_text item reply
-text_is user (message h body bare) None e = route_text (routed h.method h.target) (close_of h) bare
+text_is user (message h body bare) None e =
+    ap (λ t. interim (expects (message h body bare)) ++ t) (route_text (routed h.method h.target) (close_of h) bare)
 text_is user (message h body bare) (Some reply) e = refl
 text_is user (fault reason bare) reply e = absurd (let k : false ≡ true = e in cc)
-text_is user more reply e = absurd (let k : false ≡ true = e in cc)
+text_is user (more waits) reply e = absurd (let k : false ≡ true = e in cc)
 
 abbrev has_form : Option Form → Bool
 has_form None = false
@@ -45,7 +47,7 @@ has_form (Some form) = true
 owned : (user : Text) (item : First) → is_of user item ≡ true → has_form (form_of item) ≡ true
 owned user (message h body bare) e = refl
 owned user (fault reason bare) e = absurd (let k : false ≡ true = e in cc)
-owned user more e = absurd (let k : false ≡ true = e in cc)
+owned user (more waits) e = absurd (let k : false ≡ true = e in cc)
 
 module _ {A : Type 0} where
   -- an own item, and the rest of the answers by the replies that are left

@@ -60,7 +60,7 @@ module _ {A : Type 0} where
   asks_one (fault reason bare) (Some a) b p q = absurd p
   asks_one (fault reason bare) None (Some b) p q = absurd q
   asks_one (fault reason bare) None None p q = refl
-  asks_one more a b p q = absurd p
+  asks_one (more waits) a b p q = absurd p
 
   -- the items of events, each of which asks what its item does
   abbrev pub items_of : List (Event A) → List First
@@ -107,7 +107,7 @@ module _ {A : Type 0} where
   pub whose : (user : Text) (item : First) (asked : Asked A) → ItemAsks item (Some asked) → is_of user item ≡ names asked.token user
   whose user (message h body bare) asked (endpoint, name, at, asks) = ap (λ token. names token user) (sym asks.token_is)
   whose user (fault reason bare) asked p = absurd p
-  whose user more asked p = absurd p
+  whose user (more waits) asked p = absurd p
 
   pub requests_kept : (user : Text) (sight : Sight) (s : State A) (history : List (Event A)) → EachAsks history
       → requests (kept_events user sight s history) ≡ kept user sight s (requests history)

@@ -1,10 +1,10 @@
 -- What the items of a text ask, what of them a user may notice, and what the user is answered. The items may come from one connection
 -- or from several, one after another.
-use Rattle.std.specs.Prelude.{◌≡◌, ℕ, Bool, false, ◌||◌, List, [], ◌∷◌, map, filter_map, if◌then◌else◌, Option, Some, None, option_map, ⊤}
+use Rattle.std.specs.Prelude.{◌≡◌, ℕ, Bool, false, ◌||◌, List, [], ◌∷◌, ◌++◌, map, filter_map, if◌then◌else◌, Option, Some, None, option_map, ⊤}
 use Rattle.st_text.specs.Texts.{Text}
 use Rattle.st_dir.specs.Directory.{Directory}
 use Rattle.st_http.specs.declared.routes.Endpoint.{Endpoint}
-use Rattle.st_http.specs.First.{First, message, fault, more, fields_of}
+use Rattle.st_http.specs.First.{First, message, fault, more, expects, fields_of}
 use Rattle.st_http.specs.Routes.{Routed, found, no_route, bad_method, routed}
 use Rattle.st_http.specs.Token.{token_of}
 use Rattle.st_core.specs.declared.asked.Asked.{Asked}
@@ -12,7 +12,7 @@ use Rattle.st_policy.specs.declared.reply.Reply.{Reply}
 use Rattle.st_core.specs.State.{State}
 use Rattle.st_core.specs.Step.{judge, step}
 use Rattle.st_core.specs.Worlds.{Sight, ever, names, matters}
-use Rattle.st_connection.specs.Render.{fault_text}
+use Rattle.st_connection.specs.Render.{fault_text, interim}
 use Rattle.st_service.specs.Answers.{Asks, token_from, close_of, reply_text, no_route_text, bad_method_text}
 
 -- ---- what the items ask
@@ -36,7 +36,7 @@ ItemAsks (message h body bare) (Some asked) =
 ItemAsks (message h body bare) None = IsUnrouted (routed h.method h.target)
 ItemAsks (fault reason bare) (Some asked) = ⊥
 ItemAsks (fault reason bare) None = ⊤
-ItemAsks more asked = ⊥
+ItemAsks (more waits) asked = ⊥
 
 -- these are the items, in order, each with what it asks
 abbrev pub IsHistory : {A : Type 0} → List First → List (Event A) → Type 0
@@ -56,7 +56,7 @@ requests history = filter_map (λ event. event.asked) history
 abbrev pub is_of : Text → First → Bool
 is_of user (message h body bare) = names (option_map token_from (token_of (fields_of h))) user
 is_of user (fault reason bare) = false
-is_of user more = false
+is_of user (more waits) = false
 
 -- what has no endpoint counts as refused, as a fault does
 abbrev pub asks_what_matters : {A : Type 0} → Sight → Directory A → Option (Asked A) → Bool
@@ -80,11 +80,13 @@ kept_events user sight s (event ∷ rest) =
     else kept_events user sight (next_state s event.asked) rest
 
 -- What the answer to a message hangs on beside what it asks: whether its route is an endpoint (`None`), or else which methods its path
--- has, if any; whether the connection is closed after it; and whether it is a HEAD request.
+-- has, if any; whether the connection is closed after it; whether it is a HEAD request; and whether the client may wait for the interim
+-- response.
 pub record Form : Type 0 where
   pub unrouted : Option (Option (List ℕ))
   pub close : Bool
   pub bare : Bool
+  pub expects : Bool
 
 abbrev pub route_fault : Routed → Option (Option (List ℕ))
 route_fault (found endpoint name) = None
@@ -93,9 +95,14 @@ route_fault (bad_method allow) = Some (Some allow)
 
 -- the form of a message; no other item is a user's
 abbrev pub form_of : First → Option Form
-form_of (message h body bare) = Some (record { unrouted = route_fault (routed h.method h.target); close = close_of h; bare = bare })
+form_of (message h body bare) = Some (record {
+  unrouted = route_fault (routed h.method h.target);
+  close = close_of h;
+  bare = bare;
+  expects = expects (message h body bare);
+})
 form_of (fault reason bare) = None
-form_of more = None
+form_of (more waits) = None
 
 -- What an item leaves to notice: what it asks, and of the user's own the form. How it is written otherwise does not matter.
 pub record Trace (A : Type 0) : Type 0 where
@@ -121,12 +128,12 @@ unrouted_text (found endpoint name) close bare = []
 unrouted_text no_route close bare = no_route_text close bare
 unrouted_text (bad_method allow) close bare = bad_method_text allow close bare
 
--- the answer to an item that gets this reply, or none
+-- the answer to an item that gets this reply, or none, behind the interim response that the item expects
 abbrev pub item_text : {A : Type 0} → First → Option (Reply A) → List ℕ
-item_text (message h body bare) (Some reply) = reply_text reply (close_of h) bare
-item_text (message h body bare) None = unrouted_text (routed h.method h.target) (close_of h) bare
+item_text (message h body bare) (Some reply) = interim (expects (message h body bare)) ++ reply_text reply (close_of h) bare
+item_text (message h body bare) None = interim (expects (message h body bare)) ++ unrouted_text (routed h.method h.target) (close_of h) bare
 item_text (fault reason bare) reply = fault_text reason bare
-item_text more reply = []
+item_text (more waits) reply = []
 
 -- the answers to the items of a history, in order: what asks takes its step, and what does not leaves the state
 abbrev pub answers : {A : Type 0} → State A → List (Event A) → List (List ℕ)

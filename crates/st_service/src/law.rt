@@ -8,7 +8,7 @@ ghost use Rattle.st_core.specs.State.{State};
 ghost use Rattle.st_core.specs.Step.{asker_of, replies, after};
 ghost use Rattle.st_core.specs.Worlds.{NeverSystem};
 ghost use Rattle.st_service.specs.Answers.{Answers, IsFound, RepliesTo, reply_text, token_from, token_in};
-ghost use Rattle.st_connection.specs.Connection.{Run, Served};
+ghost use Rattle.st_connection.specs.Connection.{Run, Served, Told};
 ghost use Rattle.st_connection.specs.declared.connection.Ended.{Ended};
 ghost use Rattle.st_connection.specs.declared.connection.IoFault.{IoFault};
 ghost use Rattle.st_service.specs.Runs.{IsBusy, Tells};
@@ -19,10 +19,10 @@ ghost use Rattle.st_text.specs.Texts.{Text};
 
 use std::alloc::Allocator;
 
-/// Where no answer is a 503, the answers are those of a run of the requests that the items ask, and the state is
-/// that after it.
+/// Where no answer is a 503, the answers are those of a run of the requests that the items ask, each behind the interim response that its
+/// item expects, and the state is that after it.
 pub fn ample_run<A: Allocator>()
-    ensures { (s t : State A) (items : List First) (answers : List (List ℕ)) → Run Answers s items answers t
+    ensures { (s t : State A) (items : List First) (answers : List (List ℕ)) → Run (Told Answers) s items answers t
         → All (λ answer. IsBusy answer → ⊥) answers
         → (asked : List (Asked A)) × Tells items asked (replies s asked) answers × (t ≡ after s asked) }
 {}
@@ -30,12 +30,12 @@ pub fn ample_run<A: Allocator>()
 /// Where no answer is a 503, the items have one history: what each of them asks. The answers are those of the
 /// history, and the state is that after its requests.
 pub fn one_history<A: Allocator>()
-    ensures there { (s t : State A) (items : List First) (texts : List (List ℕ)) → Run Answers s items texts t
+    ensures there { (s t : State A) (items : List First) (texts : List (List ℕ)) → Run (Told Answers) s items texts t
         → All (λ answer. IsBusy answer → ⊥) texts → (history : List (Event A)) × IsHistory items history }
     ensures alone { (items : List First) (history other : List (Event A))
         → IsHistory items history → IsHistory items other → history ≡ other }
     ensures answered { (s t : State A) (items : List First) (texts : List (List ℕ)) (history : List (Event A))
-        → Run Answers s items texts t → All (λ answer. IsBusy answer → ⊥) texts → IsHistory items history
+        → Run (Told Answers) s items texts t → All (λ answer. IsBusy answer → ⊥) texts → IsHistory items history
         → (texts ≡ answers s history) × (t ≡ after s (requests history)) }
 {}
 
@@ -55,8 +55,8 @@ pub fn equal_bytes<A: Allocator>()
 
 /// Connections that are served one after another from a state make one run.
 pub fn connections_join<A: Allocator>()
-    ensures { (s m t : State A) (items others : List First) (texts more : List (List ℕ)) → Run Answers s items texts m
-        → Run Answers m others more t → Run Answers s (items ++ others) (texts ++ more) t }
+    ensures { (s m t : State A) (items others : List First) (texts more : List (List ℕ)) → Run (Told Answers) s items texts m
+        → Run (Told Answers) m others more t → Run (Told Answers) s (items ++ others) (texts ++ more) t }
 {}
 
 /// So it is of what is served: two runs from one state without a 503, however many connections they are made of, answer the
@@ -65,7 +65,7 @@ pub fn connections_join<A: Allocator>()
 /// what it wrote.
 pub fn equal_service<A: Allocator>()
     ensures runs { (s t u : State A) (user : Text) (items others : List First) (texts more : List (List ℕ))
-        (history other : List (Event A)) → Run Answers s items texts t → Run Answers s others more u
+        (history other : List (Event A)) → Run (Told Answers) s items texts t → Run (Told Answers) s others more u
         → All (λ answer. IsBusy answer → ⊥) texts → All (λ answer. IsBusy answer → ⊥) more
         → IsHistory items history → IsHistory others other
         → NeverSystem user s (requests history) → NeverSystem user s (requests other)

@@ -3,7 +3,7 @@ use Rattle.std.proofs.Common.{◌≤◌, ℕ, List, [], ◌∷◌, inl, inr, sub
 use Rattle.std.proofs.lemmas.List.{append-nil}
 use mathlib.Core.List.{IsPrefix}
 use Rattle.st_http.specs.First.{First}
-use Rattle.st_connection.specs.Connection.{Run}
+use Rattle.st_connection.specs.Connection.{Run, Told}
 use Rattle.st_hall.specs.Steps.{Ask, State}
 use Rattle.st_hall.specs.Views.{Seat, Post, Learns}
 use Rattle.st_hall.proofs.Fronts.{prefix_self, prefix_trans}
@@ -28,12 +28,12 @@ one_grows start s t item answer (busy m) = moved 0 s t m
 one_grows start s t item answer (unrouted none told) = stays s
 one_grows start s t item answer faulty = stays s
 
-pub run_grows : (start : State) (s t : Post) (items : List First) (answers : List (List ℕ)) → Run (Answers start) s items answers t → Grows s.seat t.seat
+pub run_grows : (start : State) (s t : Post) (items : List First) (answers : List (List ℕ)) → Run (Told (Answers start)) s items answers t → Grows s.seat t.seat
 run_grows start s t [] [] same = subst (λ (u : Post). Grows s.seat u.seat) (sym same) (stays s.seat)
 run_grows start s t [] (a ∷ answers) h = absurd h
 run_grows start s t (i ∷ items) [] h = absurd h
-run_grows start s t (i ∷ items) (a ∷ answers) (m, one, rest) =
-    let first = one_grows start s.seat m.seat i a one.seat in
+run_grows start s t (i ∷ items) (a ∷ answers) (m, (answer, is, one), rest) =
+    let first = one_grows start s.seat m.seat i answer one.seat in
     let later = run_grows start m t items answers rest in
     (prefix_trans _ _ _ first.0 later.0, omega (arith, first.1, later.1))
 
@@ -45,13 +45,13 @@ one_remembers s t (inl same) seen begins = (
 )
 one_remembers s t (inr learns) seen begins = (prefix_trans _ _ _ begins learns.0, learns.1)
 
-pub run_remembers : (start : State) (s t : Post) (items : List First) (answers : List (List ℕ)) → Run (Answers start) s items answers t
+pub run_remembers : (start : State) (s t : Post) (items : List First) (answers : List (List ℕ)) → Run (Told (Answers start)) s items answers t
     → IsPrefix s.learnt s.seat.seen → IsPrefix s.learnt t.learnt × IsPrefix t.learnt t.seat.seen
 run_remembers start s t [] [] same begins =
     subst (λ (u : Post). IsPrefix s.learnt u.learnt × IsPrefix u.learnt u.seat.seen) (sym same) (prefix_self s.learnt, begins)
 run_remembers start s t [] (a ∷ answers) h begins = absurd h
 run_remembers start s t (i ∷ items) [] h begins = absurd h
-run_remembers start s t (i ∷ items) (a ∷ answers) (m, one, rest) begins =
-    let first = one_remembers s m one.learns (one_grows start s.seat m.seat i a one.seat).0 begins in
+run_remembers start s t (i ∷ items) (a ∷ answers) (m, (answer, is, one), rest) begins =
+    let first = one_remembers s m one.learns (one_grows start s.seat m.seat i answer one.seat).0 begins in
     let later = run_remembers start m t items answers rest first.1 in
     (prefix_trans _ _ _ first.0 later.0, later.1)

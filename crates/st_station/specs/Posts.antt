@@ -9,7 +9,7 @@ use Rattle.st_station.specs.Seats.{SeatAnswers}
 abbrev pub calls_after : First → ℕ → ℕ
 calls_after (message h body bare) calls = min (calls + 1) (2 ^ 64 - 1)
 calls_after (fault reason bare) calls = calls
-calls_after more calls = calls
+calls_after (more waits) calls = calls
 
 -- At a post an item may get this answer, and leave this post.
 pub record Answers (start : State) (s : Post) (item : First) (answer : List ℕ) (t : Post) : Type 0 where

@@ -5,6 +5,8 @@
 #[cfg(test)]
 mod blocks;
 #[cfg(test)]
+mod continues;
+#[cfg(test)]
 mod cuts;
 #[cfg(test)]
 mod endless;

@@ -47,10 +47,10 @@ flush-requires-in-Ok-Closed-clause-room g c =
     omega (arith, b, k, c.requires.room)
 
 pub returns-in-Ok-clause-answered : goal.returns-in-Ok-clause-answered
-returns-in-Ok-clause-answered g c = waits _ _ _ _ _ _ _ _ _ _ _ _ c.items.invariant.gathered (block_length _ _ _ c.items.invariant.held_within) _ _ _ _ (take c.answer_next.new.held c.answer_next.new.block) _ _ c.in-Ok.ensures.now _ _ c.items.invariant.within (rw c.in-Ok-Waits.field-0-is at c.in-Ok-Waits.ensures.answered) c.in-Ok.ensures.passed
+returns-in-Ok-clause-answered g c = waits _ _ _ _ _ _ _ _ _ _ _ _ c.items.invariant.gathered (block_length _ _ _ c.items.invariant.held_within) _ _ _ _ (take c.answer_next.new.held c.answer_next.new.block) _ _ c.in-Ok.ensures.now _ _ _ c.items.invariant.within (rw c.in-Ok-Waits.field-0-is at c.in-Ok-Waits.ensures.answered) c.in-Ok.ensures.passed
 
 pub returns-in-Err-flush-clause-answered : goal.returns-in-Err-flush-clause-answered
-returns-in-Err-flush-clause-answered g c = waits_breaks _ _ _ _ _ _ _ _ _ _ _ _ c.items.invariant.gathered (block_length _ _ _ c.items.invariant.held_within) _ _ _ _ (take c.answer_next.new.held c.answer_next.new.block) _ _ c.in-Err-flush.ensures.now _ _ (rw c.in-Ok-Waits.field-0-is at c.in-Ok-Waits.ensures.answered) _ c.in-Err-flush.ensures.passed
+returns-in-Err-flush-clause-answered g c = waits_breaks _ _ _ _ _ _ _ _ _ _ _ _ c.items.invariant.gathered (block_length _ _ _ c.items.invariant.held_within) _ _ _ _ (take c.answer_next.new.held c.answer_next.new.block) _ _ c.in-Err-flush.ensures.now _ _ _ (rw c.in-Ok-Waits.field-0-is at c.in-Ok-Waits.ensures.answered) _ c.in-Err-flush.ensures.passed
 
 pub returns-in-Ok-flush-clause-answered : goal.returns-in-Ok-flush-clause-answered
 returns-in-Ok-flush-clause-answered g c = closes _ _ _ _ _ _ _ _ _ _ _ _ c.items.invariant.gathered (block_length _ _ _ c.items.invariant.held_within) _ _ _ _ (take c.answer_next.new.held c.answer_next.new.block) _ _ c.in-Ok-flush.ensures.now _ _ (rw c.in-Ok-Closed.field-0-is at c.in-Ok-Closed.ensures.answered) c.in-Ok-flush.ensures.passed

@@ -2,7 +2,7 @@ use Rattle.std.proofs.Common.{rules, inl, inr, ℕ, List, Option, Err, ◌+◌, 
 use Rattle.std.specs.Io.KnownBytes.{Consumes}
 use borrow.Rule.Slice.PartMut.{put_mid}
 use Rattle.st_connection.proofs.Buffer.{text_after_read, text_after_move, front_length, front_at_most, front_empty, front_some, part_at_most, part_within}
-use Rattle.st_connection.proofs.Turns.{serving_start, text_short, enough, read_breaks, turns_spent, ends_clean, ends_cut, write_breaks, connection_lost, connection_closes, goes_on_serving, counted_on}
+use Rattle.st_connection.proofs.Turns.{serving_start, text_short, enough, told_still, read_breaks, turns_spent, ends_clean, ends_cut, write_breaks, connection_lost, connection_closes, goes_on_serving, counted_on}
 use Rattle.st_connection.proofs.Ending.{on_fault, on_lost, on_closed, kept_sound, kept_lost}
 use Rattle.st_connection.proofs.connection.serve_connection.Goals as goal
 
@@ -21,50 +21,51 @@ reads-init g c = record {
 
 pub slice_bounds-read-end : goal.slice_bounds-read-end
 slice_bounds-read-end g c =
-    let n = front_length _ _ c.reads.invariant.within in let t = text_short _ _ _ _ _ _ _ _ _ _ c.reads.invariant.serving 0 in
+    let n = front_length _ _ c.reads.invariant.within in let t = text_short _ _ _ _ _ _ _ _ _ _ _ c.reads.invariant.serving 0 in
     omega (arith, n, t, c.reads.auto.buffer, c.requires.room)
 
 pub returns-in_default-clause-served : goal.returns-in_default-clause-served
-returns-in_default-clause-served g c = read_breaks _ _ _ _ _ _ _ _ _ _ c.reads.invariant.serving _ (g.X.Replies.kept c.reads.answerer) _ _ c.in_default.ensures.bytes
+returns-in_default-clause-served g c = read_breaks _ _ _ _ _ _ _ _ _ _ _ c.reads.invariant.serving _ (g.X.Replies.kept c.reads.answerer) _ _ c.in_default.ensures.bytes
 
 pub returns-then-filled-eq0-clause-served : goal.returns-then-filled-eq0-clause-served
 returns-then-filled-eq0-clause-served g c =
-    ends_clean _ _ _ _ _ _ _ _ _ _ c.reads.invariant.serving _ _ (take c.in-Ok.count c.read.new.buffer) c.in-Ok.ensures.bytes.0 (g.X.Replies.kept c.reads.answerer) _ (front_empty _ _ c.if-count-eq0.true) (front_empty _ _ c.if-filled-eq0.true)
+    ends_clean _ _ _ _ _ _ _ _ _ _ _ c.reads.invariant.serving _ _ (take c.in-Ok.count c.read.new.buffer) c.in-Ok.ensures.bytes.0 (g.X.Replies.kept c.reads.answerer) _ (front_empty _ _ c.if-count-eq0.true) (front_empty _ _ c.if-filled-eq0.true)
 
 pub returns-else-filled-eq0-clause-served : goal.returns-else-filled-eq0-clause-served
 returns-else-filled-eq0-clause-served g c =
-    ends_cut _ _ _ _ _ _ _ _ _ _ c.reads.invariant.serving _ _ (take c.in-Ok.count c.read.new.buffer) c.in-Ok.ensures.bytes.0 (g.X.Replies.kept c.reads.answerer) _ (front_empty _ _ c.if-count-eq0.true) (front_some _ _ c.reads.invariant.within c.if-filled-eq0.false)
+    ends_cut _ _ _ _ _ _ _ _ _ _ _ c.reads.invariant.serving _ _ (take c.in-Ok.count c.read.new.buffer) c.in-Ok.ensures.bytes.0 (g.X.Replies.kept c.reads.answerer) _ (front_empty _ _ c.if-count-eq0.true) (front_some _ _ c.reads.invariant.within c.if-filled-eq0.false)
 
-pub answer_all-requires : goal.answer_all-requires
-answer_all-requires g c =
+pub answer_text-requires : goal.answer_text-requires
+answer_text-requires g c =
     let p = part_at_most c.reads.buffer c.reads.filled in
     let le : c.in-Ok.count ≤ 65536 = omega (arith, p, c.read.auto.buffer, c.in-Ok.ensures.room) in
     let n = front_length _ _ c.reads.invariant.within in
     let m = front_at_most (put_mid c.reads.filled (c.reads.filled + 65536 - c.reads.filled) c.reads.buffer c.read.new.buffer) (c.reads.filled + c.in-Ok.count) in
-    let e = enough _ _ _ _ _ _ _ _ _ _ c.reads.invariant.serving 0 c.in-Ok.count c.reads-test.true le in
-    record { room = omega (arith, n, m, e); settled = c.reads.invariant.settled; sound = c.reads.invariant.answerer_sound }
+    let e = enough _ _ _ _ _ _ _ _ _ _ _ c.reads.invariant.serving 0 c.in-Ok.count c.reads-test.true le in
+    let t = text_after_read c.reads.buffer c.read.new.buffer c.reads.filled (c.reads.filled + 65536 - c.reads.filled) c.in-Ok.count c.reads.invariant.within c.in-Ok.ensures.room in
+    record { room = omega (arith, n, m, e); counted = omega (arith, c.reads.invariant.serving.spoken.counted); expected = told_still _ _ _ _ _ _ _ _ _ _ _ c.reads.invariant.serving 0 (take c.in-Ok.count c.read.new.buffer) _ t; settled = c.reads.invariant.settled; sound = c.reads.invariant.answerer_sound }
 
 pub returns-in-Err-Unwritten-clause-served : goal.returns-in-Err-Unwritten-clause-served
 returns-in-Err-Unwritten-clause-served g c =
     let t = text_after_read c.reads.buffer c.read.new.buffer c.reads.filled (c.reads.filled + 65536 - c.reads.filled) c.in-Ok.count c.reads.invariant.within c.in-Ok.ensures.room in
-    write_breaks _ _ _ _ _ _ _ _ _ _ c.reads.invariant.serving _ _ (take c.in-Ok.count c.read.new.buffer) c.in-Ok.ensures.bytes.0 _ _ t _ _ (g.X.Replies.kept c.answer_all.new.answerer) _
-    (c.in-Ok.ensures.ok ∙ c.reads.invariant.reader_sound) (rw c.reads.invariant.block_room at (rw c.in-Err-Unwritten.field-0-is at c.in-Err-Unwritten.ensures.answered))
+    write_breaks _ _ _ _ _ _ _ _ _ _ _ c.reads.invariant.serving _ _ (take c.in-Ok.count c.read.new.buffer) c.in-Ok.ensures.bytes.0 _ _ t _ _ (g.X.Replies.kept c.answer_text.new.answerer) _
+    (c.in-Ok.ensures.ok ∙ c.reads.invariant.reader_sound) (rw c.reads.invariant.block_room at (rw c.in-Err-Unwritten.field-0-is at (c.in-Err-Unwritten.ensures.answered c.reads.invariant.serving.spoken.held c.reads.invariant.serving.spoken.written c.reads.invariant.serving.spoken.wrote c.reads.invariant.serving.spoken.counted)))
 
 pub returns-in-Err-Lost-clause-served : goal.returns-in-Err-Lost-clause-served
 returns-in-Err-Lost-clause-served g c =
     let t = text_after_read c.reads.buffer c.read.new.buffer c.reads.filled (c.reads.filled + 65536 - c.reads.filled) c.in-Ok.count c.reads.invariant.within c.in-Ok.ensures.room in
-    connection_lost _ _ _ _ _ _ _ _ _ _ c.reads.invariant.serving _ _ (take c.in-Ok.count c.read.new.buffer) c.in-Ok.ensures.bytes.0 _ _ t _ 0 (g.X.Replies.kept c.answer_all.new.answerer) _ (rw c.in-Err-Lost.field-0-is at c.in-Err-Lost.ensures.answered)
+    connection_lost _ _ _ _ _ _ _ _ _ _ _ c.reads.invariant.serving _ _ (take c.in-Ok.count c.read.new.buffer) c.in-Ok.ensures.bytes.0 _ _ t _ 0 (g.X.Replies.kept c.answer_text.new.answerer) _ (rw c.in-Err-Lost.field-0-is at (c.in-Err-Lost.ensures.answered c.reads.invariant.serving.spoken.held c.reads.invariant.serving.spoken.written c.reads.invariant.serving.spoken.wrote c.reads.invariant.serving.spoken.counted))
 
 pub returns-in-Ok-Closed-clause-served : goal.returns-in-Ok-Closed-clause-served
 returns-in-Ok-Closed-clause-served g c =
     let t = text_after_read c.reads.buffer c.read.new.buffer c.reads.filled (c.reads.filled + 65536 - c.reads.filled) c.in-Ok.count c.reads.invariant.within c.in-Ok.ensures.room in
-    connection_closes _ _ _ _ _ _ _ _ _ _ c.reads.invariant.serving _ _ (take c.in-Ok.count c.read.new.buffer) c.in-Ok.ensures.bytes.0 _ _ t _ _ (g.X.Replies.kept c.answer_all.new.answerer) _
-    (rw c.in-Ok-Closed.field-0-is at c.in-Ok-Closed.ensures.answered)
+    connection_closes _ _ _ _ _ _ _ _ _ _ _ c.reads.invariant.serving _ _ (take c.in-Ok.count c.read.new.buffer) c.in-Ok.ensures.bytes.0 _ _ t _ _ (g.X.Replies.kept c.answer_text.new.answerer) _
+    (rw c.in-Ok-Closed.field-0-is at (c.in-Ok-Closed.ensures.answered c.reads.invariant.serving.spoken.held c.reads.invariant.serving.spoken.written c.reads.invariant.serving.spoken.wrote c.reads.invariant.serving.spoken.counted))
 
 pub reads-preserved : goal.reads-preserved
 reads-preserved g c =
     let t = text_after_read c.reads.buffer c.read.new.buffer c.reads.filled (c.reads.filled + 65536 - c.reads.filled) c.in-Ok.count c.reads.invariant.within c.in-Ok.ensures.room in
-    let a = rw c.in-Ok-Waits.field-0-is at c.in-Ok-Waits.ensures.answered in
+    let a = rw c.in-Ok-Waits.field-0-is at (c.in-Ok-Waits.ensures.answered c.reads.invariant.serving.spoken.held c.reads.invariant.serving.spoken.written c.reads.invariant.serving.spoken.wrote c.reads.invariant.serving.spoken.counted) in
     let b = put_mid c.reads.filled (c.reads.filled + 65536 - c.reads.filled) c.reads.buffer c.read.new.buffer in
     let p = part_at_most c.reads.buffer c.reads.filled in
     let m = front_at_most c.read.new.buffer c.in-Ok.count in
@@ -74,7 +75,7 @@ reads-preserved g c =
     let moved = ap (take (c.reads.filled + c.in-Ok.count - c.in-Ok-Waits.used)) c.copy_within.ensures.after ∙ text_after_move b c.in-Ok-Waits.used (c.reads.filled + c.in-Ok.count) le fits in
     let given = subst (λ (l : Option (List ℕ)). Consumes (g.R.Source.left c.reads.reader) l (take c.in-Ok.count c.read.new.buffer)) (sym c.answered.ensures.bytes) c.in-Ok.ensures.bytes.0 in
     record {
-      serving = goes_on_serving _ _ _ _ _ _ _ _ _ _ c.reads.invariant.serving 0 _ (take c.in-Ok.count c.read.new.buffer) given _ _ t _ _ c.in-Ok-Waits.used _ moved (omega (arith, p, m, c.read.auto.buffer, c.in-Ok.ensures.room)) a;
+      serving = goes_on_serving _ _ _ _ _ _ _ _ _ _ _ c.reads.invariant.serving 0 _ (take c.in-Ok.count c.read.new.buffer) given _ _ t _ _ c.in-Ok-Waits.used _ _ moved (omega (arith, p, m, c.read.auto.buffer, c.in-Ok.ensures.room)) a;
       within = omega (arith, fits, c.copy_within.ensures.len);
       settled = c.in-Ok-Waits.ensures.settled (λ e. cc);
       answerer_sound = c.in-Ok-Waits.ensures.not_lost (λ e. cc);
@@ -86,7 +87,7 @@ reads-preserved g c =
     }
 
 pub returns-clause-served : goal.returns-clause-served
-returns-clause-served g c = turns_spent _ _ _ _ _ _ _ _ _ _ c.reads.invariant.serving _ (g.X.Replies.kept c.reads.answerer) _
+returns-clause-served g c = turns_spent _ _ _ _ _ _ _ _ _ _ _ c.reads.invariant.serving _ (g.X.Replies.kept c.reads.answerer) _
 
 pub returns-in_default-clause-kept : goal.returns-in_default-clause-kept
 returns-in_default-clause-kept g c = kept_sound _ _ _ _ (λ e. cc) c.reads.invariant.settled c.reads.invariant.answerer_sound
@@ -159,20 +160,20 @@ overflow_add-filled-in-reads g c =
     let fits = part_within c.reads.buffer c.read.new.buffer c.reads.filled (c.reads.filled + 65536 - c.reads.filled) c.in-Ok.count c.reads.invariant.within c.in-Ok.ensures.room in
     omega (arith, fits)
 
-pub slice_bounds-answer_all-end : goal.slice_bounds-answer_all-end
-slice_bounds-answer_all-end g c =
+pub slice_bounds-answer_text-end : goal.slice_bounds-answer_text-end
+slice_bounds-answer_text-end g c =
     let fits = part_within c.reads.buffer c.read.new.buffer c.reads.filled (c.reads.filled + 65536 - c.reads.filled) c.in-Ok.count c.reads.invariant.within c.in-Ok.ensures.room in
     omega (arith, fits)
 
-pub slice_bounds-answer_all-end-in-reads : goal.slice_bounds-answer_all-end-in-reads
-slice_bounds-answer_all-end-in-reads g c =
+pub slice_bounds-answer_text-end-in-reads : goal.slice_bounds-answer_text-end-in-reads
+slice_bounds-answer_text-end-in-reads g c =
     let fits = part_within c.reads.buffer c.read.new.buffer c.reads.filled (c.reads.filled + 65536 - c.reads.filled) c.in-Ok.count c.reads.invariant.within c.in-Ok.ensures.room in
     omega (arith, front_length (put_mid c.reads.filled (c.reads.filled + 65536 - c.reads.filled) c.reads.buffer c.read.new.buffer) (c.reads.filled + c.in-Ok.count) fits)
 
 pub copy_within-requires-clause-start_le_end : goal.copy_within-requires-clause-start_le_end
 copy_within-requires-clause-start_le_end g c =
     let n = front_at_most (put_mid c.reads.filled (c.reads.filled + 65536 - c.reads.filled) c.reads.buffer c.read.new.buffer) (c.reads.filled + c.in-Ok.count) in
-    let a = rw c.in-Ok-Waits.field-0-is at c.in-Ok-Waits.ensures.answered in
+    let a = rw c.in-Ok-Waits.field-0-is at (c.in-Ok-Waits.ensures.answered c.reads.invariant.serving.spoken.held c.reads.invariant.serving.spoken.written c.reads.invariant.serving.spoken.wrote c.reads.invariant.serving.spoken.counted) in
     omega (arith, n, a.0)
 
 pub copy_within-requires-clause-in_bounds : goal.copy_within-requires-clause-in_bounds
@@ -188,5 +189,5 @@ copy_within-requires-clause-dest_in_bounds g c =
 pub overflow_sub-filled : goal.overflow_sub-filled
 overflow_sub-filled g c =
     let n = front_at_most (put_mid c.reads.filled (c.reads.filled + 65536 - c.reads.filled) c.reads.buffer c.read.new.buffer) (c.reads.filled + c.in-Ok.count) in
-    let a = rw c.in-Ok-Waits.field-0-is at c.in-Ok-Waits.ensures.answered in
+    let a = rw c.in-Ok-Waits.field-0-is at (c.in-Ok-Waits.ensures.answered c.reads.invariant.serving.spoken.held c.reads.invariant.serving.spoken.written c.reads.invariant.serving.spoken.wrote c.reads.invariant.serving.spoken.counted) in
     omega (arith, n, a.0)
