@@ -1,5 +1,5 @@
 -- An opening is said by one text alone.
-use Rattle.std.proofs.Common.{◌≡◌, ◌*◌, ◌++◌, ◌<◌, ◌^◌, ℕ, List, [], ◌∷◌, decimal, length, None, Ok, refl, ap, sym, ◌∙◌, arith, append_assoc}
+use Rattle.std.proofs.Common.{◌≡◌, ◌*◌, ◌++◌, ◌<◌, ◌^◌, ℕ, List, [], ◌∷◌, codes, decimal, length, Option, None, Ok, refl, ap, sym, ◌∙◌, arith, append_assoc}
 use Rattle.std.specs.Prelude.{⊤}
 use Rattle.std.specs.declared.alloc.Global.{Global}
 use Rattle.std.specs.Str.Parse.{AllDigits}
