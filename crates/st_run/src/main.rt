@@ -16,14 +16,7 @@ fn main(rt: HostRuntime) -> ExitCode {
     let status = match words_of(&rt) {
         Ok(words) => match show_run(rt.alloc(), &words, &mut rt.stdout()) {
             Ok(true) => 0,
-            Ok(false) => run_files(
-                &rt,
-                Unknown,
-                &words,
-                &mut reader,
-                &mut writer,
-                &mut faults,
-            ),
+            Ok(false) => run_files(&rt, Unknown, &words, &mut reader, &mut writer, &mut faults),
             Err(fault) => give_up("st_run", fault, &mut faults),
         },
         Err(fault) => give_up("st_run", fault, &mut faults),

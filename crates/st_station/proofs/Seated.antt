@@ -64,8 +64,8 @@ pub seated_later : (start : State) (s u t : Seat) (m : Message) (bytes : List â„
 seated_later start s u t m bytes found before (reads is_found asks is_read moves is) = reads is_found asks is_read (moved_on 0 s u t before moves) is
 seated_later start s u t m bytes found before (makes {asked} {reply} is_found asks changes ends moves is) =
     makes is_found asks changes (ended_on start s u asked reply before ends) (moved_on 1 s u t before moves) is
-seated_later start s u t m bytes found before (refuses_stranger is_found (list, (on, none)) moves is) =
-    refuses_stranger is_found (list, (prefix_trans s.seen u.seen list before.seen on, none)) (moved_on 0 s u t before moves) is
+seated_later start s u t m bytes found before (refuses_stranger is_found (list, on, none) moves is) =
+    refuses_stranger is_found (list, prefix_trans s.seen u.seen list before.seen on, none) (moved_on 0 s u t before moves) is
 seated_later start s u t m bytes found before (leaves_untold {asked} {refusal} is_found asks changes ends moves is) =
     leaves_untold {refusal = refusal} is_found asks changes (ended_on start s u asked (Reply.Refused refusal) before ends) (moved_on 1 s u t before moves) is
 seated_later start s u t m bytes found before (gives_up moves is) = gives_up (moved_on 0 s u t before moves) is
