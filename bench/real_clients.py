@@ -43,7 +43,6 @@ ROW = '{"id":"q","point":[1,2,3],"label":"","note":""}'
 OK = '{"ok":true}'
 REFUSED = '{"error":"length"}'
 NOTES = """
-† It waited for a 100, which st_served does not send (docs/OPERATIONS.md), though RFC 9110, 10.1.1, asks for it.
 HTTP/1.0: the server ends such a connection after each answer (docs/API.md).
 `wrk` takes a 100 for an answer, so that it may put a second time; RFC 9110, 15.2, asks clients to pass over it."""
 
@@ -174,17 +173,17 @@ def is_number(client: Client, made: int | None, wanted: int) -> bool:
 
 
 def expected(client: Client, seen: Seen) -> tuple[str, bool]:
-    """A 100 and then 200, and one put. A client need not wait for the 100; one that does gets it from the edge."""
+    """A 100 and then 200, and one put. A client need not wait for the 100; one that does gets it at once."""
     told = seen.told
     waited = client.waits and told.seconds >= 1 and 100 not in told.statuses
     steps = ", then ".join(str(it) for it in told.statuses) or told.fault or "nothing"
-    right = not (waited and seen.at_edge)
+    right = not waited
     if told.statuses[-1:] == [200]:
         right &= told.bodies == [OK] and is_number(client, seen.made, 1)
     else:
         right &= seen.made == 0 and told.fault != ""
     more = f", {seen.made} puts" * (seen.made not in (0, 1))
-    return f"{steps} in {told.seconds:.2f} s{more}{' †' * waited}", right
+    return f"{steps} in {told.seconds:.2f} s{more}", right
 
 
 def chunked(_: Client, seen: Seen) -> tuple[str, bool]:
