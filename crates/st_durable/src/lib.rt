@@ -14,5 +14,6 @@ mod replayed;
 
 pub use beginning::Beginning;
 pub use durable::DurableService;
+pub use judged::note;
 pub use pending::Pending;
 pub use replayed::ReplayedStore;

@@ -278,6 +278,13 @@ impl<H: HallName, R: Wait + Drop> Clerk<H, R> {
         &self.directory
     }
 
+    /// The whole list, as a front.
+    pub fn front(&self) -> Front<H>
+        ensures { result ≡ self.now.list }
+    {
+        self.front.again()
+    }
+
     /// The store that desks read now.
     pub fn published(&self) -> &Store
         ensures store { result.now ≡ state_after H.start self.now.published }

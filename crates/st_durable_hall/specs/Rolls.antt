@@ -1,0 +1,44 @@
+-- What contracts see of a clerk whose changes are kept, and what is left of it if the process ends.
+use Rattle.std.specs.Prelude.{◌≡◌, ◌⊎◌, ℕ, Bool, List, [], ◌∷◌, ◌++◌}
+use mathlib.Core.List.{IsPrefix}
+use Rattle.st_journal.specs.declared.record.Record.{Record}
+use Rattle.st_journal.specs.Replays.{Replays}
+use Rattle.st_durable.specs.Applying.{Applies}
+use Rattle.st_hall.specs.Steps.{Ask, State, state_after}
+
+-- The one list of changes, the part of it that is kept, the part that is published, the journal, and whether an append failed.
+pub record KeptRoll (J : Type 0) : Type 0 where
+  pub list : List Ask
+  pub kept : List Ask
+  pub published : List Ask
+  pub journal : J
+  pub is_lost : Bool
+
+-- with one change more in the list
+abbrev pub with_change : {J : Type 0} → KeptRoll J → Ask → KeptRoll J
+with_change k a = record {
+  list = k.list ++ a ∷ [];
+  kept = k.kept;
+  published = k.published;
+  journal = k.journal;
+  is_lost = k.is_lost;
+}
+
+-- From the first state the records lead to the state after a beginning of the list, with at least the changes that are kept.
+pub record LeadPast (first start : State) (kept list : List Ask) (records : List Record) : Type 0 where
+  pub front : List Ask
+  pub past : IsPrefix kept front
+  pub begins : IsPrefix front list
+  pub made : Replays Applies first records (state_after start front)
+
+-- From the first state they lead to the state after one of two lists.
+abbrev pub LeadToOne : (first start : State) (one other : List Ask) (records : List Record) → Type 0
+LeadToOne first start one other records =
+    Replays Applies first records (state_after start one) ⊎ Replays Applies first records (state_after start other)
+
+-- These changes were kept: at some moment the journal's list led from the first state to the state after a list that begins with them.
+pub record WasKept {J : Type 0} (list_of : J → List Record) (misreads : J → ℕ) (first start : State) (changes : List Ask) : Type 0 where
+  pub journal : J
+  pub front : List Ask
+  pub has : IsPrefix changes front
+  pub stands : misreads journal ≡ 0 → Replays Applies first (list_of journal) (state_after start front)

@@ -1,0 +1,20 @@
+//! What the next opening finds.
+ghost use Rattle.std.specs.Prelude.{◌≡◌, ◌++◌, List};
+ghost use mathlib.Core.List.{IsPrefix};
+ghost use Rattle.st_journal.specs.declared.record.Record.{Record};
+ghost use Rattle.st_journal.specs.Replays.{Replays};
+ghost use Rattle.st_durable.specs.Applying.{Applies};
+ghost use Rattle.st_hall.specs.Steps.{Ask, State, state_after};
+ghost use Rattle.st_durable_hall.specs.Rolls.{LeadPast};
+
+/// What is made again from what was left is the state after a beginning of the list of changes, with at least all that was kept.
+pub fn opens_again()
+    ensures { (first start again : State) (kept list : List Ask) (left : List Record) → LeadPast first start kept list left
+        → Replays Applies first left again
+        → (front : List Ask) × IsPrefix kept front × IsPrefix front list × (again ≡ state_after start front) }
+{}
+
+/// Changes after that are changes of one list, which goes on that beginning.
+pub fn goes_on()
+    ensures { (start : State) (front later : List Ask) → state_after (state_after start front) later ≡ state_after start (front ++ later) }
+{}
