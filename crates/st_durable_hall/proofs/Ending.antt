@@ -1,6 +1,6 @@
 -- The list that ends with a change which was made and kept.
-use Rattle.std.proofs.Common.{◌≡◌, ℕ, List, [], ◌∷◌, ◌++◌, Option, Some, None, refl, sym, ap, subst, ◌∙◌}
-use Rattle.std.specs.Prelude.{Result, Ok, Err, IfOk, OnOk, IfSome, MatchOption}
+use Rattle.std.proofs.Common.{◌≡◌, ◌⊎◌, inl, inr, ℕ, Bool, true, false, List, [], ◌∷◌, ◌++◌, Option, Some, None, refl, sym, ap, subst, ◌∙◌}
+use Rattle.std.specs.Prelude.{Result, Ok, Err, IfOk, OnOk, IfSome, MatchBool, MatchOption}
 use mathlib.Core.List.{IsPrefix}
 use Rattle.st_journal.specs.declared.record.Record.{Record}
 use Rattle.st_journal.specs.Replays.{Replays}
@@ -40,3 +40,27 @@ module _ {R E : Type 0} (start : State) (seen before list : List Ask) (a : Ask) 
     },
   )
   kept_ends list_of misreads first kept journal (Err e) on is told all stands = tt
+
+-- a front that is the list was kept with it
+pub front_kept : {R E J : Type 0} (list_of : J → List Record) (misreads : J → ℕ) (first start : State) (list kept published published' : List Ask)
+    (journal : J) (front : R → Option (List Ask)) (r : Result R E)
+    → IfOk r (λ x. MatchOption (front x) (published' ≡ published) (λ f. (f ≡ list) × (published' ≡ list)))
+    → OnOk r (kept ≡ list) → OnOk r (misreads journal ≡ 0 → Replays Applies first (list_of journal) (state_after start kept))
+    → IfOk r (λ x. IfSome (front x) (WasKept list_of misreads first start))
+front_kept list_of misreads first start list kept published published' journal front (Ok x) fronts all stands = go (front x) fronts
+  where
+    go : (f : Option (List Ask)) → MatchOption f (published' ≡ published) (λ l. (l ≡ list) × (published' ≡ list))
+        → IfSome f (WasKept list_of misreads first start)
+    go (Some l) same = record {
+      journal = journal;
+      front = kept;
+      has = subst (λ (k : List Ask). IsPrefix l k) (same.0 ∙ sym all) (prefix_self l);
+      stands = stands;
+    }
+    go None same = tt
+front_kept list_of misreads first start list kept published published' journal front (Err e) fronts all stands = tt
+
+-- one of two cases
+pub either_case : {A B : Type 0} (b : Bool) → MatchBool b A B → A ⊎ B
+either_case true a = inl a
+either_case false b = inr b
