@@ -1,2 +1,2 @@
-pub mod Keeping
+pub mod Batches
 pub mod Ending

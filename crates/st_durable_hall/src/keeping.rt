@@ -1,5 +1,5 @@
 //! What is put into the journal.
-ghost use Rattle.std.specs.Prelude.{◌≡◌, ◌≤◌, ◌⊎◌, ◌++◌, List, OnOk, option_to_list};
+ghost use Rattle.std.specs.Prelude.{◌≡◌, ◌<◌, ◌≤◌, ◌⊎◌, ◌++◌, List, OnOk, option_to_list, vec_capacity, vec_len};
 ghost use Rattle.st_journal.specs.declared.record.Record.{Record};
 
 use crate::fault::Lost;

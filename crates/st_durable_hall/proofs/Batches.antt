@@ -169,8 +169,8 @@ module _ {J : Type 0} (list_of : J → List Record) (misreads : J → ℕ) (is_r
     pub opened : (list kept published : List Ask) (journal : J) (batch : List Record) → list ≡ [] → kept ≡ list → published ≡ [] → batch ≡ []
         → is_ready journal → (misreads journal ≡ 0 → Replays Applies first (list_of journal) start)
         → Sound batch (roll list kept published journal false)
-    opened list kept published journal batch empty same none no ready stands =
-        subst (λ (b : List Record). Sound b (roll list kept published journal false)) (sym no)
+    opened list kept published journal batch empty same none void ready stands =
+        subst (λ (b : List Record). Sound b (roll list kept published journal false)) (sym void)
         (subst (λ (k : List Ask). Sound [] (roll list k published journal false)) (sym same)
         (subst (λ (p : List Ask). Sound [] (roll list list p journal false)) (sym none)
         (subst (λ (l : List Ask). Sound [] (roll l l [] journal false)) (sym empty)
