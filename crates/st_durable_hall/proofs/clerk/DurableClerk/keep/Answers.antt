@@ -1,6 +1,5 @@
-use Rattle.std.proofs.Common.{◌≡◌, ◌++◌, ◌⊎◌, List, subst, false}
+use Rattle.std.proofs.Common.{◌≡◌, ◌++◌, ◌⊎◌, List, subst}
 use Rattle.st_journal.specs.declared.record.Record.{Record}
-use Rattle.st_durable_hall.specs.Rolls.{KeptRoll, LeadToOne}
 use Rattle.st_durable_hall.proofs.Batches.{kept_all, left_by_all, lost_all}
 use Rattle.st_durable_hall.proofs.clerk.DurableClerk.keep.Goals as goal
 
