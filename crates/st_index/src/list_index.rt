@@ -3,6 +3,7 @@ ghost use Rattle.std.specs.Prelude.{◌≡◌, ◌-◌, [], ◌∷◌};
 ghost use Rattle.st_index.specs.Rows.{key_end, rows_of};
 ghost use Rattle.st_index.specs.Index.{region};
 
+use crate::entries::Change;
 use crate::entry::Entry;
 use crate::index::{Leaf, RowIndex};
 use crate::judge::Judge;
@@ -108,7 +109,8 @@ impl<A: Allocator + Copy> RowIndex for ListIndex<A> {
     }
 
     fn remove(&mut self, key: Key, id: &str, label: &str) -> Option<Row<A>> {
-        let row = entries::take(&mut self.entries, key, id, label)?;
+        let mut change = Change::Altered(0);
+        let row = entries::take(&mut self.entries, key, id, label, &mut change)?;
         self.len -= 1;
         Some(row)
     }

@@ -3,7 +3,7 @@ use Rattle.std.specs.List.{All}
 use Rattle.st_key.specs.Key.{rank}
 use Rattle.st_ubtree.specs.Pages.{NodeValue, entries_of_pages}
 use Rattle.st_ubtree.specs.inner.Kids.{HeadAt, IsKid, pages_of}
-use Rattle.std.proofs.Common.{subst, sym, ap, ◌∙◌, take, drop, suc, arith, length-set}
+use Rattle.std.proofs.Common.{subst, sym, ap, ◌∙◌, take, drop, suc, set, arith, length-set}
 use Rattle.std.proofs.lemmas.List.{append-nil, set_split}
 use Rattle.st_ubtree.proofs.Lifting.{alone, both, each_with, grows_alone, grows_settled, head_same, inserted, kid_splits, kid_stays, length-inserted, room_for_kid, settled_inner, that_kid}
 use Rattle.st_ubtree.specs.inner.Nodes.{IsNode, IsInnerNode, IsPageNode, inner_node, node_value, pages_under}
@@ -16,9 +16,12 @@ use Rattle.st_ubtree.proofs.Settling.{held_at}
 use Rattle.st_ubtree.proofs.Lifting.{settled_split}
 use Rattle.st_index.specs.Rows.{rows_of}
 use Rattle.st_ubtree.specs.Pages.{rows_of_pages}
-use Rattle.st_ubtree.specs.inner.Nodes.{rows_under}
+use Rattle.st_ubtree.specs.inner.Nodes.{AreMarkedUnder, rows_under}
 use Rattle.st_ubtree.specs.inner.Sums.{Sums}
 use Rattle.st_ubtree.proofs.Keeping.{kept_sums}
+use Rattle.st_ubtree.proofs.Marking.{changed_kid, differ_set, opens_insert}
+use Rattle.st_ubtree.proofs.Keeping.{settled_same}
+use Rattle.st_ubtree.specs.inner.Marks.{AreMarked, OpensAt}
 use Rattle.st_ubtree.proofs.Splitting.{one_rows}
 use Rattle.st_ubtree.proofs.Summing.{sums_added}
 use Rattle.st_ubtree.proofs.node.Node.+insert.Goals as goal
@@ -26,7 +29,7 @@ use Rattle.st_ubtree.proofs.node.Node.+insert.Goals as goal
 pub invariant_of-self : goal.invariant_of-self
 invariant_of-self g t c =
     let good : IsPageNode c.self.inside.height (length c.in-Page.entries.items) (vec_capacity c.in-Page.entries) = subst (IsNode (rank c.self.inside.first) c.self.inside.height) c.in-Page.is c.self.invariant.0 in
-    (record { lowest = good.lowest; not_more = page_fits (rank c.args.key) c.args.row _ _ _ c.put_in_page-split.ensures.grows; room = c.put_in_page-split.ensures.room }, c.renew_if.ensures)
+    (record { lowest = good.lowest; not_more = page_fits (rank c.args.key) c.args.row _ _ _ c.put_in_page-split.ensures.grows; room = c.put_in_page-split.ensures.room }, c.renew_if.ensures, tt)
 
 pub returns-in-Page-clause-grows : goal.returns-in-Page-clause-grows
 returns-in-Page-clause-grows g t c =
@@ -70,7 +73,8 @@ invariant_of-self-in_err-right-in-Inner g t c =
     let stays = kid_stays (rank c.args.key) c.args.row good.below kid v (that_kid good.below kids i kid l read good.each) c.in_err-right-in-Inner.ensures.grows in
     let e = set_split kids i v l in
     let grown = grows_alone (rank c.args.key) c.args.row (rank c.self.inside.first) c.self.inside.height good.below kids i chosen.upto kid good.each good.head chosen.found chosen.is l read v good.not_more c.in_err-right-in-Inner.ensures.grows in
-    let sums = c.add.ensures (rows_of_pages (pages_of kids)) (subst (λ k. Sums c.self.inside.sum (rows_under k)) c.in-Inner.is c.self.invariant.1) in (
+    let sums = c.add.ensures (rows_of_pages (pages_of kids)) (subst (λ k. Sums c.self.inside.sum (rows_under k)) c.in-Inner.is c.self.invariant.1) in
+    let moved = changed_kid kids i kid v c.index.result.now c.insert.new.change l c.index.ensures c.in_err-right-in-Inner.ensures.grows.height c.in_err-right-in-Inner.ensures.change in (
       record {
         below = good.below;
         higher = good.higher;
@@ -81,6 +85,7 @@ invariant_of-self-in_err-right-in-Inner g t c =
         room = good.room;
       },
       sums_added c.add.new.self c.args.row _ _ grown.by.adds sums,
+      c.mark_change.ensures kids (set kids i v) kid (l, read) moved.0 (differ_set kids i v) moved.1 (subst (AreMarkedUnder c.self.inside.marks) c.in-Inner.is c.self.invariant.2),
     )
 
 pub returns-in_err-right-in-Inner-clause-grows : goal.returns-in_err-right-in-Inner-clause-grows
@@ -94,7 +99,7 @@ returns-in_err-right-in-Inner-clause-grows g t c =
     let read = c.index_mut-kid.ensures.value in
     let old : inner_node (rank c.self.inside.first) c.self.inside.height kids ≡ c.args.self.now =
     ap (node_value (rank c.self.inside.first) c.self.inside.height) (sym c.in-Inner.is) ∙ c.self.view_is in
-    rw (← old, c.from_residual.ensures) (grows_alone (rank c.args.key) c.args.row (rank c.self.inside.first) c.self.inside.height good.below kids i chosen.upto kid good.each good.head chosen.found chosen.is l read c.insert.new.self good.not_more c.in_err-right-in-Inner.ensures.grows)
+    rw (← old) (grows_alone (rank c.args.key) c.args.row (rank c.self.inside.first) c.self.inside.height good.below kids i chosen.upto kid good.each good.head chosen.found chosen.is l read c.insert.new.self good.not_more c.in_err-right-in-Inner.ensures.grows)
 
 pub returns-in_err-right-in-Inner-clause-left : goal.returns-in_err-right-in-Inner-clause-left
 returns-in_err-right-in-Inner-clause-left g t c =
@@ -163,8 +168,11 @@ invariant_of-self-in-Inner g t c =
     let at = subst (HeadAt (rank c.self.inside.first)) (sym there) (head_same (rank c.self.inside.first) kids i kid c.insert.new.self (c.in_ok-right-in-Inner.right ∷ drop (suc i) kids) l read c.in_ok-right-in-Inner.ensures.grows.first good.head) in
     let wide : length c.insert-in-Inner.new.self.items ≡ length kids + 1 = ap length there ∙ length-inserted kids i c.insert.new.self c.in_ok-right-in-Inner.right l in
     let room = good.room in
-    let grown = c.in-Ok.ensures.capacity in
-    (settled_inner good.below (rank c.self.inside.first) c.self.inside.height c.insert-in-Inner.new.self.items c.settle-split.new.kids.items (vec_capacity c.settle-split.new.kids) c.settle-split.result good.higher all at (omega (arith, wide)) (let same = c.settle-split.ensures.capacity in omega (arith, same, room, grown)) c.settle-split.ensures.settles, c.renew_if-in-Inner.ensures)
+    let grown = c.in-Ok.ensures.capacity in (
+      settled_inner good.below (rank c.self.inside.first) c.self.inside.height c.insert-in-Inner.new.self.items c.settle-split.new.kids.items (vec_capacity c.settle-split.new.kids) c.settle-split.result good.higher all at (omega (arith, wide)) (let same = c.settle-split.ensures.capacity in omega (arith, same, room, grown)) c.settle-split.ensures.settles,
+      c.renew_if-in-Inner.ensures,
+      c.mark_due.ensures,
+    )
 
 pub renew_if-requires : goal.renew_if-requires
 renew_if-requires g t c = λ none.
@@ -192,7 +200,7 @@ renew_if-requires-in-Inner g t c = λ none.
     c.in-Ok.ensures.items ∙ inserted kids i c.insert.new.self c.in_ok-right-in-Inner.right _ l j in
     let grown = (grows_settled (rank c.args.key) c.args.row (rank c.self.inside.first) c.self.inside.height good.below kids i chosen.upto kid good.each good.head chosen.found chosen.is l read c.insert.new.self c.in_ok-right-in-Inner.right c.in_ok-right-in-Inner.ensures.grows c.insert-in-Inner.new.self.items c.settle-split.new.kids.items c.settle-split.result there good.higher c.settle-split.ensures.settles) in
     let sums = c.add.ensures (rows_of_pages (pages_of kids)) (subst (λ k. Sums c.self.inside.sum (rows_under k)) c.in-Inner.is c.self.invariant.1) in
-    kept_sums c.add.new.self (rank c.args.key) c.args.row (inner_node (rank c.self.inside.first) c.self.inside.height kids) (inner_node (rank c.self.inside.first) c.self.inside.height c.settle-split.new.kids.items) c.settle-split.result grown (sym c.is_some-in-Inner.ensures ∙ none) sums
+    kept_sums c.add.new.self (rank c.args.key) c.args.row (inner_node (rank c.self.inside.first) c.self.inside.height kids) (inner_node (rank c.self.inside.first) c.self.inside.height c.settle-split.new.kids.items) c.settle-split.result grown (sym c.is_some-parted.ensures ∙ none) sums
 
 pub returns-clause-grows : goal.returns-clause-grows
 returns-clause-grows g t c =
@@ -338,5 +346,26 @@ overflow_add-at g t c =
     let fits = good.not_more in
     omega (arith, l, fits)
 
+pub overflow_add-at-in-Inner : goal.overflow_add-at-in-Inner
+overflow_add-at-in-Inner g t c =
+    let kids = c.in-Inner.kids.items in
+    let good : IsInnerNode (rank c.self.inside.first) c.self.inside.height kids (vec_capacity c.in-Inner.kids) = subst (IsNode (rank c.self.inside.first) c.self.inside.height) c.in-Inner.is c.self.invariant.0 in
+    let chosen : IsChosen (rank c.args.key) kids c.child_for-at.result = rw c.deref.ensures.value at c.child_for-at.ensures in
+    let l = chosen.within in
+    let fits = good.not_more in
+    omega (arith, l, fits)
+
 pub unreachable-unreachable : goal.unreachable-unreachable
 unreachable-unreachable g t c = c.unreachable.result
+
+pub mark_due-requires : goal.mark_due-requires
+mark_due-requires g t c = λ none.
+    let kids = c.in-Inner.kids.items in
+    let i = c.child_for-at.result in
+    let chosen : IsChosen (rank c.args.key) kids i = rw c.deref.ensures.value at c.child_for-at.ensures in
+    let l = chosen.within in
+    let v = c.insert.new.self in
+    let past : i + 1 ≤ length (set kids i v) = let n = length-set kids i v in omega (arith, l, n) in
+    let opens = subst (OpensAt (i + 1) (set kids i v)) (sym c.in-Ok.ensures.items) (opens_insert (set kids i v) (i + 1) c.in_ok-right-in-Inner.right past) in
+    subst (AreMarked c.open.new.self) (sym (settled_same c.self.inside.height c.insert-in-Inner.new.self.items c.settle-split.new.kids.items c.settle-split.result c.settle-split.ensures.settles (sym c.is_some-parted.ensures ∙ none)))
+    (c.open.ensures (set kids i v) c.insert-in-Inner.new.self.items opens (c.clear_page.ensures kids (set kids i v) (differ_set kids i v) (subst (AreMarkedUnder c.self.inside.marks) c.in-Inner.is c.self.invariant.2)))

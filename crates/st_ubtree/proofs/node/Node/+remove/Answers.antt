@@ -13,9 +13,12 @@ use Rattle.st_ubtree.proofs.Splitting.{page}
 use Rattle.std.specs.Prelude.{Some}
 use Rattle.st_index.specs.Rows.{Name}
 use Rattle.st_ubtree.specs.Pages.{rows_of_pages}
-use Rattle.st_ubtree.specs.inner.Nodes.{rows_under}
+use Rattle.st_ubtree.specs.inner.Marks.{AreMarked}
+use Rattle.st_ubtree.specs.inner.Nodes.{AreMarkedUnder, rows_under}
+use Rattle.std.proofs.Math.ListN.{set}
 use Rattle.st_ubtree.specs.inner.Sums.{Sums}
 use Rattle.st_ubtree.proofs.Keeping.{kept_taken}
+use Rattle.st_ubtree.proofs.Marking.{changed_kid, differ_set}
 use Rattle.st_ubtree.proofs.Splitting.{one_rows}
 use Rattle.st_ubtree.proofs.node.Node.+remove.Goals as goal
 use Rattle.st_ubtree.proofs.node.Node.+remove.Goals.{in-Page, in-Inner+in_ok-row-in-Inner}
@@ -74,6 +77,21 @@ invariant_of-self-2 g t c = (
         rw w.self-inside-is (shrunk_inner (rank c.args.key) good.below kids i kid l read good.each w.in_ok-row-in-Inner.row w.remove.new.self fell (rank c.self.inside.first) c.self.inside.height _ w.mend.new.kids.items good.higher good.head two good.not_more w.mend.ensures.room (w.mend.ensures.mends good.below worn))
   ],
   c.renew_if.ensures,
+  elim c.match-self.branch [
+    | in-Page w ↦ rw w.self-inside-is tt
+    | in-Inner+in_ok-row-in-Inner w ↦
+        let kids = w.in-Inner.kids.items in
+        let i = w.child_for-at.result in
+        let chosen : IsChosen (rank c.args.key) kids i = rw w.deref.ensures.value at w.child_for-at.ensures in
+        let l = chosen.within in
+        let kid = w.index_mut-kid.result.now in
+        let read = w.index_mut-kid.ensures.value in
+        let v = w.remove.new.self in
+        let moved = changed_kid kids i kid v w.index.result.now w.remove.new.change l w.index.ensures w.in_ok-row-in-Inner.ensures.some.height w.in_ok-row-in-Inner.ensures.change in
+        let followed = w.mark_change.ensures kids (set kids i v) kid (l, read) moved.0 (differ_set kids i v) moved.1 (subst (AreMarkedUnder c.self.inside.marks) w.in-Inner.is c.self.invariant.2) in
+        let near = w.mark_near.ensures (subst (AreMarked w.mend.new.marks) (sym w.as_slice.ensures.value) (w.mend.ensures.marks followed)) in
+        rw w.self-inside-is (subst (AreMarked w.mark_near.new.marks) w.as_slice.ensures.value near)
+  ],
 )
 
 pub returns-clause-some : goal.returns-clause-some
@@ -186,7 +204,7 @@ invariant_of-self g t c =
     let l = chosen.within in
     let kid = c.index_mut-kid.result.now in
     let read = c.index_mut-kid.ensures.value in
-    (subst (λ ks. IsInnerNode (rank c.self.inside.first) c.self.inside.height ks (vec_capacity c.in-Inner.kids)) (sym (set_read kids i kid c.remove.new.self l read c.in_err-row-in-Inner.ensures.none)) good, subst (λ ks. Sums c.self.inside.sum (rows_of_pages (pages_of ks))) (sym (set_read kids i kid c.remove.new.self l read c.in_err-row-in-Inner.ensures.none)) (subst (λ k. Sums c.self.inside.sum (rows_under k)) c.in-Inner.is c.self.invariant.1))
+    (subst (λ ks. IsInnerNode (rank c.self.inside.first) c.self.inside.height ks (vec_capacity c.in-Inner.kids)) (sym (set_read kids i kid c.remove.new.self l read c.in_err-row-in-Inner.ensures.none)) good, subst (λ ks. Sums c.self.inside.sum (rows_of_pages (pages_of ks))) (sym (set_read kids i kid c.remove.new.self l read c.in_err-row-in-Inner.ensures.none)) (subst (λ k. Sums c.self.inside.sum (rows_under k)) c.in-Inner.is c.self.invariant.1), subst (AreMarked c.self.inside.marks) (sym (set_read kids i kid c.remove.new.self l read c.in_err-row-in-Inner.ensures.none)) (subst (AreMarkedUnder c.self.inside.marks) c.in-Inner.is c.self.invariant.2))
 
 pub mend-requires-clause-two : goal.mend-requires-clause-two
 mend-requires-clause-two g t c =

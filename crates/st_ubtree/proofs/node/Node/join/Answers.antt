@@ -45,6 +45,7 @@ invariant_of-self g c =
             })
       ],
       c.renew.ensures,
+      c.mark_all.ensures,
     )
 
 pub returns : goal.returns
