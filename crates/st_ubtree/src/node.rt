@@ -27,7 +27,7 @@ use crate::summary::{MAX_LABELS, Summary};
 use child::{child_for, count_up_to};
 use grow::{put_in_page, settle};
 use join::{join_kids, join_pages, mend};
-use marking::{mark_all, mark_at, mark_due, mark_near};
+use marking::{mark_all, mark_at, mark_due, mark_if};
 use st_index::entries::{self, Change};
 use st_index::{Entry, Leaf, Row, order};
 use st_key::Key;
@@ -251,7 +251,7 @@ impl<A: Allocator + Copy> Node<A> {
                 let row = kid.remove(key, id, label, change)?;
                 kids[at].mark_change(at, *change, &mut self.marks);
                 mend(kids, at, &mut self.marks);
-                mark_near(&mut self.marks, kids.as_slice(), at);
+                mark_if(self.sum.is_time(), &mut self.marks, kids.as_slice());
                 Some(row)
             }
         };

@@ -19,6 +19,9 @@ pub const MAX_LABELS: usize = 16;
 // After how many removals a node whose labels are too many is summed up again.
 const PATIENCE: u64 = 256;
 
+// After how many removals each page below a node is to have marks.
+const PAUSE: u64 = 64;
+
 /// The bounds of the rows below a node, and how many rows there are under each label, unless the labels are
 /// too many or too long.
 #[derive(Drop)]
@@ -112,6 +115,11 @@ impl<A: Allocator + Copy> Summary<A> {
     /// Whether labels that were too many may be fewer by now.
     pub fn is_due(&self) -> bool {
         !self.labels.are_all() && self.removals >= PATIENCE
+    }
+
+    /// Whether so many rows were taken out that what they left without marks is to have some.
+    pub fn is_time(&self) -> bool {
+        self.removals % PAUSE == 0
     }
 
     /// Whether a row may be inside the query.

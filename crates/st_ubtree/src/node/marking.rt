@@ -83,6 +83,15 @@ pub(super) fn mark_due<A: Allocator + Copy>(
     }
 }
 
+// Marks the entries of all children that have no marks, if it is time.
+pub(super) fn mark_if<A: Allocator + Copy>(due: bool, marks: &mut Marks<A>, kids: &[Node<A>])
+    ensures { AreMarked marks.old kids.now → AreMarked marks.new kids.now }
+{
+    if due {
+        mark_kids(marks, kids);
+    }
+}
+
 // Marks the entries of the children that are pages.
 pub(super) fn mark_kids<A: Allocator + Copy>(marks: &mut Marks<A>, kids: &[Node<A>])
     ensures { AreMarked marks.old kids.now → AreMarked marks.new kids.now }

@@ -14,13 +14,13 @@ use st_box::Query;
 use st_index::{Judge, counting};
 use std::alloc::Allocator;
 
-// How many pages of a node are counted row by row before its labels are judged, since a small query meets few.
-const FEW: usize = 3;
+// How many pages and rows of a node are counted row by row before its labels are judged, since a small query meets few.
+const FEW: u64 = 24;
 
-// The verdicts on a node's labels, unless fewer pages than that have asked for them.
+// The verdicts on a node's labels, once enough pages and rows were counted without.
 #[derive(Clone, Copy)]
 struct Verdicts {
-    few: usize,
+    few: u64,
     found: Option<[bool; MAX_NUMBERS]>,
 }
 
@@ -40,12 +40,18 @@ impl Verdicts {
             return self.found;
         }
         if self.few > 0 {
-            self.few -= 1;
             return None;
         }
         let verdicts = marks.judge(judge);
         self.found = Some(verdicts);
         Some(verdicts)
+    }
+
+    // Notes that so many rows of a page were counted without.
+    fn spend(&mut self, rows: u64)
+        ensures { self.new.found ≡ self.old.found }
+    {
+        self.few = self.few.saturating_sub(rows).saturating_sub(1);
     }
 }
 
@@ -74,16 +80,18 @@ impl<A: Allocator + Copy> Node<A> {
         if !self.sum.meets(query) {
             return 0;
         }
+        let Some(found) = verdicts.next(marks, judge) else {
+            let count = counting::count(entries, query, judge);
+            verdicts.spend(count);
+            return count;
+        };
         let Some(page) = marks.page(at) else {
             return counting::count(entries, query, judge);
         };
-        let Some(verdicts) = verdicts.next(marks, judge) else {
-            return counting::count(entries, query, judge);
-        };
         if self.sum.lies_in(query) {
-            return count_inside(entries, page, &verdicts, query, judge);
+            return count_inside(entries, page, &found, query, judge);
         }
-        count_marked(entries, page, &verdicts, query, judge)
+        count_marked(entries, page, &found, query, judge)
     }
 }
 
