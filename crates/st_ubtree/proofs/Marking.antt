@@ -6,11 +6,12 @@ use Rattle.std.proofs.lemmas.Bool.{cases_lt}
 use Rattle.std.proofs.lemmas.List.{get_or_append_left, get_or-set_other, get_or-set_same}
 use Rattle.std.proofs.lemmas.List.Edits.{get_or-insert_above, get_or-insert_at, get_or-insert_below, get_or-remove_above, get_or-remove_below, length-insert, length-remove}
 use Rattle.std.specs.List.{insert, remove}
+use Rattle.std.specs.Prelude.{IfNone, IfSome, Option, None, Some}
 use Rattle.st_text.specs.Texts.{Text}
 use Rattle.st_index.specs.Rows.{EntryValue}
 use Rattle.st_index.specs.declared.entries.Change.{Change}
 use Rattle.st_index.specs.inner.Changes.{IsChange}
-use Rattle.st_ubtree.specs.Pages.{NodeValue, entries_of_pages}
+use Rattle.st_ubtree.specs.Pages.{NodeValue, PageValue, entries_of_pages}
 use Rattle.st_ubtree.specs.declared.marks.PageMarks.{PageMarks}
 use Rattle.st_ubtree.specs.inner.Marks.{AreJudged, AreMarkedBy, AreMarks, AreNumbers, AreVerdicts, ClosesAt, DifferAt, HasAt, IsMark, Keeps, OpensAt}
 use Rattle.st_ubtree.proofs.Labels.{same_read}
@@ -19,6 +20,10 @@ pub any_default : {X : Type 0} (xs : List X) (i : ℕ) (a b : X) → i < length 
 any_default [] i a b l = absurd (omega (arith, l))
 any_default (x ∷ xs) zero a b l = refl
 any_default (x ∷ xs) (suc i) a b l = any_default xs i a b (omega (arith, l))
+
+pub none_so : {X P : Type 0} (o : Option X) → P → IfNone o P
+none_so None p = p
+none_so (Some x) p = tt
 
 pub same_at : {X : Type 0} (xs : List X) (i : ℕ) (x y : X) → HasAt xs i x → HasAt xs i y → x ≡ y
 same_at xs i x y a b = same_read xs i x y a.0 a.1 b.1
@@ -270,6 +275,13 @@ module _ {A : Type 0} where
       → AreMarkedBy labels pages kids → AreMarkedBy labels pages now
   marked_close_past labels pages kids now at over closes marked = λ i q v page known kid.
       let l = page.0 in marked i q v page known ((closes i v kid).0 (omega (arith, l, over)))
+
+  -- what taking from a page says, as its node says it
+  pub page_changed : {X : Type 0} (taken : Option X) (height : ℕ) (change : Change) (was is : List (PageValue A)) (old new : List (EntryValue A))
+      → entries_of_pages was ≡ old → entries_of_pages is ≡ new → IfSome taken (λ _. IsChange change old new)
+      → IfSome taken (λ _. height ≡ 0 → IsChange change (entries_of_pages was) (entries_of_pages is))
+  page_changed None height change was is old new a b h = tt
+  page_changed (Some x) height change was is old new a b h = λ low. subst (λ es. IsChange change es (entries_of_pages is)) (sym a) (subst (IsChange change old) (sym b) h)
 
   -- a child that has changed stands where it stood
   pub changed_kid : (kids : List (NodeValue A)) (i : ℕ) (kid v x : NodeValue A) (change : Change) → i < length kids → x ≡ get_or (set kids i v) i x

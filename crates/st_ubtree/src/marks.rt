@@ -37,12 +37,10 @@ fn no_marks() -> PageMarks
     }
 }
 
-// What the upper half of a page's marks may be, once it is a page of its own.
-fn upper_half(marks: &PageMarks) -> PageMarks
-    ensures { HasNone result }
-{
-    let mut upper = no_marks();
-    upper.numbers[..16].copy_from_slice(&marks.numbers[16..]);
+// What the numbers of the upper half of a page may be, once it is a page of its own.
+fn upper_half(numbers: &[u8; 32]) -> [u8; 32] {
+    let mut upper = [NO_NUMBER; 32];
+    upper[..16].copy_from_slice(&numbers[16..]);
     upper
 }
 
@@ -51,7 +49,10 @@ fn beside(pages: &[PageMarks], at: usize) -> PageMarks
     ensures { HasNone result }
 {
     match pages.get(at.saturating_sub(1)) {
-        Some(page) => upper_half(page),
+        Some(page) => PageMarks {
+            numbers: upper_half(&page.numbers),
+            known: false,
+        },
         None => no_marks(),
     }
 }

@@ -27,7 +27,7 @@ use crate::summary::{MAX_LABELS, Summary};
 use child::{child_for, count_up_to};
 use grow::{put_in_page, settle};
 use join::{join_kids, join_pages, mend};
-use marking::{mark_all, mark_at, mark_due, mark_if};
+use marking::{mark_all, mark_changed, mark_due, mark_if};
 use st_index::entries::{self, Change};
 use st_index::{Entry, Leaf, Row, order};
 use st_key::Key;
@@ -182,7 +182,7 @@ impl<A: Allocator + Copy> Node<A> {
                 let at = child_for(kids, key);
                 let kid = &mut kids[at];
                 let Some(right) = kid.insert(key, row, rows, page, inners, change) else {
-                    kids[at].mark_change(at, *change, &mut self.marks);
+                    mark_changed(&mut self.marks, &self.kids, at, *change);
                     return None;
                 };
                 self.marks.clear_page(at);
@@ -251,7 +251,7 @@ impl<A: Allocator + Copy> Node<A> {
                 let row = kid.remove(key, id, label, change)?;
                 kids[at].mark_change(at, *change, &mut self.marks);
                 mend(kids, at, &mut self.marks);
-                mark_if(self.sum.is_time(), &mut self.marks, kids.as_slice());
+                mark_if(self.sum.is_time(), &mut self.marks, &self.kids);
                 Some(row)
             }
         };
@@ -276,7 +276,7 @@ impl<A: Allocator + Copy> Node<A> {
                 self.marks.clear_page(at);
                 let kid = &mut kids[at];
                 let out = kid.replace(key, row);
-                mark_at(&mut self.marks, kids.as_slice(), at);
+                mark_due(false, at, &mut self.marks, &self.kids);
                 out
             }
         }

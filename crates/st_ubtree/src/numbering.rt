@@ -191,7 +191,7 @@ fn close_entry<A: Allocator + Copy>(
     at: usize,
     entries: &[Entry<A>],
 ) -> bool
-    ensures numbers { (old : List (EntryValue A)) → ClosesAt at old entries.now → AreNumbers labels.now old numbers.old → IsTrue result
+    ensures { (old : List (EntryValue A)) → ClosesAt at old entries.now → AreNumbers labels.now old numbers.old → IsTrue result
         → AreNumbers labels.now entries.now numbers.new }
 {
     let count = entries.len();

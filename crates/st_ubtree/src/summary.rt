@@ -16,11 +16,8 @@ use std::alloc::{Allocator, Global};
 /// The most labels whose rows a node counts.
 pub const MAX_LABELS: usize = 16;
 
-// After how many removals a node whose labels are too many is summed up again.
+// After how many removals a node whose labels are too many is summed up again, and its pages all have marks again.
 const PATIENCE: u64 = 256;
-
-// After how many removals each page below a node is to have marks.
-const PAUSE: u64 = 64;
 
 /// The bounds of the rows below a node, and how many rows there are under each label, unless the labels are
 /// too many or too long.
@@ -117,9 +114,9 @@ impl<A: Allocator + Copy> Summary<A> {
         !self.labels.are_all() && self.removals >= PATIENCE
     }
 
-    /// Whether so many rows were taken out that what they left without marks is to have some.
+    /// Whether so many rows were taken out that pages without marks are to have some.
     pub fn is_time(&self) -> bool {
-        self.removals % PAUSE == 0
+        self.removals % PATIENCE == 0
     }
 
     /// Whether a row may be inside the query.

@@ -28,6 +28,11 @@ abbrev pub rows_under : {A : Type 0} → Kids A → List (Row A)
 rows_under (Page entries) = rows_of entries.items
 rows_under (Inner kids) = rows_of_pages (pages_of kids.items)
 
+-- its children
+abbrev pub kids_under : {A : Type 0} → Kids A → List (NodeValue A)
+kids_under (Page entries) = []
+kids_under (Inner kids) = kids.items
+
 -- the marks of the pages below it
 abbrev pub AreMarkedUnder : {A : Type 0} → Marks A → Kids A → Type 0
 AreMarkedUnder marks (Page entries) = Unit {0}

@@ -3,7 +3,7 @@ ghost use Rattle.std.specs.Prelude.{◌≡◌, IsFalse, List};
 ghost use Rattle.st_index.specs.inner.Changes.{IsChange};
 ghost use Rattle.st_ubtree.specs.Pages.{NodeValue, entries_of_pages};
 ghost use Rattle.st_ubtree.specs.inner.Marks.{AreMarked, DifferAt, HasAt};
-ghost use Rattle.st_ubtree.specs.inner.Nodes.{AreMarkedUnder};
+ghost use Rattle.st_ubtree.specs.inner.Nodes.{AreMarkedUnder, kids_under};
 
 use super::{Kids, Node};
 use crate::marks::Marks;
@@ -33,8 +33,31 @@ impl<A: Allocator + Copy> Node<A> {
     }
 }
 
+// Marks the entries of a child in which one changed, if that child is a page.
+pub(super) fn mark_changed<A: Allocator + Copy>(
+    marks: &mut Marks<A>,
+    kids: &Kids<A>,
+    at: usize,
+    change: Change,
+)
+    ensures { (old : List (NodeValue A)) (u v : NodeValue A) → HasAt old at u → HasAt (kids_under kids.now) at v
+        → DifferAt at old (kids_under kids.now)
+        → (v.height ≡ 0 → IsChange change (entries_of_pages u.pages) (entries_of_pages v.pages))
+        → AreMarked marks.old old → AreMarkedUnder marks.new kids.now }
+{
+    let Kids::Inner(kids) = kids else {
+        return;
+    };
+    let kids = kids.as_slice();
+    if at >= kids.len() {
+        return;
+    }
+    let kid = &kids[at];
+    kid.mark_change(at, change, marks);
+}
+
 // Marks the entries of a child, if there is one at this place.
-pub(super) fn mark_at<A: Allocator + Copy>(marks: &mut Marks<A>, kids: &[Node<A>], at: usize)
+fn mark_at<A: Allocator + Copy>(marks: &mut Marks<A>, kids: &[Node<A>], at: usize)
     ensures { AreMarked marks.old kids.now → AreMarked marks.new kids.now }
 {
     if at >= kids.len() {
@@ -45,7 +68,7 @@ pub(super) fn mark_at<A: Allocator + Copy>(marks: &mut Marks<A>, kids: &[Node<A>
 }
 
 // Marks the entries of a child and of those beside it, where they have no marks.
-pub(super) fn mark_near<A: Allocator + Copy>(marks: &mut Marks<A>, kids: &[Node<A>], at: usize)
+fn mark_near<A: Allocator + Copy>(marks: &mut Marks<A>, kids: &[Node<A>], at: usize)
     ensures { AreMarked marks.old kids.now → AreMarked marks.new kids.now }
 {
     mark_at(marks, kids, at.saturating_sub(1));
@@ -84,11 +107,14 @@ pub(super) fn mark_due<A: Allocator + Copy>(
 }
 
 // Marks the entries of all children that have no marks, if it is time.
-pub(super) fn mark_if<A: Allocator + Copy>(due: bool, marks: &mut Marks<A>, kids: &[Node<A>])
-    ensures { AreMarked marks.old kids.now → AreMarked marks.new kids.now }
+pub(super) fn mark_if<A: Allocator + Copy>(due: bool, marks: &mut Marks<A>, kids: &Kids<A>)
+    ensures { AreMarkedUnder marks.old kids.now → AreMarkedUnder marks.new kids.now }
 {
-    if due {
-        mark_kids(marks, kids);
+    if !due {
+        return;
+    }
+    if let Kids::Inner(kids) = kids {
+        mark_kids(marks, kids.as_slice());
     }
 }
 

@@ -18,7 +18,8 @@ returns-in-One-clause-count g c = λ e h.
     let number : c.from-number.result ≡ get_or marks.numbers at 255 = c.from-number.ensures ∙ any_default marks.numbers at 0 255 within in
     let low : get_or marks.numbers at 255 < 16 = omega (arith, number, c.if-number-ge-MAX_NUMBERS.false) in
     let judged = c.requires.judged at e h in
-    let one : e.rows ≡ c.in-One.row.now ∷ [] = search rules in
+    let entry = same_at c.args.entries.now at e c.index-entries-at.result h (w, c.index-entries-at.is) in
+    let one : e.rows ≡ c.in-One.row.now ∷ [] = ap (λ (x : EntryValue g.row.A.Denot). x.rows) entry ∙ sym c.rows.ensures ∙ ap viewed c.in-One.is in
     let counted = counted_at c.args.query.now (g.J.Judge.judges c.args.judge.now) verdicts e (get_or marks.numbers at 255) c.in-One.row.now judged low one in
     c.from.ensures
     ∙ byte_is _

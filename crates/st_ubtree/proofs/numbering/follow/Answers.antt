@@ -19,7 +19,7 @@ returns-in-Closed-clause-numbers g c = λ old change are done.
     let is = subst (λ x. IsChange x old c.args.entries.now) c.in-Closed.is change in
     let closes = subst (ClosesAt c.in-Closed.at old) (sym is.1) (closes_remove old c.in-Closed.at is.0) in
     let before = subst (λ ls. AreNumbers ls old c.args.numbers.now) (sym c.as_slice.ensures.value) are in
-    subst (λ ls. AreNumbers ls c.args.entries.now c.close_entry.new.numbers) c.as_slice.ensures.value (c.close_entry.ensures.numbers old closes before done)
+    subst (λ ls. AreNumbers ls c.args.entries.now c.close_entry.new.numbers) c.as_slice.ensures.value (c.close_entry.ensures old closes before done)
 
 pub returns-in-Closed-clause-keeps : goal.returns-in-Closed-clause-keeps
 returns-in-Closed-clause-keeps g c = keeps_all c.args.labels.now.items

@@ -1,7 +1,8 @@
 use Rattle.std.proofs.Common.{◌≡◌, ◌≤◌, ◌∷◌, [], length, subst, sym, ap, ◌∙◌, arith, rules, length-set, vec_capacity}
 use Rattle.st_key.specs.Key.{rank}
 use Rattle.st_ubtree.specs.inner.Growing.{IsChosen}
-use Rattle.st_ubtree.specs.Pages.{NodeValue}
+use Rattle.st_ubtree.specs.Pages.{NodeValue, entries_of_pages}
+use Rattle.std.proofs.lemmas.List.{append-nil}
 use Rattle.st_ubtree.specs.inner.Kids.{pages_of}
 use Rattle.st_ubtree.specs.inner.Nodes.{IsNode, IsInnerNode, IsPageNode, inner_node, node_value, width_of, pages_under}
 use Rattle.st_ubtree.specs.Pages.{page_node}
@@ -18,7 +19,7 @@ use Rattle.st_ubtree.specs.inner.Nodes.{AreMarkedUnder, rows_under}
 use Rattle.std.proofs.Math.ListN.{set}
 use Rattle.st_ubtree.specs.inner.Sums.{Sums}
 use Rattle.st_ubtree.proofs.Keeping.{kept_taken}
-use Rattle.st_ubtree.proofs.Marking.{changed_kid, differ_set}
+use Rattle.st_ubtree.proofs.Marking.{changed_kid, differ_set, page_changed}
 use Rattle.st_ubtree.proofs.Splitting.{one_rows}
 use Rattle.st_ubtree.proofs.node.Node.+remove.Goals as goal
 use Rattle.st_ubtree.proofs.node.Node.+remove.Goals.{in-Page, in-Inner+in_ok-row-in-Inner}
@@ -89,8 +90,7 @@ invariant_of-self-2 g t c = (
         let v = w.remove.new.self in
         let moved = changed_kid kids i kid v w.index.result.now w.remove.new.change l w.index.ensures w.in_ok-row-in-Inner.ensures.some.height w.in_ok-row-in-Inner.ensures.change in
         let followed = w.mark_change.ensures kids (set kids i v) kid (l, read) moved.0 (differ_set kids i v) moved.1 (subst (AreMarkedUnder c.self.inside.marks) w.in-Inner.is c.self.invariant.2) in
-        let near = w.mark_near.ensures (subst (AreMarked w.mend.new.marks) (sym w.as_slice.ensures.value) (w.mend.ensures.marks followed)) in
-        rw w.self-inside-is (subst (AreMarked w.mark_near.new.marks) w.as_slice.ensures.value near)
+        rw w.self-inside-is (w.mark_if.ensures (w.mend.ensures.marks followed))
   ],
 )
 
@@ -265,4 +265,20 @@ renew_if-requires g t c = λ no.
           let drops = rw (w.taken-is, w.self-inside-is) at c.drop_row.ensures in
           let sums = subst (λ k. Sums c.self.inside.sum (rows_under k)) w.in-Inner.is c.self.invariant.1 in
           rw w.self-inside-is (kept_taken c.self.inside.sum c.drop_row.new.sum key (inner_node first height kids) (inner_node first height w.mend.new.kids.items) (Some w.in_ok-row-in-Inner.row) shrinks tt drops sums)
+    ]
+
+pub returns-clause-change : goal.returns-clause-change
+returns-clause-change g t c =
+    elim c.match-self.branch [
+      | in-Page w ↦
+          let first = rank c.self.inside.first in
+          let es = w.in-Page.entries.items in
+          let new = w.take-taken.new.entries.items in
+          let before = ap (λ (v : NodeValue g.row.A.Denot). entries_of_pages v.pages) (sym c.self.view_is) ∙ ap (λ k. entries_of_pages (pages_under first k)) w.in-Page.is ∙ append-nil es in
+          rw (w.self-inside-is, w.change-is, w.taken-is) (page_changed w.take-taken.result c.args.self.now.height w.take-taken.new.change c.args.self.now.pages (page first new ∷ []) es new before (append-nil new) w.take-taken.ensures.change)
+      | in-Inner+in_ok-row-in-Inner w ↦
+          let good : IsInnerNode (rank c.self.inside.first) c.self.inside.height w.in-Inner.kids.items (vec_capacity w.in-Inner.kids) = subst (IsNode (rank c.self.inside.first) c.self.inside.height) w.in-Inner.is c.self.invariant.0 in
+          let tall : c.args.self.now.height ≡ c.self.inside.height = ap (λ (v : NodeValue g.row.A.Denot). v.height) (sym c.self.view_is) in
+          let higher = good.higher in
+          rw w.taken-is (λ low. absurd (omega (arith, low, tall, higher)))
     ]

@@ -53,7 +53,7 @@ invariant_of-self-in-Inner g t c = (
       let l = chosen.within in
       let kid = c.index_mut-kid.result.now in
       let read = c.index_mut-kid.ensures.value in
-      (kept_inner (rank c.args.key) good.below kids i kid c.replace.new.self l read good.each (rank c.self.inside.first) c.self.inside.height _ good.higher good.head good.not_less good.not_more good.room c.replace.ensures.keeps)),
+      (kept_inner (rank c.args.key) good.below kids i kid c.replace-out.new.self l read good.each (rank c.self.inside.first) c.self.inside.height _ good.higher good.head good.not_less good.not_more good.room c.replace-out.ensures.keeps)),
   (let first = rank c.self.inside.first in
       let height = c.self.inside.height in
       let kids = c.in-Inner.kids.items in
@@ -63,14 +63,11 @@ invariant_of-self-in-Inner g t c = (
       let l = chosen.within in
       let kid = c.index_mut-kid.result.now in
       let read = c.index_mut-kid.ensures.value in
-      let trades = kid_trades (rank c.args.key) good.below kids i kid c.replace.new.self l read good.each c.args.row c.replace.result c.replace.ensures.ok in
-      let stays = kid_stays_so kids i kid c.replace.new.self l read c.replace.result c.replace.ensures.err in
+      let trades = kid_trades (rank c.args.key) good.below kids i kid c.replace-out.new.self l read good.each c.args.row c.replace-out.result c.replace-out.ensures.ok in
+      let stays = kid_stays_so kids i kid c.replace-out.new.self l read c.replace-out.result c.replace-out.ensures.err in
       let sums = c.widen.ensures.rows (rows_of_pages (pages_of kids)) (subst (λ k. Sums c.self.inside.sum (rows_under k)) c.in-Inner.is c.self.invariant.1) in
-      (kept_traded c.widen.new.self (rank c.args.key) c.args.row (inner_node first height kids) (inner_node first height (set kids i c.replace.new.self)) c.replace.result trades c.replace.ensures.named stays c.widen.ensures.point sums)),
-  (let kids = c.in-Inner.kids.items in
-      let i = c.child_for-at.result in
-      let cleared = c.clear_page.ensures kids (set kids i c.replace.new.self) (differ_set kids i c.replace.new.self) (subst (AreMarkedUnder c.self.inside.marks) c.in-Inner.is c.self.invariant.2) in
-      (subst (AreMarked c.mark_at.new.marks) c.as_slice.ensures.value (c.mark_at.ensures (subst (AreMarked c.clear_page.new.self) (sym c.as_slice.ensures.value) cleared)))),
+      (kept_traded c.widen.new.self (rank c.args.key) c.args.row (inner_node first height kids) (inner_node first height (set kids i c.replace-out.new.self)) c.replace-out.result trades c.replace-out.ensures.named stays c.widen.ensures.point sums)),
+  c.mark_due.ensures,
 )
 
 pub returns-in-Page-clause-ok : goal.returns-in-Page-clause-ok
@@ -89,7 +86,7 @@ returns-in-Inner-clause-ok g t c =
     let kid = c.index_mut-kid.result.now in
     let read = c.index_mut-kid.ensures.value in
     let pages : c.args.self.now.pages ≡ pages_of kids = ap (λ (v : NodeValue g.row.A.Denot). v.pages) (sym c.self.view_is) ∙ ap (pages_under (rank c.self.inside.first)) c.in-Inner.is in
-    rw pages (kid_trades (rank c.args.key) good.below kids i kid c.replace.new.self l read good.each c.args.row c.replace.result c.replace.ensures.ok)
+    rw pages (kid_trades (rank c.args.key) good.below kids i kid c.replace-out.new.self l read good.each c.args.row c.replace-out.result c.replace-out.ensures.ok)
 
 pub returns-in-Page-clause-named : goal.returns-in-Page-clause-named
 returns-in-Page-clause-named g t c =
@@ -97,7 +94,7 @@ returns-in-Page-clause-named g t c =
 
 pub returns-in-Inner-clause-named : goal.returns-in-Inner-clause-named
 returns-in-Inner-clause-named g t c =
-    c.replace.ensures.named
+    c.replace-out.ensures.named
 
 pub returns-in-Page-clause-keeps : goal.returns-in-Page-clause-keeps
 returns-in-Page-clause-keeps g t c =
@@ -120,7 +117,7 @@ returns-in-Inner-clause-keeps g t c =
     let read = c.index_mut-kid.ensures.value in
     let old : inner_node (rank c.self.inside.first) c.self.inside.height kids ≡ c.args.self.now =
     ap (node_value (rank c.self.inside.first) c.self.inside.height) (sym c.in-Inner.is) ∙ c.self.view_is in
-    rw (← old) (kids_keep (rank c.args.key) good.below kids i kid c.replace.new.self l read good.each (rank c.self.inside.first) c.self.inside.height good.head c.replace.ensures.keeps)
+    rw (← old) (kids_keep (rank c.args.key) good.below kids i kid c.replace-out.new.self l read good.each (rank c.self.inside.first) c.self.inside.height good.head c.replace-out.ensures.keeps)
 
 pub returns-in-Page-clause-absent : goal.returns-in-Page-clause-absent
 returns-in-Page-clause-absent g t c =
@@ -138,7 +135,7 @@ returns-in-Inner-clause-absent g t c =
     let kid = c.index_mut-kid.result.now in
     let read = c.index_mut-kid.ensures.value in
     let pages : c.args.self.now.pages ≡ pages_of kids = ap (λ (v : NodeValue g.row.A.Denot). v.pages) (sym c.self.view_is) ∙ ap (pages_under (rank c.self.inside.first)) c.in-Inner.is in
-    rw pages (kids_lack (rank c.args.key) good.below kids i kid c.replace.new.self l read good.each chosen.upto (name_of c.args.row) c.replace.result chosen.found chosen.is c.replace.ensures.absent)
+    rw pages (kids_lack (rank c.args.key) good.below kids i kid c.replace-out.new.self l read good.each chosen.upto (name_of c.args.row) c.replace-out.result chosen.found chosen.is c.replace-out.ensures.absent)
 
 pub child_for-at-requires : goal.child_for-at-requires
 child_for-at-requires g t c =
@@ -166,10 +163,10 @@ returns-in-Inner-clause-err g t c =
     let chosen : IsChosen (rank c.args.key) kids i = rw c.deref.ensures.value at c.child_for-at.ensures in
     let kid = c.index_mut-kid.result.now in
     let pages : c.args.self.now.pages ≡ pages_of kids = ap (λ (v : NodeValue g.row.A.Denot). v.pages) (sym c.self.view_is) ∙ ap (pages_under (rank c.self.inside.first)) c.in-Inner.is in
-    rw pages (kid_stays_so kids i kid c.replace.new.self chosen.within c.index_mut-kid.ensures.value c.replace.result c.replace.ensures.err)
+    rw pages (kid_stays_so kids i kid c.replace-out.new.self chosen.within c.index_mut-kid.ensures.value c.replace-out.result c.replace-out.ensures.err)
 
-pub replace-requires : goal.replace-requires
-replace-requires g t c κs within =
+pub replace-out-requires : goal.replace-out-requires
+replace-out-requires g t c κs within =
     let kids = c.in-Inner.kids.items in
     let good : IsInnerNode (rank c.self.inside.first) c.self.inside.height kids (vec_capacity c.in-Inner.kids) = subst (IsNode (rank c.self.inside.first) c.self.inside.height) c.in-Inner.is c.self.invariant.0 in
     let i = c.child_for-at.result in
@@ -180,3 +177,9 @@ replace-requires g t c κs within =
     let tall : c.args.self.now.height ≡ c.self.inside.height = ap (λ (v : NodeValue g.row.A.Denot). v.height) (sym c.self.view_is) in
     let lower = lower_kid kid.height good.below c.self.inside.height c.args.self.now.height is.same_height good.higher tall in
     search (rules, lower, within)
+
+pub mark_due-requires : goal.mark_due-requires
+mark_due-requires g t c = λ no.
+    let kids = c.in-Inner.kids.items in
+    let v = c.replace-out.new.self in
+    c.clear_page.ensures kids (set kids c.child_for-at.result v) (differ_set kids c.child_for-at.result v) (subst (AreMarkedUnder c.self.inside.marks) c.in-Inner.is c.self.invariant.2)
