@@ -27,7 +27,7 @@ use crate::summary::{MAX_LABELS, Summary};
 use child::{child_for, count_up_to};
 use grow::{put_in_page, settle};
 use join::{join_kids, join_pages, mend};
-use marking::{mark_all, mark_changed, mark_due, mark_if};
+use marking::{mark_changed, mark_due, mark_if};
 use st_index::entries::{self, Change};
 use st_index::{Entry, Leaf, Row, order};
 use st_key::Key;
@@ -209,7 +209,7 @@ impl<A: Allocator + Copy> Node<A> {
         }
     }
 
-    // Takes over entries or children of the node beside it. What is left of that one is handed back.
+    // Takes over entries or children of the node beside it. What is left of that one is handed back. Neither has marks then.
     fn join(&mut self, right: Node<A>) -> Option<Node<A>>
         requires worn { IsWorn self.old.height self.old }
         requires right { IsWorn self.old.height right }
@@ -229,7 +229,7 @@ impl<A: Allocator + Copy> Node<A> {
             _ => unreachable!(),
         };
         renew(&mut self.sum, &self.kids);
-        mark_all(&mut self.marks, &self.kids);
+        self.marks.clear();
         rest
     }
 

@@ -16,7 +16,7 @@ use std::alloc::{Allocator, Global};
 /// The most labels whose rows a node counts.
 pub const MAX_LABELS: usize = 16;
 
-// After how many removals a node whose labels are too many is summed up again, and its pages all have marks again.
+// After how many removals a node whose labels are too many is summed up again, and all pages below it have marks again.
 const PATIENCE: u64 = 256;
 
 /// The bounds of the rows below a node, and how many rows there are under each label, unless the labels are
@@ -116,7 +116,7 @@ impl<A: Allocator + Copy> Summary<A> {
 
     /// Whether so many rows were taken out that pages without marks are to have some.
     pub fn is_time(&self) -> bool {
-        self.removals % PATIENCE == 0
+        self.removals % PATIENCE == PATIENCE - 1
     }
 
     /// Whether a row may be inside the query.

@@ -4,7 +4,6 @@ ghost use Rattle.st_ubtree.specs.inner.Shrinking.{AreWorn, KidsJoin, Mends, Page
 ghost use Rattle.st_ubtree.specs.inner.Growing.{AreKids};
 ghost use Rattle.st_ubtree.specs.inner.Marks.{AreMarked};
 
-use super::marking::mark_kids;
 use super::sums::add_kids;
 use super::{Kids, Node};
 use crate::marks::Marks;
@@ -59,7 +58,6 @@ pub(super) fn join_kids<A: Allocator + Copy>(
     sum.clear();
     add_kids(&mut sum, right.as_slice());
     marks.clear();
-    mark_kids(&mut marks, right.as_slice());
     Some(Node {
         first,
         height,

@@ -15,6 +15,7 @@ use Rattle.st_ubtree.proofs.Needing.{fewer_split, kid_around, kid_splits_by, lef
 use Rattle.st_ubtree.proofs.Settling.{held_at}
 use Rattle.st_ubtree.proofs.Lifting.{settled_split}
 use Rattle.st_index.specs.Rows.{rows_of}
+use Rattle.st_index.specs.inner.Changes.{IsChange}
 use Rattle.st_ubtree.specs.Pages.{rows_of_pages}
 use Rattle.st_ubtree.specs.inner.Nodes.{AreMarkedUnder, rows_under}
 use Rattle.st_ubtree.specs.inner.Sums.{Sums}
@@ -22,7 +23,7 @@ use Rattle.st_ubtree.proofs.Keeping.{kept_sums}
 use Rattle.std.proofs.lemmas.List.{get_or-set_same}
 use Rattle.st_ubtree.proofs.Marking.{differ_set, none_so, opens_insert}
 use Rattle.st_ubtree.proofs.Keeping.{settled_same}
-use Rattle.st_ubtree.specs.inner.Marks.{AreMarked, OpensAt}
+use Rattle.st_ubtree.specs.inner.Marks.{AreMarked, HasAt, OpensAt}
 use Rattle.st_ubtree.proofs.Splitting.{one_rows}
 use Rattle.st_ubtree.proofs.Summing.{sums_added}
 use Rattle.st_ubtree.proofs.node.Node.+insert.Goals as goal
@@ -75,8 +76,8 @@ invariant_of-self-in_default g t c =
     let e = set_split kids i v l in
     let grown = grows_alone (rank c.args.key) c.args.row (rank c.self.inside.first) c.self.inside.height good.below kids i chosen.upto kid good.each good.head chosen.found chosen.is l read v good.not_more c.in_default.ensures.grows in
     let sums = c.add.ensures (rows_of_pages (pages_of kids)) (subst (λ k. Sums c.self.inside.sum (rows_under k)) c.in-Inner.is c.self.invariant.1) in
-    let there = (let n = length-set kids i v in omega (arith, l, n), sym (get_or-set_same kids i v v l)) in
-    let change = λ none. c.in_default.ensures.change (sym c.in_default.ensures.grows.height ∙ none) in (
+    let there : HasAt (set kids i v) i v = (let n = length-set kids i v in omega (arith, l, n), sym (get_or-set_same kids i v v l)) in
+    let change : v.height ≡ 0 → IsChange c.insert.new.change (entries_of_pages kid.pages) (entries_of_pages v.pages) = λ none. c.in_default.ensures.change (sym c.in_default.ensures.grows.height ∙ none) in (
       record {
         below = good.below;
         higher = good.higher;

@@ -32,7 +32,9 @@ count-requires g c =
 pub returns-in_default-page-clause-count : goal.returns-in_default-page-clause-count
 returns-in_default-page-clause-count g c =
     let rows : rows_of_pages c.args.self.now.pages ≡ rows_under c.self.inside.kids = ap (λ (v : NodeValue g.row.A.Denot). rows_of_pages v.pages) (sym c.self.view_is) ∙ sym (rows_are (rank c.self.inside.first) c.self.inside.kids) in
-    c.count.ensures.count ∙ ap (count_of c.args.query.now (g.J.Judge.judges c.args.judge.now)) (sym (rows ∙ ap rows_under c.in-Page.is ∙ ap rows_of (sym c.as_slice-entries.ensures.value)))
+    c.count.ensures.count
+    ∙ ap (λ j. count_of c.args.query.now j (rows_of c.as_slice-entries.result.now)) c.next.ensures.same
+    ∙ ap (count_of c.args.query.now (g.J.Judge.judges c.args.judge.now)) (sym (rows ∙ ap rows_under c.in-Page.is ∙ ap rows_of (sym c.as_slice-entries.ensures.value)))
 
 pub count_inside-requires-clause-not_more : goal.count_inside-requires-clause-not_more
 count_inside-requires-clause-not_more g c =
@@ -57,9 +59,9 @@ count_inside-requires-clause-judged g c =
     ∙ append-nil c.in-Page.entries.items
     ∙ sym c.as_slice-entries.ensures.value in
     let given = c.requires.marked in
-    subst (λ j. AreJudged j c.in-Some-next.found c.as_slice-entries.result.now c.in-Some.page.now) (sym c.next.ensures.same)
-    (marks_judged (g.J.Judge.judges c.args.judge.now) c.args.marks.now.labels.items c.in-Some-next.found c.as_slice-entries.result.now c.in-Some.page.now c.in-Some-next.ensures.some
-    (subst (λ es. AreMarks c.args.marks.now.labels.items es c.in-Some.page.now) entries (c.in-Some.ensures given.0 c.args.self.now given.2 given.1)))
+    subst (λ j. AreJudged j c.in-Some.found c.as_slice-entries.result.now c.in-Some-page.page.now) (sym c.next.ensures.same)
+    (marks_judged (g.J.Judge.judges c.args.judge.now) c.args.marks.now.labels.items c.in-Some.found c.as_slice-entries.result.now c.in-Some-page.page.now c.in-Some.ensures.some
+    (subst (λ es. AreMarks c.args.marks.now.labels.items es c.in-Some-page.page.now) entries (c.in-Some-page.ensures given.0 c.args.self.now given.2 given.1)))
 
 pub count_marked-requires-clause-not_more : goal.count_marked-requires-clause-not_more
 count_marked-requires-clause-not_more g c =
@@ -79,9 +81,9 @@ count_marked-requires-clause-judged g c =
     ∙ append-nil c.in-Page.entries.items
     ∙ sym c.as_slice-entries.ensures.value in
     let given = c.requires.marked in
-    subst (λ j. AreJudged j c.in-Some-next.found c.as_slice-entries.result.now c.in-Some.page.now) (sym c.next.ensures.same)
-    (marks_judged (g.J.Judge.judges c.args.judge.now) c.args.marks.now.labels.items c.in-Some-next.found c.as_slice-entries.result.now c.in-Some.page.now c.in-Some-next.ensures.some
-    (subst (λ es. AreMarks c.args.marks.now.labels.items es c.in-Some.page.now) entries (c.in-Some.ensures given.0 c.args.self.now given.2 given.1)))
+    subst (λ j. AreJudged j c.in-Some.found c.as_slice-entries.result.now c.in-Some-page.page.now) (sym c.next.ensures.same)
+    (marks_judged (g.J.Judge.judges c.args.judge.now) c.args.marks.now.labels.items c.in-Some.found c.as_slice-entries.result.now c.in-Some-page.page.now c.in-Some.ensures.some
+    (subst (λ es. AreMarks c.args.marks.now.labels.items es c.in-Some-page.page.now) entries (c.in-Some-page.ensures given.0 c.args.self.now given.2 given.1)))
 
 pub returns-then-lies_in-clause-count : goal.returns-then-lies_in-clause-count
 returns-then-lies_in-clause-count g c =
@@ -97,13 +99,15 @@ returns-clause-count g c =
     ∙ ap (λ j. count_of c.args.query.now j (rows_of c.as_slice-entries.result.now)) c.next.ensures.same
     ∙ ap (count_of c.args.query.now (g.J.Judge.judges c.args.judge.now)) (sym (rows ∙ ap rows_under c.in-Page.is ∙ ap rows_of (sym c.as_slice-entries.ensures.value)))
 
-pub count-requires-in_default-next : goal.count-requires-in_default-next
-count-requires-in_default-next g c = count-requires g c
+pub count-count-requires : goal.count-count-requires
+count-count-requires g c =
+    let rows : rows_of_pages c.args.self.now.pages ≡ rows_under c.self.inside.kids = ap (λ (v : NodeValue g.row.A.Denot). rows_of_pages v.pages) (sym c.self.view_is) ∙ sym (rows_are (rank c.self.inside.first) c.self.inside.kids) in
+    subst (λ xs. length xs < 18446744073709551616) (rows ∙ ap rows_under c.in-Page.is ∙ ap rows_of (sym c.as_slice-entries.ensures.value)) c.requires.fits
 
 pub returns-in_default-next-clause-count : goal.returns-in_default-next-clause-count
 returns-in_default-next-clause-count g c =
     let rows : rows_of_pages c.args.self.now.pages ≡ rows_under c.self.inside.kids = ap (λ (v : NodeValue g.row.A.Denot). rows_of_pages v.pages) (sym c.self.view_is) ∙ sym (rows_are (rank c.self.inside.first) c.self.inside.kids) in
-    c.count.ensures.count
+    c.count-count.ensures.count
     ∙ ap (λ j. count_of c.args.query.now j (rows_of c.as_slice-entries.result.now)) c.next.ensures.same
     ∙ ap (count_of c.args.query.now (g.J.Judge.judges c.args.judge.now)) (sym (rows ∙ ap rows_under c.in-Page.is ∙ ap rows_of (sym c.as_slice-entries.ensures.value)))
 

@@ -5,7 +5,6 @@ use Rattle.st_index.proofs.Climbing.{all_right}
 use Rattle.st_ubtree.specs.Pages.{NodeValue, rows_of_pages}
 use Rattle.st_ubtree.specs.inner.Sums.{Sums}
 use Rattle.st_ubtree.specs.inner.Kids.{HeadAt, IsKid, pages_of}
-use Rattle.st_ubtree.specs.inner.Marks.{AreMarked}
 use Rattle.st_ubtree.proofs.Settling.{head_there, held_at, kids_start, kids_wide}
 use Rattle.st_ubtree.proofs.node.join.join_kids.Goals as goal
 
@@ -27,7 +26,7 @@ invariant_of-result g c =
         room = c.share.ensures.right_room;
       },
       subst (λ ks. Sums c.add_kids.new.sum (rows_of_pages (pages_of ks))) c.as_slice.ensures.value (c.add_kids.ensures [] c.clear.ensures),
-      subst (AreMarked c.mark_kids.new.marks) c.as_slice-2.ensures.value (c.mark_kids.ensures (c.clear-2.ensures c.as_slice-2.result.now)),
+      c.clear-2.ensures rest,
     )
 
 pub returns-clause-joins : goal.returns-clause-joins
