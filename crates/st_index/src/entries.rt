@@ -125,14 +125,16 @@ pub fn take<A: Allocator + Copy>(
     Some(row)
 }
 
-/// Puts a row in the place of the one of its key and name.
+/// Puts a row in the place of the one of its key and name, and says where.
 pub fn swap<A: Allocator + Copy>(
     entries: &mut Vec<Entry<A>, A>,
     key: Key,
     row: Row<A>,
+    change: &mut Change,
 ) -> Result<Row<A>, Row<A>>
     ensures ok { IfOk result (λ out. Swaps out row (rows_of entries.old.items) (rows_of entries.new.items)
         × ((name_of out) ≡ (name_of row))) }
+    ensures change { IfOk result (λ _. IsChange change.new entries.old.items entries.new.items) }
     ensures placed { IfOk result (λ out. (period : Period) (lo hi : _) → Rises period lo hi entries.old.items
         → rank_of period out ≡ rank key) }
     ensures absent { OnErr result ((period : Period) (lo hi : _) → Rises period lo hi entries.old.items
@@ -147,7 +149,10 @@ pub fn swap<A: Allocator + Copy>(
         Ok(i) => {
             let entry = &mut entries[i];
             match entry.swap(row) {
-                Ok(out) => Ok(out),
+                Ok(out) => {
+                    *change = Change::Altered(i);
+                    Ok(out)
+                }
                 Err(row) => Err(row),
             }
         }

@@ -117,7 +117,8 @@ impl<A: Allocator + Copy> RowIndex for ListIndex<A> {
 
     fn replace(&mut self, row: Row<A>) -> Row<A> {
         let key = row.key(self.period);
-        let Ok(out) = entries::swap(&mut self.entries, key, row) else {
+        let mut change = Change::Altered(0);
+        let Ok(out) = entries::swap(&mut self.entries, key, row, &mut change) else {
             unreachable!()
         };
         out

@@ -20,7 +20,7 @@ use Rattle.st_ubtree.specs.inner.Shrinking.{Shrinks}
 use Rattle.st_ubtree.specs.inner.Trading.{TradesIn}
 use Rattle.st_ubtree.specs.declared.marks.Marks.{Marks}
 use Rattle.st_ubtree.specs.inner.Marks.{AreMarked}
-use Rattle.st_ubtree.specs.inner.Nodes.{AreMarkedUnder, pages_under, rows_under}
+use Rattle.st_ubtree.specs.inner.Nodes.{AreMarkedUnder, kids_under, pages_under, rows_under}
 use Rattle.st_ubtree.specs.inner.Sums.{IsWithin, Sums}
 use Rattle.st_ubtree.proofs.Inside.{rows_join}
 use Rattle.std.proofs.Math.ListN.{set}
@@ -32,6 +32,10 @@ module _ {A : Type 0} where
   pub marked_under : (marks : Marks A) (k : Kids A) → ((kids : List (NodeValue A)) → AreMarked marks kids) → AreMarkedUnder marks k
   marked_under marks (Page entries) all = tt
   marked_under marks (Inner kids) all = all kids.items
+
+  pub marked_kids : (marks : Marks A) (k : Kids A) → AreMarked marks (kids_under k) → AreMarkedUnder marks k
+  marked_kids marks (Page entries) are = tt
+  marked_kids marks (Inner kids) are = are
 
   pub rows_are : (first : ℕ) (kids : Kids A) → rows_under kids ≡ rows_of_pages (pages_under first kids)
   rows_are first (Page entries) = sym (one_rows first entries.items)

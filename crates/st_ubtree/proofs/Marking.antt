@@ -6,7 +6,7 @@ use Rattle.std.proofs.lemmas.Bool.{cases_lt}
 use Rattle.std.proofs.lemmas.List.{get_or_append_left, get_or-set_other, get_or-set_same}
 use Rattle.std.proofs.lemmas.List.Edits.{get_or-insert_above, get_or-insert_at, get_or-insert_below, get_or-remove_above, get_or-remove_below, length-insert, length-remove}
 use Rattle.std.specs.List.{insert, remove}
-use Rattle.std.specs.Prelude.{IfNone, IfSome, Option, None, Some}
+use Rattle.std.specs.Prelude.{IfNone, IfOk, IfSome, Option, None, Some, Result, Ok, Err}
 use Rattle.st_text.specs.Texts.{Text}
 use Rattle.st_index.specs.Rows.{EntryValue}
 use Rattle.st_index.specs.declared.entries.Change.{Change}
@@ -24,6 +24,14 @@ any_default (x ∷ xs) (suc i) a b l = any_default xs i a b (omega (arith, l))
 pub none_so : {X P : Type 0} (o : Option X) → P → IfNone o P
 none_so None p = p
 none_so (Some x) p = tt
+
+pub ok_so : {X Y P : Type 0} (r : Result X Y) → P → IfOk r (λ _. P)
+ok_so (Ok x) p = p
+ok_so (Err e) p = tt
+
+pub ok_then : {X Y P Q : Type 0} (r : Result X Y) → (P → Q) → IfOk r (λ _. P) → IfOk r (λ _. Q)
+ok_then (Ok x) next p = next p
+ok_then (Err e) next p = tt
 
 pub same_at : {X : Type 0} (xs : List X) (i : ℕ) (x y : X) → HasAt xs i x → HasAt xs i y → x ≡ y
 same_at xs i x y a b = same_read xs i x y a.0 a.1 b.1

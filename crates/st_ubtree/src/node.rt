@@ -27,7 +27,7 @@ use crate::summary::{MAX_LABELS, Summary};
 use child::{child_for, count_up_to};
 use grow::{put_in_page, settle};
 use join::{join_kids, join_pages, mend};
-use marking::{mark_changed, mark_due, mark_if};
+use marking::{mark_changed, mark_due, mark_if, mark_swapped};
 use st_index::entries::{self, Change};
 use st_index::{Entry, Leaf, Row, order};
 use st_key::Key;
@@ -260,23 +260,24 @@ impl<A: Allocator + Copy> Node<A> {
         taken
     }
 
-    /// Puts a row in the place of the one of its key and name. Hands the row itself back where there is none.
-    pub fn replace(&mut self, key: Key, row: Row<A>) -> Result<Row<A>, Row<A>>
+    /// Puts a row in the place of the one of its key and name. Hands the row itself back where there is none. A page says where.
+    pub fn replace(&mut self, key: Key, row: Row<A>, change: &mut Change) -> Result<Row<A>, Row<A>>
         ensures ok { IfOk result (λ out. TradesIn (rank key) out row self.old.pages self.new.pages) }
         ensures named { IfOk result (λ out. name_of out ≡ name_of row) }
         ensures keeps { Keeps self.old self.new }
         ensures absent { OnErr result (HasNone (rank key) (name_of row) self.old.pages) }
         ensures err { OnErr result (self.new.pages ≡ self.old.pages) }
+        ensures change { IfOk result (λ _. self.old.height ≡ 0
+            → IsChange change.new (entries_of_pages self.old.pages) (entries_of_pages self.new.pages)) }
     {
         self.sum.widen(&row.point);
         match &mut self.kids {
-            Kids::Page(entries) => entries::swap(entries, key, row),
+            Kids::Page(entries) => entries::swap(entries, key, row, change),
             Kids::Inner(kids) => {
                 let at = child_for(kids, key);
-                self.marks.clear_page(at);
                 let kid = &mut kids[at];
-                let out = kid.replace(key, row);
-                mark_due(false, at, &mut self.marks, &self.kids);
+                let out = kid.replace(key, row, change);
+                mark_swapped(&out, at, *change, &mut self.marks, &self.kids);
                 out
             }
         }

@@ -195,7 +195,8 @@ impl<A: Allocator + Copy> RowIndex for UbTree<A> {
 
     fn replace(&mut self, row: Row<A>) -> Row<A> {
         let key = row.key(self.period);
-        let Ok(out) = self.root.replace(key, row) else {
+        let mut change = Change::Altered(0);
+        let Ok(out) = self.root.replace(key, row, &mut change) else {
             unreachable!()
         };
         self.root.count_keys();

@@ -1,5 +1,5 @@
 //! The marks of pages' entries, which their parents keep.
-ghost use Rattle.std.specs.Prelude.{◌≡◌, IsFalse, List};
+ghost use Rattle.std.specs.Prelude.{◌≡◌, IfOk, IsFalse, List};
 ghost use Rattle.st_index.specs.inner.Changes.{IsChange};
 ghost use Rattle.st_ubtree.specs.Pages.{NodeValue, entries_of_pages};
 ghost use Rattle.st_ubtree.specs.inner.Marks.{AreMarked, DifferAt, HasAt};
@@ -7,6 +7,7 @@ ghost use Rattle.st_ubtree.specs.inner.Nodes.{AreMarkedUnder, kids_under};
 
 use super::{Kids, Node};
 use crate::marks::Marks;
+use st_index::Row;
 use st_index::entries::Change;
 use std::alloc::Allocator;
 
@@ -54,6 +55,25 @@ pub(super) fn mark_changed<A: Allocator + Copy>(
     }
     let kid = &kids[at];
     kid.mark_change(at, change, marks);
+}
+
+// Marks the entries of a child in which a row was put in the place of another, if it was.
+pub(super) fn mark_swapped<A: Allocator + Copy>(
+    out: &Result<Row<A>, Row<A>>,
+    at: usize,
+    change: Change,
+    marks: &mut Marks<A>,
+    kids: &Kids<A>,
+)
+    ensures { (old : List (NodeValue A)) (u v : NodeValue A) → HasAt old at u → HasAt (kids_under kids.now) at v
+        → DifferAt at old (kids_under kids.now)
+        → IfOk out.now (λ _. v.height ≡ 0 → IsChange change (entries_of_pages u.pages) (entries_of_pages v.pages))
+        → AreMarked marks.old old → AreMarkedUnder marks.new kids.now }
+{
+    match out {
+        Ok(_) => mark_changed(marks, kids, at, change),
+        Err(_) => marks.clear_page(at),
+    }
 }
 
 // Marks the entries of a child, if there is one at this place.

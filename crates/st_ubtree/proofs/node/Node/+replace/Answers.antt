@@ -1,8 +1,10 @@
-use Rattle.std.proofs.Common.{◌≡◌, ◌≤◌, ◌∷◌, [], length, subst, sym, ap, ◌∙◌, arith, rules, vec_capacity}
+use Rattle.std.proofs.Common.{◌≡◌, ◌≤◌, ◌∷◌, ◌++◌, [], length, length-set, subst, sym, ap, ◌∙◌, arith, rules, vec_capacity}
 use Rattle.st_key.specs.Key.{rank}
 use Rattle.st_index.specs.Rows.{name_of, rows_of}
 use Rattle.st_ubtree.specs.inner.Growing.{IsChosen}
-use Rattle.st_ubtree.specs.Pages.{NodeValue}
+use Rattle.std.proofs.lemmas.List.{append-nil, get_or-set_same}
+use Rattle.st_index.specs.inner.Changes.{IsChange}
+use Rattle.st_ubtree.specs.Pages.{NodeValue, entries_of_pages}
 use Rattle.st_ubtree.specs.inner.Kids.{pages_of}
 use Rattle.st_ubtree.specs.inner.Nodes.{IsNode, IsInnerNode, IsPageNode, inner_node, node_value, pages_under}
 use Rattle.st_ubtree.specs.Pages.{page_node}
@@ -13,11 +15,11 @@ use Rattle.st_ubtree.proofs.Splitting.{page}
 use Rattle.st_ubtree.proofs.Trading.{kept_inner, kid_trades, kids_keep, kids_lack, page_keeps, page_lacks, page_named, page_trades}
 use Rattle.std.proofs.Math.ListN.{set}
 use Rattle.st_ubtree.specs.Pages.{rows_of_pages}
-use Rattle.st_ubtree.specs.inner.Marks.{AreMarked}
+use Rattle.st_ubtree.specs.inner.Marks.{HasAt}
 use Rattle.st_ubtree.specs.inner.Nodes.{AreMarkedUnder, rows_under}
 use Rattle.st_ubtree.specs.inner.Sums.{Sums}
 use Rattle.st_ubtree.proofs.Keeping.{kept_traded, kid_stays_so, page_stays}
-use Rattle.st_ubtree.proofs.Marking.{differ_set}
+use Rattle.st_ubtree.proofs.Marking.{differ_set, ok_so, ok_then}
 use Rattle.st_ubtree.proofs.Splitting.{one_rows}
 use Rattle.st_ubtree.proofs.node.Node.+replace.Goals as goal
 
@@ -67,7 +69,19 @@ invariant_of-self-in-Inner g t c = (
       let stays = kid_stays_so kids i kid c.replace-out.new.self l read c.replace-out.result c.replace-out.ensures.err in
       let sums = c.widen.ensures.rows (rows_of_pages (pages_of kids)) (subst (λ k. Sums c.self.inside.sum (rows_under k)) c.in-Inner.is c.self.invariant.1) in
       (kept_traded c.widen.new.self (rank c.args.key) c.args.row (inner_node first height kids) (inner_node first height (set kids i c.replace-out.new.self)) c.replace-out.result trades c.replace-out.ensures.named stays c.widen.ensures.point sums)),
-  c.mark_due.ensures,
+  (let kids = c.in-Inner.kids.items in
+      let i = c.child_for-at.result in
+      let chosen : IsChosen (rank c.args.key) kids i = rw c.deref.ensures.value at c.child_for-at.ensures in
+      let l = chosen.within in
+      let kid = c.index_mut-kid.result.now in
+      let read = c.index_mut-kid.ensures.value in
+      let v = c.replace-out.new.self in
+      let there : HasAt (set kids i v) i v = (let n = length-set kids i v in omega (arith, l, n), sym (get_or-set_same kids i v v l)) in
+      let same = c.replace-out.ensures.keeps.height in
+      let next : (kid.height ≡ 0 → IsChange c.replace-out.new.change (entries_of_pages kid.pages) (entries_of_pages v.pages)) → v.height ≡ 0
+          → IsChange c.replace-out.new.change (entries_of_pages kid.pages) (entries_of_pages v.pages) = λ h none. h (sym same ∙ none) in
+      let change = ok_then c.replace-out.result next c.replace-out.ensures.change in
+      c.mark_swapped.ensures kids kid v (l, read) there (differ_set kids i v) change (subst (AreMarkedUnder c.self.inside.marks) c.in-Inner.is c.self.invariant.2)),
 )
 
 pub returns-in-Page-clause-ok : goal.returns-in-Page-clause-ok
@@ -178,8 +192,17 @@ replace-out-requires g t c κs within =
     let lower = lower_kid kid.height good.below c.self.inside.height c.args.self.now.height is.same_height good.higher tall in
     search (rules, lower, within)
 
-pub mark_due-requires : goal.mark_due-requires
-mark_due-requires g t c = λ no.
-    let kids = c.in-Inner.kids.items in
-    let v = c.replace-out.new.self in
-    c.clear_page.ensures kids (set kids c.child_for-at.result v) (differ_set kids c.child_for-at.result v) (subst (AreMarkedUnder c.self.inside.marks) c.in-Inner.is c.self.invariant.2)
+pub returns-in-Page-clause-change : goal.returns-in-Page-clause-change
+returns-in-Page-clause-change g t c =
+    let es = c.in-Page.entries.items in
+    let new = c.swap.new.entries.items in
+    let before : entries_of_pages c.args.self.now.pages ≡ es = ap (λ (v : NodeValue g.row.A.Denot). entries_of_pages v.pages) (sym c.self.view_is) ∙ ap (λ k. entries_of_pages (pages_under (rank c.self.inside.first) k)) c.in-Page.is ∙ append-nil es in
+    ok_then c.swap.result
+    (λ (h : IsChange c.swap.new.change es new) (low : c.args.self.now.height ≡ 0). subst (λ xs. IsChange c.swap.new.change xs (new ++ [])) (sym before) (subst (IsChange c.swap.new.change es) (sym (append-nil new)) h)) c.swap.ensures.change
+
+pub returns-in-Inner-clause-change : goal.returns-in-Inner-clause-change
+returns-in-Inner-clause-change g t c = ok_so c.replace-out.result (λ low.
+    let good : IsInnerNode (rank c.self.inside.first) c.self.inside.height c.in-Inner.kids.items (vec_capacity c.in-Inner.kids) = subst (IsNode (rank c.self.inside.first) c.self.inside.height) c.in-Inner.is c.self.invariant.0 in
+    let tall : c.args.self.now.height ≡ c.self.inside.height = ap (λ (v : NodeValue g.row.A.Denot). v.height) (sym c.self.view_is) in
+    let higher = good.higher in
+    absurd (omega (arith, low, tall, higher)))
