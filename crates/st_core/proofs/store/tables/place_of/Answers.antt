@@ -17,7 +17,7 @@ returns-clause-place g c =
     let sorted = partitioned key wanted shelves (rises_shelves shelves c.requires) in
     place_headings wanted shelves c.partition_point.result
     (place_from key wanted shelves c.partition_point.result c.partition_point.ensures.bound
-    (IsPartitionPoint-from_clause (λ shelf. comes_before (key shelf) wanted) shelves c.partition_point.result c.partition_point.ensures.partitioned sorted (λ a r f2 k. (k.met.0, ap (λ name. record { 0 = name }) k.met.1))))
+    (IsPartitionPoint-from_clause (λ shelf. comes_before (key shelf) wanted) shelves c.partition_point.result c.partition_point.ensures.partitioned sorted (λ a r f' k. search rules)))
 
 pub returns-clause-alone : goal.returns-clause-alone
 returns-clause-alone g c =
