@@ -79,7 +79,7 @@ invariant_of-self-in-Inner g t c = (
       let there : HasAt (set kids i v) i v = (let n = length-set kids i v in omega (arith, l, n), sym (get_or-set_same kids i v v l)) in
       let same = c.replace-out.ensures.keeps.height in
       let next : (kid.height ≡ 0 → IsChange c.replace-out.new.change (entries_of_pages kid.pages) (entries_of_pages v.pages)) → v.height ≡ 0
-          → IsChange c.replace-out.new.change (entries_of_pages kid.pages) (entries_of_pages v.pages) = λ h none. h (sym same ∙ none) in
+      → IsChange c.replace-out.new.change (entries_of_pages kid.pages) (entries_of_pages v.pages) = λ h none. h (sym same ∙ none) in
       let change = ok_then c.replace-out.result next c.replace-out.ensures.change in
       c.mark_swapped.ensures kids kid v (l, read) there (differ_set kids i v) change (subst (AreMarkedUnder c.self.inside.marks) c.in-Inner.is c.self.invariant.2)),
 )
