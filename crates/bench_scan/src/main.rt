@@ -1,5 +1,5 @@
-//! Times puts, counts and pages of a table over the UB-tree: `bench_scan POINTS BOXES`, two files as `bench/scan_data.py` writes
-//! them. What the table shows goes to standard output, and what that takes to standard error.
+//! Times puts, counts, grids, pages and deletes of a table over the UB-tree: `bench_scan POINTS BOXES`, two files as
+//! `bench/scan_data.py` writes them. What the table shows goes to standard output, and what that takes to standard error.
 #![tactic(auto)]
 
 mod boxes;
@@ -34,6 +34,13 @@ fn fill(rt: &HostRuntime, bench: &mut Bench, points: &str) -> io::Result<()> {
     )
 }
 
+// Takes the points of a text out of a table, and prints how long one takes.
+fn empty(rt: &HostRuntime, bench: &mut Bench, points: &str) -> io::Result<()> {
+    let count = (points.lines().count() as u64).max(1);
+    let nanoseconds = bench.empty(rt, points)?;
+    eprintln!(rt; "delete: {} ns", nanoseconds / count)
+}
+
 // Prints what the counts of one size show and take.
 fn print_counts(rt: &HostRuntime, bench: &Bench, boxes: &[Asked], size: Size) -> io::Result<()> {
     let mut times = bench.counts(rt, boxes, size)?;
@@ -45,6 +52,19 @@ fn print_counts(rt: &HostRuntime, bench: &Bench, boxes: &[Asked], size: Size) ->
         times.rows
     )?;
     eprintln!(rt; "{}: {middle} ns the middle count", size.share())
+}
+
+// Prints what the grids of one size show and take.
+fn print_grids(rt: &HostRuntime, bench: &Bench, boxes: &[Asked], size: Size) -> io::Result<()> {
+    let mut times = bench.grids(rt, boxes, size)?;
+    let middle = times.middle()?;
+    println!(rt;
+        "{}: {} grids of {} rows in all",
+        size.share(),
+        times.each.len(),
+        times.rows
+    )?;
+    eprintln!(rt; "grid-{}: {middle} ns the middle one", size.share())
 }
 
 // Prints what the pages of the large boxes show and take.
@@ -59,6 +79,7 @@ fn print_pages(rt: &HostRuntime, bench: &Bench, boxes: &[Asked]) -> io::Result<(
 fn print_reads(rt: &HostRuntime, bench: &Bench, boxes: &[Asked]) -> io::Result<()> {
     for size in Size::ALL {
         print_counts(rt, bench, boxes, size)?;
+        print_grids(rt, bench, boxes, size)?;
     }
     print_pages(rt, bench, boxes)
 }
@@ -67,7 +88,8 @@ fn print_reads(rt: &HostRuntime, bench: &Bench, boxes: &[Asked]) -> io::Result<(
 fn time(rt: &HostRuntime, points: &str, boxes: &[Asked]) -> io::Result<()> {
     let mut bench = Bench::new(rt.alloc())?;
     fill(rt, &mut bench, points)?;
-    print_reads(rt, &bench, boxes)
+    print_reads(rt, &bench, boxes)?;
+    empty(rt, &mut bench, points)
 }
 
 // Times a table of the points of a file, and reads of it in the boxes of another.

@@ -13,6 +13,9 @@ use std::time::Instant;
 // How many rows a page has.
 const LIMIT: usize = 100;
 
+// How many columns a grid has, and how many lines.
+const SHARES: usize = 32;
+
 // How long a call took, in nanoseconds, and how many rows it showed.
 #[derive(Clone, Copy)]
 struct Took {
@@ -106,6 +109,30 @@ impl Bench {
         since(rt, start)
     }
 
+    /// Takes out the rows of a text's lines. Gives the nanoseconds that this takes.
+    pub fn empty(&mut self, rt: &HostRuntime, text: &str) -> io::Result<u64> {
+        let mut nanoseconds = 0u64;
+        for line in text.lines() {
+            nanoseconds = nanoseconds.wrapping_add(self.delete_line(rt, line)?);
+        }
+        Ok(nanoseconds)
+    }
+
+    // Takes out the row of a line.
+    fn delete_line(&mut self, rt: &HostRuntime, line: &str) -> io::Result<u64> {
+        match row_in(self.alloc, line)? {
+            Some(row) => self.time_delete(rt, &row),
+            None => Ok(0),
+        }
+    }
+
+    // Times how a row is taken out.
+    fn time_delete(&mut self, rt: &HostRuntime, row: &Row) -> io::Result<u64> {
+        let start = Instant::now(rt)?;
+        self.table.delete(row.id.as_str(), row.label.text());
+        since(rt, start)
+    }
+
     /// Times a count of each of the boxes that are of this size.
     pub fn counts(&self, rt: &HostRuntime, boxes: &[Asked], size: Size) -> io::Result<Times> {
         let mut times = Times::new(self.alloc);
@@ -126,6 +153,38 @@ impl Bench {
             }
         }
         Ok(times)
+    }
+
+    /// Times a grid of each of the boxes that are of this size.
+    pub fn grids(&self, rt: &HostRuntime, boxes: &[Asked], size: Size) -> io::Result<Times> {
+        let mut times = Times::new(self.alloc);
+        for asked in boxes {
+            if asked.size == size {
+                times.add(self.time_grid(rt, asked)?)?;
+            }
+        }
+        Ok(times)
+    }
+
+    // Times a grid of a box.
+    fn time_grid(&self, rt: &HostRuntime, asked: &Asked) -> io::Result<Took> {
+        let start = Instant::now(rt)?;
+        let rows = self.rows_in_fields(asked)?;
+        let nanoseconds = since(rt, start)?;
+        Ok(Took { nanoseconds, rows })
+    }
+
+    // How many rows the fields of a box's grid have together.
+    fn rows_in_fields(&self, asked: &Asked) -> Result<u64, AllocError> {
+        let grid = self.table.grid(&asked.query, &self.auths, SHARES, SHARES);
+        let Ok(counts) = grid else {
+            return Err(AllocError);
+        };
+        let mut rows = 0u64;
+        for count in counts.as_slice() {
+            rows = rows.wrapping_add(*count);
+        }
+        Ok(rows)
     }
 
     // Times a count of a box.

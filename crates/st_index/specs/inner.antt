@@ -1,3 +1,4 @@
 -- Representations and their invariants, which no reader has to believe.
+pub mod Changes
 pub mod Lists
 pub mod RowLists

@@ -8,6 +8,7 @@ ghost use Rattle.st_index.specs.declared.row.Row.{Row};
 ghost use Rattle.st_key.specs.Key.{rank};
 ghost use Rattle.st_index.specs.Rows.{EntryValue, name_of, Rises, rows_of, rank_of};
 ghost use Rattle.st_index.specs.Index.{Adds, Swaps, IsAbsent};
+ghost use Rattle.st_index.specs.inner.Changes.{IsChange};
 
 use crate::entry::Entry;
 use crate::row::Row;
@@ -15,6 +16,14 @@ use crate::{order, room};
 use st_key::Key;
 use std::alloc::{AllocError, Allocator};
 use std::cmp::Ordering;
+
+/// How a list of entries changed: at an index an entry came in, another one stands, or the one that stood there went.
+#[derive(Clone, Copy)]
+pub enum Change {
+    Opened(usize),
+    Altered(usize),
+    Closed(usize),
+}
 
 /// The index of the key's entry, or the index where it would stand.
 pub fn find<A: Allocator + Copy>(entries: &[Entry<A>], key: Key) -> Result<usize, usize>
@@ -46,18 +55,19 @@ pub fn list_for_more<A: Allocator + Copy>(
     Vec::with_capacity(alloc, (held + 1).saturating_add(held / 2))
 }
 
-/// Puts a row into a list of entries, at its key. The lists take it without more memory.
+/// Puts a row into a list of entries, at its key, and says where. The lists take it without more memory.
 pub fn put<A: Allocator + Copy>(
     entries: &mut Vec<Entry<A>, A>,
     key: Key,
     row: Row<A>,
     rows: Vec<Row<A>, A>,
-)
+) -> Change
     requires empty { rows.items ≡ [] }
     requires room { vec_len entries.old < vec_capacity entries.old }
     requires rows_room { All (λ (e : EntryValue A). e.at ≡ rank key → 0 < length e.rows
         → length e.rows < vec_capacity rows) entries.old.items }
     ensures added { Adds row (rows_of entries.old.items) (rows_of entries.new.items) }
+    ensures change { IsChange result entries.old.items entries.new.items }
     ensures rising { (period : Period) (lo hi : _) → rank key ≡ rank_of period row → Rises period lo hi entries.old.items → lo ≤ rank key
         → rank key < hi → IsAbsent period (rank key) (name_of row) (rows_of entries.old.items) → Rises period lo hi entries.new.items }
     ensures longer { vec_len entries.old ≤ vec_len entries.new }
@@ -70,22 +80,28 @@ pub fn put<A: Allocator + Copy>(
         Ok(i) => {
             let entry = &mut entries[i];
             entry.put(row, rows);
+            Change::Altered(i)
         }
-        Err(i) => room::put(entries, i, Entry::new(key, row)),
+        Err(i) => {
+            room::put(entries, i, Entry::new(key, row));
+            Change::Opened(i)
+        }
     }
 }
 
-/// Takes out the row of this key and this name.
+/// Takes out the row of this key and this name, and says where it stood.
 pub fn take<A: Allocator + Copy>(
     entries: &mut Vec<Entry<A>, A>,
     key: Key,
     id: &str,
     label: &str,
+    change: &mut Change,
 ) -> Option<Row<A>>
     ensures some { IfSome result (λ row. Adds row (rows_of entries.new.items) (rows_of entries.old.items)
         × ((name_of row) ≡ record { id = id.now; label = label.now })) }
     ensures placed { IfSome result (λ row. (period : Period) (lo hi : _) → Rises period lo hi entries.old.items
         → rank_of period row ≡ rank key) }
+    ensures change { IfSome result (λ _. IsChange change.new entries.old.items entries.new.items) }
     ensures none { IfNone result (entries.new.items ≡ entries.old.items) }
     ensures absent { IfNone result
         ((period : Period) (lo hi : _) → Rises period lo hi entries.old.items
@@ -102,18 +118,23 @@ pub fn take<A: Allocator + Copy>(
     let row = entry.take(id, label)?;
     if entry.is_empty() {
         drop(entries.remove(i));
+        *change = Change::Closed(i);
+    } else {
+        *change = Change::Altered(i);
     }
     Some(row)
 }
 
-/// Puts a row in the place of the one of its key and name.
+/// Puts a row in the place of the one of its key and name, and says where.
 pub fn swap<A: Allocator + Copy>(
     entries: &mut Vec<Entry<A>, A>,
     key: Key,
     row: Row<A>,
+    change: &mut Change,
 ) -> Result<Row<A>, Row<A>>
     ensures ok { IfOk result (λ out. Swaps out row (rows_of entries.old.items) (rows_of entries.new.items)
         × ((name_of out) ≡ (name_of row))) }
+    ensures change { IfOk result (λ _. IsChange change.new entries.old.items entries.new.items) }
     ensures placed { IfOk result (λ out. (period : Period) (lo hi : _) → Rises period lo hi entries.old.items
         → rank_of period out ≡ rank key) }
     ensures absent { OnErr result ((period : Period) (lo hi : _) → Rises period lo hi entries.old.items
@@ -128,7 +149,10 @@ pub fn swap<A: Allocator + Copy>(
         Ok(i) => {
             let entry = &mut entries[i];
             match entry.swap(row) {
-                Ok(out) => Ok(out),
+                Ok(out) => {
+                    *change = Change::Altered(i);
+                    Ok(out)
+                }
                 Err(row) => Err(row),
             }
         }

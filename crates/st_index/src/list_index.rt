@@ -3,6 +3,7 @@ ghost use Rattle.std.specs.Prelude.{◌≡◌, ◌-◌, [], ◌∷◌};
 ghost use Rattle.st_index.specs.Rows.{key_end, rows_of};
 ghost use Rattle.st_index.specs.Index.{region};
 
+use crate::entries::Change;
 use crate::entry::Entry;
 use crate::index::{Leaf, RowIndex};
 use crate::judge::Judge;
@@ -108,14 +109,16 @@ impl<A: Allocator + Copy> RowIndex for ListIndex<A> {
     }
 
     fn remove(&mut self, key: Key, id: &str, label: &str) -> Option<Row<A>> {
-        let row = entries::take(&mut self.entries, key, id, label)?;
+        let mut change = Change::Altered(0);
+        let row = entries::take(&mut self.entries, key, id, label, &mut change)?;
         self.len -= 1;
         Some(row)
     }
 
     fn replace(&mut self, row: Row<A>) -> Row<A> {
         let key = row.key(self.period);
-        let Ok(out) = entries::swap(&mut self.entries, key, row) else {
+        let mut change = Change::Altered(0);
+        let Ok(out) = entries::swap(&mut self.entries, key, row, &mut change) else {
             unreachable!()
         };
         out

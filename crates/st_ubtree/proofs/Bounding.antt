@@ -1,5 +1,5 @@
 -- Counts of rows between bounds.
-use Rattle.std.proofs.Common.{◌≡◌, ℕ, ◌+◌, ◌≤◌, List, [], ◌∷◌, Bool, true, false, cond, ◌&&◌, nat_le, refl, ap, ◌∙◌, arith}
+use Rattle.std.proofs.Common.{◌≡◌, ℕ, List, [], ◌∷◌, Bool, true, false, cond, ◌&&◌, nat_le, refl, ap, arith}
 use Rattle.std.proofs.lemmas.Bool.{leb-true, le-leb, and_parts, and_from}
 use Rattle.std.proofs.lemmas.List.Elements.{All-head, All-tail}
 use Rattle.std.proofs.lemmas.List.Sums.{sum_by-cons}
@@ -12,7 +12,7 @@ use Rattle.st_text.specs.Texts.{Text}
 use Rattle.st_index.specs.declared.row.Row.{Row}
 use Rattle.st_index.specs.Counting.{count_of, is_counted}
 use Rattle.st_ubtree.specs.declared.bounds.Bounds.{Bounds}
-use Rattle.st_ubtree.specs.inner.Sums.{IsWithin, labelled, lies_in, meets}
+use Rattle.st_ubtree.specs.inner.Sums.{AreInside, IsWithin, labelled, lies_in, meets}
 
 pub inside_meets : (b : Bounds) (q : Query) (p : Point) → IsWithin b p → is_inside q p ≡ true → meets b q ≡ true
 inside_meets b q p w h =
@@ -74,3 +74,7 @@ module _ {A : Type 0} (b : Bounds) (q : Query) (judges : Text → Bool) (rows : 
   -- all rows are inside a query that holds the bounds
   pub all_counted : lies_in b q ≡ true → count_of q judges rows ≡ labelled judges rows
   all_counted lies = count_same (is_counted q judges) (λ (r : Row A). judges r.label) rows (λ k d l. counted_inside _ _ (lies_inside b q _ (within k d l) lies))
+
+  -- and each is inside it
+  pub all_inside : lies_in b q ≡ true → AreInside q rows
+  all_inside lies = λ k d l. lies_inside b q _ (within k d l) lies

@@ -1,5 +1,5 @@
 -- How many keys the pages of a node hold.
-use Rattle.std.proofs.Common.{ℕ, ◌≤◌, [], length, arith}
+use Rattle.std.proofs.Common.{◌≡◌, ℕ, ◌≤◌, [], length, refl, arith}
 use Rattle.std.proofs.lemmas.List.Elements.{All-cons, All-weaker}
 use Rattle.std.specs.List.{All}
 use Rattle.st_ubtree.specs.declared.node.Kids.{Kids}
@@ -26,6 +26,16 @@ node_filled {A} first height (Inner kids) h =
 pub node_fits : {A : Type 0} (first height : ℕ) (kids : Kids A) → IsNode first height kids → width_of kids ≤ 32
 node_fits first height (Page entries) h = h.not_more
 node_fits first height (Inner kids) h = h.not_more
+
+-- a node at the bottom is a page
+pub lowest_page : {A : Type 0} (first height : ℕ) (kids : Kids A) → IsNode first height kids → height ≡ 0 → ((entries : _) → kids ≡ Page entries → ⊥) → ⊥
+lowest_page first height (Page entries) h low none = none entries refl
+lowest_page first height (Inner kids) h low none = let a = h.higher in omega (arith, a, low)
+
+-- a node above the bottom is not a page
+pub tall_inner : {A : Type 0} (first height : ℕ) (kids : Kids A) → IsNode first height kids → 1 ≤ height → ((inner : _) → kids ≡ Inner inner → ⊥) → ⊥
+tall_inner first height (Page entries) h tall none = let a = h.lowest in omega (arith, a, tall)
+tall_inner first height (Inner inner) h tall none = none inner refl
 
 pub node_wide : {A : Type 0} (first height : ℕ) (kids : Kids A) → IsNode first height kids → All IsWide (widths_under kids)
 node_wide first height (Page entries) h = λ k d l. absurd (omega (arith, l))

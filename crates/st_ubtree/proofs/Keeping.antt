@@ -1,26 +1,26 @@
 -- What stays summed up as rows come and go.
-use Rattle.std.proofs.Common.{◌≡◌, ℕ, ◌+◌, ◌<◌, ◌≤◌, List, [], ◌∷◌, ◌++◌, Bool, true, false, cond, length, get_or, suc, zero, IsFalse, Option, Some, None, refl, sym, ap, subst, ◌∙◌, arith, append_assoc}
+use Rattle.std.proofs.Common.{◌≡◌, ℕ, ◌<◌, ◌≤◌, List, [], ◌∷◌, ◌++◌, Bool, false, cond, length, get_or, suc, zero, Option, Some, None, refl, sym, ap, subst, ◌∙◌, arith}
 use Rattle.std.specs.Prelude.{Result, Ok, Err, IfSome, IfNone, IfOk, OnErr, MatchOption, is_some}
 use Rattle.std.proofs.lemmas.List.Concat.{length-flat_map}
 use Rattle.std.proofs.lemmas.List.Sums.{get_or-le-sum_by}
 use Rattle.std.specs.List.{flat_map, sum_by}
-use Rattle.st_key.specs.Key.{rank}
 use Rattle.st_text.specs.Texts.{Text}
 use Rattle.st_box.specs.declared.query.Query.{Query}
 use Rattle.st_index.specs.declared.row.Row.{Row}
 use Rattle.st_index.specs.Counting.{count_of, is_counted}
-use Rattle.st_index.specs.Index.{Adds}
-use Rattle.st_index.specs.Rows.{EntryValue, Name, name_of, rows_of}
+use Rattle.st_index.specs.Rows.{EntryValue, Name, name_of}
 use Rattle.st_index.proofs.Sums.{sum_by-flat_map}
 use Rattle.st_ubtree.specs.declared.node.Kids.{Kids}
 use Rattle.st_ubtree.specs.declared.node.Kids.TheVariants.{Page, Inner}
 use Rattle.st_ubtree.specs.declared.summary.Summary.{Summary}
 use Rattle.st_ubtree.specs.Pages.{NodeValue, rows_of_pages}
 use Rattle.st_ubtree.specs.inner.Kids.{pages_of}
-use Rattle.st_ubtree.specs.inner.Growing.{Grows}
+use Rattle.st_ubtree.specs.inner.Growing.{Grows, Settles}
 use Rattle.st_ubtree.specs.inner.Shrinking.{Shrinks}
 use Rattle.st_ubtree.specs.inner.Trading.{TradesIn}
-use Rattle.st_ubtree.specs.inner.Nodes.{pages_under, rows_under}
+use Rattle.st_ubtree.specs.declared.marks.Marks.{Marks}
+use Rattle.st_ubtree.specs.inner.Marks.{AreMarked}
+use Rattle.st_ubtree.specs.inner.Nodes.{AreMarkedUnder, kids_under, pages_under, rows_under}
 use Rattle.st_ubtree.specs.inner.Sums.{IsWithin, Sums}
 use Rattle.st_ubtree.proofs.Inside.{rows_join}
 use Rattle.std.proofs.Math.ListN.{set}
@@ -28,6 +28,15 @@ use Rattle.st_ubtree.proofs.Splitting.{one_rows, page}
 use Rattle.st_ubtree.proofs.Summing.{sums_added, sums_swapped, sums_taken}
 
 module _ {A : Type 0} where
+  -- where no child has marks
+  pub marked_under : (marks : Marks A) (k : Kids A) → ((kids : List (NodeValue A)) → AreMarked marks kids) → AreMarkedUnder marks k
+  marked_under marks (Page entries) all = tt
+  marked_under marks (Inner kids) all = all kids.items
+
+  pub marked_kids : (marks : Marks A) (k : Kids A) → AreMarked marks (kids_under k) → AreMarkedUnder marks k
+  marked_kids marks (Page entries) are = tt
+  marked_kids marks (Inner kids) are = are
+
   pub rows_are : (first : ℕ) (kids : Kids A) → rows_under kids ≡ rows_of_pages (pages_under first kids)
   rows_are first (Page entries) = sym (one_rows first entries.items)
   rows_are first (Inner kids) = refl
@@ -58,6 +67,11 @@ module _ {A : Type 0} where
       → is_some split ≡ false → Sums s (rows_of_pages old.pages ++ row ∷ []) → Sums s (rows_of_pages new.pages)
   kept_sums s key row old new None g none sums = sums_added s row (rows_of_pages old.pages) (rows_of_pages new.pages) g.by.adds sums
   kept_sums s key row old new (Some right) g none sums = cc
+
+  -- children that are not split stay
+  pub settled_same : (height : ℕ) (old new : List (NodeValue A)) (split : Option (NodeValue A)) → Settles height old new split → is_some split ≡ false → new ≡ old
+  settled_same height old new None s none = s.0
+  settled_same height old new (Some right) s none = cc
 
   pub kept_taken : (s t : Summary A) (key : ℕ) (old new : NodeValue A) (taken : Option (Row A))
       → IfSome taken (λ row. Shrinks key row old new) → IfNone taken (new ≡ old)

@@ -16,3 +16,6 @@ pub mod Summing
 pub mod Bounding
 pub mod Keeping
 pub mod Labels
+pub mod Marking
+pub mod ByMarks
+pub mod Shifting

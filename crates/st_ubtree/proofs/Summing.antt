@@ -1,19 +1,18 @@
 -- What summaries say of rows.
-use Rattle.std.proofs.Common.{◌≡◌, ℕ, ◌+◌, ◌<◌, ◌≤◌, List, [], ◌∷◌, ◌++◌, Bool, true, false, cond, length, get_or, take, append_assoc, IsTrue, refl, sym, ap, subst, ◌∙◌, arith}
+use Rattle.std.proofs.Common.{◌≡◌, ℕ, ◌+◌, ◌<◌, List, [], ◌∷◌, ◌++◌, Bool, cond, length, get_or, take, append_assoc, IsTrue, sym, ap, subst, ◌∙◌, arith}
 use Rattle.std.proofs.lemmas.List.Elements.{All-append, All-cons, All-head, All-tail}
 use Rattle.std.proofs.lemmas.List.{append-nil, take_more}
 use Rattle.std.proofs.lemmas.List.Concat.{flat_map-append}
 use Rattle.std.proofs.lemmas.List.Sums.{sum_by-append}
-use Rattle.std.specs.List.{All, count_by, flat_map}
+use Rattle.std.specs.List.{All, flat_map}
 use Rattle.st_key.specs.declared.point.Point.{Point}
 use Rattle.st_text.specs.Texts.{Text}
 use Rattle.st_index.specs.declared.row.Row.{Row}
 use Rattle.st_index.specs.Index.{Adds, Swaps}
 use Rattle.st_index.proofs.Climbing.{all_left, all_right}
 use Rattle.st_ubtree.specs.declared.bounds.Bounds.{Bounds}
-use Rattle.st_ubtree.specs.declared.label_counts.LabelCount.{LabelCount}
 use Rattle.st_ubtree.specs.declared.summary.Summary.{Summary}
-use Rattle.st_ubtree.specs.inner.Sums.{CountsLess, CountsMore, IsWithin, Sums, found, labelled, total}
+use Rattle.st_ubtree.specs.inner.Sums.{CountsLess, CountsMore, IsWithin, Sums, labelled, total}
 
 pub wider : {A : Type 0} (a b : Bounds) → ((p : Point) → IsWithin a p → IsWithin b p) → (rows : List (Row A)) → All (λ (r : Row A). IsWithin a r.point) rows → All (λ (r : Row A). IsWithin b r.point) rows
 wider a b more rows all = λ k d l. more _ (all k d l)

@@ -1,5 +1,6 @@
 -- Invariants of representations and stages of the code, which no reader has to believe.
 pub mod Sums
+pub mod Marks
 pub mod Kids
 pub mod Tree
 pub mod Growing

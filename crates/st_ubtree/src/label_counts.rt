@@ -16,8 +16,8 @@ pub struct LabelCount<A: Allocator = Global> {
     rows: u64,
 }
 
-// Whether two labels are equal.
-fn is_same<A: Allocator + Copy>(one: &Label<A>, other: &Label<A>) -> bool
+/// Whether two labels are equal.
+pub fn is_same<A: Allocator + Copy>(one: &Label<A>, other: &Label<A>) -> bool
     ensures { IsTrue result ↔ (one.now ≡ other.now) }
 {
     one.text() == other.text()

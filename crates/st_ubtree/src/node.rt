@@ -1,30 +1,37 @@
 //! Pages, and the nodes over them.
-ghost use Rattle.std.specs.Prelude.{◌≡◌, ◌+◌, ◌<◌, ◌≤◌, IfSome, IfNone, IfOk, OnErr, ◌^◌, length, vec_len, vec_capacity};
+ghost use Rattle.std.specs.Prelude.{◌≡◌, ◌+◌, ◌≤◌, IfSome, IfNone, IfOk, OnErr, length, vec_len, vec_capacity};
 ghost use Rattle.std.specs.List.{All};
 ghost use Rattle.st_key.specs.Key.{rank};
-ghost use Rattle.st_index.specs.Rows.{EntryValue, name_of};
+ghost use Rattle.st_index.specs.Rows.{name_of};
+ghost use Rattle.st_index.specs.inner.Changes.{IsChange};
 ghost use Rattle.st_ubtree.specs.Pages.{IsWide, NodeValue, entries_of_pages, AreFilled, page_node};
 ghost use Rattle.st_ubtree.specs.inner.Trading.{Keeps, TradesIn};
 ghost use Rattle.st_ubtree.specs.inner.Shrinking.{HasNone, IsWorn, Joins, Shrinks};
 ghost use Rattle.st_ubtree.specs.inner.Growing.{AreAround, AreBlank, Grows, IsBlank, IsBlankPage, IsLeafIn, IsRoomFor};
-ghost use Rattle.st_ubtree.specs.inner.Splits.{split_nodes, splits};
+ghost use Rattle.st_ubtree.specs.inner.Splits.{splits};
 
 mod child;
 mod count;
 mod grow;
 mod join;
+mod marking;
 mod needs;
+mod pages;
 mod root;
 mod sums;
 
 use crate::label_counts::LabelCount;
+use crate::marks::{Marks, PageMarks};
+use crate::numbering::MAX_NUMBERS;
 use crate::summary::{MAX_LABELS, Summary};
 use child::{child_for, count_up_to};
 use grow::{put_in_page, settle};
 use join::{join_kids, join_pages, mend};
-use needs::{Needs, count_node, page_needs};
-use st_index::{Entry, Leaf, Row, entries, order};
+use marking::{mark_changed, mark_due, mark_if, mark_swapped};
+use st_index::entries::{self, Change};
+use st_index::{Entry, Leaf, Row, order};
 use st_key::Key;
+use st_label::Label;
 use std::alloc::{AllocError, Allocator, Global};
 use std::marker::Model;
 use sums::{drop_row, renew, renew_if};
@@ -36,6 +43,7 @@ pub struct Node<A: Allocator = Global> {
     first: Key,
     height: u64,
     sum: Summary<A>,
+    marks: Marks<A>,
     kids: Kids<A>,
 }
 
@@ -55,10 +63,11 @@ impl<A: Allocator> Model for Node<A> {
 
     ghost use Rattle.st_ubtree.specs.inner.Nodes.{node_value, IsNode, rows_under};
     ghost use Rattle.st_ubtree.specs.inner.Sums.{Sums};
+    ghost use Rattle.st_ubtree.specs.inner.Nodes.{AreMarkedUnder};
 
     ghost view = { λ n. node_value (rank n.first) n.height n.kids };
 
-    ghost invariant = { λ n. IsNode (rank n.first) n.height n.kids × Sums n.sum (rows_under n.kids) };
+    ghost invariant = { λ n. IsNode (rank n.first) n.height n.kids × Sums n.sum (rows_under n.kids) × AreMarkedUnder n.marks n.kids };
 
     ghost size = { λ v. v.height };
 
@@ -67,11 +76,13 @@ impl<A: Allocator> Model for Node<A> {
     ghost size_decreases = { λ a h. node-falls A.Allocator (rank a.first) a.height a.kids h.0 };
 }
 
-/// Lists for the children of a new node, and for their labels.
+/// Lists for the children of a new node, for their labels, and for the marks of its pages.
 #[derive(Drop)]
 pub struct Blank<A: Allocator = Global> {
     kids: Vec<Node<A>, A>,
     counts: Vec<LabelCount<A>, A>,
+    labels: Vec<Label<A>, A>,
+    pages: Vec<PageMarks, A>,
 }
 
 impl<A: Allocator + Copy> Blank<A> {
@@ -82,6 +93,8 @@ impl<A: Allocator + Copy> Blank<A> {
         Ok(Blank {
             kids: Vec::with_capacity(alloc, 33)?,
             counts: Vec::with_capacity(alloc, MAX_LABELS)?,
+            labels: Vec::with_capacity(alloc, MAX_NUMBERS)?,
+            pages: Vec::with_capacity(alloc, 33)?,
         })
     }
 }
@@ -93,12 +106,14 @@ impl<A: Allocator + Copy> Node<A> {
         requires room { 33 ≤ vec_capacity entries }
         ensures { result ≡ page_node (rank first) 0 entries.items }
     {
-        let mut sum = Summary::new(Vec::new(*entries.allocator()));
+        let alloc = *entries.allocator();
+        let mut sum = Summary::new(Vec::new(alloc));
         sum.add_entries(entries.as_slice());
         Node {
             first,
             height: 0,
             sum,
+            marks: Marks::new(Vec::new(alloc), Vec::new(alloc)),
             kids: Kids::Page(entries),
         }
     }
@@ -134,29 +149,7 @@ impl<A: Allocator + Copy> Node<A> {
         }
     }
 
-    /// What a new row of the key takes.
-    pub fn needs(&self, key: Key) -> Needs
-        requires { AreAround (rank key) self.now.pages }
-        ensures rows { All (λ (e : EntryValue A). e.at ≡ rank key → length e.rows ≡ result.rows) (entries_of_pages self.now.pages) }
-        ensures no_rows { All (λ (e : EntryValue A). e.at ≡ rank key → ⊥) (entries_of_pages self.now.pages) → result.rows ≡ 0 }
-        ensures in_range { result.rows + 1 < 2 ^ 64 }
-        ensures splits { splits self.now (rank key) ≡ split_nodes result.inners }
-    {
-        match &self.kids {
-            Kids::Page(entries) => page_needs(entries, key),
-            Kids::Inner(kids) => {
-                let at = child_for(kids, key);
-                let kid = &kids[at];
-                let needs = kid.needs(key);
-                Needs {
-                    rows: needs.rows,
-                    inners: count_node(needs.inners, self.height, kids.len()),
-                }
-            }
-        }
-    }
-
-    /// Puts in a row. Where the node is full, its upper half is handed back as a node of its own.
+    /// Puts in a row. Where the node is full, its upper half is handed back as a node of its own. A page says where.
     pub fn insert(
         &mut self,
         key: Key,
@@ -164,6 +157,7 @@ impl<A: Allocator + Copy> Node<A> {
         rows: Vec<Row<A>, A>,
         page: Option<Vec<Entry<A>, A>>,
         inners: &mut Vec<Blank<A>, A>,
+        change: &mut Change,
     ) -> Option<Node<A>>
         requires rows { IsRoomFor (rank key) rows.items (vec_capacity rows) (entries_of_pages self.old.pages) }
         requires around { AreAround (rank key) self.old.pages }
@@ -174,23 +168,32 @@ impl<A: Allocator + Copy> Node<A> {
         ensures split { IfSome result (λ _. splits self.old (rank key) ≡ self.old.height + 1) }
         ensures blank { AreBlank inners.new.items }
         ensures left { vec_len inners.old ≤ vec_len inners.new + self.old.height }
+        ensures change { IfNone result (self.old.height ≡ 0
+            → IsChange change.new (entries_of_pages self.old.pages) (entries_of_pages self.new.pages)) }
     {
         self.sum.add(&row);
         match &mut self.kids {
             Kids::Page(entries) => {
-                let split = put_in_page(entries, key, row, rows, page);
+                let split = put_in_page(entries, key, row, rows, page, change);
                 renew_if(split.is_some(), &mut self.sum, &self.kids);
                 return split;
             }
             Kids::Inner(kids) => {
                 let at = child_for(kids, key);
                 let kid = &mut kids[at];
-                let right = kid.insert(key, row, rows, page, inners)?;
+                let Some(right) = kid.insert(key, row, rows, page, inners, change) else {
+                    mark_changed(&mut self.marks, &self.kids, at, *change);
+                    return None;
+                };
+                self.marks.clear_page(at);
                 let Ok(()) = kids.insert(at + 1, right) else {
                     unreachable!()
                 };
+                self.marks.open(at + 1);
                 let split = settle(kids, self.height, inners);
-                renew_if(split.is_some(), &mut self.sum, &self.kids);
+                let parted = split.is_some();
+                renew_if(parted, &mut self.sum, &self.kids);
+                mark_due(parted, at, &mut self.marks, &self.kids);
                 split
             }
         }
@@ -206,7 +209,7 @@ impl<A: Allocator + Copy> Node<A> {
         }
     }
 
-    // Takes over entries or children of the node beside it. What is left of that one is handed back.
+    // Takes over entries or children of the node beside it. What is left of that one is handed back. Neither has marks then.
     fn join(&mut self, right: Node<A>) -> Option<Node<A>>
         requires worn { IsWorn self.old.height self.old }
         requires right { IsWorn self.old.height right }
@@ -216,33 +219,39 @@ impl<A: Allocator + Copy> Node<A> {
         let Node {
             height,
             sum,
+            marks,
             kids,
             ..
         } = right;
         let rest = match (&mut self.kids, kids) {
             (Kids::Page(left), Kids::Page(right)) => join_pages(left, right),
-            (Kids::Inner(left), Kids::Inner(right)) => join_kids(left, right, height, sum),
+            (Kids::Inner(left), Kids::Inner(right)) => join_kids(left, right, height, sum, marks),
             _ => unreachable!(),
         };
         renew(&mut self.sum, &self.kids);
+        self.marks.clear();
         rest
     }
 
-    /// Takes out the row of a key and a name.
-    pub fn remove(&mut self, key: Key, id: &str, label: &str) -> Option<Row<A>>
+    /// Takes out the row of a key and a name. A page says where it stood.
+    pub fn remove(&mut self, key: Key, id: &str, label: &str, change: &mut Change) -> Option<Row<A>>
         requires wide { 1 ≤ self.old.height → 2 ≤ self.old.width }
         ensures some { IfSome result (λ row. Shrinks (rank key) row self.old self.new) }
         ensures named { IfSome result (λ row. name_of row ≡ record { id = id.now; label = label.now }) }
         ensures none { IfNone result (self.new ≡ self.old) }
         ensures absent { IfNone result (HasNone (rank key) (record { id = id.now; label = label.now }) self.old.pages) }
+        ensures change { IfSome result (λ _. self.old.height ≡ 0
+            → IsChange change.new (entries_of_pages self.old.pages) (entries_of_pages self.new.pages)) }
     {
         let taken = match &mut self.kids {
-            Kids::Page(entries) => entries::take(entries, key, id, label),
+            Kids::Page(entries) => entries::take(entries, key, id, label, change),
             Kids::Inner(kids) => {
                 let at = child_for(kids, key);
                 let kid = &mut kids[at];
-                let row = kid.remove(key, id, label)?;
-                mend(kids, at);
+                let row = kid.remove(key, id, label, change)?;
+                kids[at].mark_change(at, *change, &mut self.marks);
+                mend(kids, at, &mut self.marks);
+                mark_if(self.sum.is_time(), &mut self.marks, &self.kids);
                 Some(row)
             }
         };
@@ -251,21 +260,25 @@ impl<A: Allocator + Copy> Node<A> {
         taken
     }
 
-    /// Puts a row in the place of the one of its key and name. Hands the row itself back where there is none.
-    pub fn replace(&mut self, key: Key, row: Row<A>) -> Result<Row<A>, Row<A>>
+    /// Puts a row in the place of the one of its key and name. Hands the row itself back where there is none. A page says where.
+    pub fn replace(&mut self, key: Key, row: Row<A>, change: &mut Change) -> Result<Row<A>, Row<A>>
         ensures ok { IfOk result (λ out. TradesIn (rank key) out row self.old.pages self.new.pages) }
         ensures named { IfOk result (λ out. name_of out ≡ name_of row) }
         ensures keeps { Keeps self.old self.new }
         ensures absent { OnErr result (HasNone (rank key) (name_of row) self.old.pages) }
         ensures err { OnErr result (self.new.pages ≡ self.old.pages) }
+        ensures change { IfOk result (λ _. self.old.height ≡ 0
+            → IsChange change.new (entries_of_pages self.old.pages) (entries_of_pages self.new.pages)) }
     {
         self.sum.widen(&row.point);
         match &mut self.kids {
-            Kids::Page(entries) => entries::swap(entries, key, row),
+            Kids::Page(entries) => entries::swap(entries, key, row, change),
             Kids::Inner(kids) => {
                 let at = child_for(kids, key);
                 let kid = &mut kids[at];
-                kid.replace(key, row)
+                let out = kid.replace(key, row, change);
+                mark_swapped(&out, at, *change, &mut self.marks, &self.kids);
+                out
             }
         }
     }

@@ -1,10 +1,10 @@
 //! What a node knows of the rows below it.
-ghost use Rattle.std.specs.Prelude.{◌≡◌, ◌++◌, [], ◌∷◌, Bool, List, ◌<◌, ◌^◌, IsFalse, IfSome, length};
+ghost use Rattle.std.specs.Prelude.{◌≡◌, ◌++◌, [], ◌∷◌, Bool, List, ◌<◌, ◌^◌, IsFalse, IsTrue, IfSome, length};
 ghost use Rattle.st_index.specs.declared.row.Row.{Row as RowValue};
 ghost use Rattle.st_index.specs.Rows.{rows_of};
 ghost use Rattle.st_index.specs.Counting.{count_of};
 ghost use Rattle.st_text.specs.Texts.{Text};
-ghost use Rattle.st_ubtree.specs.inner.Sums.{IsWithin, Sums};
+ghost use Rattle.st_ubtree.specs.inner.Sums.{AreInside, IsWithin, Sums};
 
 use crate::bounds::Bounds;
 use crate::label_counts::{LabelCount, LabelCounts};
@@ -16,7 +16,7 @@ use std::alloc::{Allocator, Global};
 /// The most labels whose rows a node counts.
 pub const MAX_LABELS: usize = 16;
 
-// After how many removals a node whose labels are too many is summed up again.
+// After how many removals a node whose labels are too many is summed up again, and all pages below it have marks again.
 const PATIENCE: u64 = 256;
 
 /// The bounds of the rows below a node, and how many rows there are under each label, unless the labels are
@@ -114,17 +114,31 @@ impl<A: Allocator + Copy> Summary<A> {
         !self.labels.are_all() && self.removals >= PATIENCE
     }
 
+    /// Whether so many rows were taken out that pages without marks are to have some.
+    pub fn is_time(&self) -> bool {
+        self.removals % PATIENCE == PATIENCE - 1
+    }
+
     /// Whether a row may be inside the query.
     pub fn meets(&self, query: &Query) -> bool
-        ensures { (rows : List (RowValue A)) (judges : Text → Bool) → Sums self.now rows → IsFalse result → count_of query.now judges rows ≡ 0 }
+        ensures { (rows : List (RowValue A)) (judges : Text → Bool) → Sums self.now rows → IsFalse result
+            → count_of query.now judges rows ≡ 0 }
     {
         self.bounds.meets(query)
+    }
+
+    /// Whether all rows are inside the query.
+    pub fn lies_in(&self, query: &Query) -> bool
+        ensures { (rows : List (RowValue A)) → Sums self.now rows → IsTrue result → AreInside query.now rows }
+    {
+        self.bounds.lies_in(query)
     }
 
     /// The number of rows that are counted, where the labels are counted and all rows are inside the query.
     pub fn count_inside<J: Judge<A>>(&self, query: &Query, judge: &mut J) -> Option<u64>
         requires { (rows : List (RowValue A)) × Sums self.now rows × (length rows < 2 ^ 64) }
-        ensures some { (rows : List (RowValue A)) → Sums self.now rows → IfSome result (λ count. count ≡ count_of query.now (J.judges judge.old) rows) }
+        ensures some { (rows : List (RowValue A)) → Sums self.now rows
+            → IfSome result (λ count. count ≡ count_of query.now (J.judges judge.old) rows) }
         ensures same { J.judges judge.new ≡ J.judges judge.old }
     {
         if !self.labels.are_all() {

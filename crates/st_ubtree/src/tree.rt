@@ -11,7 +11,8 @@ ghost use Rattle.st_ubtree.specs.Ranges.{region_in};
 
 use crate::node::{Blank, Node};
 use st_box::Query;
-use st_index::{Entry, Judge, Leaf, Row, RowIndex, entries};
+use st_index::entries::{self, Change};
+use st_index::{Entry, Judge, Leaf, Row, RowIndex};
 use st_key::{Key, Period};
 use std::alloc::{AllocError, Allocator, Global};
 use std::marker::Model;
@@ -184,7 +185,8 @@ impl<A: Allocator + Copy> RowIndex for UbTree<A> {
     }
 
     fn remove(&mut self, key: Key, id: &str, label: &str) -> Option<Row<A>> {
-        let row = self.root.remove(key, id, label)?;
+        let mut change = Change::Altered(0);
+        let row = self.root.remove(key, id, label, &mut change)?;
         self.root.lower();
         self.root.count_keys();
         self.len -= 1;
@@ -193,7 +195,8 @@ impl<A: Allocator + Copy> RowIndex for UbTree<A> {
 
     fn replace(&mut self, row: Row<A>) -> Row<A> {
         let key = row.key(self.period);
-        let Ok(out) = self.root.replace(key, row) else {
+        let mut change = Change::Altered(0);
+        let Ok(out) = self.root.replace(key, row, &mut change) else {
             unreachable!()
         };
         self.root.count_keys();

@@ -17,6 +17,8 @@ mod labels;
 #[cfg(test)]
 mod lanes;
 #[cfg(test)]
+mod marks;
+#[cfg(test)]
 mod plans;
 #[cfg(test)]
 mod putting;

@@ -52,7 +52,11 @@ fn place_of<A: Allocator + Copy>(shelves: &[Shelf<A>], name: &str) -> usize
     ensures place { IsPlace heading_key (name.now ∷ []) (headings_in shelves.now) result }
     ensures alone { IsAlone (is_of name.now) (headings_in shelves.now) result }
 {
-    shelves.partition_point(|shelf| comes_before_name(shelf, name))
+    shelves.partition_point(
+        |shelf: &Shelf<A>| -> bool
+            ensures { result ≡ comes_before (heading_key (heading_of shelf.now)) (name.entry.now ∷ []) }
+        { comes_before_name(shelf, name) },
+    )
 }
 
 // Whether the table's name comes before this one, by its bytes.

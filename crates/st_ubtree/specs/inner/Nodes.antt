@@ -7,6 +7,8 @@ use Rattle.st_ubtree.specs.declared.node.Kids.{Kids}
 use Rattle.st_ubtree.specs.declared.node.Kids.TheVariants.{Page, Inner}
 use Rattle.st_ubtree.specs.Pages.{PageValue, NodeValue, rows_of_pages}
 use Rattle.st_ubtree.specs.inner.Kids.{IsKid, pages_of, widths_of, HeadAt}
+use Rattle.st_ubtree.specs.declared.marks.Marks.{Marks}
+use Rattle.st_ubtree.specs.inner.Marks.{AreMarked}
 use Rattle.st_ubtree.specs.inner.Splits.{chains_of}
 
 abbrev pub width_of : {A : Type 0} → Kids A → ℕ
@@ -25,6 +27,16 @@ pages_under first (Inner kids) = pages_of kids.items
 abbrev pub rows_under : {A : Type 0} → Kids A → List (Row A)
 rows_under (Page entries) = rows_of entries.items
 rows_under (Inner kids) = rows_of_pages (pages_of kids.items)
+
+-- its children
+abbrev pub kids_under : {A : Type 0} → Kids A → List (NodeValue A)
+kids_under (Page entries) = []
+kids_under (Inner kids) = kids.items
+
+-- the marks of the pages below it
+abbrev pub AreMarkedUnder : {A : Type 0} → Marks A → Kids A → Type 0
+AreMarkedUnder marks (Page entries) = Unit {0}
+AreMarkedUnder marks (Inner kids) = AreMarked marks kids.items
 
 abbrev pub chains_under : {A : Type 0} → Kids A → List ℕ
 chains_under (Page entries) = 1 ∷ []

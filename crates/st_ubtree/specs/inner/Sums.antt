@@ -1,8 +1,9 @@
 -- An invariant of a representation, which no reader has to believe: what the summary of a node says of the rows below it.
-use Rattle.std.specs.Prelude.{◌≡◌, ℕ, ◌+◌, ◌≤◌, Bool, ◌&&◌, nat_le, cond, List, IsTrue, count_by}
+use Rattle.std.specs.Prelude.{◌≡◌, ℕ, ◌+◌, ◌≤◌, Bool, ◌&&◌, true, nat_le, cond, List, IsTrue, count_by}
 use Rattle.std.specs.List.{All, sum_by}
 use Rattle.st_key.specs.declared.point.Point.{Point}
 use Rattle.st_box.specs.declared.query.Query.{Query}
+use Rattle.st_box.specs.Query.{is_inside}
 use Rattle.st_text.specs.Texts.{Text}
 use Rattle.st_index.specs.declared.row.Row.{Row}
 use Rattle.st_ubtree.specs.declared.bounds.Bounds.{Bounds}
@@ -38,6 +39,10 @@ total judges counts = sum_by (found judges) counts
 -- how many of the rows have a label that is found true
 abbrev pub labelled : {A : Type 0} → (Text → Bool) → List (Row A) → ℕ
 labelled judges rows = count_by (λ row. judges row.label) rows
+
+-- each row is inside the query
+abbrev pub AreInside : {A : Type 0} → Query → List (Row A) → Type 0
+AreInside {A} q rows = All (λ (r : Row A). is_inside q r.point ≡ true) rows
 
 -- where the labels are all counted still, they were, and there are so many rows more under those that are found true
 abbrev pub CountsMore : {A : Type 0} → (old new : LabelCounts A) → ((Text → Bool) → ℕ) → Type 0

@@ -3,6 +3,7 @@ ghost use Rattle.std.specs.Prelude.{◌≡◌, ◌<◌, ◌^◌, length};
 ghost use Rattle.st_index.specs.Counting.{count_of};
 ghost use Rattle.st_ubtree.specs.Pages.{rows_of_pages};
 
+use super::pages::count_pages;
 use super::{Kids, Node};
 use st_box::Query;
 use st_index::{Judge, counting};
@@ -25,6 +26,9 @@ impl<A: Allocator + Copy> Node<A> {
         match &self.kids {
             Kids::Page(entries) => counting::count(entries.as_slice(), query, judge),
             Kids::Inner(kids) => {
+                if self.height == 1 {
+                    return count_pages(&self.marks, kids.as_slice(), query, judge);
+                }
                 let mut sum = 0;
                 for kid in kids.as_slice() {
                     sum += kid.count(query, judge);

@@ -1,24 +1,29 @@
 //! Pages and nodes that a new row makes too full.
-ghost use Rattle.std.specs.Prelude.{◌≡◌, ◌+◌, ◌<◌, ◌≤◌, IfSome, length, vec_len, vec_capacity};
+ghost use Rattle.std.specs.Prelude.{◌≡◌, ◌+◌, ◌<◌, ◌≤◌, IfNone, IfSome, length, vec_len, vec_capacity};
 ghost use Rattle.st_key.specs.Key.{rank};
+ghost use Rattle.st_index.specs.inner.Changes.{IsChange};
 ghost use Rattle.st_ubtree.specs.inner.Growing.{AreBlank, AreKids, DoRise, IsBlankPage, IsRoomFor, PageGrows, Settles};
 ghost use Rattle.st_ubtree.specs.inner.Splits.{splits_page};
 
+use super::marking::mark_kids;
 use super::sums::add_kids;
 use super::{Blank, Kids, Node};
+use crate::marks::Marks;
 use crate::split::split_at;
 use crate::summary::Summary;
-use st_index::{Entry, Row, entries};
+use st_index::entries::{self, Change};
+use st_index::{Entry, Row};
 use st_key::Key;
 use std::alloc::Allocator;
 
-// Puts a row into a page's entries. Of 33 entries the upper 17 are handed back as a page of their own.
+// Puts a row into a page's entries, and says where. Of 33 entries the upper 17 are handed back as a page of their own.
 pub(super) fn put_in_page<A: Allocator + Copy>(
     entries: &mut Vec<Entry<A>, A>,
     key: Key,
     row: Row<A>,
     rows: Vec<Row<A>, A>,
     page: Option<Vec<Entry<A>, A>>,
+    change: &mut Change,
 ) -> Option<Node<A>>
     requires rows { IsRoomFor (rank key) rows.items (vec_capacity rows) entries.old.items }
     requires rising { DoRise entries.old.items }
@@ -28,8 +33,9 @@ pub(super) fn put_in_page<A: Allocator + Copy>(
     ensures grows { PageGrows (rank key) row entries.old.items entries.new.items result }
     ensures split { IfSome result (λ _. splits_page entries.old.items 1 (rank key) ≡ 1) }
     ensures room { 33 ≤ vec_capacity entries.new }
+    ensures change { IfNone result (IsChange change.new entries.old.items entries.new.items) }
 {
-    entries::put(entries, key, row, rows);
+    *change = entries::put(entries, key, row, rows);
     if entries.len() <= 32 {
         return None;
     }
@@ -64,16 +70,21 @@ pub(super) fn settle<A: Allocator + Copy>(
     let Blank {
         kids: blank,
         counts,
+        labels,
+        pages,
     } = blank;
     let least = &kids[16];
     let first = least.first;
     let upper = split_at(kids, 16, blank);
     let mut sum = Summary::new(counts);
     add_kids(&mut sum, upper.as_slice());
+    let mut marks = Marks::new(labels, pages);
+    mark_kids(&mut marks, upper.as_slice());
     Some(Node {
         first,
         height,
         sum,
+        marks,
         kids: Kids::Inner(upper),
     })
 }

@@ -2,9 +2,11 @@
 ghost use Rattle.std.specs.Prelude.{◌+◌, ◌≤◌, ◌++◌, ℕ, length, vec_len, vec_capacity};
 ghost use Rattle.st_ubtree.specs.inner.Shrinking.{AreWorn, KidsJoin, Mends, PagesJoin};
 ghost use Rattle.st_ubtree.specs.inner.Growing.{AreKids};
+ghost use Rattle.st_ubtree.specs.inner.Marks.{AreMarked};
 
 use super::sums::add_kids;
 use super::{Kids, Node};
+use crate::marks::Marks;
 use crate::split::share;
 use crate::summary::Summary;
 use st_index::Entry;
@@ -37,6 +39,7 @@ pub(super) fn join_kids<A: Allocator + Copy>(
     mut right: Vec<Node<A>, A>,
     height: u64,
     mut sum: Summary<A>,
+    mut marks: Marks<A>,
 ) -> Option<Node<A>>
     requires kids { AreKids height (left.old.items ++ right.items) }
     requires left { (15 ≤ vec_len left.old) × (vec_len left.old ≤ 32) }
@@ -54,22 +57,25 @@ pub(super) fn join_kids<A: Allocator + Copy>(
     let first = least.first;
     sum.clear();
     add_kids(&mut sum, right.as_slice());
+    marks.clear();
     Some(Node {
         first,
         height,
         sum,
+        marks,
         kids: Kids::Inner(right),
     })
 }
 
-// Evens a child that may have 15 entries or children with the one beside it.
-pub(super) fn mend<A: Allocator + Copy>(kids: &mut Vec<Node<A>, A>, at: usize)
+// Evens a child that may have 15 entries or children with the one beside it. The marks of both are then not known.
+pub(super) fn mend<A: Allocator + Copy>(kids: &mut Vec<Node<A>, A>, at: usize, marks: &mut Marks<A>)
     requires worn { (below : ℕ) × AreWorn below at kids.old.items }
     requires two { 2 ≤ length kids.old.items }
     requires room { 33 ≤ vec_capacity kids.old }
     requires not_more { length kids.old.items ≤ 32 }
     ensures mends { (below : ℕ) → AreWorn below at kids.old.items → Mends below kids.old.items kids.new.items }
     ensures room { 33 ≤ vec_capacity kids.new }
+    ensures marks { AreMarked marks.old kids.old.items → AreMarked marks.new kids.new.items }
 {
     let kid = &kids[at];
     if kid.width() >= 16 {
@@ -77,6 +83,8 @@ pub(super) fn mend<A: Allocator + Copy>(kids: &mut Vec<Node<A>, A>, at: usize)
     }
     let left = at.min(kids.len() - 2);
     let right = kids.remove(left + 1);
+    marks.close(left + 1);
+    marks.clear_page(left);
     let kid = &mut kids[left];
     let Some(right) = kid.join(right) else {
         return;
@@ -84,4 +92,5 @@ pub(super) fn mend<A: Allocator + Copy>(kids: &mut Vec<Node<A>, A>, at: usize)
     let Ok(()) = kids.insert(left + 1, right) else {
         unreachable!()
     };
+    marks.open(left + 1);
 }

@@ -3,9 +3,12 @@ ghost use Rattle.std.specs.Prelude.{◌≡◌, ◌+◌, ◌-◌, ◌<◌, ◌≤
 ghost use Rattle.std.specs.List.{All};
 ghost use Rattle.st_key.specs.Key.{rank};
 ghost use Rattle.st_index.specs.Rows.{EntryValue};
-ghost use Rattle.st_ubtree.specs.inner.Growing.{DoRise};
-ghost use Rattle.st_ubtree.specs.inner.Splits.{split_nodes, splits_page, splits_with};
+ghost use Rattle.st_ubtree.specs.Pages.{entries_of_pages};
+ghost use Rattle.st_ubtree.specs.inner.Growing.{AreAround, DoRise};
+ghost use Rattle.st_ubtree.specs.inner.Splits.{split_nodes, splits, splits_page, splits_with};
 
+use super::child::child_for;
+use super::{Kids, Node};
 use st_index::{Entry, entries};
 use st_key::Key;
 use std::alloc::Allocator;
@@ -16,6 +19,30 @@ use std::alloc::Allocator;
 pub struct Needs {
     pub rows: usize,
     pub inners: Option<u64>,
+}
+
+impl<A: Allocator + Copy> Node<A> {
+    /// What a new row of the key takes.
+    pub fn needs(&self, key: Key) -> Needs
+        requires { AreAround (rank key) self.now.pages }
+        ensures rows { All (λ (e : EntryValue A). e.at ≡ rank key → length e.rows ≡ result.rows) (entries_of_pages self.now.pages) }
+        ensures no_rows { All (λ (e : EntryValue A). e.at ≡ rank key → ⊥) (entries_of_pages self.now.pages) → result.rows ≡ 0 }
+        ensures in_range { result.rows + 1 < 2 ^ 64 }
+        ensures splits { splits self.now (rank key) ≡ split_nodes result.inners }
+    {
+        match &self.kids {
+            Kids::Page(entries) => page_needs(entries, key),
+            Kids::Inner(kids) => {
+                let at = child_for(kids, key);
+                let kid = &kids[at];
+                let needs = kid.needs(key);
+                Needs {
+                    rows: needs.rows,
+                    inners: count_node(needs.inners, self.height, kids.len()),
+                }
+            }
+        }
+    }
 }
 
 // What a new row of the key takes in a page.

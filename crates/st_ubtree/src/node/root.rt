@@ -6,9 +6,12 @@ ghost use Rattle.st_ubtree.specs.inner.Kids.{GrowsBy, IsKid};
 ghost use Rattle.st_ubtree.specs.inner.Growing.{AreAround, AreBlank, IsBlankPage, IsRoomFor};
 ghost use Rattle.st_ubtree.specs.inner.Splits.{made_nodes, splits};
 
+use super::marking::mark_all;
 use super::sums::add_kids;
 use super::{Blank, Kids, Node};
+use crate::marks::Marks;
 use crate::summary::Summary;
+use st_index::entries::Change;
 use st_index::{Entry, Row};
 use st_key::Key;
 use std::alloc::Allocator;
@@ -33,7 +36,8 @@ impl<A: Allocator + Copy> Node<A> {
         ensures grows { GrowsBy (rank key) row self.old.pages self.new.pages }
         ensures wide { 1 ≤ self.new.height → 2 ≤ self.new.width }
     {
-        let Some(right) = self.insert(key, row, rows, page, &mut inners) else {
+        let mut change = Change::Altered(0);
+        let Some(right) = self.insert(key, row, rows, page, &mut inners, &mut change) else {
             return;
         };
         let Some(blank) = inners.pop() else {
@@ -56,14 +60,19 @@ impl<A: Allocator + Copy> Node<A> {
         let Blank {
             kids: mut blank,
             counts,
+            labels,
+            pages,
         } = blank;
         let kids = mem::replace(&mut self.kids, Kids::Inner(Vec::new(*blank.allocator())));
         let none = Summary::new(counts);
         let sum = mem::replace(&mut self.sum, none);
+        let unknown = Marks::new(labels, pages);
+        let marks = mem::replace(&mut self.marks, unknown);
         let left = Node {
             first: self.first,
             height: self.height,
             sum,
+            marks,
             kids,
         };
         let Ok(()) = blank.push(left) else {
@@ -75,6 +84,7 @@ impl<A: Allocator + Copy> Node<A> {
         add_kids(&mut self.sum, blank.as_slice());
         self.kids = Kids::Inner(blank);
         self.height += 1;
+        mark_all(&mut self.marks, &self.kids);
     }
 
     /// Puts the only child of a node in the node's place.
@@ -94,11 +104,13 @@ impl<A: Allocator + Copy> Node<A> {
                 first,
                 height,
                 sum,
+                marks,
                 kids,
             } = only;
             self.first = first;
             self.height = height;
             self.sum = sum;
+            self.marks = marks;
             self.kids = kids;
         }
     }

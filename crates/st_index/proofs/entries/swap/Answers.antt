@@ -1,4 +1,4 @@
-use Rattle.std.proofs.Common.{◌≡◌, set, subst, sym, ap, ◌∙◌}
+use Rattle.std.proofs.Common.{◌≡◌, refl, set, subst, sym, ap, ◌∙◌}
 use Rattle.std.proofs.lemmas.List.{set-get_or}
 use Rattle.st_key.specs.Key.{rank}
 use Rattle.st_index.specs.Rows.{name_of, EntryValue, Rises, rows_of}
@@ -59,3 +59,6 @@ pub returns-in-Err-swap-clause-err : goal.returns-in-Err-swap-clause-err
 returns-in-Err-swap-clause-err g c =
     let es = c.args.entries.now.items in
     ap (λ e. set es c.in-Ok.i e) (c.in-Err-swap.ensures.err ∙ c.index_mut-entry.ensures.value) ∙ set-get_or es c.in-Ok.i c.index_mut-entry.result.now
+
+pub returns-in-Ok-swap-clause-change : goal.returns-in-Ok-swap-clause-change
+returns-in-Ok-swap-clause-change g c = (rw c.deref.ensures.value at c.in-Ok.ensures.bound, c.swap.new.self, refl)

@@ -125,3 +125,16 @@ returns-clause-none g c = tt
 
 pub returns-clause-absent : goal.returns-clause-absent
 returns-clause-absent g c = tt
+
+pub returns-clause-change : goal.returns-clause-change
+returns-clause-change g c =
+    let bound = rw c.deref.ensures.value at c.in-Ok.ensures.bound in
+    let es = c.args.entries.now.items in
+    let e = c.index_mut-entry.result.now in
+    let f = c.take.new.self in
+    elim c.if-is_empty.branch [
+      | then-is_empty w ↦
+          let is : c.if-is_empty.entries.items ≡ remove es c.in-Ok.i = ap (λ v. v.items) w.entries-is ∙ w.remove.ensures.items ∙ emptied es c.in-Ok.i e f bound c.index_mut-entry.ensures.value in
+          rw w.change-is (bound, is)
+      | else-is_empty w ↦ rw (w.change-is, w.entries-is) (bound, f, refl)
+    ]

@@ -1,4 +1,4 @@
-use Rattle.std.proofs.Common.{◌≡◌, ◌+◌, ◌<◌, length, cond, get_or, set, subst, sym, ap, ◌∙◌, refl, arith}
+use Rattle.std.proofs.Common.{◌≡◌, ◌+◌, ◌<◌, length, cond, get_or, set, subst, ap, ◌∙◌, refl, arith}
 use Rattle.st_ubtree.specs.declared.label_counts.LabelCount.{LabelCount}
 use Rattle.st_ubtree.specs.inner.Sums.{total}
 use Rattle.st_ubtree.proofs.Labels.{put_there, same_read}

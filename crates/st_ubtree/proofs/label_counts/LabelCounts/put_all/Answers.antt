@@ -1,4 +1,4 @@
-use Rattle.std.proofs.Common.{◌≡◌, ◌+◌, ◌<◌, length, take, ap, arith}
+use Rattle.std.proofs.Common.{◌<◌, length, ap, arith}
 use Rattle.std.proofs.lemmas.List.{take_all}
 use Rattle.st_index.proofs.Sums.{sum_one_more}
 use Rattle.st_ubtree.specs.inner.Sums.{found, total}

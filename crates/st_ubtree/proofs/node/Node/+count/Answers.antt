@@ -1,4 +1,4 @@
-use Rattle.std.proofs.Common.{◌≡◌, ◌+◌, ◌<◌, ◌≤◌, length, get_or, take, sym, ap, subst, ◌∙◌, arith, rules, vec_capacity}
+use Rattle.std.proofs.Common.{◌≡◌, ◌+◌, ◌<◌, length, get_or, sym, ap, subst, ◌∙◌, arith, rules, vec_capacity}
 use Rattle.std.proofs.lemmas.List.Sums.{count_by-le-length, sum_by-take-le}
 use Rattle.st_key.specs.Key.{rank}
 use Rattle.st_index.specs.Counting.{count_of, is_counted}
@@ -6,7 +6,9 @@ use Rattle.st_index.specs.Rows.{rows_of}
 use Rattle.st_index.proofs.Sums.{sum_all, sum_one_more}
 use Rattle.st_ubtree.specs.Pages.{NodeValue, rows_of_pages}
 use Rattle.st_ubtree.specs.inner.Kids.{pages_of}
-use Rattle.st_ubtree.specs.inner.Nodes.{IsInnerNode, IsNode, rows_under}
+use Rattle.std.specs.List.{All}
+use Rattle.st_ubtree.specs.inner.Marks.{AreMarked}
+use Rattle.st_ubtree.specs.inner.Nodes.{AreMarkedUnder, IsInnerNode, IsNode, rows_under}
 use Rattle.st_ubtree.proofs.Keeping.{count_of_kids, fewer_in_kid, rows_are}
 use Rattle.st_ubtree.proofs.Lifting.{that_kid}
 use Rattle.st_ubtree.proofs.Needing.{lower_kid}
@@ -121,3 +123,35 @@ returns-after-loop-kid-clause-count g t c =
 
 pub returns-after-loop-kid-clause-same : goal.returns-after-loop-kid-clause-same
 returns-after-loop-kid-clause-same g t c = c.loop-kid.invariant.same ∙ c.count_inside.ensures.same
+
+pub count_pages-requires-clause-lowest : goal.count_pages-requires-clause-lowest
+count_pages-requires-clause-lowest g t c =
+    let kids = c.in-Inner.kids.items in
+    let good : IsInnerNode (rank c.self.inside.first) c.self.inside.height kids (vec_capacity c.in-Inner.kids) = subst (IsNode (rank c.self.inside.first) c.self.inside.height) c.in-Inner.is c.self.invariant.0 in
+    let one : c.self.inside.height ≡ 1 = c.if-self-eq1.true in
+    let higher = good.higher in
+    let low : good.below ≡ 0 = omega (arith, one, higher) in
+    subst (All (λ (v : NodeValue g.row.A.Denot). v.height ≡ 0)) (sym c.as_slice-then-self-eq1.ensures.value) (λ k d l. (good.each k d l).same_height ∙ low)
+
+pub count_pages-requires-clause-fits : goal.count_pages-requires-clause-fits
+count_pages-requires-clause-fits g t c =
+    let rows : rows_of_pages c.args.self.now.pages ≡ rows_under c.self.inside.kids = ap (λ (v : NodeValue g.row.A.Denot). rows_of_pages v.pages) (sym c.self.view_is) ∙ sym (rows_are (rank c.self.inside.first) c.self.inside.kids) in
+    let xs = c.as_slice-then-self-eq1.result.now in
+    let all : rows_of_pages c.args.self.now.pages ≡ rows_of_pages (pages_of xs) = rows ∙ ap rows_under c.in-Inner.is ∙ ap (λ ks. rows_of_pages (pages_of ks)) (sym c.as_slice-then-self-eq1.ensures.value) in
+    subst (λ rs. length rs < 18446744073709551616) all c.requires
+
+pub count_pages-requires-clause-marked : goal.count_pages-requires-clause-marked
+count_pages-requires-clause-marked g t c =
+    subst (AreMarked c.self.inside.marks) (sym c.as_slice-then-self-eq1.ensures.value) (subst (AreMarkedUnder c.self.inside.marks) c.in-Inner.is c.self.invariant.2)
+
+pub returns-then-self-eq1-clause-count : goal.returns-then-self-eq1-clause-count
+returns-then-self-eq1-clause-count g t c =
+    let rows : rows_of_pages c.args.self.now.pages ≡ rows_under c.self.inside.kids = ap (λ (v : NodeValue g.row.A.Denot). rows_of_pages v.pages) (sym c.self.view_is) ∙ sym (rows_are (rank c.self.inside.first) c.self.inside.kids) in
+    let xs = c.as_slice-then-self-eq1.result.now in
+    let all : rows_of_pages c.args.self.now.pages ≡ rows_of_pages (pages_of xs) = rows ∙ ap rows_under c.in-Inner.is ∙ ap (λ ks. rows_of_pages (pages_of ks)) (sym c.as_slice-then-self-eq1.ensures.value) in
+    c.count_pages.ensures.count
+    ∙ ap (λ j. count_of c.args.query.now j (rows_of_pages (pages_of xs))) c.count_inside.ensures.same
+    ∙ sym (ap (count_of c.args.query.now (g.J.Judge.judges c.args.judge.now)) all)
+
+pub returns-then-self-eq1-clause-same : goal.returns-then-self-eq1-clause-same
+returns-then-self-eq1-clause-same g t c = c.count_pages.ensures.same ∙ c.count_inside.ensures.same

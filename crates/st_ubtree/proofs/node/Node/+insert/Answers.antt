@@ -3,7 +3,7 @@ use Rattle.std.specs.List.{All}
 use Rattle.st_key.specs.Key.{rank}
 use Rattle.st_ubtree.specs.Pages.{NodeValue, entries_of_pages}
 use Rattle.st_ubtree.specs.inner.Kids.{HeadAt, IsKid, pages_of}
-use Rattle.std.proofs.Common.{subst, sym, ap, ◌∙◌, take, drop, suc, arith, length-set}
+use Rattle.std.proofs.Common.{subst, sym, ap, ◌∙◌, take, drop, suc, set, arith, length-set}
 use Rattle.std.proofs.lemmas.List.{append-nil, set_split}
 use Rattle.st_ubtree.proofs.Lifting.{alone, both, each_with, grows_alone, grows_settled, head_same, inserted, kid_splits, kid_stays, length-inserted, room_for_kid, settled_inner, that_kid}
 use Rattle.st_ubtree.specs.inner.Nodes.{IsNode, IsInnerNode, IsPageNode, inner_node, node_value, pages_under}
@@ -15,10 +15,15 @@ use Rattle.st_ubtree.proofs.Needing.{fewer_split, kid_around, kid_splits_by, lef
 use Rattle.st_ubtree.proofs.Settling.{held_at}
 use Rattle.st_ubtree.proofs.Lifting.{settled_split}
 use Rattle.st_index.specs.Rows.{rows_of}
+use Rattle.st_index.specs.inner.Changes.{IsChange}
 use Rattle.st_ubtree.specs.Pages.{rows_of_pages}
-use Rattle.st_ubtree.specs.inner.Nodes.{rows_under}
+use Rattle.st_ubtree.specs.inner.Nodes.{AreMarkedUnder, rows_under}
 use Rattle.st_ubtree.specs.inner.Sums.{Sums}
 use Rattle.st_ubtree.proofs.Keeping.{kept_sums}
+use Rattle.std.proofs.lemmas.List.{get_or-set_same}
+use Rattle.st_ubtree.proofs.Marking.{differ_set, none_so, opens_insert}
+use Rattle.st_ubtree.proofs.Keeping.{settled_same}
+use Rattle.st_ubtree.specs.inner.Marks.{AreMarked, HasAt, OpensAt}
 use Rattle.st_ubtree.proofs.Splitting.{one_rows}
 use Rattle.st_ubtree.proofs.Summing.{sums_added}
 use Rattle.st_ubtree.proofs.node.Node.+insert.Goals as goal
@@ -26,7 +31,7 @@ use Rattle.st_ubtree.proofs.node.Node.+insert.Goals as goal
 pub invariant_of-self : goal.invariant_of-self
 invariant_of-self g t c =
     let good : IsPageNode c.self.inside.height (length c.in-Page.entries.items) (vec_capacity c.in-Page.entries) = subst (IsNode (rank c.self.inside.first) c.self.inside.height) c.in-Page.is c.self.invariant.0 in
-    (record { lowest = good.lowest; not_more = page_fits (rank c.args.key) c.args.row _ _ _ c.put_in_page-split.ensures.grows; room = c.put_in_page-split.ensures.room }, c.renew_if.ensures)
+    (record { lowest = good.lowest; not_more = page_fits (rank c.args.key) c.args.row _ _ _ c.put_in_page-split.ensures.grows; room = c.put_in_page-split.ensures.room }, c.renew_if.ensures, tt)
 
 pub returns-in-Page-clause-grows : goal.returns-in-Page-clause-grows
 returns-in-Page-clause-grows g t c =
@@ -57,8 +62,8 @@ insert-requires g t c κs within =
     let page = λ (s : 1 ≤ splits kid (rank c.args.key)). c.requires.page (some_split (splits kid (rank c.args.key)) _ _ less (same ∙ some) s) in
     (search (rules, lower), (search (rules, within), (room, (kid_around (rank c.args.key) good.below kids i chosen.upto kid good.each chosen.found chosen.is l read o, (page, (c.requires.blank, enough))))))
 
-pub invariant_of-self-in_err-right-in-Inner : goal.invariant_of-self-in_err-right-in-Inner
-invariant_of-self-in_err-right-in-Inner g t c =
+pub invariant_of-self-in_default : goal.invariant_of-self-in_default
+invariant_of-self-in_default g t c =
     let kids = c.in-Inner.kids.items in
     let good : IsInnerNode (rank c.self.inside.first) c.self.inside.height kids (vec_capacity c.in-Inner.kids) = subst (IsNode (rank c.self.inside.first) c.self.inside.height) c.in-Inner.is c.self.invariant.0 in
     let i = c.child_for-at.result in
@@ -67,24 +72,27 @@ invariant_of-self-in_err-right-in-Inner g t c =
     let kid = c.index_mut-kid.result.now in
     let read = c.index_mut-kid.ensures.value in
     let v = c.insert.new.self in
-    let stays = kid_stays (rank c.args.key) c.args.row good.below kid v (that_kid good.below kids i kid l read good.each) c.in_err-right-in-Inner.ensures.grows in
+    let stays = kid_stays (rank c.args.key) c.args.row good.below kid v (that_kid good.below kids i kid l read good.each) c.in_default.ensures.grows in
     let e = set_split kids i v l in
-    let grown = grows_alone (rank c.args.key) c.args.row (rank c.self.inside.first) c.self.inside.height good.below kids i chosen.upto kid good.each good.head chosen.found chosen.is l read v good.not_more c.in_err-right-in-Inner.ensures.grows in
-    let sums = c.add.ensures (rows_of_pages (pages_of kids)) (subst (λ k. Sums c.self.inside.sum (rows_under k)) c.in-Inner.is c.self.invariant.1) in (
+    let grown = grows_alone (rank c.args.key) c.args.row (rank c.self.inside.first) c.self.inside.height good.below kids i chosen.upto kid good.each good.head chosen.found chosen.is l read v good.not_more c.in_default.ensures.grows in
+    let sums = c.add.ensures (rows_of_pages (pages_of kids)) (subst (λ k. Sums c.self.inside.sum (rows_under k)) c.in-Inner.is c.self.invariant.1) in
+    let there : HasAt (set kids i v) i v = (let n = length-set kids i v in omega (arith, l, n), sym (get_or-set_same kids i v v l)) in
+    let change : v.height ≡ 0 → IsChange c.insert.new.change (entries_of_pages kid.pages) (entries_of_pages v.pages) = λ none. c.in_default.ensures.change (sym c.in_default.ensures.grows.height ∙ none) in (
       record {
         below = good.below;
         higher = good.higher;
         each = subst (All (IsKid good.below)) (sym e) (each_with good.below kids i kid l read good.each (v ∷ []) (alone good.below v stays));
-        head = subst (HeadAt (rank c.self.inside.first)) (sym e) (head_same (rank c.self.inside.first) kids i kid v (drop (suc i) kids) l read c.in_err-right-in-Inner.ensures.grows.first good.head);
+        head = subst (HeadAt (rank c.self.inside.first)) (sym e) (head_same (rank c.self.inside.first) kids i kid v (drop (suc i) kids) l read c.in_default.ensures.grows.first good.head);
         not_less = let a = good.not_less in omega (arith, a, length-set kids i v);
         not_more = let a = good.not_more in omega (arith, a, length-set kids i v);
         room = good.room;
       },
       sums_added c.add.new.self c.args.row _ _ grown.by.adds sums,
+      c.mark_changed.ensures kids kid v (l, read) there (differ_set kids i v) change (subst (AreMarkedUnder c.self.inside.marks) c.in-Inner.is c.self.invariant.2),
     )
 
-pub returns-in_err-right-in-Inner-clause-grows : goal.returns-in_err-right-in-Inner-clause-grows
-returns-in_err-right-in-Inner-clause-grows g t c =
+pub returns-in_default-clause-grows : goal.returns-in_default-clause-grows
+returns-in_default-clause-grows g t c =
     let kids = c.in-Inner.kids.items in
     let good : IsInnerNode (rank c.self.inside.first) c.self.inside.height kids (vec_capacity c.in-Inner.kids) = subst (IsNode (rank c.self.inside.first) c.self.inside.height) c.in-Inner.is c.self.invariant.0 in
     let i = c.child_for-at.result in
@@ -94,10 +102,10 @@ returns-in_err-right-in-Inner-clause-grows g t c =
     let read = c.index_mut-kid.ensures.value in
     let old : inner_node (rank c.self.inside.first) c.self.inside.height kids ≡ c.args.self.now =
     ap (node_value (rank c.self.inside.first) c.self.inside.height) (sym c.in-Inner.is) ∙ c.self.view_is in
-    rw (← old, c.from_residual.ensures) (grows_alone (rank c.args.key) c.args.row (rank c.self.inside.first) c.self.inside.height good.below kids i chosen.upto kid good.each good.head chosen.found chosen.is l read c.insert.new.self good.not_more c.in_err-right-in-Inner.ensures.grows)
+    rw (← old) (grows_alone (rank c.args.key) c.args.row (rank c.self.inside.first) c.self.inside.height good.below kids i chosen.upto kid good.each good.head chosen.found chosen.is l read c.insert.new.self good.not_more c.in_default.ensures.grows)
 
-pub returns-in_err-right-in-Inner-clause-left : goal.returns-in_err-right-in-Inner-clause-left
-returns-in_err-right-in-Inner-clause-left g t c =
+pub returns-in_default-clause-left : goal.returns-in_default-clause-left
+returns-in_default-clause-left g t c =
     let kids = c.in-Inner.kids.items in
     let good : IsInnerNode (rank c.self.inside.first) c.self.inside.height kids (vec_capacity c.in-Inner.kids) = subst (IsNode (rank c.self.inside.first) c.self.inside.height) c.in-Inner.is c.self.invariant.0 in
     let i = c.child_for-at.result in
@@ -119,10 +127,10 @@ settle-split-requires-clause-kids g t c =
     let kid = c.index_mut-kid.result.now in
     let read = c.index_mut-kid.ensures.value in
     let j : i + 1 ≡ suc i = omega arith in
-    let there : c.insert-in-Inner.new.self.items ≡ take i kids ++ c.insert.new.self ∷ c.in_ok-right-in-Inner.right ∷ drop (suc i) kids =
-    c.in-Ok.ensures.items ∙ inserted kids i c.insert.new.self c.in_ok-right-in-Inner.right _ l j in
-    let pair = kid_splits (rank c.args.key) c.args.row good.below kid c.insert.new.self c.in_ok-right-in-Inner.right (that_kid good.below kids i kid l read good.each) c.in_ok-right-in-Inner.ensures.grows in
-    let all : All (IsKid good.below) c.insert-in-Inner.new.self.items = subst (All (IsKid good.below)) (sym there) (each_with good.below kids i kid l read good.each (c.insert.new.self ∷ c.in_ok-right-in-Inner.right ∷ []) (both good.below c.insert.new.self c.in_ok-right-in-Inner.right pair.0 pair.1)) in
+    let there : c.insert-in-Inner.new.self.items ≡ take i kids ++ c.insert.new.self ∷ c.in-Some.right ∷ drop (suc i) kids =
+    c.in-Ok.ensures.items ∙ inserted kids i c.insert.new.self c.in-Some.right _ l j in
+    let pair = kid_splits (rank c.args.key) c.args.row good.below kid c.insert.new.self c.in-Some.right (that_kid good.below kids i kid l read good.each) c.in-Some.ensures.grows in
+    let all : All (IsKid good.below) c.insert-in-Inner.new.self.items = subst (All (IsKid good.below)) (sym there) (each_with good.below kids i kid l read good.each (c.insert.new.self ∷ c.in-Some.right ∷ []) (both good.below c.insert.new.self c.in-Some.right pair.0 pair.1)) in
     record { below = good.below; higher = good.higher; each = all }
 
 pub settle-split-requires-clause-enough : goal.settle-split-requires-clause-enough
@@ -138,11 +146,11 @@ settle-split-requires-clause-enough g t c =
     let o = subst (AreAround (rank c.args.key)) pages c.requires.around in
     let same : splits c.args.self.now (rank c.args.key) ≡ splits_in (pages_of kids) (chains_of kids) (rank c.args.key) = ap (λ (v : NodeValue g.row.A.Denot). splits v (rank c.args.key)) (sym c.self.view_is) ∙ ap (λ k. splits (node_value (rank c.self.inside.first) c.self.inside.height k) (rank c.args.key)) c.in-Inner.is in
     let some = kid_splits_by (rank c.args.key) good.below kids i chosen.upto kid good.each chosen.found chosen.is l read o in
-    let split : splits kid (rank c.args.key) ≡ kid.height + 1 = c.in_ok-right-in-Inner.ensures.split in
+    let split : splits kid (rank c.args.key) ≡ kid.height + 1 = c.in-Some.ensures.split in
     let j : i + 1 ≡ suc i = omega arith in
-    let there : c.insert-in-Inner.new.self.items ≡ take i kids ++ c.insert.new.self ∷ c.in_ok-right-in-Inner.right ∷ drop (suc i) kids =
-    c.in-Ok.ensures.items ∙ inserted kids i c.insert.new.self c.in_ok-right-in-Inner.right _ l j in
-    let wide : length c.insert-in-Inner.new.self.items ≡ length kids + 1 = ap length there ∙ length-inserted kids i c.insert.new.self c.in_ok-right-in-Inner.right l in
+    let there : c.insert-in-Inner.new.self.items ≡ take i kids ++ c.insert.new.self ∷ c.in-Some.right ∷ drop (suc i) kids =
+    c.in-Ok.ensures.items ∙ inserted kids i c.insert.new.self c.in-Some.right _ l j in
+    let wide : length c.insert-in-Inner.new.self.items ≡ length kids + 1 = ap length there ∙ length-inserted kids i c.insert.new.self c.in-Some.right l in
     λ long. let full = with_full (length kids) kid.height (splits kid (rank c.args.key)) (omega (arith, long, wide)) split in
     one_left (vec_len c.args.inners.now) (vec_len c.insert.new.inners) (splits c.args.self.now (rank c.args.key)) (splits kid (rank c.args.key)) kid.height c.insert.ensures.left c.requires.enough (same ∙ some ∙ full) split
 
@@ -156,15 +164,18 @@ invariant_of-self-in-Inner g t c =
     let kid = c.index_mut-kid.result.now in
     let read = c.index_mut-kid.ensures.value in
     let j : i + 1 ≡ suc i = omega arith in
-    let there : c.insert-in-Inner.new.self.items ≡ take i kids ++ c.insert.new.self ∷ c.in_ok-right-in-Inner.right ∷ drop (suc i) kids =
-    c.in-Ok.ensures.items ∙ inserted kids i c.insert.new.self c.in_ok-right-in-Inner.right _ l j in
-    let pair = kid_splits (rank c.args.key) c.args.row good.below kid c.insert.new.self c.in_ok-right-in-Inner.right (that_kid good.below kids i kid l read good.each) c.in_ok-right-in-Inner.ensures.grows in
-    let all : All (IsKid good.below) c.insert-in-Inner.new.self.items = subst (All (IsKid good.below)) (sym there) (each_with good.below kids i kid l read good.each (c.insert.new.self ∷ c.in_ok-right-in-Inner.right ∷ []) (both good.below c.insert.new.self c.in_ok-right-in-Inner.right pair.0 pair.1)) in
-    let at = subst (HeadAt (rank c.self.inside.first)) (sym there) (head_same (rank c.self.inside.first) kids i kid c.insert.new.self (c.in_ok-right-in-Inner.right ∷ drop (suc i) kids) l read c.in_ok-right-in-Inner.ensures.grows.first good.head) in
-    let wide : length c.insert-in-Inner.new.self.items ≡ length kids + 1 = ap length there ∙ length-inserted kids i c.insert.new.self c.in_ok-right-in-Inner.right l in
+    let there : c.insert-in-Inner.new.self.items ≡ take i kids ++ c.insert.new.self ∷ c.in-Some.right ∷ drop (suc i) kids =
+    c.in-Ok.ensures.items ∙ inserted kids i c.insert.new.self c.in-Some.right _ l j in
+    let pair = kid_splits (rank c.args.key) c.args.row good.below kid c.insert.new.self c.in-Some.right (that_kid good.below kids i kid l read good.each) c.in-Some.ensures.grows in
+    let all : All (IsKid good.below) c.insert-in-Inner.new.self.items = subst (All (IsKid good.below)) (sym there) (each_with good.below kids i kid l read good.each (c.insert.new.self ∷ c.in-Some.right ∷ []) (both good.below c.insert.new.self c.in-Some.right pair.0 pair.1)) in
+    let at = subst (HeadAt (rank c.self.inside.first)) (sym there) (head_same (rank c.self.inside.first) kids i kid c.insert.new.self (c.in-Some.right ∷ drop (suc i) kids) l read c.in-Some.ensures.grows.first good.head) in
+    let wide : length c.insert-in-Inner.new.self.items ≡ length kids + 1 = ap length there ∙ length-inserted kids i c.insert.new.self c.in-Some.right l in
     let room = good.room in
-    let grown = c.in-Ok.ensures.capacity in
-    (settled_inner good.below (rank c.self.inside.first) c.self.inside.height c.insert-in-Inner.new.self.items c.settle-split.new.kids.items (vec_capacity c.settle-split.new.kids) c.settle-split.result good.higher all at (omega (arith, wide)) (let same = c.settle-split.ensures.capacity in omega (arith, same, room, grown)) c.settle-split.ensures.settles, c.renew_if-in-Inner.ensures)
+    let grown = c.in-Ok.ensures.capacity in (
+      settled_inner good.below (rank c.self.inside.first) c.self.inside.height c.insert-in-Inner.new.self.items c.settle-split.new.kids.items (vec_capacity c.settle-split.new.kids) c.settle-split.result good.higher all at (omega (arith, wide)) (let same = c.settle-split.ensures.capacity in omega (arith, same, room, grown)) c.settle-split.ensures.settles,
+      c.renew_if-in-Inner.ensures,
+      c.mark_due.ensures,
+    )
 
 pub renew_if-requires : goal.renew_if-requires
 renew_if-requires g t c = λ none.
@@ -188,11 +199,11 @@ renew_if-requires-in-Inner g t c = λ none.
     let kid = c.index_mut-kid.result.now in
     let read = c.index_mut-kid.ensures.value in
     let j : i + 1 ≡ suc i = omega arith in
-    let there : c.insert-in-Inner.new.self.items ≡ take i kids ++ c.insert.new.self ∷ c.in_ok-right-in-Inner.right ∷ drop (suc i) kids =
-    c.in-Ok.ensures.items ∙ inserted kids i c.insert.new.self c.in_ok-right-in-Inner.right _ l j in
-    let grown = (grows_settled (rank c.args.key) c.args.row (rank c.self.inside.first) c.self.inside.height good.below kids i chosen.upto kid good.each good.head chosen.found chosen.is l read c.insert.new.self c.in_ok-right-in-Inner.right c.in_ok-right-in-Inner.ensures.grows c.insert-in-Inner.new.self.items c.settle-split.new.kids.items c.settle-split.result there good.higher c.settle-split.ensures.settles) in
+    let there : c.insert-in-Inner.new.self.items ≡ take i kids ++ c.insert.new.self ∷ c.in-Some.right ∷ drop (suc i) kids =
+    c.in-Ok.ensures.items ∙ inserted kids i c.insert.new.self c.in-Some.right _ l j in
+    let grown = (grows_settled (rank c.args.key) c.args.row (rank c.self.inside.first) c.self.inside.height good.below kids i chosen.upto kid good.each good.head chosen.found chosen.is l read c.insert.new.self c.in-Some.right c.in-Some.ensures.grows c.insert-in-Inner.new.self.items c.settle-split.new.kids.items c.settle-split.result there good.higher c.settle-split.ensures.settles) in
     let sums = c.add.ensures (rows_of_pages (pages_of kids)) (subst (λ k. Sums c.self.inside.sum (rows_under k)) c.in-Inner.is c.self.invariant.1) in
-    kept_sums c.add.new.self (rank c.args.key) c.args.row (inner_node (rank c.self.inside.first) c.self.inside.height kids) (inner_node (rank c.self.inside.first) c.self.inside.height c.settle-split.new.kids.items) c.settle-split.result grown (sym c.is_some-in-Inner.ensures ∙ none) sums
+    kept_sums c.add.new.self (rank c.args.key) c.args.row (inner_node (rank c.self.inside.first) c.self.inside.height kids) (inner_node (rank c.self.inside.first) c.self.inside.height c.settle-split.new.kids.items) c.settle-split.result grown (sym c.is_some-parted.ensures ∙ none) sums
 
 pub returns-clause-grows : goal.returns-clause-grows
 returns-clause-grows g t c =
@@ -206,9 +217,9 @@ returns-clause-grows g t c =
     let old : inner_node (rank c.self.inside.first) c.self.inside.height kids ≡ c.args.self.now =
     ap (node_value (rank c.self.inside.first) c.self.inside.height) (sym c.in-Inner.is) ∙ c.self.view_is in
     let j : i + 1 ≡ suc i = omega arith in
-    let there : c.insert-in-Inner.new.self.items ≡ take i kids ++ c.insert.new.self ∷ c.in_ok-right-in-Inner.right ∷ drop (suc i) kids =
-    c.in-Ok.ensures.items ∙ inserted kids i c.insert.new.self c.in_ok-right-in-Inner.right _ l j in
-    rw (← old) (grows_settled (rank c.args.key) c.args.row (rank c.self.inside.first) c.self.inside.height good.below kids i chosen.upto kid good.each good.head chosen.found chosen.is l read c.insert.new.self c.in_ok-right-in-Inner.right c.in_ok-right-in-Inner.ensures.grows c.insert-in-Inner.new.self.items c.settle-split.new.kids.items c.settle-split.result there good.higher c.settle-split.ensures.settles)
+    let there : c.insert-in-Inner.new.self.items ≡ take i kids ++ c.insert.new.self ∷ c.in-Some.right ∷ drop (suc i) kids =
+    c.in-Ok.ensures.items ∙ inserted kids i c.insert.new.self c.in-Some.right _ l j in
+    rw (← old) (grows_settled (rank c.args.key) c.args.row (rank c.self.inside.first) c.self.inside.height good.below kids i chosen.upto kid good.each good.head chosen.found chosen.is l read c.insert.new.self c.in-Some.right c.in-Some.ensures.grows c.insert-in-Inner.new.self.items c.settle-split.new.kids.items c.settle-split.result there good.higher c.settle-split.ensures.settles)
 
 pub returns-clause-left : goal.returns-clause-left
 returns-clause-left g t c =
@@ -255,11 +266,11 @@ returns-clause-split g t c =
     let o = subst (AreAround (rank c.args.key)) pages c.requires.around in
     let same : splits c.args.self.now (rank c.args.key) ≡ splits_in (pages_of kids) (chains_of kids) (rank c.args.key) = ap (λ (v : NodeValue g.row.A.Denot). splits v (rank c.args.key)) (sym c.self.view_is) ∙ ap (λ k. splits (node_value (rank c.self.inside.first) c.self.inside.height k) (rank c.args.key)) c.in-Inner.is in
     let some = kid_splits_by (rank c.args.key) good.below kids i chosen.upto kid good.each chosen.found chosen.is l read o in
-    let split : splits kid (rank c.args.key) ≡ kid.height + 1 = c.in_ok-right-in-Inner.ensures.split in
+    let split : splits kid (rank c.args.key) ≡ kid.height + 1 = c.in-Some.ensures.split in
     let j : i + 1 ≡ suc i = omega arith in
-    let there : c.insert-in-Inner.new.self.items ≡ take i kids ++ c.insert.new.self ∷ c.in_ok-right-in-Inner.right ∷ drop (suc i) kids =
-    c.in-Ok.ensures.items ∙ inserted kids i c.insert.new.self c.in_ok-right-in-Inner.right _ l j in
-    let wide : length c.insert-in-Inner.new.self.items ≡ length kids + 1 = ap length there ∙ length-inserted kids i c.insert.new.self c.in_ok-right-in-Inner.right l in
+    let there : c.insert-in-Inner.new.self.items ≡ take i kids ++ c.insert.new.self ∷ c.in-Some.right ∷ drop (suc i) kids =
+    c.in-Ok.ensures.items ∙ inserted kids i c.insert.new.self c.in-Some.right _ l j in
+    let wide : length c.insert-in-Inner.new.self.items ≡ length kids + 1 = ap length there ∙ length-inserted kids i c.insert.new.self c.in-Some.right l in
     settled_split c.self.inside.height c.insert-in-Inner.new.self.items c.settle-split.new.kids.items c.settle-split.result (splits c.args.self.now (rank c.args.key) ≡ c.args.self.now.height + 1) c.settle-split.ensures.settles
     (λ long. let full = with_full (length kids) kid.height (splits kid (rank c.args.key)) (omega (arith, long, wide)) split in whole_split kid.height good.below c.self.inside.height c.args.self.now.height low good.higher tall (splits c.args.self.now (rank c.args.key)) (splits kid (rank c.args.key)) (same ∙ some ∙ full) split)
 
@@ -304,7 +315,7 @@ pub unreachable-requires : goal.unreachable-requires
 unreachable-requires g t c =
     let kids = c.in-Inner.kids.items in
     let good : IsInnerNode (rank c.self.inside.first) c.self.inside.height kids (vec_capacity c.in-Inner.kids) = subst (IsNode (rank c.self.inside.first) c.self.inside.height) c.in-Inner.is c.self.invariant.0 in
-    let full : vec_capacity c.in-Inner.kids ≤ vec_len c.in-Inner.kids = c.in_default.ensures.full in
+    let full : vec_capacity c.in-Inner.kids ≤ vec_len c.in-Inner.kids = c.in_default-insert.ensures.full in
     let room = good.room in
     let fits = good.not_more in
     omega (arith, c.in-Inner.kids.ok.0, full, room, fits)
@@ -317,9 +328,9 @@ settle-split-requires-clause-not_more g t c =
     let chosen : IsChosen (rank c.args.key) kids i = rw c.deref.ensures.value at c.child_for-at.ensures in
     let l = chosen.within in
     let j : i + 1 ≡ suc i = omega arith in
-    let there : c.insert-in-Inner.new.self.items ≡ take i kids ++ c.insert.new.self ∷ c.in_ok-right-in-Inner.right ∷ drop (suc i) kids =
-    c.in-Ok.ensures.items ∙ inserted kids i c.insert.new.self c.in_ok-right-in-Inner.right _ l j in
-    let wide : length c.insert-in-Inner.new.self.items ≡ length kids + 1 = ap length there ∙ length-inserted kids i c.insert.new.self c.in_ok-right-in-Inner.right l in
+    let there : c.insert-in-Inner.new.self.items ≡ take i kids ++ c.insert.new.self ∷ c.in-Some.right ∷ drop (suc i) kids =
+    c.in-Ok.ensures.items ∙ inserted kids i c.insert.new.self c.in-Some.right _ l j in
+    let wide : length c.insert-in-Inner.new.self.items ≡ length kids + 1 = ap length there ∙ length-inserted kids i c.insert.new.self c.in-Some.right l in
     let fits = good.not_more in
     omega (arith, wide, fits)
 
@@ -338,5 +349,33 @@ overflow_add-at g t c =
     let fits = good.not_more in
     omega (arith, l, fits)
 
+pub overflow_add-at-in-Inner : goal.overflow_add-at-in-Inner
+overflow_add-at-in-Inner g t c =
+    let kids = c.in-Inner.kids.items in
+    let good : IsInnerNode (rank c.self.inside.first) c.self.inside.height kids (vec_capacity c.in-Inner.kids) = subst (IsNode (rank c.self.inside.first) c.self.inside.height) c.in-Inner.is c.self.invariant.0 in
+    let chosen : IsChosen (rank c.args.key) kids c.child_for-at.result = rw c.deref.ensures.value at c.child_for-at.ensures in
+    let l = chosen.within in
+    let fits = good.not_more in
+    omega (arith, l, fits)
+
 pub unreachable-unreachable : goal.unreachable-unreachable
 unreachable-unreachable g t c = c.unreachable.result
+
+pub mark_due-requires : goal.mark_due-requires
+mark_due-requires g t c = λ none.
+    let kids = c.in-Inner.kids.items in
+    let i = c.child_for-at.result in
+    let chosen : IsChosen (rank c.args.key) kids i = rw c.deref.ensures.value at c.child_for-at.ensures in
+    let l = chosen.within in
+    let v = c.insert.new.self in
+    let past : i + 1 ≤ length (set kids i v) = let n = length-set kids i v in omega (arith, l, n) in
+    let opens = subst (OpensAt (i + 1) (set kids i v)) (sym c.in-Ok.ensures.items) (opens_insert (set kids i v) (i + 1) c.in-Some.right past) in
+    subst (AreMarked c.open.new.self) (sym (settled_same c.self.inside.height c.insert-in-Inner.new.self.items c.settle-split.new.kids.items c.settle-split.result c.settle-split.ensures.settles (sym c.is_some-parted.ensures ∙ none)))
+    (c.open.ensures (set kids i v) c.insert-in-Inner.new.self.items opens (c.clear_page.ensures kids (set kids i v) (differ_set kids i v) (subst (AreMarkedUnder c.self.inside.marks) c.in-Inner.is c.self.invariant.2)))
+
+pub returns-clause-change : goal.returns-clause-change
+returns-clause-change g t c = none_so c.settle-split.result (λ low.
+    let good : IsInnerNode (rank c.self.inside.first) c.self.inside.height c.in-Inner.kids.items (vec_capacity c.in-Inner.kids) = subst (IsNode (rank c.self.inside.first) c.self.inside.height) c.in-Inner.is c.self.invariant.0 in
+    let tall : c.args.self.now.height ≡ c.self.inside.height = ap (λ (v : NodeValue g.row.A.Denot). v.height) (sym c.self.view_is) in
+    let higher = good.higher in
+    absurd (omega (arith, low, tall, higher)))

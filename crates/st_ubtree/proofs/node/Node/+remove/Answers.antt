@@ -1,7 +1,8 @@
 use Rattle.std.proofs.Common.{◌≡◌, ◌≤◌, ◌∷◌, [], length, subst, sym, ap, ◌∙◌, arith, rules, length-set, vec_capacity}
 use Rattle.st_key.specs.Key.{rank}
 use Rattle.st_ubtree.specs.inner.Growing.{IsChosen}
-use Rattle.st_ubtree.specs.Pages.{NodeValue}
+use Rattle.st_ubtree.specs.Pages.{NodeValue, entries_of_pages}
+use Rattle.std.proofs.lemmas.List.{append-nil}
 use Rattle.st_ubtree.specs.inner.Kids.{pages_of}
 use Rattle.st_ubtree.specs.inner.Nodes.{IsNode, IsInnerNode, IsPageNode, inner_node, node_value, width_of, pages_under}
 use Rattle.st_ubtree.specs.Pages.{page_node}
@@ -13,9 +14,12 @@ use Rattle.st_ubtree.proofs.Splitting.{page}
 use Rattle.std.specs.Prelude.{Some}
 use Rattle.st_index.specs.Rows.{Name}
 use Rattle.st_ubtree.specs.Pages.{rows_of_pages}
-use Rattle.st_ubtree.specs.inner.Nodes.{rows_under}
+use Rattle.st_ubtree.specs.inner.Marks.{AreMarked}
+use Rattle.st_ubtree.specs.inner.Nodes.{AreMarkedUnder, rows_under}
+use Rattle.std.proofs.Math.ListN.{set}
 use Rattle.st_ubtree.specs.inner.Sums.{Sums}
 use Rattle.st_ubtree.proofs.Keeping.{kept_taken}
+use Rattle.st_ubtree.proofs.Marking.{changed_kid, differ_set, page_changed}
 use Rattle.st_ubtree.proofs.Splitting.{one_rows}
 use Rattle.st_ubtree.proofs.node.Node.+remove.Goals as goal
 use Rattle.st_ubtree.proofs.node.Node.+remove.Goals.{in-Page, in-Inner+in_ok-row-in-Inner}
@@ -74,6 +78,20 @@ invariant_of-self-2 g t c = (
         rw w.self-inside-is (shrunk_inner (rank c.args.key) good.below kids i kid l read good.each w.in_ok-row-in-Inner.row w.remove.new.self fell (rank c.self.inside.first) c.self.inside.height _ w.mend.new.kids.items good.higher good.head two good.not_more w.mend.ensures.room (w.mend.ensures.mends good.below worn))
   ],
   c.renew_if.ensures,
+  elim c.match-self.branch [
+    | in-Page w ↦ rw w.self-inside-is tt
+    | in-Inner+in_ok-row-in-Inner w ↦
+        let kids = w.in-Inner.kids.items in
+        let i = w.child_for-at.result in
+        let chosen : IsChosen (rank c.args.key) kids i = rw w.deref.ensures.value at w.child_for-at.ensures in
+        let l = chosen.within in
+        let kid = w.index_mut-kid.result.now in
+        let read = w.index_mut-kid.ensures.value in
+        let v = w.remove.new.self in
+        let moved = changed_kid kids i kid v w.index.result.now w.remove.new.change l w.index.ensures w.in_ok-row-in-Inner.ensures.some.height w.in_ok-row-in-Inner.ensures.change in
+        let followed = w.mark_change.ensures kids (set kids i v) kid (l, read) moved.0 (differ_set kids i v) moved.1 (subst (AreMarkedUnder c.self.inside.marks) w.in-Inner.is c.self.invariant.2) in
+        rw w.self-inside-is (w.mark_if.ensures (w.mend.ensures.marks followed))
+  ],
 )
 
 pub returns-clause-some : goal.returns-clause-some
@@ -186,7 +204,7 @@ invariant_of-self g t c =
     let l = chosen.within in
     let kid = c.index_mut-kid.result.now in
     let read = c.index_mut-kid.ensures.value in
-    (subst (λ ks. IsInnerNode (rank c.self.inside.first) c.self.inside.height ks (vec_capacity c.in-Inner.kids)) (sym (set_read kids i kid c.remove.new.self l read c.in_err-row-in-Inner.ensures.none)) good, subst (λ ks. Sums c.self.inside.sum (rows_of_pages (pages_of ks))) (sym (set_read kids i kid c.remove.new.self l read c.in_err-row-in-Inner.ensures.none)) (subst (λ k. Sums c.self.inside.sum (rows_under k)) c.in-Inner.is c.self.invariant.1))
+    (subst (λ ks. IsInnerNode (rank c.self.inside.first) c.self.inside.height ks (vec_capacity c.in-Inner.kids)) (sym (set_read kids i kid c.remove.new.self l read c.in_err-row-in-Inner.ensures.none)) good, subst (λ ks. Sums c.self.inside.sum (rows_of_pages (pages_of ks))) (sym (set_read kids i kid c.remove.new.self l read c.in_err-row-in-Inner.ensures.none)) (subst (λ k. Sums c.self.inside.sum (rows_under k)) c.in-Inner.is c.self.invariant.1), subst (AreMarked c.self.inside.marks) (sym (set_read kids i kid c.remove.new.self l read c.in_err-row-in-Inner.ensures.none)) (subst (AreMarkedUnder c.self.inside.marks) c.in-Inner.is c.self.invariant.2))
 
 pub mend-requires-clause-two : goal.mend-requires-clause-two
 mend-requires-clause-two g t c =
@@ -247,4 +265,20 @@ renew_if-requires g t c = λ no.
           let drops = rw (w.taken-is, w.self-inside-is) at c.drop_row.ensures in
           let sums = subst (λ k. Sums c.self.inside.sum (rows_under k)) w.in-Inner.is c.self.invariant.1 in
           rw w.self-inside-is (kept_taken c.self.inside.sum c.drop_row.new.sum key (inner_node first height kids) (inner_node first height w.mend.new.kids.items) (Some w.in_ok-row-in-Inner.row) shrinks tt drops sums)
+    ]
+
+pub returns-clause-change : goal.returns-clause-change
+returns-clause-change g t c =
+    elim c.match-self.branch [
+      | in-Page w ↦
+          let first = rank c.self.inside.first in
+          let es = w.in-Page.entries.items in
+          let new = w.take-taken.new.entries.items in
+          let before = ap (λ (v : NodeValue g.row.A.Denot). entries_of_pages v.pages) (sym c.self.view_is) ∙ ap (λ k. entries_of_pages (pages_under first k)) w.in-Page.is ∙ append-nil es in
+          rw (w.self-inside-is, w.change-is, w.taken-is) (page_changed w.take-taken.result c.args.self.now.height w.take-taken.new.change c.args.self.now.pages (page first new ∷ []) es new before (append-nil new) w.take-taken.ensures.change)
+      | in-Inner+in_ok-row-in-Inner w ↦
+          let good : IsInnerNode (rank c.self.inside.first) c.self.inside.height w.in-Inner.kids.items (vec_capacity w.in-Inner.kids) = subst (IsNode (rank c.self.inside.first) c.self.inside.height) w.in-Inner.is c.self.invariant.0 in
+          let tall : c.args.self.now.height ≡ c.self.inside.height = ap (λ (v : NodeValue g.row.A.Denot). v.height) (sym c.self.view_is) in
+          let higher = good.higher in
+          rw w.taken-is (λ low. absurd (omega (arith, low, tall, higher)))
     ]

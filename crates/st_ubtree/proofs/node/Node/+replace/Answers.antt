@@ -1,8 +1,10 @@
-use Rattle.std.proofs.Common.{◌≡◌, ◌≤◌, ◌∷◌, [], length, subst, sym, ap, ◌∙◌, arith, rules, vec_capacity}
+use Rattle.std.proofs.Common.{◌≡◌, ◌≤◌, ◌∷◌, ◌++◌, [], length, length-set, subst, sym, ap, ◌∙◌, arith, rules, vec_capacity}
 use Rattle.st_key.specs.Key.{rank}
 use Rattle.st_index.specs.Rows.{name_of, rows_of}
 use Rattle.st_ubtree.specs.inner.Growing.{IsChosen}
-use Rattle.st_ubtree.specs.Pages.{NodeValue}
+use Rattle.std.proofs.lemmas.List.{append-nil, get_or-set_same}
+use Rattle.st_index.specs.inner.Changes.{IsChange}
+use Rattle.st_ubtree.specs.Pages.{NodeValue, entries_of_pages}
 use Rattle.st_ubtree.specs.inner.Kids.{pages_of}
 use Rattle.st_ubtree.specs.inner.Nodes.{IsNode, IsInnerNode, IsPageNode, inner_node, node_value, pages_under}
 use Rattle.st_ubtree.specs.Pages.{page_node}
@@ -13,133 +15,141 @@ use Rattle.st_ubtree.proofs.Splitting.{page}
 use Rattle.st_ubtree.proofs.Trading.{kept_inner, kid_trades, kids_keep, kids_lack, page_keeps, page_lacks, page_named, page_trades}
 use Rattle.std.proofs.Math.ListN.{set}
 use Rattle.st_ubtree.specs.Pages.{rows_of_pages}
-use Rattle.st_ubtree.specs.inner.Nodes.{rows_under}
+use Rattle.st_ubtree.specs.inner.Marks.{HasAt}
+use Rattle.st_ubtree.specs.inner.Nodes.{AreMarkedUnder, rows_under}
 use Rattle.st_ubtree.specs.inner.Sums.{Sums}
 use Rattle.st_ubtree.proofs.Keeping.{kept_traded, kid_stays_so, page_stays}
+use Rattle.st_ubtree.proofs.Marking.{differ_set, ok_so, ok_then}
 use Rattle.st_ubtree.proofs.Splitting.{one_rows}
 use Rattle.st_ubtree.proofs.node.Node.+replace.Goals as goal
-use Rattle.st_ubtree.proofs.node.Node.+replace.Goals.{in-Page, in-Inner}
 
 pub invariant_of-self : goal.invariant_of-self
 invariant_of-self g t c = (
-  elim c.match-self.branch [
-    | in-Page w ↦
-        let good : IsPageNode c.self.inside.height (length w.in-Page.entries.items) (vec_capacity w.in-Page.entries) = subst (IsNode (rank c.self.inside.first) c.self.inside.height) w.in-Page.is c.self.invariant.0 in
-        let es = w.in-Page.entries.items in
-        let was = w.in-Page.entries.ok.0 in
-        let now = w.swap.new.entries.ok.0 in
-        let same : length w.swap.new.entries.items ≡ length es = omega (arith, was, now, w.swap.ensures.len) in
-        let fits = good.not_more in
-        let room = good.room in
-        rw w.self-inside-is (record { lowest = good.lowest; not_more = omega (arith, same, fits); room = omega (arith, room, w.swap.ensures.capacity) })
-    | in-Inner w ↦
-        let kids = w.in-Inner.kids.items in
-        let good : IsInnerNode (rank c.self.inside.first) c.self.inside.height kids (vec_capacity w.in-Inner.kids) = subst (IsNode (rank c.self.inside.first) c.self.inside.height) w.in-Inner.is c.self.invariant.0 in
-        let i = w.child_for-at.result in
-        let chosen : IsChosen (rank c.args.key) kids i = rw w.deref.ensures.value at w.child_for-at.ensures in
-        let l = chosen.within in
-        let kid = w.index_mut-kid.result.now in
-        let read = w.index_mut-kid.ensures.value in
-        rw w.self-inside-is (kept_inner (rank c.args.key) good.below kids i kid w.replace.new.self l read good.each (rank c.self.inside.first) c.self.inside.height _ good.higher good.head good.not_less good.not_more good.room w.replace.ensures.keeps)
-  ],
-  elim c.match-self.branch [
-    | in-Page w ↦
-        let first = rank c.self.inside.first in
-        let height = c.self.inside.height in
-        let es = w.in-Page.entries.items in
-        let new = w.swap.new.entries.items in
-        let trades = page_trades (rank c.args.key) c.args.row first es new w.swap.result w.swap.ensures.ok w.swap.ensures.placed w.swap.ensures.rising in
-        let named = page_named c.args.row (rows_of es) (rows_of new) w.swap.result w.swap.ensures.ok in
-        let stays = page_stays first es new w.swap.result w.swap.ensures.err in
-        let sums = c.widen.ensures.rows (rows_of es) (subst (λ k. Sums c.self.inside.sum (rows_under k)) w.in-Page.is c.self.invariant.1) in
-        rw w.self-inside-is (subst (Sums c.widen.new.self) (one_rows first new)
-        (kept_traded c.widen.new.self (rank c.args.key) c.args.row (page_node first height es) (page_node first height new) w.swap.result trades named stays c.widen.ensures.point (subst (Sums c.widen.new.self) (sym (one_rows first es)) sums)))
-    | in-Inner w ↦
-        let first = rank c.self.inside.first in
-        let height = c.self.inside.height in
-        let kids = w.in-Inner.kids.items in
-        let good : IsInnerNode (rank c.self.inside.first) c.self.inside.height kids (vec_capacity w.in-Inner.kids) = subst (IsNode (rank c.self.inside.first) c.self.inside.height) w.in-Inner.is c.self.invariant.0 in
-        let i = w.child_for-at.result in
-        let chosen : IsChosen (rank c.args.key) kids i = rw w.deref.ensures.value at w.child_for-at.ensures in
-        let l = chosen.within in
-        let kid = w.index_mut-kid.result.now in
-        let read = w.index_mut-kid.ensures.value in
-        let trades = kid_trades (rank c.args.key) good.below kids i kid w.replace.new.self l read good.each c.args.row w.replace.result w.replace.ensures.ok in
-        let stays = kid_stays_so kids i kid w.replace.new.self l read w.replace.result w.replace.ensures.err in
-        let sums = c.widen.ensures.rows (rows_of_pages (pages_of kids)) (subst (λ k. Sums c.self.inside.sum (rows_under k)) w.in-Inner.is c.self.invariant.1) in
-        rw w.self-inside-is
-        (kept_traded c.widen.new.self (rank c.args.key) c.args.row (inner_node first height kids) (inner_node first height (set kids i w.replace.new.self)) w.replace.result trades w.replace.ensures.named stays c.widen.ensures.point sums)
-  ],
+  (let good : IsPageNode c.self.inside.height (length c.in-Page.entries.items) (vec_capacity c.in-Page.entries) = subst (IsNode (rank c.self.inside.first) c.self.inside.height) c.in-Page.is c.self.invariant.0 in
+      let es = c.in-Page.entries.items in
+      let was = c.in-Page.entries.ok.0 in
+      let now = c.swap.new.entries.ok.0 in
+      let same : length c.swap.new.entries.items ≡ length es = omega (arith, was, now, c.swap.ensures.len) in
+      let fits = good.not_more in
+      let room = good.room in
+      (record { lowest = good.lowest; not_more = omega (arith, same, fits); room = omega (arith, room, c.swap.ensures.capacity) })),
+  (let first = rank c.self.inside.first in
+      let height = c.self.inside.height in
+      let es = c.in-Page.entries.items in
+      let new = c.swap.new.entries.items in
+      let trades = page_trades (rank c.args.key) c.args.row first es new c.swap.result c.swap.ensures.ok c.swap.ensures.placed c.swap.ensures.rising in
+      let named = page_named c.args.row (rows_of es) (rows_of new) c.swap.result c.swap.ensures.ok in
+      let stays = page_stays first es new c.swap.result c.swap.ensures.err in
+      let sums = c.widen.ensures.rows (rows_of es) (subst (λ k. Sums c.self.inside.sum (rows_under k)) c.in-Page.is c.self.invariant.1) in
+      (subst (Sums c.widen.new.self) (one_rows first new)
+      (kept_traded c.widen.new.self (rank c.args.key) c.args.row (page_node first height es) (page_node first height new) c.swap.result trades named stays c.widen.ensures.point (subst (Sums c.widen.new.self) (sym (one_rows first es)) sums)))),
+  tt,
 )
 
-pub returns-clause-ok : goal.returns-clause-ok
-returns-clause-ok g t c =
-    elim c.match-self.branch [
-      | in-Page w ↦
-          let es = w.in-Page.entries.items in
-          let pages : c.args.self.now.pages ≡ page (rank c.self.inside.first) es ∷ [] = ap (λ (v : NodeValue g.row.A.Denot). v.pages) (sym c.self.view_is) ∙ ap (pages_under (rank c.self.inside.first)) w.in-Page.is in
-          rw (pages, w.self-inside-is, w.result-is) (page_trades (rank c.args.key) c.args.row (rank c.self.inside.first) es w.swap.new.entries.items w.swap.result w.swap.ensures.ok w.swap.ensures.placed w.swap.ensures.rising)
-      | in-Inner w ↦
-          let kids = w.in-Inner.kids.items in
-          let good : IsInnerNode (rank c.self.inside.first) c.self.inside.height kids (vec_capacity w.in-Inner.kids) = subst (IsNode (rank c.self.inside.first) c.self.inside.height) w.in-Inner.is c.self.invariant.0 in
-          let i = w.child_for-at.result in
-          let chosen : IsChosen (rank c.args.key) kids i = rw w.deref.ensures.value at w.child_for-at.ensures in
-          let l = chosen.within in
-          let kid = w.index_mut-kid.result.now in
-          let read = w.index_mut-kid.ensures.value in
-          let pages : c.args.self.now.pages ≡ pages_of kids = ap (λ (v : NodeValue g.row.A.Denot). v.pages) (sym c.self.view_is) ∙ ap (pages_under (rank c.self.inside.first)) w.in-Inner.is in
-          rw (pages, w.self-inside-is, w.result-is) (kid_trades (rank c.args.key) good.below kids i kid w.replace.new.self l read good.each c.args.row w.replace.result w.replace.ensures.ok)
-    ]
+pub invariant_of-self-in-Inner : goal.invariant_of-self-in-Inner
+invariant_of-self-in-Inner g t c = (
+  (let kids = c.in-Inner.kids.items in
+      let good : IsInnerNode (rank c.self.inside.first) c.self.inside.height kids (vec_capacity c.in-Inner.kids) = subst (IsNode (rank c.self.inside.first) c.self.inside.height) c.in-Inner.is c.self.invariant.0 in
+      let i = c.child_for-at.result in
+      let chosen : IsChosen (rank c.args.key) kids i = rw c.deref.ensures.value at c.child_for-at.ensures in
+      let l = chosen.within in
+      let kid = c.index_mut-kid.result.now in
+      let read = c.index_mut-kid.ensures.value in
+      (kept_inner (rank c.args.key) good.below kids i kid c.replace-out.new.self l read good.each (rank c.self.inside.first) c.self.inside.height _ good.higher good.head good.not_less good.not_more good.room c.replace-out.ensures.keeps)),
+  (let first = rank c.self.inside.first in
+      let height = c.self.inside.height in
+      let kids = c.in-Inner.kids.items in
+      let good : IsInnerNode (rank c.self.inside.first) c.self.inside.height kids (vec_capacity c.in-Inner.kids) = subst (IsNode (rank c.self.inside.first) c.self.inside.height) c.in-Inner.is c.self.invariant.0 in
+      let i = c.child_for-at.result in
+      let chosen : IsChosen (rank c.args.key) kids i = rw c.deref.ensures.value at c.child_for-at.ensures in
+      let l = chosen.within in
+      let kid = c.index_mut-kid.result.now in
+      let read = c.index_mut-kid.ensures.value in
+      let trades = kid_trades (rank c.args.key) good.below kids i kid c.replace-out.new.self l read good.each c.args.row c.replace-out.result c.replace-out.ensures.ok in
+      let stays = kid_stays_so kids i kid c.replace-out.new.self l read c.replace-out.result c.replace-out.ensures.err in
+      let sums = c.widen.ensures.rows (rows_of_pages (pages_of kids)) (subst (λ k. Sums c.self.inside.sum (rows_under k)) c.in-Inner.is c.self.invariant.1) in
+      (kept_traded c.widen.new.self (rank c.args.key) c.args.row (inner_node first height kids) (inner_node first height (set kids i c.replace-out.new.self)) c.replace-out.result trades c.replace-out.ensures.named stays c.widen.ensures.point sums)),
+  (let kids = c.in-Inner.kids.items in
+      let i = c.child_for-at.result in
+      let chosen : IsChosen (rank c.args.key) kids i = rw c.deref.ensures.value at c.child_for-at.ensures in
+      let l = chosen.within in
+      let kid = c.index_mut-kid.result.now in
+      let read = c.index_mut-kid.ensures.value in
+      let v = c.replace-out.new.self in
+      let there : HasAt (set kids i v) i v = (let n = length-set kids i v in omega (arith, l, n), sym (get_or-set_same kids i v v l)) in
+      let same = c.replace-out.ensures.keeps.height in
+      let next : (kid.height ≡ 0 → IsChange c.replace-out.new.change (entries_of_pages kid.pages) (entries_of_pages v.pages)) → v.height ≡ 0
+      → IsChange c.replace-out.new.change (entries_of_pages kid.pages) (entries_of_pages v.pages) = λ h none. h (sym same ∙ none) in
+      let change = ok_then c.replace-out.result next c.replace-out.ensures.change in
+      c.mark_swapped.ensures kids kid v (l, read) there (differ_set kids i v) change (subst (AreMarkedUnder c.self.inside.marks) c.in-Inner.is c.self.invariant.2)),
+)
 
-pub returns-clause-named : goal.returns-clause-named
-returns-clause-named g t c =
-    elim c.match-self.branch [
-      | in-Page w ↦ rw w.result-is (page_named c.args.row (rows_of w.in-Page.entries.items) (rows_of w.swap.new.entries.items) w.swap.result w.swap.ensures.ok)
-      | in-Inner w ↦ rw w.result-is w.replace.ensures.named
-    ]
+pub returns-in-Page-clause-ok : goal.returns-in-Page-clause-ok
+returns-in-Page-clause-ok g t c =
+    let es = c.in-Page.entries.items in
+    let pages : c.args.self.now.pages ≡ page (rank c.self.inside.first) es ∷ [] = ap (λ (v : NodeValue g.row.A.Denot). v.pages) (sym c.self.view_is) ∙ ap (pages_under (rank c.self.inside.first)) c.in-Page.is in
+    rw pages (page_trades (rank c.args.key) c.args.row (rank c.self.inside.first) es c.swap.new.entries.items c.swap.result c.swap.ensures.ok c.swap.ensures.placed c.swap.ensures.rising)
 
-pub returns-clause-keeps : goal.returns-clause-keeps
-returns-clause-keeps g t c =
-    elim c.match-self.branch [
-      | in-Page w ↦
-          let es = w.in-Page.entries.items in
-          let was = w.in-Page.entries.ok.0 in
-          let now = w.swap.new.entries.ok.0 in
-          let same : length w.swap.new.entries.items ≡ length es = omega (arith, was, now, w.swap.ensures.len) in
-          let old : page_node (rank c.self.inside.first) c.self.inside.height es ≡ c.args.self.now =
-          ap (node_value (rank c.self.inside.first) c.self.inside.height) (sym w.in-Page.is) ∙ c.self.view_is in
-          rw (← old, w.self-inside-is) (page_keeps (rank c.self.inside.first) c.self.inside.height es w.swap.new.entries.items same)
-      | in-Inner w ↦
-          let kids = w.in-Inner.kids.items in
-          let good : IsInnerNode (rank c.self.inside.first) c.self.inside.height kids (vec_capacity w.in-Inner.kids) = subst (IsNode (rank c.self.inside.first) c.self.inside.height) w.in-Inner.is c.self.invariant.0 in
-          let i = w.child_for-at.result in
-          let chosen : IsChosen (rank c.args.key) kids i = rw w.deref.ensures.value at w.child_for-at.ensures in
-          let l = chosen.within in
-          let kid = w.index_mut-kid.result.now in
-          let read = w.index_mut-kid.ensures.value in
-          let old : inner_node (rank c.self.inside.first) c.self.inside.height kids ≡ c.args.self.now =
-          ap (node_value (rank c.self.inside.first) c.self.inside.height) (sym w.in-Inner.is) ∙ c.self.view_is in
-          rw (← old, w.self-inside-is) (kids_keep (rank c.args.key) good.below kids i kid w.replace.new.self l read good.each (rank c.self.inside.first) c.self.inside.height good.head w.replace.ensures.keeps)
-    ]
+pub returns-in-Inner-clause-ok : goal.returns-in-Inner-clause-ok
+returns-in-Inner-clause-ok g t c =
+    let kids = c.in-Inner.kids.items in
+    let good : IsInnerNode (rank c.self.inside.first) c.self.inside.height kids (vec_capacity c.in-Inner.kids) = subst (IsNode (rank c.self.inside.first) c.self.inside.height) c.in-Inner.is c.self.invariant.0 in
+    let i = c.child_for-at.result in
+    let chosen : IsChosen (rank c.args.key) kids i = rw c.deref.ensures.value at c.child_for-at.ensures in
+    let l = chosen.within in
+    let kid = c.index_mut-kid.result.now in
+    let read = c.index_mut-kid.ensures.value in
+    let pages : c.args.self.now.pages ≡ pages_of kids = ap (λ (v : NodeValue g.row.A.Denot). v.pages) (sym c.self.view_is) ∙ ap (pages_under (rank c.self.inside.first)) c.in-Inner.is in
+    rw pages (kid_trades (rank c.args.key) good.below kids i kid c.replace-out.new.self l read good.each c.args.row c.replace-out.result c.replace-out.ensures.ok)
 
-pub returns-clause-absent : goal.returns-clause-absent
-returns-clause-absent g t c =
-    elim c.match-self.branch [
-      | in-Page w ↦
-          let es = w.in-Page.entries.items in
-          let pages : c.args.self.now.pages ≡ page (rank c.self.inside.first) es ∷ [] = ap (λ (v : NodeValue g.row.A.Denot). v.pages) (sym c.self.view_is) ∙ ap (pages_under (rank c.self.inside.first)) w.in-Page.is in
-          rw (pages, w.result-is) (page_lacks (rank c.args.key) (name_of c.args.row) (rank c.self.inside.first) es w.swap.result w.swap.ensures.absent)
-      | in-Inner w ↦
-          let kids = w.in-Inner.kids.items in
-          let good : IsInnerNode (rank c.self.inside.first) c.self.inside.height kids (vec_capacity w.in-Inner.kids) = subst (IsNode (rank c.self.inside.first) c.self.inside.height) w.in-Inner.is c.self.invariant.0 in
-          let i = w.child_for-at.result in
-          let chosen : IsChosen (rank c.args.key) kids i = rw w.deref.ensures.value at w.child_for-at.ensures in
-          let l = chosen.within in
-          let kid = w.index_mut-kid.result.now in
-          let read = w.index_mut-kid.ensures.value in
-          let pages : c.args.self.now.pages ≡ pages_of kids = ap (λ (v : NodeValue g.row.A.Denot). v.pages) (sym c.self.view_is) ∙ ap (pages_under (rank c.self.inside.first)) w.in-Inner.is in
-          rw (pages, w.result-is) (kids_lack (rank c.args.key) good.below kids i kid w.replace.new.self l read good.each chosen.upto (name_of c.args.row) w.replace.result chosen.found chosen.is w.replace.ensures.absent)
-    ]
+pub returns-in-Page-clause-named : goal.returns-in-Page-clause-named
+returns-in-Page-clause-named g t c =
+    (page_named c.args.row (rows_of c.in-Page.entries.items) (rows_of c.swap.new.entries.items) c.swap.result c.swap.ensures.ok)
+
+pub returns-in-Inner-clause-named : goal.returns-in-Inner-clause-named
+returns-in-Inner-clause-named g t c =
+    c.replace-out.ensures.named
+
+pub returns-in-Page-clause-keeps : goal.returns-in-Page-clause-keeps
+returns-in-Page-clause-keeps g t c =
+    let es = c.in-Page.entries.items in
+    let was = c.in-Page.entries.ok.0 in
+    let now = c.swap.new.entries.ok.0 in
+    let same : length c.swap.new.entries.items ≡ length es = omega (arith, was, now, c.swap.ensures.len) in
+    let old : page_node (rank c.self.inside.first) c.self.inside.height es ≡ c.args.self.now =
+    ap (node_value (rank c.self.inside.first) c.self.inside.height) (sym c.in-Page.is) ∙ c.self.view_is in
+    rw (← old) (page_keeps (rank c.self.inside.first) c.self.inside.height es c.swap.new.entries.items same)
+
+pub returns-in-Inner-clause-keeps : goal.returns-in-Inner-clause-keeps
+returns-in-Inner-clause-keeps g t c =
+    let kids = c.in-Inner.kids.items in
+    let good : IsInnerNode (rank c.self.inside.first) c.self.inside.height kids (vec_capacity c.in-Inner.kids) = subst (IsNode (rank c.self.inside.first) c.self.inside.height) c.in-Inner.is c.self.invariant.0 in
+    let i = c.child_for-at.result in
+    let chosen : IsChosen (rank c.args.key) kids i = rw c.deref.ensures.value at c.child_for-at.ensures in
+    let l = chosen.within in
+    let kid = c.index_mut-kid.result.now in
+    let read = c.index_mut-kid.ensures.value in
+    let old : inner_node (rank c.self.inside.first) c.self.inside.height kids ≡ c.args.self.now =
+    ap (node_value (rank c.self.inside.first) c.self.inside.height) (sym c.in-Inner.is) ∙ c.self.view_is in
+    rw (← old) (kids_keep (rank c.args.key) good.below kids i kid c.replace-out.new.self l read good.each (rank c.self.inside.first) c.self.inside.height good.head c.replace-out.ensures.keeps)
+
+pub returns-in-Page-clause-absent : goal.returns-in-Page-clause-absent
+returns-in-Page-clause-absent g t c =
+    let es = c.in-Page.entries.items in
+    let pages : c.args.self.now.pages ≡ page (rank c.self.inside.first) es ∷ [] = ap (λ (v : NodeValue g.row.A.Denot). v.pages) (sym c.self.view_is) ∙ ap (pages_under (rank c.self.inside.first)) c.in-Page.is in
+    rw pages (page_lacks (rank c.args.key) (name_of c.args.row) (rank c.self.inside.first) es c.swap.result c.swap.ensures.absent)
+
+pub returns-in-Inner-clause-absent : goal.returns-in-Inner-clause-absent
+returns-in-Inner-clause-absent g t c =
+    let kids = c.in-Inner.kids.items in
+    let good : IsInnerNode (rank c.self.inside.first) c.self.inside.height kids (vec_capacity c.in-Inner.kids) = subst (IsNode (rank c.self.inside.first) c.self.inside.height) c.in-Inner.is c.self.invariant.0 in
+    let i = c.child_for-at.result in
+    let chosen : IsChosen (rank c.args.key) kids i = rw c.deref.ensures.value at c.child_for-at.ensures in
+    let l = chosen.within in
+    let kid = c.index_mut-kid.result.now in
+    let read = c.index_mut-kid.ensures.value in
+    let pages : c.args.self.now.pages ≡ pages_of kids = ap (λ (v : NodeValue g.row.A.Denot). v.pages) (sym c.self.view_is) ∙ ap (pages_under (rank c.self.inside.first)) c.in-Inner.is in
+    rw pages (kids_lack (rank c.args.key) good.below kids i kid c.replace-out.new.self l read good.each chosen.upto (name_of c.args.row) c.replace-out.result chosen.found chosen.is c.replace-out.ensures.absent)
 
 pub child_for-at-requires : goal.child_for-at-requires
 child_for-at-requires g t c =
@@ -154,24 +164,23 @@ index_mut-kid-requires g t c =
     let chosen : IsChosen (rank c.args.key) kids i = rw c.deref.ensures.value at c.child_for-at.ensures in
     held_at c.in-Inner.kids i chosen.within
 
-pub returns-clause-err : goal.returns-clause-err
-returns-clause-err g t c =
-    elim c.match-self.branch [
-      | in-Page w ↦
-          let es = w.in-Page.entries.items in
-          let pages : c.args.self.now.pages ≡ page (rank c.self.inside.first) es ∷ [] = ap (λ (v : NodeValue g.row.A.Denot). v.pages) (sym c.self.view_is) ∙ ap (pages_under (rank c.self.inside.first)) w.in-Page.is in
-          rw (pages, w.self-inside-is, w.result-is) (page_stays (rank c.self.inside.first) es w.swap.new.entries.items w.swap.result w.swap.ensures.err)
-      | in-Inner w ↦
-          let kids = w.in-Inner.kids.items in
-          let i = w.child_for-at.result in
-          let chosen : IsChosen (rank c.args.key) kids i = rw w.deref.ensures.value at w.child_for-at.ensures in
-          let kid = w.index_mut-kid.result.now in
-          let pages : c.args.self.now.pages ≡ pages_of kids = ap (λ (v : NodeValue g.row.A.Denot). v.pages) (sym c.self.view_is) ∙ ap (pages_under (rank c.self.inside.first)) w.in-Inner.is in
-          rw (pages, w.self-inside-is, w.result-is) (kid_stays_so kids i kid w.replace.new.self chosen.within w.index_mut-kid.ensures.value w.replace.result w.replace.ensures.err)
-    ]
+pub returns-in-Page-clause-err : goal.returns-in-Page-clause-err
+returns-in-Page-clause-err g t c =
+    let es = c.in-Page.entries.items in
+    let pages : c.args.self.now.pages ≡ page (rank c.self.inside.first) es ∷ [] = ap (λ (v : NodeValue g.row.A.Denot). v.pages) (sym c.self.view_is) ∙ ap (pages_under (rank c.self.inside.first)) c.in-Page.is in
+    rw pages (page_stays (rank c.self.inside.first) es c.swap.new.entries.items c.swap.result c.swap.ensures.err)
 
-pub replace-requires : goal.replace-requires
-replace-requires g t c κs within =
+pub returns-in-Inner-clause-err : goal.returns-in-Inner-clause-err
+returns-in-Inner-clause-err g t c =
+    let kids = c.in-Inner.kids.items in
+    let i = c.child_for-at.result in
+    let chosen : IsChosen (rank c.args.key) kids i = rw c.deref.ensures.value at c.child_for-at.ensures in
+    let kid = c.index_mut-kid.result.now in
+    let pages : c.args.self.now.pages ≡ pages_of kids = ap (λ (v : NodeValue g.row.A.Denot). v.pages) (sym c.self.view_is) ∙ ap (pages_under (rank c.self.inside.first)) c.in-Inner.is in
+    rw pages (kid_stays_so kids i kid c.replace-out.new.self chosen.within c.index_mut-kid.ensures.value c.replace-out.result c.replace-out.ensures.err)
+
+pub replace-out-requires : goal.replace-out-requires
+replace-out-requires g t c κs within =
     let kids = c.in-Inner.kids.items in
     let good : IsInnerNode (rank c.self.inside.first) c.self.inside.height kids (vec_capacity c.in-Inner.kids) = subst (IsNode (rank c.self.inside.first) c.self.inside.height) c.in-Inner.is c.self.invariant.0 in
     let i = c.child_for-at.result in
@@ -182,3 +191,18 @@ replace-requires g t c κs within =
     let tall : c.args.self.now.height ≡ c.self.inside.height = ap (λ (v : NodeValue g.row.A.Denot). v.height) (sym c.self.view_is) in
     let lower = lower_kid kid.height good.below c.self.inside.height c.args.self.now.height is.same_height good.higher tall in
     search (rules, lower, within)
+
+pub returns-in-Page-clause-change : goal.returns-in-Page-clause-change
+returns-in-Page-clause-change g t c =
+    let es = c.in-Page.entries.items in
+    let new = c.swap.new.entries.items in
+    let before : entries_of_pages c.args.self.now.pages ≡ es = ap (λ (v : NodeValue g.row.A.Denot). entries_of_pages v.pages) (sym c.self.view_is) ∙ ap (λ k. entries_of_pages (pages_under (rank c.self.inside.first) k)) c.in-Page.is ∙ append-nil es in
+    ok_then c.swap.result
+    (λ (h : IsChange c.swap.new.change es new) (low : c.args.self.now.height ≡ 0). subst (λ xs. IsChange c.swap.new.change xs (new ++ [])) (sym before) (subst (IsChange c.swap.new.change es) (sym (append-nil new)) h)) c.swap.ensures.change
+
+pub returns-in-Inner-clause-change : goal.returns-in-Inner-clause-change
+returns-in-Inner-clause-change g t c = ok_so c.replace-out.result (λ low.
+    let good : IsInnerNode (rank c.self.inside.first) c.self.inside.height c.in-Inner.kids.items (vec_capacity c.in-Inner.kids) = subst (IsNode (rank c.self.inside.first) c.self.inside.height) c.in-Inner.is c.self.invariant.0 in
+    let tall : c.args.self.now.height ≡ c.self.inside.height = ap (λ (v : NodeValue g.row.A.Denot). v.height) (sym c.self.view_is) in
+    let higher = good.higher in
+    absurd (omega (arith, low, tall, higher)))

@@ -6,6 +6,7 @@ use Rattle.st_ubtree.specs.inner.Nodes.{IsNode, IsInnerNode, IsPageNode, inner_n
 use Rattle.st_ubtree.specs.Pages.{page_node}
 use Rattle.st_ubtree.specs.inner.Shrinking.{KidsJoin}
 use Rattle.st_ubtree.proofs.Joining.{both_kids, join_of_kids, join_of_pages, joined_each, joined_head, held_both, held_worn}
+use Rattle.st_ubtree.proofs.Keeping.{marked_under}
 use Rattle.st_ubtree.proofs.Splitting.{page}
 use Rattle.st_ubtree.proofs.node.Node.join.Goals as goal
 use Rattle.st_ubtree.proofs.node.Node.join.Goals.{in-Page-Page, in-Inner-Inner}
@@ -45,6 +46,7 @@ invariant_of-self g c =
             })
       ],
       c.renew.ensures,
+      marked_under c.clear.new.self _ c.clear.ensures,
     )
 
 pub returns : goal.returns

@@ -5,7 +5,7 @@ use Rattle.st_ubtree.specs.Pages.{NodeValue, rows_of_pages}
 use Rattle.st_ubtree.specs.inner.Sums.{Sums}
 use Rattle.st_ubtree.specs.inner.Kids.{HeadAt, IsKid, pages_of}
 use Rattle.std.proofs.lemmas.List.{append-nil}
-use Rattle.st_ubtree.specs.inner.Nodes.{IsNode, node_value, rows_under}
+use Rattle.st_ubtree.specs.inner.Nodes.{AreMarkedUnder, IsNode, node_value, rows_under}
 use Rattle.st_ubtree.proofs.Lifting.{both}
 use Rattle.st_ubtree.proofs.node.Node.raise.Goals as goal
 
@@ -33,6 +33,7 @@ invariant_of-self g c =
         room = omega (arith, a, b, room);
       },
       subst (λ ks. Sums c.add_kids.new.sum (rows_of_pages (pages_of ks))) c.as_slice.ensures.value (c.add_kids.ensures [] (subst (λ s. Sums s []) (sym c.replace-sum.ensures.after) c.new-none.ensures)),
+      c.mark_all.ensures,
     )
 
 pub returns-clause-first : goal.returns-clause-first
@@ -72,6 +73,7 @@ pub invariant_of-left : goal.invariant_of-left
 invariant_of-left g c = (
   subst (IsNode (rank c.self.inside.first) c.self.inside.height) (sym c.replace-kids.ensures.value) c.self.invariant.0,
   subst (λ s. Sums s (rows_under c.replace-kids.result)) (sym c.replace-sum.ensures.value) (subst (λ k. Sums c.self.inside.sum (rows_under k)) (sym c.replace-kids.ensures.value) c.self.invariant.1),
+  subst (λ m. AreMarkedUnder m c.replace-kids.result) (sym c.replace-marks.ensures.value) (subst (AreMarkedUnder c.self.inside.marks) (sym c.replace-kids.ensures.value) c.self.invariant.2),
 )
 
 pub unreachable-unreachable : goal.unreachable-unreachable

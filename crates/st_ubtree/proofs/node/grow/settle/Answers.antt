@@ -7,6 +7,7 @@ use Rattle.st_ubtree.specs.inner.Sums.{Sums}
 use Rattle.st_ubtree.specs.inner.Kids.{AreWide, IsKid, HeadAt, Starts, pages_of, widths_of}
 use Rattle.st_ubtree.specs.inner.Splits.{chains_of}
 use Rattle.st_ubtree.specs.inner.Growing.{AreBlank}
+use Rattle.st_ubtree.specs.inner.Marks.{AreMarked}
 use Rattle.st_ubtree.proofs.Settling.{blank_last, head_there, kids_start, kids_wide}
 use Rattle.st_ubtree.proofs.node.grow.settle.Goals as goal
 
@@ -31,6 +32,7 @@ invariant_of-result g c =
         room = let b = blank.1 in omega (arith, b, cap);
       }),
       subst (λ ks. Sums c.add_kids.new.sum (rows_of_pages (pages_of ks))) (c.as_slice.ensures.value ∙ c.split_at-upper.ensures.moved) (c.add_kids.ensures [] c.new-sum.ensures),
+      subst (AreMarked c.mark_kids.new.marks) (c.as_slice-2.ensures.value ∙ c.split_at-upper.ensures.moved) (c.mark_kids.ensures (c.new-marks.ensures c.as_slice-2.result.now)),
     )
 
 pub returns-clause-settles : goal.returns-clause-settles

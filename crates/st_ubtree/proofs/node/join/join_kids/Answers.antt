@@ -26,6 +26,7 @@ invariant_of-result g c =
         room = c.share.ensures.right_room;
       },
       subst (λ ks. Sums c.add_kids.new.sum (rows_of_pages (pages_of ks))) c.as_slice.ensures.value (c.add_kids.ensures [] c.clear.ensures),
+      c.clear-2.ensures rest,
     )
 
 pub returns-clause-joins : goal.returns-clause-joins

@@ -1,5 +1,8 @@
-use Rattle.std.proofs.Common.{◌≡◌, ◌-◌, ◌<◌, min, length, ap, ◌∙◌, arith}
+use Rattle.std.proofs.Common.{◌≡◌, ◌+◌, ◌-◌, ◌<◌, ◌≤◌, min, set, length, length-set, sym, ap, subst, ◌∙◌, arith}
+use Rattle.std.proofs.lemmas.List.Edits.{length-remove}
 use Rattle.st_ubtree.specs.Pages.{NodeValue}
+use Rattle.st_ubtree.specs.inner.Marks.{ClosesAt, OpensAt}
+use Rattle.st_ubtree.proofs.Marking.{closes_remove, differ_set, opens_insert}
 use Rattle.st_ubtree.proofs.Mending.{joins_worn, mends_alone, mends_both, mends_none, paired, worn_is}
 use Rattle.st_ubtree.proofs.node.join.mend.Goals as goal
 
@@ -65,3 +68,31 @@ returns-then-width-ge16-clause-mends g c = λ below w.
     let same = ap (λ (v : NodeValue g.row.A.Denot). v.width) (worn_is below c.args.at kids w c.index-kid.result.now c.index-kid.ensures) in
     let wide = c.if-width-ge16.true in
     mends_none below c.args.at kids w (omega (arith, same, wide, c.width.ensures))
+
+pub returns-in_default-clause-marks : goal.returns-in_default-clause-marks
+returns-in_default-clause-marks g c = λ marked.
+    let kids = c.args.kids.now.items in
+    let left = c.min-left.result in
+    let m : left ≡ min c.args.at (length kids - 2) = c.min-left.ensures ∙ ap (λ n. min c.args.at (n - 2)) (c.len.ensures ∙ c.args.kids.now.ok.0) in
+    let two = c.requires.two in
+    let fits : left + 1 < length kids = omega (arith, m, two) in
+    let rest = c.remove-right.new.self.items in
+    let kid = c.join.new.self in
+    let closes = subst (ClosesAt (left + 1) kids) (sym c.remove-right.ensures.items) (closes_remove kids (left + 1) fits) in
+    c.clear_page.ensures rest (set rest left kid) (differ_set rest left kid) (c.close.ensures kids rest closes marked)
+
+pub returns-clause-marks : goal.returns-clause-marks
+returns-clause-marks g c = λ marked.
+    let kids = c.args.kids.now.items in
+    let left = c.min-left.result in
+    let m : left ≡ min c.args.at (length kids - 2) = c.min-left.ensures ∙ ap (λ n. min c.args.at (n - 2)) (c.len.ensures ∙ c.args.kids.now.ok.0) in
+    let two = c.requires.two in
+    let fits : left + 1 < length kids = omega (arith, m, two) in
+    let rest = c.remove-right.new.self.items in
+    let kid = c.join.new.self in
+    let closes = subst (ClosesAt (left + 1) kids) (sym c.remove-right.ensures.items) (closes_remove kids (left + 1) fits) in
+    let fewer = length-remove kids (left + 1) fits in
+    let count = ap length c.remove-right.ensures.items in
+    let past : left + 1 ≤ length (set rest left kid) = let n = length-set rest left kid in omega (arith, fits, fewer, count, n) in
+    let opens = subst (OpensAt (left + 1) (set rest left kid)) (sym c.in-Ok.ensures.items) (opens_insert (set rest left kid) (left + 1) c.in-Some.right past) in
+    c.open.ensures (set rest left kid) c.insert.new.self.items opens (c.clear_page.ensures rest (set rest left kid) (differ_set rest left kid) (c.close.ensures kids rest closes marked))

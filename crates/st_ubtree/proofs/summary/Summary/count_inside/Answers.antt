@@ -1,7 +1,6 @@
-use Rattle.std.proofs.Common.{◌≡◌, ◌<◌, length, sym, ap, subst, ◌∙◌, arith}
+use Rattle.std.proofs.Common.{sym, ◌∙◌, arith}
 use Rattle.std.proofs.lemmas.List.Sums.{count_by-le-length}
 use Rattle.st_index.specs.declared.row.Row.{Row}
-use Rattle.st_ubtree.specs.inner.Sums.{labelled, total}
 use Rattle.st_ubtree.proofs.Bounding.{all_counted}
 use Rattle.st_ubtree.proofs.summary.Summary.count_inside.Goals as goal
 
