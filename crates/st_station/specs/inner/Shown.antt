@@ -34,7 +34,7 @@ module _ (start : State) (s t : Seat) (m : Message) (bytes : List ℕ) where
       subst (λ (b : List ℕ). SeatAnswers start s (message h body bare) b t) text (stranger route token moves)
 
   module _ (asked : Ask) (is_found : IsFound m) (asks : AsksBy m asked) where
-    asks_in : (h : RequestHead) (body : List ℕ) (bare : Bool) → ShowsMessage h body bare m → AsksIn h body asked
+    pub asks_in : (h : RequestHead) (body : List ℕ) (bare : Bool) → ShowsMessage h body bare m → AsksIn h body asked
     asks_in h body bare shows = record {
       endpoint = is_found.0;
       name = is_found.1;
@@ -69,7 +69,7 @@ shown_unrouted start s m bytes none told h body bare shows =
     unrouted (λ endpoint name is. none (endpoint, name, subst (ShowsRoute m.route) is shows.route))
     (λ state. service_shown state state m bytes (told state) h body bare shows)
 
-seat_shown : (start : State) (s t : Seat) (m : Message) (bytes : List ℕ) → SeatReplies start s m bytes t → Replied (SeatAnswers start) s m bytes t
+pub seat_shown : (start : State) (s t : Seat) (m : Message) (bytes : List ℕ) → SeatReplies start s m bytes t → Replied (SeatAnswers start) s m bytes t
 seat_shown start s t m bytes (reads {asked} is_found asks is_read moves is) = shown_read start s t m bytes asked is_found asks is_read moves is
 seat_shown start s t m bytes (makes {asked} {reply} is_found asks changes ends moves is) =
     shown_made start s t m bytes asked is_found asks reply changes ends moves is

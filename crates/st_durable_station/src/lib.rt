@@ -1,0 +1,8 @@
+//! Serves the requests of connections at a desk of a hall whose changes are kept.
+#![tactic(auto)]
+
+mod answerer;
+pub mod law;
+mod station;
+
+pub use station::DurableStation;

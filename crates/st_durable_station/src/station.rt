@@ -1,0 +1,107 @@
+//! A station of a hall whose changes are kept.
+ghost use Rattle.std.specs.Prelude.{◌≡◌, false, IfOk};
+ghost use Rattle.st_connection.specs.Connection.{EndsOn};
+ghost use Rattle.st_durable_hall.specs.Rolls.{WasKept};
+ghost use Rattle.st_durable_station.specs.Standing.{ServesKept};
+
+use crate::answerer::Answerer;
+use st_connection::Server;
+use st_connection::connection::{Ended, IoFault, MAX_READS};
+use st_connection::streams::{Sink, Source};
+use st_durable::Beginning;
+use st_durable_hall::DurableClerk;
+use st_hall::{Desk, HallName};
+use st_journal::Journal;
+use std::alloc::{AllocError, Global};
+use std::marker::Model;
+use std::sync::atomic::AtomicBool;
+use std::sync::{Mutex, Wait};
+use std::time::Clock;
+
+/// A desk that serves connections, one after another, and the clerk who makes their changes. Contracts see what the desk has seen,
+/// how many changes were made and kept at it, whether one was lost, and whether a connection ended for that.
+#[derive(Drop)]
+pub struct DurableStation<
+    'a,
+    B: Beginning,
+    H: HallName,
+    R: Wait + Drop,
+    J: Journal + Drop,
+    C: Clock,
+    W: Wait,
+> {
+    server: Server<Answerer<'a, B, H, R, J, C, W>>,
+}
+
+impl<'a, B: Beginning, H: HallName, R: Wait + Drop, J: Journal + Drop, C: Clock, W: Wait> Model
+    for DurableStation<'a, B, H, R, J, C, W> {
+    ghost use Rattle.std.specs.Prelude.{◌≡◌};
+    ghost use Rattle.st_durable_station.specs.Standing.{Station};
+
+    ghost Value = { Station };
+
+    ghost view = { λ s. s.server };
+
+    ghost invariant = { λ s. s.server.is_lost ≡ s.server.failed };
+}
+
+impl<
+    'a,
+    B: Beginning,
+    H: HallName,
+    R: Wait + Drop,
+    J: Journal + Drop,
+    C: Clock,
+    W: Wait,
+> DurableStation<'a, B, H, R, J, C, W> {
+    /// A station over a desk. The clock tells the times of the records. The stations of a hall share `alarm`, which is on once one of
+    /// them lost a change; it is off at first.
+    pub fn new(
+        rt: &'a W,
+        alloc: Global,
+        clock: &'a C,
+        desk: Desk<H>,
+        clerk: &'a Mutex<DurableClerk<B, H, R, J>>,
+        alarm: &'a AtomicBool,
+    ) -> Result<DurableStation<'a, B, H, R, J, C, W>, AllocError>
+        ensures { IfOk result (λ station. station ≡ record { seat = desk; is_lost = false; failed = false }) }
+    {
+        let made = desk.made();
+        let answerer = Answerer {
+            alloc,
+            rt,
+            clock,
+            clerk,
+            alarm,
+            desk,
+            made,
+            is_lost: false,
+            failed: false,
+        };
+        let server = Server::new(alloc, alloc, answerer)?;
+        Ok(DurableStation { server })
+    }
+
+    /// Serves a connection, as `Service::serve` does by a service. Unless it ends as `Lost`, each answer to a change that was written
+    /// is the last of a list that was kept. `Lost` comes where a change may not be kept, at this station or another of the hall: it is
+    /// not answered, only the next opening can tell, and this station takes no more connections: at each it does nothing.
+    pub fn serve<S: Source, K: Sink>(
+        &mut self,
+        reader: &mut S,
+        writer: &mut K,
+    ) -> Result<Ended, IoFault>
+        requires reader_sound { S.has_failed reader.old ≡ false }
+        requires writer_sound { K.has_failed writer.old ≡ false }
+        ensures served { ServesKept H.start (WasKept J.list J.misreads B.first H.start) self.old self.new
+            (S.left reader.old) (S.left reader.new) (K.held writer.old) (K.held writer.new) (S.has_failed reader.new) result }
+        ensures ends { EndsOn MAX_READS (S.left reader.new) (S.reads reader.old) (S.reads reader.new)
+            (S.has_ended reader.new) (S.has_failed reader.new) (K.has_failed writer.new) result }
+    {
+        if self.server.answerer().has_failed() {
+            return Ok(Ended::Lost);
+        }
+        let ended = self.server.serve(reader, writer);
+        let _failed = self.server.answerer().has_failed();
+        ended
+    }
+}
