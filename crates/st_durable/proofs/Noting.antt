@@ -1,6 +1,7 @@
 -- A change that is heard, and its record.
 use Rattle.std.proofs.Common.{◌≡◌, ℕ, List, true, Option, Some, Result, Ok, Err, sym, ap, subst, ◌∙◌}
-use Rattle.std.specs.Prelude.{IsUtf8, IfOk, IfSome, IfNone, Bool, false, None}
+use Rattle.std.specs.Prelude.{IsTrue, IsUtf8, IfOk, IfSome, IfNone, Bool, false, None}
+use Rattle.st_text.specs.Names.{is_name}
 use Rattle.st_text.specs.Texts.{Text}
 use Rattle.st_dir.specs.Directory.{Directory, is_user}
 use Rattle.st_http.specs.declared.routes.Endpoint.{Endpoint}
@@ -45,10 +46,10 @@ module _ {A : Type 0} where
 
   module _ (s : State A) (m : Message) (asked : Asked A) (asks : AsksBy m asked) (asker : Text) (request : Request A) (refusal : Option Refusal)
       (heard : judge s.directory asked ≡ Heard asker request refusal) where
-    pub applied : (r : Record) → IsFound m → asks_for_change asked ≡ true
+    pub applied : (r : Record) → IsTrue (is_name asker) → IsFound m → asks_for_change asked ≡ true
         → ((e : Endpoint) (name : List ℕ) → ShowsRoute m.route (found e name) → IsRecordOf r asker e name m.body.now)
         → Applies s r (step s asked).state
-    applied r (e, name, shows) change is =
+    applied r named (e, name, shows) change is =
         let h = heard_by s.directory asked asker request refusal heard in
         let good : asked.call ≡ Call.Good request = h.1 in
         let kept = is e name shows in
@@ -58,6 +59,7 @@ module _ {A : Type 0} where
           request = request;
           reads = same r asker name m.body.now e (Ok request) kept decoded;
           change = ap calls_for_change (sym good) ∙ change;
+          named = subst (λ (u : Text). IsTrue (is_name u)) (sym user) named;
           user = subst (λ (u : Text). is_user s.directory u ≡ true) (sym user) (asker_known s.directory asked.token asker h.0);
           after_is = ap (λ (o : Option Text). (settle s (judge_call s.directory o asked.call)).state) (h.0 ∙ ap (λ (u : Text). Some u) (sym user))
               ∙ ap (λ (c : Call A). (settle s (judge_call s.directory (Some r.user) c)).state) good;

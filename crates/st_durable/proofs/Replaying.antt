@@ -1,11 +1,13 @@
 -- What records lead to.
-use Rattle.std.proofs.Common.{◌≡◌, ◌⊎◌, List, [], ◌∷◌, ◌++◌, Some, Ok, refl, sym, ap, subst, ◌∙◌}
+use Rattle.std.proofs.Common.{◌≡◌, ◌⊎◌, List, [], ◌∷◌, ◌++◌, true, false, Some, Ok, refl, sym, ap, subst, ◌∙◌}
 use Rattle.st_policy.specs.declared.request.Request.{Request}
+use Rattle.st_policy.specs.Requests.{is_change}
 use Rattle.st_core.specs.declared.asked.Call.{Call}
 use Rattle.st_core.specs.State.{State}
 use Rattle.st_core.specs.Step.{judge_call, settle}
 use Rattle.st_journal.specs.declared.record.Record.{Record}
 use Rattle.st_journal.specs.Replays.{Replays}
+use Rattle.st_record.specs.Records.{ReadsAs}
 use Rattle.st_record.proofs.ReadBack.{one}
 use Rattle.st_durable.specs.Applying.{Applies}
 use Rattle.st_durable.specs.Keeping.{LeadTo}
@@ -30,6 +32,14 @@ module _ {A : Type 0} where
       let x : t ≡ after_by s r a.request = a.after_is in
       let y : u ≡ after_by s r b.request = b.after_is in
       x ∙ ap (after_by s r) request ∙ sym y
+
+  -- the record of a read applies to no state
+  pub applies_none : (s t : State A) (r : Record) (request : Request A) → ReadsAs r (Ok request) → is_change request ≡ false → Applies s r t → ⊥
+  applies_none s t r request reads reading a =
+      let same : Ok a.request ≡ Ok request = one r (Ok a.request) (Ok request) a.reads reads in
+      let equal : a.request ≡ request = cc in
+      let change : is_change request ≡ true = subst (λ (q : Request A). is_change q ≡ true) equal a.change in
+      absurd (cc)
 
   pub one_state : (first t u : State A) (records : List Record) → Replays Applies first records t → Replays Applies first records u → t ≡ u
   one_state first t u [] x y = x ∙ sym y

@@ -1,5 +1,7 @@
 //! A store that is made again from the records of its changes.
-ghost use Rattle.std.specs.Prelude.{◌≡◌, Ok, OnOk, OnErr};
+ghost use Rattle.std.specs.Prelude.{◌≡◌, Ok, Err, OnOk, OnErr};
+ghost use Rattle.std.specs.declared.alloc.Global.{Global as Heap};
+ghost use Rattle.st_core.specs.State.{State};
 ghost use Rattle.st_record.specs.Records.{ReadsAs};
 ghost use Rattle.st_durable.specs.Applying.{Applies};
 
@@ -16,6 +18,7 @@ fn make_again(store: &mut Store, change: &Record, request: &Request) -> Result<(
     requires reads { ReadsAs change.now (Ok request.now) }
     ensures ok { OnOk result (Applies store.old change.now store.new) }
     ensures err { OnErr result (store.new ≡ store.old) }
+    ensures invalid { result ≡ Err ReplayError.Invalid → (after : State Heap) → Applies store.old change.now after → ⊥ }
 {
     let Ok(user) = Name::new(change.user.as_str()) else {
         return Err(ReplayError::Invalid);

@@ -1,5 +1,5 @@
 //! What the records are applied to.
-ghost use Rattle.std.specs.Prelude.{◌≡◌, OnOk, OnErr};
+ghost use Rattle.std.specs.Prelude.{◌≡◌, Err, OnOk, OnErr};
 ghost use Rattle.st_journal.specs.declared.record.Record.{Record};
 
 use crate::record::Record;
@@ -21,5 +21,6 @@ pub trait Replay {
     /// Applies a record. At an error nothing is changed.
     fn apply(&mut self, change: &Record) -> Result<(), ReplayError>
         ensures ok { OnOk result (applies self.old change.now self.new) }
-        ensures err { OnErr result (self.new ≡ self.old) };
+        ensures err { OnErr result (self.new ≡ self.old) }
+        ensures invalid { result ≡ Err ReplayError.Invalid → (after : Self) → applies self.old change.now after → ⊥ };
 }

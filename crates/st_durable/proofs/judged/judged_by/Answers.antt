@@ -27,4 +27,4 @@ returns-in-Ok-clause-noted g c s is =
     let heard = subst (λ d. judge d c.args.asked.now ≡ Heard c.in-Heard.asker.now c.in-Heard.request.now c.in-Heard.refusal) (sym is) (sym c.in-Heard.ensures) in
     let record_of = subst (λ (u : List ℕ). (endpoint : Endpoint) (name : List ℕ) → ShowsRoute c.args.message.now.route (found endpoint name)
     → IsRecordOf c.in-Ok.note u endpoint name c.args.message.now.body.now) c.as_str.ensures.value c.in-Ok.ensures.made in
-    applied s c.args.message.now c.args.asked.now c.requires.asks _ _ _ heard c.in-Ok.note c.requires.is_found c.requires.change record_of
+    applied s c.args.message.now c.args.asked.now c.requires.asks _ _ _ heard c.in-Ok.note c.as_str.ensures.name c.requires.is_found c.requires.change record_of
