@@ -1,16 +1,20 @@
-"""A store of its own for a test: the built `st_run` with `--store FILE`, one connection over its streams."""
+"""A store of its own for a test: a built program with `--store FILE`, and one connection to it."""
+import io
 import json
 import os
+import socket
 import sqlite3
 import subprocess
 from collections.abc import Iterator
-from contextlib import closing, contextmanager
+from contextlib import closing, contextmanager, suppress
 from pathlib import Path
 from typing import IO, Any
 
-from served import TOP, digest, token
+from served import PROGRAM as SERVED
+from served import TOP, digest, free_port, token
 
 RUN = Path(os.environ.get("ST_RUN", TOP / "crates/st_run/out/st_run"))
+PROGRAMS = [RUN, SERVED]
 BOX = [0, 2097151, 0, 2097151, 0, 19818086399]
 AUTHS = ["A", "B"]
 
@@ -28,10 +32,13 @@ class Ended(Exception):
     """The program ended before it answered."""
 
 
-def answer(stream: IO[bytes]) -> tuple[int, dict[str, object]]:
+def answer(stream: IO[bytes] | io.BufferedRWPair) -> tuple[int, dict[str, object]]:
     """The status and the body of the next answer."""
     length = 0
-    first = stream.readline()
+    try:
+        first = stream.readline()
+    except ConnectionError:
+        raise Ended from None
     while (line := stream.readline()) not in (b"\r\n", b""):
         name, _, value = line.decode().partition(":")
         if name.lower() == "content-length":
@@ -91,28 +98,87 @@ class Run:
         rest, faults = self.stdout.read(), self.stderr.read()
         return self.process.wait(PATIENCE), rest, faults
 
+    def kill(self) -> None:
+        self.process.kill()
+        self.process.wait(PATIENCE)
+
+    def close(self) -> None:
+        self.kill()
+        for stream in (self.stdout, self.stderr, self.stdin):
+            with suppress(BrokenPipeError):
+                stream.close()
+
+
+class ServedRun(Run):
+    """A server for one connection, and that connection, where the server comes to listen."""
+
+    def __init__(self, process: "subprocess.Popen[bytes]", port: int) -> None:
+        super().__init__(process)
+        self.told = self.stdout
+        self.client: socket.socket | None = None
+        if self.told.readline() == b"listening %d\n" % port:
+            self.client = socket.create_connection(("127.0.0.1", port), PATIENCE)
+            self.client.setsockopt(socket.IPPROTO_TCP, socket.TCP_NODELAY, 1)
+            self.stdin, self.stdout = self.client.makefile("wb"), self.client.makefile("rb")
+
+    def send(self, asked: bytes) -> None:
+        if self.client is None:
+            raise Ended
+        try:
+            super().send(asked)
+        except ConnectionError:
+            raise Ended from None
+
+    def end(self) -> tuple[int, bytes, bytes]:
+        rest = b""
+        if self.client is not None:
+            with suppress(OSError):
+                self.client.shutdown(socket.SHUT_WR)
+                rest = self.stdout.read()
+        told, faults = self.told.read(), self.stderr.read()
+        status = self.process.wait(PATIENCE)
+        assert told == (b"served 1\n" if status == 0 else b"")
+        return status, rest, faults
+
+    def close(self) -> None:
+        self.kill()
+        if self.client is not None:
+            with suppress(OSError):
+                self.stdin.close()
+            self.stdout.close()
+            self.client.close()
+        self.told.close()
+        self.stderr.close()
+        if self.process.stdin is not None:
+            self.process.stdin.close()
+
+
+def process_of(program: Path, words: list[str]) -> "subprocess.Popen[bytes]":
+    return subprocess.Popen([str(program), *words], stdin=subprocess.PIPE, stdout=subprocess.PIPE, stderr=subprocess.PIPE)
+
+
+def run_of(program: Path, words: list[str]) -> Run:
+    if program != SERVED:
+        return Run(process_of(program, words))
+    port = free_port()
+    return ServedRun(process_of(program, ["--port", str(port), "--connections", "1", *words]), port)
+
 
 @contextmanager
-def started(*words: str) -> Iterator[Run]:
+def started(*words: str, program: Path = RUN) -> Iterator[Run]:
     """A run with these arguments. It is killed at the end of the context, if it has not ended."""
-    process = subprocess.Popen([str(RUN), *words], stdin=subprocess.PIPE, stdout=subprocess.PIPE, stderr=subprocess.PIPE)
-    run = Run(process)
+    run = run_of(program, list(words))
     try:
         yield run
     finally:
-        process.kill()
-        process.wait(PATIENCE)
-        for stream in (run.stdout, run.stderr, run.stdin):
-            try:
-                stream.close()
-            except BrokenPipeError:
-                pass
+        run.close()
 
 
 @contextmanager
-def opened(file: Path, root: str = "root", auths: list[str] | None = None) -> Iterator[Run]:
+def opened(file: Path, root: str = "root", auths: list[str] | None = None, program: Path = RUN) -> Iterator[Run]:
     """A run over the store in a file."""
-    with started("--root", digest(root), "--store", str(file), *(AUTHS if auths is None else auths)) as run:
+    words = ["--root", digest(root), "--store", str(file), *(AUTHS if auths is None else auths)]
+    with started(*words, program=program) as run:
         yield run
 
 

@@ -9,8 +9,10 @@ from __future__ import annotations
 import hashlib
 import os
 import re
+import sqlite3
 import subprocess
 from collections.abc import Iterator
+from contextlib import closing
 from pathlib import Path
 
 import pytest
@@ -84,9 +86,10 @@ def filter_of_the_unit() -> seccomp.SyscallFilter:
     return rules
 
 
-def test_server_serves_under_the_filter_of_the_unit(root: Path) -> None:
-    port = free_port()
+def test_server_serves_under_the_filter_of_the_unit(root: Path, tmp_path: Path) -> None:
+    port, store = free_port(), tmp_path / "points.db"
     variables = {"ROOT_DIGEST": digest("root"), "PORT": str(port), "TIMEOUT": "5", "WORKERS": "3", "LISTEN": "127.0.0.1"}
+    variables["STORE"] = str(store)
     line = re.findall(r"^ExecStart=(.*) \$ROOT_AUTHS$", UNIT, re.M)[0]
     words = [*re.sub(r"\$\{(\w+)\}", lambda found: variables[str(found[1])], line).split(), "coast"]
     words[0] = f"{root}{words[0]}"
@@ -96,5 +99,9 @@ def test_server_serves_under_the_filter_of_the_unit(root: Path) -> None:
             assert server.stdout.readline() == b"listening %d\n" % port
             with Client(f"http://127.0.0.1:{port}", Token.parse(token("root"))) as client:
                 assert client.whoami().auths == ("coast",)
+                client.tables.create("geo.marks")
         finally:
             server.terminate()
+    with closing(sqlite3.connect(store)) as base:
+        assert base.execute("PRAGMA integrity_check").fetchall() == [("ok",)]
+        assert base.execute("SELECT user, request, name FROM changes WHERE number = 1").fetchall() == [("root", "create-table", "geo.marks")]

@@ -96,6 +96,25 @@ fn opening_for(alloc: Global, digest: [u8; 32], names: &[&str]) -> Result<String
     Ok(text)
 }
 
+/// Two stores of the state that 64 hexadecimal digits and names open, and what a journal of their changes says that its store was
+/// opened with. An invalid digest is reported before an invalid name.
+pub fn stores_and_opening_for(
+    alloc: Global,
+    digits: &str,
+    names: &[&str],
+) -> Result<(Store, Store, String), Fault>
+    ensures alike { IfOk result (λ opened. opened.1 ≡ opened.0) }
+    ensures ok { IfOk result (λ opened. OpensWith digits.now (map (λ name. name.now) names.now) opened.0 (string_bytes opened.2)) }
+    ensures err { IfErr result (λ fault. (app : App) (words : List Text)
+        → SaysRoot app words digits.now (map (λ name. name.now) names.now) → RefusesWords app words fault) }
+{
+    let digest = digest_of(digits)?;
+    let opened = store_for(alloc, digest, names)?;
+    let copy = store_for(alloc, digest, names)?;
+    let opening = opening_for(alloc, digest, names)?;
+    Ok((opened, copy, opening))
+}
+
 // The state that 64 hexadecimal digits and names open, to which the changes of a journal are applied, and what that journal says
 // that its store was opened with. An invalid digest is reported before an invalid name.
 pub(crate) fn replayed_for(

@@ -1,7 +1,7 @@
 -- Command lines of the server, worked out.
 use Rattle.std.specs.Prelude.{Some}
 use Rattle.std.proofs.Common.{[], ◌∷◌, codes, ◌≡◌, refl}
-use Rattle.clap.specs.Words.{fault_of}
+use Rattle.clap.specs.Words.{fault_of, first_of, matches_of}
 use Rattle.clap.specs.declared.error.kind.ErrorKind.TheVariants.{DisplayVersion, MissingRequiredArgument, ValueValidation}
 use Rattle.clap.proofs.OnLiterals.{clap_on_literals}
 use Rattle.st_command_line.specs.ServedArguments.{served_command, text_of}
@@ -45,6 +45,14 @@ every_option = refl
 the_listener : text_of (codes "listen") (codes "st_served" ∷ codes "--root=66" ∷ codes "--port=47001" ∷ codes "--listen" ∷ codes "10.0.0.7" ∷ []) ≡ Some (codes "10.0.0.7")
 unfolding clap_on_literals
 the_listener = refl
+
+with_store : fault_of served_command (codes "st_served" ∷ codes "--root=66" ∷ codes "--store" ∷ codes "points.db" ∷ codes "--port=1" ∷ codes "A" ∷ []) ≡ []
+unfolding clap_on_literals
+with_store = refl
+
+the_store : first_of (codes "store") (matches_of served_command (codes "st_served" ∷ codes "--root=66" ∷ codes "--port=1" ∷ codes "--store=points.db" ∷ [])) ≡ Some (codes "points.db")
+unfolding clap_on_literals
+the_store = refl
 
 no_idle_time : fault_of served_command (codes "st_served" ∷ codes "--root" ∷ codes "66" ∷ codes "--port" ∷ codes "1" ∷ codes "--idle" ∷ codes "0" ∷ []) ≡ ValueValidation ∷ []
 unfolding clap_on_literals

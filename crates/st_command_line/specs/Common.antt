@@ -1,4 +1,4 @@
--- What both command lines have, `--root DIGEST` and `[NAME]...`: what the words say by it, and why they are refused.
+-- What both command lines have, `--root DIGEST`, `--store FILE` and `[NAME]...`: what the words say by it, and why they are refused.
 use Rattle.std.specs.Prelude.{◌≡◌, ℕ, List, [], ◌∷◌, Some, Ok, IsErr, codes, true, unwrap_or}
 use Rattle.hex.specs.Hex.{decode_sized}
 use Rattle.clap.specs.Words.{App, Rule, IsAmong, all_of, fault_of, first_of, found_of, kind_of, matches_of, new_rule, rows_of, with_rule}
@@ -25,6 +25,14 @@ root_option = record (new_rule (codes "root")) {
   value_names = 1;
   action = Some Set;
   required = true;
+}
+
+-- the option `--store FILE`
+abbrev pub store_option : Rule
+store_option = record (new_rule (codes "store")) {
+  long = Some (codes "store");
+  value_names = 1;
+  action = Some Set;
 }
 
 -- the names, any number of them

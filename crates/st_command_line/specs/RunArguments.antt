@@ -1,18 +1,9 @@
 -- The command line `st_run --root DIGEST [--store FILE] [NAME]...`, and what its words say.
-use Rattle.std.specs.Prelude.{◌≡◌, List, [], ◌∷◌, Option, Some, codes, map, option_map}
-use Rattle.clap.specs.Words.{App, Rule, first_of, matches_of, new_app, new_rule}
-use Rattle.clap.specs.declared.builder.action.ArgAction.TheVariants.{Set}
+use Rattle.std.specs.Prelude.{◌≡◌, List, [], ◌∷◌, Option, codes, map, option_map}
+use Rattle.clap.specs.Words.{App, Rule, first_of, matches_of, new_app}
 use Rattle.st_text.specs.Texts.{Text}
 use Rattle.st_command_line.specs.declared.run_arguments.RunArguments.{RunArguments}
-use Rattle.st_command_line.specs.Common.{SaysRoot, root_option, name_operand, with_rules, with_version}
-
--- the option `--store FILE`
-abbrev pub store_option : Rule
-store_option = record (new_rule (codes "store")) {
-  long = Some (codes "store");
-  value_names = 1;
-  action = Some Set;
-}
+use Rattle.st_command_line.specs.Common.{SaysRoot, root_option, store_option, name_operand, with_rules, with_version}
 
 abbrev pub run_rules : List Rule
 run_rules = root_option ∷ store_option ∷ name_operand ∷ []

@@ -1,14 +1,14 @@
--- The command line `st_served --root DIGEST --port P [--connections N] [--workers N] [--timeout SECONDS] [--idle SECONDS]
--- [--listen ADDRESS] [NAME]...`: what its words say, and why words are refused.
+-- The command line `st_served --root DIGEST --port P [--store FILE] [--connections N] [--workers N] [--timeout SECONDS]
+-- [--idle SECONDS] [--listen ADDRESS] [NAME]...`: what its words say, and why words are refused.
 use Rattle.std.specs.Prelude.{◌≡◌, ◌⊎◌, ◌<◌, ◌^◌, ℕ, List, [], ◌∷◌, Option, Some, None}
-use Rattle.std.specs.Prelude.{codes, map, max, true, pos, unwrap_or}
+use Rattle.std.specs.Prelude.{codes, map, max, option_map, true, pos, unwrap_or}
 use Rattle.std.specs.Str.Parse.{IsNumeral, digits_value, without_leading_plus}
 use Rattle.std.specs.Net.Addr.{ipv4_octets}
 use Rattle.std.specs.Net.Grammar.{IsIpv4Text}
 use Rattle.std.specs.Net.Socket.{v4_ip}
 use Rattle.std.specs.declared.net.ipv4_addr.Ipv4Addr.{Ipv4Addr}
 use Rattle.std.specs.declared.net.socket_addr.SocketAddrV4.{SocketAddrV4}
-use Rattle.clap.specs.Words.{App, Rule, fault_of, matches_of, new_app, new_rule, one_of}
+use Rattle.clap.specs.Words.{App, Rule, fault_of, first_of, matches_of, new_app, new_rule, one_of}
 use Rattle.clap.specs.declared.builder.action.ArgAction.TheVariants.{Set}
 use Rattle.clap.specs.declared.builder.value_parser.ValueParser.TheVariants.{Signed}
 use Rattle.st_text.specs.Texts.{Text}
@@ -16,7 +16,7 @@ use Rattle.st_command_line.specs.declared.fault.Fault.{Fault}
 use Rattle.st_command_line.specs.declared.fault.Fault.TheVariants.{BadAddress, BadNumber}
 use Rattle.st_command_line.specs.declared.served_arguments.ServedArguments.{ServedArguments}
 use Rattle.st_command_line.specs.Common as common
-use Rattle.st_command_line.specs.Common.{SaysRoot, name_operand, root_option, with_rules, with_version}
+use Rattle.st_command_line.specs.Common.{SaysRoot, name_operand, root_option, store_option, with_rules, with_version}
 
 -- the option `--port P`, 1 to 65,535, which must be there, once
 abbrev pub port_option : Rule
@@ -73,8 +73,8 @@ listen_option = record (new_rule (codes "listen")) {
 }
 
 abbrev pub served_rules : List Rule
-served_rules = root_option ∷ port_option ∷ connections_option ∷ workers_option ∷ timeout_option ∷ idle_option ∷ listen_option
-    ∷ name_operand ∷ []
+served_rules = root_option ∷ port_option ∷ store_option ∷ connections_option ∷ workers_option ∷ timeout_option ∷ idle_option
+    ∷ listen_option ∷ name_operand ∷ []
 
 abbrev pub served_command : App
 served_command = with_rules (with_version (new_app (codes "st_served"))) served_rules
@@ -103,10 +103,15 @@ GivesAddress (Some text) None = ⊥
 abbrev pub text_of : Text → List Text → Option Text
 text_of id words = one_of id (matches_of served_command words)
 
+-- the path of the store, where the words name one
+abbrev pub store_of : ServedArguments → Option Text
+store_of said = option_map (λ path. path.now) said.store
+
 -- the words are such a command line, and say this
 pub record SaysServed (words : List Text) (said : ServedArguments) : Type 0 where
   pub root : SaysRoot served_command words said.digest.now (map (λ name. name.now) said.names.items)
   pub port_is : Gives (text_of (codes "port") words) (Some said.port)
+  pub store_is : first_of (codes "store") (matches_of served_command words) ≡ store_of said
   pub connections_are : Gives (text_of (codes "connections") words) said.connections
   pub workers_are : Gives (text_of (codes "workers") words) said.workers
   pub timeout_is : Gives (text_of (codes "timeout") words) said.timeout

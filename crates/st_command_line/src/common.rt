@@ -1,9 +1,9 @@
-//! What both command lines have: `--root DIGEST` and `[NAME]...`, the version, and how words are parsed.
+//! What both command lines have: `--root DIGEST`, `--store FILE` and `[NAME]...`, the version, and how words are parsed.
 ghost use Rattle.std.specs.Prelude.{◌≡◌, ◌⊎◌, [], IfOk, IfErr, IsSome, codes, false, map, string_bytes};
 ghost use Rattle.clap.specs.Built.{FitsChain, TakesValue};
 ghost use Rattle.clap.specs.Words.{App, app_of, args_of, first_value, found_of, groups_of, new_app, rule_of};
 ghost use Rattle.clap.specs.declared.builder.command.Command.TheViews.{out-Command as fields_of};
-ghost use Rattle.st_command_line.specs.Common.{IsParsed, RefusesWords, root_option, name_operand, with_version};
+ghost use Rattle.st_command_line.specs.Common.{IsParsed, RefusesWords, root_option, store_option, name_operand, with_version};
 ghost use Rattle.st_command_line.specs.inner.Commands.{Builds};
 ghost use Rattle.st_command_line.specs.declared.fault.Fault.TheVariants.{NotText, NoMemory};
 
@@ -36,6 +36,19 @@ pub fn root<'a>(alloc: Global) -> Arg<'a>
         .value_name("DIGEST")
         .help("The SHA-256 of root's secret, in 64 hexadecimal digits")
         .required(true)
+        .action(ArgAction::Set)
+}
+
+/// The option `--store FILE`.
+pub fn store<'a>(alloc: Global) -> Arg<'a>
+    ensures id { result.id.now ≡ codes "store" }
+    ensures rule { rule_of result ≡ store_option }
+    ensures fits { FitsChain result }
+{
+    Arg::new(alloc, "store")
+        .long("store")
+        .value_name("FILE")
+        .help("Keep the changes in this SQLite file, which is made where there is none")
         .action(ArgAction::Set)
 }
 

@@ -1,14 +1,13 @@
 //! The command line `st_run --root DIGEST [--store FILE] [NAME]...`.
 ghost use Rattle.std.specs.Prelude.{◌≡◌, IfOk, IfErr, IsSome, codes, map, string_bytes};
-ghost use Rattle.clap.specs.Built.{FitsChain};
-ghost use Rattle.clap.specs.Words.{first_value, found_of, rule_of};
+ghost use Rattle.clap.specs.Words.{first_value, found_of};
 ghost use Rattle.st_command_line.specs.Common.{IsParsed, RefusesWords};
-ghost use Rattle.st_command_line.specs.RunArguments.{run_command, store_option, SaysRun};
+ghost use Rattle.st_command_line.specs.RunArguments.{run_command, SaysRun};
 ghost use Rattle.st_command_line.specs.inner.Commands.{Builds};
 
-use crate::common::{named, names, parse_by, root};
+use crate::common::{named, names, parse_by, root, store};
 use crate::fault::Fault;
-use clap::{Arg, ArgAction, ArgMatches, Command};
+use clap::{ArgMatches, Command};
 use std::alloc::{AllocError, Global};
 
 const ABOUT: &str = "Serves labelled points in place and time over standard input and output";
@@ -22,19 +21,6 @@ pub struct RunArguments<'a> {
     pub store: Option<&'a str>,
     /// Root's authorizations; not checked here.
     pub names: Vec<&'a str>,
-}
-
-// The option `--store FILE`.
-fn store<'a>(alloc: Global) -> Arg<'a>
-    ensures id { result.id.now ≡ codes "store" }
-    ensures rule { rule_of result ≡ store_option }
-    ensures fits { FitsChain result }
-{
-    Arg::new(alloc, "store")
-        .long("store")
-        .value_name("FILE")
-        .help("Keep the changes in this SQLite file, which is made where there is none")
-        .action(ArgAction::Set)
 }
 
 // The command.

@@ -1,5 +1,5 @@
-//! The command line `st_served --root DIGEST --port P [--connections N] [--workers N] [--timeout SECONDS] [--idle SECONDS]
-//! [--listen ADDRESS] [NAME]...`.
+//! The command line `st_served --root DIGEST --port P [--store FILE] [--connections N] [--workers N] [--timeout SECONDS]
+//! [--idle SECONDS] [--listen ADDRESS] [NAME]...`.
 ghost use Rattle.std.specs.Prelude.{◌≡◌, ◌<◌, ◌*◌, IfOk, IfErr, List, map, string_bytes, unwrap_or};
 ghost use Rattle.std.specs.Net.Socket.{v4_port};
 ghost use Rattle.std.specs.Duration.{as_nanos};
@@ -25,6 +25,8 @@ pub struct ServedArguments<'a> {
     pub digest: &'a str,
     /// The port to listen at, 1 to 65,535.
     pub port: u16,
+    /// The path of the file that keeps the store; without it the store is in memory alone.
+    pub store: Option<&'a str>,
     /// How many connections to serve, 0 to 1,000; without it, all that come.
     pub connections: Option<u16>,
     /// How many workers serve, 1 to 256.
@@ -78,6 +80,7 @@ impl<'a> ServedArguments<'a> {
         let Some(port) = number(&matches, "port")? else {
             return Err(Fault::BadNumber);
         };
+        let store = matches.get_str("store");
         let connections = number(&matches, "connections")?;
         let workers = number(&matches, "workers")?;
         let timeout = number(&matches, "timeout")?;
@@ -87,6 +90,7 @@ impl<'a> ServedArguments<'a> {
         Ok(ServedArguments {
             digest,
             port,
+            store,
             connections,
             workers,
             timeout,

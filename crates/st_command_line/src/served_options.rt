@@ -7,7 +7,7 @@ ghost use Rattle.st_command_line.specs.ServedArguments.{served_command, port_opt
 ghost use Rattle.st_command_line.specs.ServedArguments.{workers_option, timeout_option, idle_option, listen_option};
 ghost use Rattle.st_command_line.specs.inner.Commands.{Builds};
 
-use crate::common::{named, names, parse_by, root};
+use crate::common::{named, names, parse_by, root, store};
 use crate::fault::Fault;
 use clap::{Arg, ArgAction, ArgMatches, Command};
 use std::alloc::{AllocError, Global};
@@ -109,6 +109,7 @@ fn command<'a>(alloc: Global) -> Result<Command<'a>, AllocError>
     let command = named(alloc, "st_served", ABOUT)
         .arg(root(alloc))?
         .arg(port(alloc))?
+        .arg(store(alloc))?
         .arg(connections(alloc))?
         .arg(workers(alloc))?
         .arg(timeout(alloc))?

@@ -1,4 +1,4 @@
--- A station may go to another thread, since a worker of a hall and the table of routes may. Rattle makes no such lemma for the nodes of
+-- A station may go to another thread, since a worker of a hall, a clerk whose changes are kept, and the table of routes may. Rattle makes no such lemma for the nodes of
 -- the table, which hold each other.
 use denote.RattleType.{RattleType}
 use denote.Ref.{NamedLft}
@@ -12,9 +12,13 @@ use Rattle.matchit.specs.contracts.tree.Node.TheKnot as knot
 use Rattle.matchit.specs.declared.tree.Node.TheDeep.{the_members, member-Node}
 use Rattle.slab.proofs.Slab.TheSendSync as SlabCross
 use Rattle.st_http.specs.contracts.routes.Routes as Routes
-use Rattle.st_hall.proofs.Crossing.{worker}
+use Rattle.st_hall.proofs.Crossing.{desk, worker}
 use Rattle.st_hall.specs.contracts.worker.Worker as Worker
+use Rattle.st_hall.specs.contracts.desk.Desk as Desk
 use Rattle.st_station.specs.contracts.station.Station as Station
+use Rattle.st_durable_hall.proofs.Crossing.{durable_clerk}
+use Rattle.st_durable_hall.specs.contracts.clerk.DurableClerk as DurableClerk
+use Rattle.st_durable_station.specs.contracts.station.DurableStation as DurableStation
 
 abbrev K : Frame the_members
 K = knot.frame
@@ -47,3 +51,13 @@ held_worker a H R G h l s y = worker a H R G h l s y
 pub station : (a : NamedLft) (H R G W : RattleType) (h : _) (l : _) (r : _) (g : _) (w : _) → IsSend R → IsSync G → IsSync W
     → IsSend (Station.the_row a H R G W h l r g w)
 station a H R G W h l r g w s y z = search (sendable, crosses, held_routes, held_worker) depth 60 fits 100000
+
+held_desk : (H : RattleType) (h : _) (l : _) → IsSend (Desk.the_field H h l).row
+held_desk H h l = desk H h l
+
+held_clerk : (B H R J : RattleType) (b : _) (h : _) (l : _) (j : _) → IsSend R → IsSend J → IsSend (DurableClerk.the_field B H R J b h l j).row
+held_clerk B H R J b h l j s t = durable_clerk B H R J b h l j s t
+
+pub durable_station : (a : NamedLft) (B H R J C W : RattleType) (b : _) (h : _) (l : _) (r : _) (j : _) (c : _) (w : _) → IsSend R → IsSend J → IsSync C
+    → IsSync W → IsSend (DurableStation.the_row a B H R J C W b h l r j c w)
+durable_station a B H R J C W b h l r j c w s t x y = search (sendable, crosses, held_routes, held_desk, held_clerk) depth 60 fits 100000

@@ -1,2 +1,4 @@
+pub mod Copying
 pub mod Crossing
 pub mod Telling
+pub mod Widening

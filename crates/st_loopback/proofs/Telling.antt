@@ -4,7 +4,7 @@ use Rattle.std.specs.Io.KnownBytes.{Appends}
 use Rattle.std.proofs.KnownBytes.{Appends-nil, Appends-trans}
 use Rattle.st_command_line.specs.declared.fault.Fault.{Fault}
 use Rattle.st_command_line.specs.declared.fault.Fault.TheVariants.{Bind, Write, NoMemory}
-use Rattle.st_loopback.specs.Serving.{Stops, Tells, line}
+use Rattle.st_loopback.specs.Telling.{Stops, Tells, line}
 
 -- a line was not taken, or there was no memory for it and nothing was told
 abbrev pub Untold : Option (List ℕ) → Option (List ℕ) → Fault → Type 0

@@ -1,1 +1,4 @@
+pub mod Telling
+pub mod Keeping
 pub mod Serving
+pub mod inner

@@ -1,17 +1,14 @@
 //! One connection, and what lets reads pass.
-ghost use Rattle.std.specs.Prelude.{◌≡◌, ◌≢◌, ◌≤◌, ◌⊎◌, Bool, true, false, Ok};
-ghost use mathlib.Core.List.{IsPrefix};
-ghost use Rattle.st_connection.specs.Connection.{EndsOn, Served};
+ghost use Rattle.std.specs.Prelude.{◌≡◌, ◌≢◌, ◌⊎◌, Bool, true, false, Ok};
+ghost use Rattle.st_connection.specs.Connection.{EndsOn};
 ghost use Rattle.st_connection.specs.declared.connection.Ended.TheVariants.{Clean, Cut};
-ghost use Rattle.st_station.specs.Posts.{Answers};
 
+use crate::attend::Attend;
 use st_connection::connection::{Ended, IoFault, MAX_READS};
 use st_connection::streams::{FromWrite, Sink, Source};
-use st_hall::{Gate, HallName};
+use st_hall::Gate;
 use st_peer::{Incoming, Outgoing, part};
-use st_station::{Station, work};
 use std::net::TcpStream;
-use std::sync::Wait;
 use std::time::{Clock, Duration};
 
 /// How long a client may take.
@@ -65,43 +62,47 @@ impl<R: Clock> Hangup for Parting<'_, R> {
 }
 
 /// Answers the requests of a stream until it ends. Where its client has not ended it, it is told so.
-pub fn answer_stream<H: HallName, C: Wait + Drop, W: Wait, R: Source, S: Sink, E: Hangup>(
-    station: &mut Station<'_, H, C, Open, W>,
+pub fn answer_stream<T: Attend, R: Source, S: Sink, E: Hangup>(
+    attendant: &mut T,
     reader: &mut R,
     writer: &mut S,
     stream: &mut E,
 ) -> Result<Ended, IoFault>
     requires reader_sound { R.has_failed reader.old ≡ false }
     requires writer_sound { S.has_failed writer.old ≡ false }
-    ensures served { Served (Answers H.start) station.old station.new (R.left reader.old) (R.left reader.new)
+    ensures served { T.serves attendant.old attendant.new (R.left reader.old) (R.left reader.new)
         (S.held writer.old) (S.held writer.new) (R.has_failed reader.new) result }
+    ensures grows { T.grows attendant.old attendant.new }
     ensures ends { EndsOn MAX_READS (R.left reader.new) (R.reads reader.old) (R.reads reader.new)
         (R.has_ended reader.new) (R.has_failed reader.new) (S.has_failed writer.new) result }
     ensures told { result ≢ Ok Clean → result ≢ Ok Cut → E.is_over stream.new ≡ true }
     ensures untold { (result ≡ Ok Clean) ⊎ (result ≡ Ok Cut) → stream.new ≡ stream.old }
 {
-    let ended = work(station, reader, writer);
+    let ended = attendant.serve(reader, writer);
     if !matches!(ended, Ok(Ended::Clean | Ended::Cut)) {
         stream.hang_up();
     }
     ended
 }
 
-/// Answers the requests of one connection until it ends. A fault ends this connection alone.
-pub fn converse<H: HallName, C: Wait + Drop, W: Wait, R: Clock>(
+/// The store is lost, and no more connections are answered.
+#[derive(Clone, Copy, Debug, PartialEq, Eq)]
+pub struct Lost;
+
+/// Answers the requests of one connection until it ends. A fault ends this connection alone; `Lost` ends all.
+pub fn converse<T: Attend, R: Clock>(
     rt: &R,
-    station: &mut Station<'_, H, C, Open, W>,
+    attendant: &mut T,
     stream: TcpStream,
     limits: Limits,
-)
-    ensures seen { IsPrefix station.old.seat.seen station.new.seat.seen }
-    ensures made { station.old.seat.made ≤ station.new.seat.made }
+) -> Result<(), Lost>
+    ensures { T.grows attendant.old attendant.new }
 {
     let Ok(mut reader) = Incoming::new(rt, &stream, limits.message, limits.idle) else {
-        return;
+        return Ok(());
     };
     let Ok(outgoing) = Outgoing::new(&stream, limits.message) else {
-        return;
+        return Ok(());
     };
     let mut writer = FromWrite::new(outgoing);
     let mut parting = Parting {
@@ -109,5 +110,8 @@ pub fn converse<H: HallName, C: Wait + Drop, W: Wait, R: Clock>(
         clock: rt,
         is_over: false,
     };
-    let _ended = answer_stream(station, &mut reader, &mut writer, &mut parting);
+    match answer_stream(attendant, &mut reader, &mut writer, &mut parting) {
+        Ok(Ended::Lost) => Err(Lost),
+        _ => Ok(()),
+    }
 }

@@ -2,9 +2,11 @@
 ghost use Rattle.std.specs.Prelude.{◌≡◌, IfSome};
 
 use crate::words::{DIGEST, words_for};
-use st_command::stores_for;
+use st_command::{Keeper, stores_for};
+use st_command_line::Fault;
 use st_core::Store;
 use st_hall::{Clerk, Desk, Hall, HallName, Unnamed};
+use st_journal::{MemoryJournal, Replay};
 use st_loopback::{Limits, Open, serve_all, serve_words};
 use st_station::Station;
 use std::alloc::Global;
@@ -30,6 +32,41 @@ const WORDS: [&str; 8] = [
     "2",
     "A",
 ];
+
+// The same over a store that a journal keeps.
+const KEPT: [&str; 10] = [
+    "st_served",
+    "--root",
+    DIGEST,
+    "--port",
+    "47002",
+    "--connections",
+    "2",
+    "--store",
+    "points.db",
+    "A",
+];
+
+// Opens a journal in memory, without a change.
+#[derive(Drop)]
+struct Blank {
+    alloc: Global,
+}
+
+impl Keeper<MemoryJournal> for Blank {
+    ghost use Rattle.std.specs.Prelude.{⊤};
+
+    ghost holds = { λ _ opening changes. ⊤ };
+
+    fn open<R: Replay>(
+        self,
+        _path: &str,
+        _opening: &str,
+        _state: &mut R,
+    ) -> Result<MemoryJournal, Fault> {
+        Ok(MemoryJournal::new(self.alloc))
+    }
+}
 
 // A count, a put and a count, after which the connection is closed.
 const ROWS: &[u8] =
@@ -94,13 +131,13 @@ fn are_answered<R: Net<Listener = TcpListener, Stream = TcpStream> + Clock>(
 // The status of a server, whether it tells what it should, and what its clients find.
 fn served<
     R: Net<Listener = TcpListener, Stream = TcpStream> + Threads + Wait + Clock + Eprint + Sync,
->(rt: &R, alloc: Global) -> Option<(u8, bool, (bool, bool))> {
-    let words = words_for(alloc, &WORDS)?;
+>(rt: &R, alloc: Global, line: &[&str]) -> Option<(u8, bool, (bool, bool))> {
+    let words = words_for(alloc, line)?;
     let mut output = Vec::new(alloc);
     let mut faults = Vec::new(alloc);
     let (status, found) = join(
         rt,
-        || serve_words(rt, alloc, &words, &mut output, &mut faults),
+        || serve_words(rt, alloc, Blank { alloc }, &words, &mut output, &mut faults),
         || are_answered(rt, alloc),
     );
     let is_told = output.as_slice() == b"listening 47002\nserved 2\n".as_slice()
@@ -115,7 +152,7 @@ fn refused<
     let words = words_for(alloc, line)?;
     let mut output = Vec::new(alloc);
     let mut faults = Vec::new(alloc);
-    let status = serve_words(rt, alloc, &words, &mut output, &mut faults);
+    let status = serve_words(rt, alloc, Blank { alloc }, &words, &mut output, &mut faults);
     Some((status, output.is_empty(), faults))
 }
 
@@ -242,5 +279,10 @@ fn a_port_that_is_taken(rt: HostRuntime) {
 
 #[test]
 fn loopback(rt: HostRuntime) {
-    assert!(rt; served(&rt, rt.alloc()) == Some((0, true, (true, true))));
+    assert!(rt; served(&rt, rt.alloc(), &WORDS) == Some((0, true, (true, true))));
+}
+
+#[test]
+fn loopback_over_a_journal(rt: HostRuntime) {
+    assert!(rt; served(&rt, rt.alloc(), &KEPT) == Some((0, true, (true, true))));
 }

@@ -68,6 +68,7 @@ returns-clause-ok c =
         names_are = ap (λ rows. unwrap_or (all_of (codes "NAME") rows) []) (sym parsed.rows_are) ∙ (ap (λ o. unwrap_or o []) (sym (raw_values-rows found (codes "NAME"))) ∙ (names_given _ c.get_strs.result _ c.unwrap_or-names.result c.get_strs.ensures c.unwrap_or-names.ensures refl ∙ ap (map (λ name. name.now)) (sym c.in_ok-from_slice.ensures.items)));
       };
       port_is = subst (Gives _) c.in-Some-2.is (c.in_ok-port.ensures.ok words parsed);
+      store_is = ap (first_of (codes "store")) (sym parsed.rows_are) ∙ (sym (first_value-rows found (codes "store")) ∙ sym c.get_str-store.ensures);
       connections_are = c.in_ok-connections.ensures.ok words parsed;
       workers_are = c.in_ok-workers.ensures.ok words parsed;
       timeout_is = c.in_ok-timeout.ensures.ok words parsed;

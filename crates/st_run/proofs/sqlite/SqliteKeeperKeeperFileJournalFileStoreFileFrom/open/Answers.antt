@@ -1,4 +1,0 @@
-use Rattle.st_run.proofs.sqlite.SqliteKeeperKeeperFileJournalFileStoreFileFrom.open.Goals as goal
-
-pub returns-in-Ok-clause-found : goal.returns-in-Ok-clause-found
-returns-in-Ok-clause-found g c = λ clean. (c.in-Ok.ensures.opened clean).found

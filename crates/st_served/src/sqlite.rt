@@ -1,0 +1,33 @@
+//! The store in a SQLite file.
+ghost use Rattle.std.specs.Prelude.{map, string_bytes};
+ghost use Rattle.sqlite_wal.specs.Files.{image_at};
+ghost use Rattle.st_loopback.specs.Serving.{Ran};
+ghost use Rattle.st_store_file.specs.Holding.{HoldStore};
+
+use sqlite_std_file::{FileFrom, Start};
+use sqlite_store::FileStore;
+use st_journal::Journal;
+use st_journal_file::FileJournal;
+use st_loopback::serve_words;
+use st_store_file::SqliteKeeper;
+use std::io::{Eprint, Write};
+use std::net::{Net, TcpListener, TcpStream};
+use std::sync::Wait;
+use std::thread::Threads;
+use std::time::Clock;
+
+/// Serves connections by the arguments of `st_served`, as `serve_words` does: from a store in memory, or from the store in the SQLite
+/// file that they name, which `files` opens. `start` says what is supposed of a crash, and stands for what the files held.
+pub fn serve_files<
+    R: Net<Listener = TcpListener, Stream = TcpStream> + Threads + Wait + Clock + Eprint + Sync,
+    S: Start + Send,
+    O: Write,
+    F: Write,
+>(rt: &R, files: &HostRuntime, start: S, words: &[String], output: &mut O, faults: &mut F) -> u8
+    ensures { Ran (HoldStore (image_at S.Start)) ⟦<FileJournal<FileStore<FileFrom<S>>> as Journal>⟧.list
+        ⟦<FileJournal<FileStore<FileFrom<S>>> as Journal>⟧.misreads
+        (map string_bytes words.now) (O.contents output.old) (O.contents output.new) result }
+{
+    let keeper = SqliteKeeper::new(files, start);
+    serve_words(rt, files.alloc(), keeper, words, output, faults)
+}

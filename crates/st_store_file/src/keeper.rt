@@ -1,0 +1,70 @@
+//! What opens a journal in a SQLite file.
+ghost use Rattle.std.specs.Prelude.{◌≡◌};
+ghost use Rattle.st_command.specs.Opening.{IsOfStore};
+
+use sqlite_std_file::{FileFrom, Start};
+use sqlite_store::FileStore;
+use st_command::Keeper;
+use st_command_line::Fault;
+use st_journal::Replay;
+use st_journal_file::{FileJournal, OpenError};
+use std::time::Clock;
+
+// Milliseconds since 1970-01-01 00:00 UTC, and 0 where the clock gives no time.
+fn milliseconds<C: Clock>(clock: &C) -> i64 {
+    match clock.since_1970() {
+        Ok(time) => i64::try_from(time.as_millis()).unwrap_or(i64::MAX),
+        Err(_) => 0,
+    }
+}
+
+// The fault that an error of an opening is.
+fn fault_of(error: OpenError) -> Fault
+    ensures { IsOfStore result }
+{
+    match error {
+        OpenError::OtherOpening => Fault::OtherStore,
+        OpenError::InUse => Fault::StoreInUse,
+        OpenError::LaterFormat => Fault::LaterStore,
+        OpenError::NotAJournal => Fault::NoStore,
+        OpenError::Damaged => Fault::StoreDamaged,
+        OpenError::Interrupted => Fault::StoreInterrupted,
+        OpenError::Io => Fault::StoreIo,
+        OpenError::NoMemory => Fault::NoMemory,
+    }
+}
+
+/// Opens journals in SQLite files.
+#[derive(Drop)]
+pub struct SqliteKeeper<'a, S: Start> {
+    runtime: &'a HostRuntime,
+    // What is supposed of a crash.
+    start: S,
+}
+
+impl<'a, S: Start> SqliteKeeper<'a, S> {
+    /// `start` says what is supposed of a crash, and stands for what the files held.
+    pub fn new(runtime: &'a HostRuntime, start: S) -> SqliteKeeper<'a, S> {
+        SqliteKeeper { runtime, start }
+    }
+}
+
+impl<S: Start> Keeper<FileJournal<FileStore<FileFrom<S>>>> for SqliteKeeper<'_, S> {
+    ghost use Rattle.sqlite_wal.specs.Files.{image_at};
+    ghost use Rattle.st_store_file.specs.Holding.{HoldStore};
+
+    ghost holds = { λ _. HoldStore (image_at S.Start) };
+
+    fn open<R: Replay>(
+        self,
+        path: &str,
+        opening: &str,
+        state: &mut R,
+    ) -> Result<FileJournal<FileStore<FileFrom<S>>>, Fault> {
+        let time = milliseconds(self.runtime);
+        match FileJournal::open(self.runtime, path, opening, time, state, self.start) {
+            Ok(journal) => Ok(journal),
+            Err(error) => Err(fault_of(error)),
+        }
+    }
+}
