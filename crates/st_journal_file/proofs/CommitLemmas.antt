@@ -4,8 +4,10 @@ use Rattle.std.proofs.lemmas.Bool.Decides.{nat_tests}
 use Rattle.sqlite_value.specs.Order.{Row}
 use Rattle.sqlite_trees.specs.Tree.{Trees, with_tree}
 use Rattle.sqlite_trees.specs.Objects.{catalog_tree, version_tree}
-use Rattle.sqlite_trees.specs.View.{View, Commits, SetsTree}
+use Rattle.sqlite_trees.specs.View.{View, IsClean, Commits, KeepsCommitted, IsRolledBack, SetsTree}
 use Rattle.st_journal.specs.declared.record.Record.{Record}
+use Rattle.st_journal.specs.declared.journal.AppendError.{AppendError}
+use Rattle.st_journal.specs.declared.journal.AppendError.TheVariants.{NotKept, Unknown}
 use Rattle.st_journal_file.specs.Table.{table_tree, rows_from, record_in, records_in, changes_in}
 use Rattle.st_journal_file.specs.inner.Ready.{Adds, ListsTable, HasTable, HasRows, IsReady}
 use Rattle.st_journal_file.proofs.RowLemmas.{listed}
@@ -102,3 +104,32 @@ added_table old mid count more ready has =
 pub on_ok : {X E P Q : Type 0} (r : Result X E) → (P → Q) → OnOk r P → OnOk r Q
 on_ok (Ok x) so h = so h
 on_ok (Err e) so h = h
+
+-- what was written is undone, so that the table is as it was
+pub rolled_back : (old mid new : View) (count : ℕ) → IsReady old count → KeepsCommitted old mid → IsRolledBack mid new → IsClean new
+    → IsTrue new.is_open → IsReady new count
+rolled_back old mid new count ready kept rolled clean open' =
+    let back = rolled.kept clean in
+    let undone = rolled.undone open' in
+    let trees : new.trees ≡ old.trees = undone.0 ∙ kept.committed (back.was_open open') ∙ sym ready.settled in
+    let shapes : mid.shape ≡ mid.committed_shape = kept.shape ∙ ready.shapes ∙ sym kept.committed_shape in
+    record {
+      is_open = open';
+      settled = undone.0 ∙ sym (back.committed open');
+      shapes = rolled.shape shapes ∙ shapes ∙ sym rolled.committed_shape;
+      rows = record {
+        sound = undone.1;
+        numbered = subst IsTrue (sym (rolled.numbered ∙ kept.numbered)) ready.rows.numbered;
+        listed = ap (λ (t : Trees). t catalog_tree) trees ∙ ready.rows.listed;
+        shape = ap (λ f. f table_tree) (rolled.shape shapes ∙ kept.shape) ∙ ready.rows.shape;
+        rows = ap (λ (t : Trees). t table_tree) trees ∙ ready.rows.rows ∙ ap (λ (t : Trees). rows_from 0 (records_in t)) (sym trees);
+      };
+      counted = ready.counted ∙ ap (λ (t : Trees). length (records_in t)) (sym trees);
+      some = ready.some;
+    }
+
+-- an append that is known to have failed kept nothing
+pub when_known : {X Y P : Type 0} (e : AppendError) (result : Result X AppendError) (last : Result Y AppendError) → result ≡ Err e → last ≡ Err e
+    → last ≢ Err Unknown → (result ≡ Err NotKept → P) → P
+when_known NotKept result last is was known so = so is
+when_known Unknown result last is was known so = absurd (known was)

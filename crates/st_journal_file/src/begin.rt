@@ -2,6 +2,7 @@
 ghost use Rattle.std.specs.Prelude.{◌≡◌, ◌≤◌, [], ◌∷◌, IsTrue, IfOk, OnOk};
 ghost use Rattle.st_journal.specs.declared.record.Record.{Record};
 ghost use Rattle.sqlite_trees.specs.View.{doubt, IsClean};
+ghost use Rattle.sqlite_store.specs.FileStore.{view};
 ghost use Rattle.st_journal_file.specs.Table.{table_tree, opening_record, records_in};
 ghost use Rattle.st_journal_file.specs.inner.Ready.{HasRows, IsReady};
 ghost use Rattle.st_journal_file.specs.inner.Begins.{IsAtRest, Begins};
@@ -12,6 +13,8 @@ use crate::journal::FileJournal;
 use crate::read::read_all;
 use crate::table::{FORMAT, TREE};
 use crate::write::put_all;
+use sqlite_disk::Disk;
+use sqlite_store::FileStore;
 use sqlite_trees::error::StoreError;
 use sqlite_trees::store::{Alter, Shape};
 use st_journal::{Record, Replay};
@@ -106,17 +109,17 @@ fn begin<S: Alter, R: Replay>(
 }
 
 // The journal of a store.
-pub(crate) fn journal_of<S: Alter + Drop, R: Replay>(
-    mut store: S,
+pub(crate) fn journal_of<D: Disk + Drop, R: Replay>(
+    mut store: FileStore<D>,
     alloc: Global,
     opening: &str,
     time: i64,
     state: &mut R,
-) -> Result<FileJournal<S>, OpenError>
-    requires rest { IsClean (S.Store.view store) → IsTrue (S.Store.view store).is_open → IsAtRest (S.Store.view store) }
-    ensures clean { IfOk result (λ journal. doubt (S.Store.view store).is_clean ≤ doubt (S.Store.view journal.store).is_clean) }
-    ensures ok { IfOk result (λ journal. IsClean (S.Store.view journal.store)
-        → Begins R.applies opening.now (S.Store.view store) (S.Store.view journal.store) journal.count state.old state.new) }
+) -> Result<FileJournal<D>, OpenError>
+    requires rest { IsClean (view store) → IsTrue (view store).is_open → IsAtRest (view store) }
+    ensures clean { IfOk result (λ journal. doubt (view store).is_clean ≤ doubt (view journal.store).is_clean) }
+    ensures ok { IfOk result (λ journal. IsClean (view journal.store)
+        → Begins R.applies opening.now (view store) (view journal.store) journal.count state.old state.new) }
 {
     let count = begin(&mut store, alloc, opening, time, state)?;
     Ok(FileJournal {

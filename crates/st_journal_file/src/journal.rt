@@ -2,42 +2,47 @@
 ghost use Rattle.std.specs.Prelude.{◌≡◌, IsTrue};
 ghost use Rattle.sqlite_trees.specs.Tree.{Trees};
 ghost use Rattle.sqlite_trees.specs.View.{doubt, IsClean};
+ghost use Rattle.sqlite_store.specs.FileStore.{view, recovers};
 ghost use Rattle.st_journal_file.specs.Table.{changes_in};
 ghost use Rattle.st_journal_file.specs.inner.Ready.{HasTable, IsReady};
 
 use crate::finish::finish;
 use crate::table::MOST;
 use crate::write::put_all;
-use sqlite_trees::store::Store;
+use sqlite_disk::Disk;
+use sqlite_store::FileStore;
 use st_journal::{AppendError, Journal, Record};
 use std::alloc::Global;
 
 /// A journal in the table of a store. An append is one transaction, whose commit is synced once
 /// (`Unknown`) or twice (`Wary`), as the store was opened.
 #[derive(Drop)]
-pub struct FileJournal<S: Store> {
-    pub(crate) store: S,
+pub struct FileJournal<D: Disk> {
+    pub(crate) store: FileStore<D>,
     // How many rows the table has: the records of the changes, and the first.
     pub(crate) count: u64,
     pub(crate) alloc: Global,
-    ghost numbered: { IsClean (S.view store) → IsTrue (S.view store).is_numbered },
+    ghost numbered: { IsClean (view store) → IsTrue (view store).is_numbered },
     // What a crash leaves is a database that has the table.
-    ghost lasting: { IsClean (S.view store) → (db : Trees) → S.recovers store db → HasTable db },
+    ghost lasting: { IsClean (view store) → (db : Trees) → recovers store db → HasTable db },
 }
 
-impl<S: Store + Drop> Journal for FileJournal<S> {
-    ghost list = { λ j. changes_in (S.view j.store).committed };
+impl<D: Disk + Drop> Journal for FileJournal<D> {
+    ghost use Rattle.sqlite_store.specs.FileStore.{view, recovers};
 
-    ghost misreads = { λ j. doubt (S.view j.store).is_clean };
+    ghost list = { λ j. changes_in (view j.store).committed };
 
-    ghost is_ready = { λ j. IsClean (S.view j.store) → IsReady (S.view j.store) j.count };
+    ghost misreads = { λ j. doubt (view j.store).is_clean };
 
-    ghost may_leave = { λ j left. (db : Trees) × S.recovers j.store db × (left ≡ changes_in db) };
+    ghost is_ready = { λ j. IsClean (view j.store) → IsReady (view j.store) j.count };
 
+    ghost may_leave = { λ j left. (db : Trees) × recovers j.store db × (left ≡ changes_in db) };
+
+    ghost use Rattle.sqlite_store.specs.Laws as laws;
     ghost use Rattle.st_journal_file.specs.Laws.{settled_at};
 
-    ghost settled = { λ j left clean ready leaves. settled_at (S.view j.store).committed leaves.0 left
-        (S.settled j.store leaves.0 (ready clean).is_open leaves.1) leaves.2 };
+    ghost settled = { λ j left clean ready leaves. settled_at (view j.store).committed leaves.0 left
+        (laws.settled_at j.store D.Disk.seen_may_stay leaves.0 (ready clean).is_open leaves.1) leaves.2 };
 
     fn append(&mut self, records: &[Record]) -> Result<(), AppendError> {
         let added = records.len() as u64;

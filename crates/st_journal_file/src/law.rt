@@ -7,14 +7,13 @@ ghost use Rattle.st_journal_file.specs.Opening.{Opens};
 
 use crate::journal::FileJournal;
 use sqlite_disk::Disk;
-use sqlite_store::FileStore;
 use st_journal::{Journal, Replay};
 
 /// Whatever the two files are left as, if the process ends at this moment: the list that the next opening finds in them is one that
 /// the journal may leave.
-pub fn finds_what_was_left<D: Disk + Drop, R: Replay>(journal: &FileJournal<FileStore<D>>)
-    ensures { ⟦<FileJournal<FileStore<D>> as Journal>⟧.misreads journal.now ≡ 0
+pub fn finds_what_was_left<D: Disk + Drop, R: Replay>(journal: &FileJournal<D>)
+    ensures { ⟦<FileJournal<D> as Journal>⟧.misreads journal.now ≡ 0
         → (image : Image) (opening : List ℕ) (changes : List Record) (before after : R)
         → (state journal.now.store).may_leave image → Opens R.applies image opening changes before after
-        → ⟦<FileJournal<FileStore<D>> as Journal>⟧.may_leave journal.now changes }
+        → ⟦<FileJournal<D> as Journal>⟧.may_leave journal.now changes }
 {}

@@ -10,7 +10,6 @@ use crate::files::open_store;
 use crate::journal::FileJournal;
 use sqlite_disk::{Files, Start};
 use sqlite_std_file::{FileFrom, OpenError as FileError};
-use sqlite_store::FileStore;
 use st_journal::{Journal, Replay};
 use std::hash::{BuildHasher, RandomState};
 use std::io::ErrorKind;
@@ -37,7 +36,7 @@ fn open_files<S: Start>(
     }
 }
 
-impl<S: Start> FileJournal<FileStore<FileFrom<S>>> {
+impl<S: Start> FileJournal<FileFrom<S>> {
     /// Opens the journal at a path, and applies its records to a state. A file that is missing or empty gets a journal without
     /// a change, whose first record says `opening`, what the store was opened with. A journal that was begun with another
     /// opening is refused, and so is any other file; what is refused is left as it is. `time` is for that first record. `start`
@@ -49,10 +48,10 @@ impl<S: Start> FileJournal<FileStore<FileFrom<S>>> {
         time: i64,
         state: &mut R,
         start: S,
-    ) -> Result<FileJournal<FileStore<FileFrom<S>>>, OpenError>
-        ensures ready { IfOk result (λ journal. ⟦<FileJournal<FileStore<FileFrom<S>>> as Journal>⟧.is_ready journal) }
-        ensures opened { IfOk result (λ journal. ⟦<FileJournal<FileStore<FileFrom<S>>> as Journal>⟧.misreads journal ≡ 0
-            → Opens R.applies (image_at S.Start) opening.now (⟦<FileJournal<FileStore<FileFrom<S>>> as Journal>⟧.list journal)
+    ) -> Result<FileJournal<FileFrom<S>>, OpenError>
+        ensures ready { IfOk result (λ journal. ⟦<FileJournal<FileFrom<S>> as Journal>⟧.is_ready journal) }
+        ensures opened { IfOk result (λ journal. ⟦<FileJournal<FileFrom<S>> as Journal>⟧.misreads journal ≡ 0
+            → Opens R.applies (image_at S.Start) opening.now (⟦<FileJournal<FileFrom<S>> as Journal>⟧.list journal)
             state.old state.new) }
     {
         let files = open_files(rt, path, start)?;

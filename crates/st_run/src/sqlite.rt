@@ -5,7 +5,6 @@ ghost use Rattle.st_command.specs.Running.{Ran};
 ghost use Rattle.st_store_file.specs.Holding.{HoldStore};
 
 use sqlite_std_file::{FileFrom, Start};
-use sqlite_store::FileStore;
 use st_command::run_words;
 use st_connection::{Sink, Source};
 use st_journal::Journal;
@@ -25,8 +24,8 @@ pub fn run_files<S: Start, R: Source, W: Sink, F: Write>(
 ) -> u8
     requires reader_sound { R.has_failed reader.old ≡ false }
     requires writer_sound { W.has_failed writer.old ≡ false }
-    ensures { Ran (HoldStore (image_at S.Start)) ⟦<FileJournal<FileStore<FileFrom<S>>> as Journal>⟧.list
-        ⟦<FileJournal<FileStore<FileFrom<S>>> as Journal>⟧.misreads ⟦<FileJournal<FileStore<FileFrom<S>>> as Journal>⟧.may_leave
+    ensures { Ran (HoldStore (image_at S.Start)) ⟦<FileJournal<FileFrom<S>> as Journal>⟧.list
+        ⟦<FileJournal<FileFrom<S>> as Journal>⟧.misreads ⟦<FileJournal<FileFrom<S>> as Journal>⟧.may_leave
         (map string_bytes words.now) (R.left reader.old) (R.left reader.new) (W.held writer.old) (W.held writer.new)
         (R.has_failed reader.new) result }
 {

@@ -5,7 +5,6 @@ ghost use Rattle.st_loopback.specs.Serving.{Ran};
 ghost use Rattle.st_store_file.specs.Holding.{HoldStore};
 
 use sqlite_std_file::{FileFrom, Start};
-use sqlite_store::FileStore;
 use st_journal::Journal;
 use st_journal_file::FileJournal;
 use st_loopback::serve_words;
@@ -24,8 +23,8 @@ pub fn serve_files<
     O: Write,
     F: Write,
 >(rt: &R, files: &HostRuntime, start: S, words: &[String], output: &mut O, faults: &mut F) -> u8
-    ensures { Ran (HoldStore (image_at S.Start)) ⟦<FileJournal<FileStore<FileFrom<S>>> as Journal>⟧.list
-        ⟦<FileJournal<FileStore<FileFrom<S>>> as Journal>⟧.misreads
+    ensures { Ran (HoldStore (image_at S.Start)) ⟦<FileJournal<FileFrom<S>> as Journal>⟧.list
+        ⟦<FileJournal<FileFrom<S>> as Journal>⟧.misreads
         (map string_bytes words.now) (O.contents output.old) (O.contents output.new) result }
 {
     let keeper = SqliteKeeper::new(files, start);

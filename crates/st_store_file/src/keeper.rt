@@ -3,7 +3,6 @@ ghost use Rattle.std.specs.Prelude.{◌≡◌};
 ghost use Rattle.st_command.specs.Opening.{IsOfStore};
 
 use sqlite_std_file::{FileFrom, Start};
-use sqlite_store::FileStore;
 use st_command::Keeper;
 use st_command_line::Fault;
 use st_journal::Replay;
@@ -49,7 +48,7 @@ impl<'a, S: Start> SqliteKeeper<'a, S> {
     }
 }
 
-impl<S: Start> Keeper<FileJournal<FileStore<FileFrom<S>>>> for SqliteKeeper<'_, S> {
+impl<S: Start> Keeper<FileJournal<FileFrom<S>>> for SqliteKeeper<'_, S> {
     ghost use Rattle.sqlite_wal.specs.Files.{image_at};
     ghost use Rattle.st_store_file.specs.Holding.{HoldStore};
 
@@ -60,7 +59,7 @@ impl<S: Start> Keeper<FileJournal<FileStore<FileFrom<S>>>> for SqliteKeeper<'_, 
         path: &str,
         opening: &str,
         state: &mut R,
-    ) -> Result<FileJournal<FileStore<FileFrom<S>>>, Fault> {
+    ) -> Result<FileJournal<FileFrom<S>>, Fault> {
         let time = milliseconds(self.runtime);
         match FileJournal::open(self.runtime, path, opening, time, state, self.start) {
             Ok(journal) => Ok(journal),

@@ -6,7 +6,7 @@ use Rattle.sqlite_store.specs.FileStore.{view}
 use Rattle.st_journal_file.specs.Files.{Finds}
 use Rattle.st_journal_file.proofs.FileLemmas.{if_one, if_two}
 use Rattle.st_journal_file.proofs.Opened.{opened}
-use Rattle.st_journal_file.proofs.open.FileJournal+FileStore+FileFrom+S.open.Goals as goal
+use Rattle.st_journal_file.proofs.open.FileJournal+FileFrom+S.open.Goals as goal
 
 abbrev image : List ℕ → List ℕ → Image
 image log db = record { log = log; db = db }
