@@ -1,4 +1,5 @@
 pub mod Copying
 pub mod Crossing
+pub mod Lasting
 pub mod Telling
 pub mod Widening

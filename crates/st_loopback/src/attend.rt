@@ -1,5 +1,5 @@
 //! What answers the requests of connections, as the server's threads see it.
-ghost use Rattle.std.specs.Prelude.{◌≡◌, ◌≤◌, ℕ, Bool, false, Option, Result as Either, List, ⊤};
+ghost use Rattle.std.specs.Prelude.{◌≡◌, ◌≤◌, ℕ, Bool, false, Option, Result as Either, List};
 ghost use mathlib.Core.List.{IsPrefix};
 ghost use Rattle.st_connection.specs.Connection.{EndsOn};
 ghost use Rattle.st_connection.specs.declared.connection.Ended.{Ended as End};
@@ -49,13 +49,13 @@ impl<H: HallName, C: Wait + Drop, W: Wait> Attend for Station<'_, H, C, Open, W>
     ghost use mathlib.Core.List.{IsPrefix};
     ghost use Rattle.st_connection.specs.Connection.{Served};
     ghost use Rattle.st_station.specs.Posts.{Answers};
-    ghost use Rattle.st_loopback.specs.inner.Growing.{same_post};
+    ghost use Rattle.st_loopback.specs.inner.Growing.{same_seat};
 
     ghost serves = { λ s t left left' held held' failed result. Served (Answers H.start) s t left left' held held' failed result };
 
     ghost grows = { λ s t. IsPrefix s.seat.seen t.seat.seen × (s.seat.made ≤ t.seat.made) };
 
-    ghost stays = { same_post };
+    ghost stays = { λ s. same_seat s.seat };
 
     fn serve<R: Source, S: Sink>(
         &mut self,
@@ -68,16 +68,19 @@ impl<H: HallName, C: Wait + Drop, W: Wait> Attend for Station<'_, H, C, Open, W>
 
 impl<B: Beginning, H: HallName, R: Wait + Drop, J: Journal + Drop, C: Clock, W: Wait> Attend
     for DurableStation<'_, B, H, R, J, C, W> {
-    ghost use Rattle.std.specs.Prelude.{⊤};
+    ghost use Rattle.std.specs.Prelude.{◌≡◌, ◌≤◌, false};
+    ghost use mathlib.Core.List.{IsPrefix};
+    ghost use Rattle.st_loopback.specs.inner.Growing.{same_seat};
     ghost use Rattle.st_durable_hall.specs.Rolls.{WasKept};
     ghost use Rattle.st_durable_station.specs.Standing.{ServesKept};
 
     ghost serves = { λ s t left left' held held' failed result.
         ServesKept H.start (WasKept J.list J.misreads B.first H.start) s t left left' held held' failed result };
 
-    ghost grows = { λ _ _. ⊤ };
+    // Unless a change was lost.
+    ghost grows = { λ s t. t.failed ≡ false → IsPrefix s.seat.seen t.seat.seen × (s.seat.made ≤ t.seat.made) };
 
-    ghost stays = { λ _. tt };
+    ghost stays = { λ s _. same_seat s.seat };
 
     fn serve<S: Source, K: Sink>(
         &mut self,

@@ -3,7 +3,7 @@ use Rattle.std.proofs.Common.{◌≤◌, ℕ, List, [], ◌∷◌, inl, inr, sub
 use Rattle.std.proofs.lemmas.List.{append-nil}
 use mathlib.Core.List.{IsPrefix}
 use Rattle.st_http.specs.First.{First}
-use Rattle.st_connection.specs.Connection.{Run, Told}
+use Rattle.st_connection.specs.Connection.{Answering, Run, Told}
 use Rattle.st_hall.specs.Steps.{Ask, State}
 use Rattle.st_hall.specs.Views.{Seat, Post, Learns}
 use Rattle.st_hall.proofs.Fronts.{prefix_self, prefix_trans}
@@ -28,14 +28,23 @@ one_grows start s t item answer (busy m) = moved 0 s t m
 one_grows start s t item answer (unrouted none told) = stays s
 one_grows start s t item answer faulty = stays s
 
-pub run_grows : (start : State) (s t : Post) (items : List First) (answers : List (List ℕ)) → Run (Told (Answers start)) s items answers t → Grows s.seat t.seat
-run_grows start s t [] [] same = subst (λ (u : Post). Grows s.seat u.seat) (sym same) (stays s.seat)
-run_grows start s t [] (a ∷ answers) h = absurd h
-run_grows start s t (i ∷ items) [] h = absurd h
-run_grows start s t (i ∷ items) (a ∷ answers) (m, (answer, is, one), rest) =
-    let first = one_grows start s.seat m.seat i answer one.seat in
-    let later = run_grows start m t items answers rest in
+-- where each item makes the seat grow, so do all of them
+run_grows_by : {S : Type 0} (seat : S → Seat) (step : Answering S)
+    → ((s t : S) (item : First) (answer : List ℕ) → step s item answer t → Grows (seat s) (seat t))
+    → (s t : S) (items : List First) (answers : List (List ℕ)) → Run (Told step) s items answers t → Grows (seat s) (seat t)
+run_grows_by seat step one s t [] [] same = subst (λ u. Grows (seat s) (seat u)) (sym same) (stays (seat s))
+run_grows_by seat step one s t [] (a ∷ answers) h = absurd h
+run_grows_by seat step one s t (i ∷ items) [] h = absurd h
+run_grows_by seat step one s t (i ∷ items) (a ∷ answers) (m, (answer, is, told), rest) =
+    let first = one s m i answer told in
+    let later = run_grows_by seat step one m t items answers rest in
     (prefix_trans _ _ _ first.0 later.0, omega (arith, first.1, later.1))
+
+pub run_grows : (start : State) (s t : Post) (items : List First) (answers : List (List ℕ)) → Run (Told (Answers start)) s items answers t → Grows s.seat t.seat
+run_grows start = run_grows_by (λ p. p.seat) (Answers start) (λ s t item answer one. one_grows start s.seat t.seat item answer one.seat)
+
+pub seats_grow : (start : State) (s t : Seat) (items : List First) (answers : List (List ℕ)) → Run (Told (SeatAnswers start)) s items answers t → Grows s t
+seats_grow start = run_grows_by (λ s. s) (SeatAnswers start) (one_grows start)
 
 one_remembers : (s t : Post) → Learns s t → IsPrefix s.seat.seen t.seat.seen → IsPrefix s.learnt s.seat.seen
     → IsPrefix s.learnt t.learnt × IsPrefix t.learnt t.seat.seen
