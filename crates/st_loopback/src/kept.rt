@@ -8,6 +8,7 @@ ghost use Rattle.st_loopback.specs.Serving.{IsRefused};
 ghost use Rattle.st_command_line.specs.ServedArguments.{SaysServed, store_of};
 ghost use Rattle.st_command_line.specs.Status.{exit_status_after};
 
+use crate::attend::Attend;
 use crate::copies::ReplayedCopies;
 use crate::listening::{attend, begin, tell};
 use st_command::{Keeper, stores_and_opening_for};
@@ -34,12 +35,9 @@ struct Place<'a> {
     opening: String,
 }
 
-// Tells that the server listens, serves connections at the stations, and tells how many were served, or that the store is lost.
+// Tells that the server listens, serves connections, and tells how many were served, or that the store is lost.
 fn announce<
-    'c,
-    B: Beginning + Send + Sync,
-    H: HallName + Send + Sync,
-    J: Journal + Drop + Send,
+    T: Attend + Send + Drop,
     R: Net<Listener = TcpListener, Stream = TcpStream> + Threads + Wait + Clock + Eprint + Sync,
     O: Write,
 >(
@@ -47,7 +45,7 @@ fn announce<
     alloc: Global,
     said: &ServedArguments<'_>,
     alarm: &AtomicBool,
-    stations: Vec<DurableStation<'_, B, H, &'c R, J, R, R>>,
+    attendants: Vec<T>,
     output: &mut O,
 ) -> Result<(), Fault>
     ensures { TellsKept said.now.port said.now.connections (O.contents output.old) (O.contents output.new) result }
@@ -55,11 +53,11 @@ fn announce<
     let listener = match begin(rt, alloc, said, output) {
         Ok(listener) => listener,
         Err(fault) => {
-            drop(stations);
+            drop(attendants);
             return Err(fault);
         }
     };
-    let attended = attend(rt, alloc, &listener, said, stations);
+    let attended = attend(rt, alloc, &listener, said, attendants);
     if alarm.load(Ordering::SeqCst) {
         return Err(Fault::StoreLost);
     }

@@ -7,6 +7,7 @@ ghost use Rattle.st_loopback.specs.Telling.{Tells};
 ghost use Rattle.st_command_line.specs.ServedArguments.{SaysServed, store_of};
 ghost use Rattle.st_command_line.specs.Status.{exit_status_after};
 
+use crate::attend::Attend;
 use crate::connection::Open;
 use crate::kept::run_kept;
 use crate::listening::{attend, begin, tell};
@@ -24,17 +25,16 @@ use std::sync::{Mutex, Wait};
 use std::thread::Threads;
 use std::time::Clock;
 
-// Tells that the server listens, serves connections at the stations, and tells how many were served.
+// Tells that the server listens, serves connections, and tells how many were served.
 fn announce<
-    'c,
-    H: HallName + Send + Sync,
+    T: Attend + Send + Drop,
     R: Net<Listener = TcpListener, Stream = TcpStream> + Threads + Wait + Clock + Eprint + Sync,
     O: Write,
 >(
     rt: &R,
     alloc: Global,
     said: &ServedArguments<'_>,
-    stations: Vec<Station<'_, H, &'c R, Open, R>>,
+    attendants: Vec<T>,
     output: &mut O,
 ) -> Result<(), Fault>
     ensures { Tells said.now.port said.now.connections (O.contents output.old) (O.contents output.new) result }
@@ -42,11 +42,11 @@ fn announce<
     let listener = match begin(rt, alloc, said, output) {
         Ok(listener) => listener,
         Err(fault) => {
-            drop(stations);
+            drop(attendants);
             return Err(fault);
         }
     };
-    let connections = attend(rt, alloc, &listener, said, stations)?;
+    let connections = attend(rt, alloc, &listener, said, attendants)?;
     tell(alloc, output, "served", connections)
 }
 

@@ -1,15 +1,8 @@
-use denote.Param.Send.{sendable, given_sync}
 use Rattle.std.proofs.Common.{Err, sym, subst}
-use Rattle.std.proofs.Crossing.{crosses}
 use Rattle.std.proofs.lemmas.Result.{err_from_is_err_and}
 use Rattle.st_loopback.specs.Telling.{Tells}
 use Rattle.st_loopback.proofs.Telling.{all_told, stopped}
-use Rattle.st_loopback.proofs.Crossing.{station}
-use Rattle.st_loopback.proofs.connection.Open.TheSendSync as OpenCross
 use Rattle.st_loopback.proofs.served.announce.Goals as goal
-
-pub attend-requires-send-T : goal.attend-requires-send-T
-attend-requires-send-T g c κs within = let r = given_sync 1 g.row.R c.type_bounds.sync-R in search (sendable, crosses, station, OpenCross.the_sync) depth 60 fits 100000
 
 pub returns-in-Err : goal.returns-in-Err
 returns-in-Err g c = c.in-Err.ensures.err
