@@ -169,7 +169,7 @@ def test_a_store_that_another_process_holds_is_refused(store: Store) -> None:
 def test_a_store_of_a_later_format_is_refused(store: Store) -> None:
     asked(store.file, "pragma user_version = 1000000")
     before = store.file.read_bytes()
-    assert store.refused() == (10, "store of a later format")
+    assert store.refused() == (10, "store of the later format 1000000")
     assert store.file.read_bytes() == before and is_whole(store.file)
 
 

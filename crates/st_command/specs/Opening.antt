@@ -39,7 +39,7 @@ pub record OpensWith (digits : Text) (names : List Text) (state : State Global) 
 abbrev pub IsOfStore : Fault → Type 0
 IsOfStore OtherStore = Unit {0}
 IsOfStore StoreInUse = Unit {0}
-IsOfStore LaterStore = Unit {0}
+IsOfStore (LaterStore format) = Unit {0}
 IsOfStore NoStore = Unit {0}
 IsOfStore StoreDamaged = Unit {0}
 IsOfStore StoreInterrupted = Unit {0}

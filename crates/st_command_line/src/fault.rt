@@ -40,9 +40,9 @@ pub enum Fault {
     /// Another process holds the store.
     #[error("store in use")]
     StoreInUse,
-    /// A later version of the program wrote the store.
-    #[error("store of a later format")]
-    LaterStore,
+    /// A later version of the program wrote the store, in the format of this number.
+    #[error("store of the later format {0}")]
+    LaterStore(u32),
     /// The file is no store.
     #[error("no store")]
     NoStore,
@@ -100,7 +100,7 @@ impl Fault {
             Fault::StoreLost => 7,
             Fault::OtherStore => 8,
             Fault::StoreInUse => 9,
-            Fault::LaterStore => 10,
+            Fault::LaterStore(_) => 10,
             Fault::NoStore => 11,
             Fault::StoreDamaged => 12,
             Fault::StoreInterrupted => 13,

@@ -95,7 +95,7 @@ fn begin<S: Alter, R: Replay>(
     };
     let version = store.version();
     if version > FORMAT {
-        return Err(OpenError::LaterFormat);
+        return Err(OpenError::LaterFormat(version));
     }
     let count = read_all(store, alloc, opening, state)?;
     if count == 0 {

@@ -7,8 +7,8 @@ pub enum OpenError {
     OtherOpening,
     /// Another process has the file open.
     InUse,
-    /// A later version of the program wrote the file.
-    LaterFormat,
+    /// A later version of the program wrote the file, in the format of this number.
+    LaterFormat(u32),
     /// The file is not a SQLite database, or a database of something else.
     NotAJournal,
     /// The file is a journal, but its rows are not records in order, or a record does not apply.

@@ -24,7 +24,7 @@ fn fault_of(error: OpenError) -> Fault
     match error {
         OpenError::OtherOpening => Fault::OtherStore,
         OpenError::InUse => Fault::StoreInUse,
-        OpenError::LaterFormat => Fault::LaterStore,
+        OpenError::LaterFormat(format) => Fault::LaterStore(format),
         OpenError::NotAJournal => Fault::NoStore,
         OpenError::Damaged => Fault::StoreDamaged,
         OpenError::Interrupted => Fault::StoreInterrupted,
