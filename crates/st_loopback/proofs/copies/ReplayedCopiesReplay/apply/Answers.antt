@@ -1,4 +1,7 @@
-use Rattle.std.proofs.Common.{rules, ◌≡◌, true}
+use Rattle.std.proofs.Common.{rules, ◌≡◌, true, sym, subst, ◌∙◌}
+use Rattle.std.proofs.lemmas.Result.{err_from_is_err_and}
+use Rattle.st_journal.specs.declared.replay.ReplayError.{ReplayError}
+use Rattle.st_durable.specs.Applying.{Applies}
 use Rattle.st_loopback.proofs.Copying.{alike_still}
 use Rattle.st_loopback.proofs.copies.ReplayedCopiesReplay.apply.Goals as goal
 
@@ -7,3 +10,21 @@ invariant_of-self-2 c = λ _.
     let on : c.self.inside.are_alike ≡ true = search rules in
     alike_still c.self.inside.first c.self.inside.second c.apply.new.self c.apply-2.new.self c.args.change.now (c.self.invariant on)
     c.in_ok-apply.ensures.ok c.in_ok-apply-2.ensures.ok
+
+pub returns-in_err-apply-clause-invalid : goal.returns-in_err-apply-clause-invalid
+returns-in_err-apply-clause-invalid c e after a =
+    let p = err_from_is_err_and c.from_residual.result c.from_residual.ensures.1 in
+    let on : c.self.inside.are_alike ≡ true = search rules in
+    let told = sym p.1 ∙ e in
+    let bad : p.0 ≡ ReplayError.Invalid = cc in
+    let same = c.self.invariant on in
+    let shown : c.args.self.now ≡ c.self.inside.second = search rules in
+    c.in_err-apply.ensures.invalid (search (rules, p.2, bad)) after (subst (λ s. Applies s c.args.change.now after) (shown ∙ sym same) a)
+
+pub returns-in_err-apply-2-clause-invalid : goal.returns-in_err-apply-2-clause-invalid
+returns-in_err-apply-2-clause-invalid c e after a =
+    let p = err_from_is_err_and c.from_residual-in_err-apply-2.result c.from_residual-in_err-apply-2.ensures.1 in
+    let told = sym p.1 ∙ e in
+    let bad : p.0 ≡ ReplayError.Invalid = cc in
+    let shown : c.args.self.now ≡ c.self.inside.second = search rules in
+    c.in_err-apply-2.ensures.invalid (search (rules, p.2, bad)) after (subst (λ s. Applies s c.args.change.now after) shown a)
