@@ -1,4 +1,4 @@
--- A clerk's list and its journal before and after a change is added, kept and published.
+-- A list and its journal before and after changes are added and kept.
 use Rattle.std.proofs.Common.{◌≡◌, ◌⊎◌, inl, inr, ◌≤◌, ℕ, Bool, true, false, List, [], ◌∷◌, ◌++◌, Option, Some, None, refl, sym, subst, ◌∙◌, arith, append-nil}
 use Rattle.std.specs.Prelude.{option_to_list}
 use mathlib.Core.List.{IsPrefix}
@@ -52,11 +52,6 @@ notes_more start mid list batch a d (Some r) is noted made =
     subst (λ (s : State). Replays Applies mid (batch ++ r ∷ []) s) (sym (one_after start list a))
     (one_more Applies mid (state_after start list) (step (state_after start list) a).state batch r made (noted (state_after start list) (sym is)))
 
-longer : (first start : State) (kept list list' : List Ask) (left : List Record) → IsPrefix list list' → LeadPast first start kept list left
-    → LeadPast first start kept list' left
-longer first start kept list list' left on lead =
-    record { front = lead.front; past = lead.past; begins = prefix_trans lead.front list list' lead.begins on; made = lead.made }
-
 -- what is opened again is what was left
 pub again : (first start t : State) (kept list : List Ask) (left : List Record) → LeadPast first start kept list left → Replays Applies first left t
     → (front : List Ask) × IsPrefix kept front × IsPrefix front list × (t ≡ state_after start front)
@@ -67,31 +62,6 @@ module _ {J : Type 0} (list_of : J → List Record) (misreads : J → ℕ) (is_r
     (first start : State) where
   abbrev pub Sound : List Record → KeptRoll J → Type 0
   Sound batch k = IsSound list_of misreads is_ready may_leave first start batch k
-
-  pub added : (list list' kept published published' : List Ask) (journal : J) (lost : Bool) (batch : List Record) (a : Ask) (d : Directory Global)
-      (note : Option Record) → Sound batch (roll list kept published journal lost) → published' ≡ published → list' ≡ list ++ a ∷ []
-      → d ≡ (state_after start list).directory → Notes d a note → Sound (batch ++ option_to_list note) (roll list' kept published' journal lost)
-  added list list' kept published published' journal lost batch a d note s same is from noted = record {
-    shown = subst (λ (p : List Ask). IsPrefix p kept) (sym same) s.shown;
-    begins = prefix_trans kept list list' s.begins (a ∷ [], sym is);
-    ready = s.ready;
-    stands = s.stands;
-    waits = λ sound. subst (λ (l : List Ask). Replays Applies (state_after start kept) (batch ++ option_to_list note) (state_after start l)) (sym is)
-        (notes_more start (state_after start kept) list batch a d note from noted (s.waits sound));
-    leaves = λ clean left leaves. longer first start kept list list' left (a ∷ [], sym is) (s.leaves clean left leaves);
-  }
-
-  -- a clerk whose published part moves, where all is kept
-  pub published_more : (list kept published published' : List Ask) (journal : J) (lost : Bool) (batch : List Record)
-      → Sound batch (roll list kept published journal lost) → IsPrefix published' kept → Sound batch (roll list kept published' journal lost)
-  published_more list kept published published' journal lost batch s shown = record {
-    shown = shown;
-    begins = s.begins;
-    ready = s.ready;
-    stands = s.stands;
-    waits = s.waits;
-    leaves = s.leaves;
-  }
 
   module _ (list kept published : List Ask) (old new : J) (batch : List Record) (s : Sound batch (roll list kept published old false))
       (fewer : misreads old ≤ misreads new) where

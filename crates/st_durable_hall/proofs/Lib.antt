@@ -1,3 +1,3 @@
 pub mod Batches
-pub mod Ending
 pub mod Crossing
+pub mod Grouping

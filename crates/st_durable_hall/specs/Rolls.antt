@@ -1,28 +1,19 @@
--- What contracts see of a clerk whose changes are kept, and what is left of it if the process ends.
-use Rattle.std.specs.Prelude.{◌≡◌, ◌⊎◌, ℕ, Bool, List, [], ◌∷◌, ◌++◌}
+-- What contracts see of what keeps and publishes changes, and what is left of it if the process ends.
+use Rattle.std.specs.Prelude.{◌≡◌, ◌⊎◌, ℕ, Bool, List}
 use mathlib.Core.List.{IsPrefix}
 use Rattle.st_journal.specs.declared.record.Record.{Record}
 use Rattle.st_journal.specs.Replays.{Replays}
 use Rattle.st_durable.specs.Applying.{Applies}
 use Rattle.st_hall.specs.Steps.{Ask, State, state_after}
 
--- The one list of changes, the part of it that is kept, the part that is published, the journal, and whether an append failed.
+-- The one list of changes as far as an append was given it, the part of it that is kept, the part that is published, the journal, and
+-- whether an append failed.
 pub record KeptRoll (J : Type 0) : Type 0 where
   pub list : List Ask
   pub kept : List Ask
   pub published : List Ask
   pub journal : J
   pub is_lost : Bool
-
--- with one change more in the list
-abbrev pub with_change : {J : Type 0} → KeptRoll J → Ask → KeptRoll J
-with_change k a = record {
-  list = k.list ++ a ∷ [];
-  kept = k.kept;
-  published = k.published;
-  journal = k.journal;
-  is_lost = k.is_lost;
-}
 
 -- From the first state the records lead to the state after a beginning of the list, with at least the changes that are kept.
 pub record LeadPast (first start : State) (kept list : List Ask) (records : List Record) : Type 0 where

@@ -1,36 +1,93 @@
-//! A change by any thread.
-ghost use Rattle.std.specs.Prelude.{◌≡◌, ◌+◌, ◌⊎◌, true, is_some, List, Err, IfOk, IfSome, OnOk};
+//! A hall with two locks: one for deciding, and one for what keeps and publishes.
+ghost use Rattle.std.specs.Prelude.{◌≡◌, ◌+◌, ◌⊎◌, [], true, is_some, List, Err, IfOk, IfSome, OnOk, MatchResult};
 ghost use mathlib.Core.List.{IsPrefix};
 ghost use Rattle.st_core.specs.Step.{asker_of, asks_for_change};
+ghost use Rattle.st_journal.specs.Replays.{Replays};
 ghost use Rattle.st_service.specs.Answers.{AsksBy, IsFound};
+ghost use Rattle.st_durable.specs.Applying.{Applies};
 ghost use Rattle.st_hall.specs.Steps.{Ask, state_after};
 ghost use Rattle.st_hall.specs.Views.{EndsAfter, IsStranger};
 ghost use Rattle.st_durable_hall.specs.declared.fault.ChangeError.{ChangeError};
 ghost use Rattle.st_durable_hall.specs.Rolls.{WasKept};
 
-use crate::clerk::DurableClerk;
-use crate::fault::ChangeError;
-use st_core::Asked;
+use crate::draft::Draft;
+use crate::fault::{ChangeError, Lost};
+use crate::publisher::Publisher;
+use st_core::{Asked, Reply};
 use st_durable::Beginning;
-use st_hall::{Desk, HallName, Receipt};
+use st_hall::{Clerk, Desk, Front, HallName, Receipt};
 use st_http::message::Message;
 use st_journal::Journal;
-use std::marker::PhantomData;
+use std::alloc::Global;
 use std::sync::{Mutex, Wait};
 use std::time::Clock;
 
-/// The calls of a hall whose changes are kept that belong to no value of it.
-pub struct DurableHall<H: HallName> {
-    of: PhantomData<H>,
+/// A hall whose changes a journal keeps in groups: while one group is kept, the changes of the next one are decided.
+#[derive(Drop)]
+pub struct DurableHall<B: Beginning, H: HallName, R: Wait + Drop, J: Journal + Drop> {
+    // Whoever takes both locks takes this one last.
+    draft: Mutex<Draft<H>>,
+    publisher: Mutex<Publisher<B, H, R, J>>,
 }
 
-impl<H: HallName> DurableHall<H> {
-    /// Makes a change in any thread, as `DurableClerk::commit` does. Its receipt comes only once it is kept. At `NoMemory` it is not
-    /// made, nor at `Stranger`. At `Lost` only the next opening can tell, and its reply must not go out.
-    pub fn change<B: Beginning, W: Wait, R: Wait + Drop, J: Journal + Drop, C: Clock>(
+impl<B: Beginning, H: HallName, R: Wait + Drop, J: Journal + Drop> DurableHall<B, H, R, J> {
+    /// The hall of a clerk that was just opened over two stores of the state to which the journal's list leads.
+    pub fn new(alloc: Global, clerk: Clerk<H, R>, journal: J) -> DurableHall<B, H, R, J>
+        requires empty { (clerk.list ≡ []) × (clerk.published ≡ []) }
+        requires ready { J.is_ready journal }
+        requires stands { J.misreads journal ≡ 0 → Replays Applies B.first (J.list journal) H.start }
+    {
+        let (scribe, press) = clerk.apart();
+        DurableHall {
+            draft: Mutex::new(Draft::new(alloc, scribe)),
+            publisher: Mutex::new(Publisher::new(press, journal)),
+        }
+    }
+
+    /// Its draft and its publisher, when no thread shares it any more.
+    pub fn apart(self) -> (Draft<H>, Publisher<B, H, R, J>) {
+        let Self { draft, publisher } = self;
+        (draft.into_inner(), publisher.into_inner())
+    }
+
+    /// Decides a change, and adds it to the list. Gives its reply, which must not go out before the list that ends with it, which
+    /// comes with it, is settled. At an error nothing is added; `Lost` comes once an append failed.
+    pub fn add<W: Wait, C: Clock>(
+        &self,
         rt: &W,
         clock: &C,
-        clerk: &Mutex<DurableClerk<B, H, R, J>>,
+        desk: &mut Desk<H>,
+        message: &Message<'_>,
+        asked: &Asked,
+    ) -> Result<(Reply, Front<H>), ChangeError>
+        requires found { IsFound message.now }
+        requires asks { AsksBy message.now asked.now }
+        requires change { asks_for_change asked.now ≡ true }
+        ensures ends { IfOk result (λ r. EndsAfter H.start desk.old.seen r.1 asked.now r.0) }
+        ensures heard { OnOk result ((list : List Ask) × IsPrefix desk.old.seen list
+            × (is_some (asker_of (state_after H.start list).directory asked.now.token) ≡ true)) }
+        ensures made { MatchResult result (λ _. desk.new.made ≡ desk.old.made + 1) (λ _. desk.new.made ≡ desk.old.made) }
+        ensures seen { desk.new.seen ≡ desk.old.seen }
+        ensures stranger { result ≡ Err ChangeError.Stranger → IsStranger H.start desk.old.seen asked.now.token }
+    {
+        self.draft.lock(rt).add(clock, desk, message, asked)
+    }
+
+    /// Keeps a list, and publishes it where there is memory: whether it is published. All that is decided meanwhile is kept with
+    /// it, and nothing is appended where another thread has kept it already. At an error it may be kept: the next opening can tell.
+    pub fn settle<W: Wait>(&self, rt: &W, front: &Front<H>) -> Result<bool, Lost>
+        ensures { OnOk result (WasKept J.list J.misreads B.first H.start front.now) }
+    {
+        self.publisher.lock(rt).settle(rt, &self.draft, front)
+    }
+
+    /// Makes a change in any thread: decides it, keeps it and publishes it. Its receipt has a front if there was memory to publish
+    /// it. At `NoMemory` nothing is changed, nor at `Stranger`. At `Lost` the change may be in the list, and its reply must not go
+    /// out.
+    pub fn change<W: Wait, C: Clock>(
+        &self,
+        rt: &W,
+        clock: &C,
         desk: &mut Desk<H>,
         message: &Message<'_>,
         asked: Asked,
@@ -52,6 +109,14 @@ impl<H: HallName> DurableHall<H> {
             × WasKept J.list J.misreads B.first H.start list) }
         ensures front_kept { IfOk result (λ r. IfSome r.front (WasKept J.list J.misreads B.first H.start)) }
     {
-        clerk.lock(rt).commit(rt, clock, desk, message, asked)
+        let (reply, front) = self.add(rt, clock, desk, message, &asked)?;
+        match self.settle(rt, &front) {
+            Ok(is_shown) => Ok(Receipt {
+                asked,
+                reply,
+                front: if is_shown { Some(front) } else { None },
+            }),
+            Err(Lost) => Err(ChangeError::Lost),
+        }
     }
 }

@@ -18,18 +18,18 @@ use st_connection::Failed;
 use st_connection::replies::Replies;
 use st_core::{Asked, Reply};
 use st_durable::Beginning;
-use st_durable_hall::{ChangeError, DurableClerk, DurableHall};
+use st_durable_hall::{ChangeError, DurableHall};
 use st_hall::{Desk, HallName, Receipt};
 use st_http::message::Message;
 use st_journal::Journal;
 use st_service::{Answer, asked_of, to_stranger};
 use std::alloc::{AllocError, Global};
 use std::marker::Model;
+use std::sync::Wait;
 use std::sync::atomic::{AtomicBool, Ordering};
-use std::sync::{Mutex, Wait};
 use std::time::Clock;
 
-// A desk, the clerk and a clock, how many changes were made and kept at the desk, whether one was lost, at this desk or another, and
+// A desk, the hall and a clock, how many changes were made and kept at the desk, whether one was lost, at this desk or another, and
 // whether settling said so.
 #[derive(Drop)]
 pub(crate) struct Answerer<
@@ -44,7 +44,7 @@ pub(crate) struct Answerer<
     pub(crate) alloc: Global,
     pub(crate) rt: &'a W,
     pub(crate) clock: &'a C,
-    pub(crate) clerk: &'a Mutex<DurableClerk<B, H, R, J>>,
+    pub(crate) hall: &'a DurableHall<B, H, R, J>,
     // Whether a change was lost at any desk of the hall.
     pub(crate) alarm: &'a AtomicBool,
     pub(crate) desk: Desk<H>,
@@ -129,14 +129,10 @@ impl<'a, B: Beginning, H: HallName, R: Wait + Drop, J: Journal + Drop, C: Clock,
         ensures lost { (self.new.is_lost ≡ true) ↔ (result ≡ Err Lost) }
         ensures stays { self.new.is_lost ≡ true → self.new.seat ≡ self.old.seat }
     {
-        match DurableHall::change(
-            self.rt,
-            self.clock,
-            self.clerk,
-            &mut self.desk,
-            message,
-            asked,
-        ) {
+        match self
+            .hall
+            .change(self.rt, self.clock, &mut self.desk, message, asked)
+        {
             Ok(receipt) => {
                 self.made = self.desk.made();
                 Ok(learn(&mut self.desk, receipt))

@@ -9,16 +9,16 @@ use st_connection::Server;
 use st_connection::connection::{Ended, IoFault, MAX_READS};
 use st_connection::streams::{Sink, Source};
 use st_durable::Beginning;
-use st_durable_hall::DurableClerk;
+use st_durable_hall::DurableHall;
 use st_hall::{Desk, HallName};
 use st_journal::Journal;
 use std::alloc::{AllocError, Global};
 use std::marker::Model;
+use std::sync::Wait;
 use std::sync::atomic::AtomicBool;
-use std::sync::{Mutex, Wait};
 use std::time::Clock;
 
-/// A desk that serves connections, one after another, and the clerk who makes their changes. Contracts see what the desk has seen,
+/// A desk that serves connections, one after another, and the hall that makes their changes. Contracts see what the desk has seen,
 /// how many changes were made and kept at it, whether one was lost, and whether a connection ended for that.
 #[derive(Drop)]
 pub struct DurableStation<
@@ -61,7 +61,7 @@ impl<
         alloc: Global,
         clock: &'a C,
         desk: Desk<H>,
-        clerk: &'a Mutex<DurableClerk<B, H, R, J>>,
+        hall: &'a DurableHall<B, H, R, J>,
         alarm: &'a AtomicBool,
     ) -> Result<DurableStation<'a, B, H, R, J, C, W>, AllocError>
         ensures { IfOk result (λ station. station ≡ record { seat = desk; is_lost = false; failed = false }) }
@@ -71,7 +71,7 @@ impl<
             alloc,
             rt,
             clock,
-            clerk,
+            hall,
             alarm,
             desk,
             made,

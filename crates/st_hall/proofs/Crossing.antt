@@ -27,6 +27,8 @@ use Rattle.st_hall.specs.contracts.edition.Queued as Queued
 use Rattle.st_hall.specs.contracts.front.Front as Front
 use Rattle.st_hall.specs.contracts.desk.Desk as Desk
 use Rattle.st_hall.specs.contracts.clerk.Clerk as Clerk
+use Rattle.st_hall.specs.contracts.press.Press as Press
+use Rattle.st_hall.specs.contracts.scribe.Scribe as Scribe
 use Rattle.st_hall.specs.contracts.worker.Worker as Worker
 use Rattle.st_hall.specs.declared.name.HallName as hall
 use Rattle.st_hall.proofs.front.Front.TheSendSync as FrontCross
@@ -180,8 +182,20 @@ desk H h l = search (sendable, crosses, reader, held_front, ShareCross.the_send)
 held_desk : (H : RattleType) (h : hall.Ghosts H.Denot) (l : ledger.Ghosts H.Denot) → IsSend (Desk.the_field H h l).row
 held_desk H h l = desk H h l
 
+pub scribe : (H : RattleType) (h : hall.Ghosts H.Denot) (l : ledger.Ghosts H.Denot) → IsSend (Scribe.the_row H h l)
+scribe H h l = let d = directory in search (sendable, crosses, held_front, HeadCross.the_field_send, BookCross.the_send) depth 60 fits 100000
+
+held_scribe : (H : RattleType) (h : hall.Ghosts H.Denot) (l : ledger.Ghosts H.Denot) → IsSend (Scribe.the_field H h l).row
+held_scribe H h l = scribe H h l
+
+pub press : (H R : RattleType) (h : hall.Ghosts H.Denot) (l : ledger.Ghosts H.Denot) (a : _) → IsSend R → IsSend (Press.the_row H R a h l)
+press H R h l a s = search (sendable, crosses, writer, held_front, QueuedCross.the_send) depth 60 fits 100000
+
+held_press : (H R : RattleType) (h : hall.Ghosts H.Denot) (l : ledger.Ghosts H.Denot) (a : _) → IsSend R → IsSend (Press.the_field H R a h l).row
+held_press H R h l a s = press H R h l a s
+
 pub clerk : (H R : RattleType) (h : hall.Ghosts H.Denot) (l : ledger.Ghosts H.Denot) (a : _) → IsSend R → IsSend (Clerk.the_row H R h l a)
-clerk H R h l a s = let d = directory in search (sendable, crosses, writer, held_front, HeadCross.the_field_send, QueuedCross.the_send, BookCross.the_send) depth 60 fits 100000
+clerk H R h l a s = search (sendable, crosses, held_scribe, held_press) depth 60 fits 100000
 
 pub worker : (a : NamedLft) (H R G : RattleType) (h : hall.Ghosts H.Denot) (l : ledger.Ghosts H.Denot) → IsSend R → IsSync G → IsSend (Worker.the_row a H R G h l)
 worker a H R G h l s y = search (sendable, crosses, held_front, held_desk, clerk) depth 60 fits 100000

@@ -1,14 +1,14 @@
 -- What follows from queued changes that follow each other.
-use Rattle.std.proofs.Common.{◌≡◌, ◌+◌, subst, List, [], ◌∷◌, ◌++◌, length, fold, refl, ap, sym, ◌∙◌, arith, length-append, append_assoc, Option, None, Some, Result, Ok, Err, MatchOption, MatchResult, IfOk, IfSome, OnOk, true}
+use Rattle.std.proofs.Common.{◌≡◌, ◌+◌, subst, List, [], ◌∷◌, ◌++◌, length, fold, refl, ap, sym, ◌∙◌, arith, length-append, append_assoc, Option, None, Some, Result, Ok, Err, MatchOption, MatchResult, IfOk, IfSome, OnOk, true, false, is_none}
 use Rattle.std.proofs.lemmas.List.{append-nil, same_from_push}
 use mathlib.Core.List.{IsPrefix}
 use Rattle.std.specs.declared.alloc.Global.{Global}
 use Rattle.st_core.specs.Judging.{JudgesChange}
 use Rattle.st_core.specs.Step.{after, step, asks_for_change}
 use Rattle.st_hall.specs.Steps.{Ask, State, Told, judged_in, settled, next, state_after, reply_of}
-use Rattle.st_hall.specs.Views.{EndsAfter, EndsWith}
+use Rattle.st_hall.specs.Views.{EndsAfter, EndsWith, IsNext, QueuedValue}
 use Rattle.st_dir.specs.Directory.{Directory}
-use Rattle.st_hall.specs.inner.Editions.{EditionValue, QueuedValue, IsNext, IsJudged, absorbed, Agrees, Follows}
+use Rattle.st_hall.specs.inner.Editions.{EditionValue, IsJudged, absorbed, Agrees, Follows, waiting_list}
 
 run_snoc : (s : State) (xs : List Ask) (a : Ask) → after s (xs ++ a ∷ []) ≡ (step (after s xs) a).state
 run_snoc s [] a = refl
@@ -139,6 +139,15 @@ pub enters : (start : State) (xs : List Ask) (qs qs' : List QueuedValue) (front 
 enters start xs qs qs' front front' q same next is_front f =
     subst (λ (l : List QueuedValue). Follows start xs (l ++ q ∷ []) front') (sym same)
     (subst (Follows start xs (qs ++ q ∷ [])) (sym is_front) (follows_snoc start xs qs front q f next))
+
+-- the same where the change waits, and nothing waited before it
+pub waits : (start : State) (xs : List Ask) (qs : List QueuedValue) (waiting waiting' : Option QueuedValue) (front front' : List Ask) (q : QueuedValue)
+    → is_none waiting ≡ true → waiting' ≡ Some q → IsNext start front q → front' ≡ q.list → Follows start xs (qs ++ waiting_list waiting) front
+    → Follows start xs (qs ++ waiting_list waiting') front'
+waits start xs qs None waiting' front front' q none is next is_front f =
+    subst (λ (o : Option QueuedValue). Follows start xs (qs ++ waiting_list o) front') (sym is)
+    (enters start xs (qs ++ []) qs front front' q (sym (append-nil qs)) next is_front f)
+waits start xs qs (Some w) waiting' front front' q none is next is_front f = absurd (let e : false ≡ true = none in cc)
 
 -- what is decided after a list holds in the state after it
 pub at_state : {D E : Type 0} (P : D → State → Type 0) (directory : Directory Global) (s : State) (r : Result D E) → directory ≡ s.directory

@@ -1,9 +1,9 @@
--- What contracts see of a desk, a worker and a clerk.
-use Rattle.std.specs.Prelude.{ℕ, ◌≡◌, ◌≤◌, ◌⊎◌, List, [], ◌∷◌, ◌++◌, length, sum_by, Option, None}
+-- What contracts see of a desk, a worker, a clerk, and its two halves.
+use Rattle.std.specs.Prelude.{ℕ, Bool, true, ◌≡◌, ◌≤◌, ◌⊎◌, List, [], ◌∷◌, ◌++◌, length, sum_by, Option, None}
 use mathlib.Core.List.{IsPrefix}
 use Rattle.st_core.specs.declared.asked.Token.{Token}
-use Rattle.st_core.specs.Step.{asker_of}
-use Rattle.st_hall.specs.Steps.{Ask, State, Told, reply_of, state_after}
+use Rattle.st_core.specs.Step.{asker_of, asks_for_change}
+use Rattle.st_hall.specs.Steps.{Ask, State, Told, Verdict, judged_in, reply_of, state_after}
 
 -- the changes that a desk has seen, and how many receipts were got with it
 pub record Seat : Type 0 where
@@ -34,6 +34,22 @@ Learns s t = (t.learnt ≡ s.learnt) ⊎ (IsPrefix s.seat.seen t.learnt × IsPre
 pub record Roll : Type 0 where
   pub list : List Ask
   pub published : List Ask
+
+-- a judged change, and the list that ends with it
+pub record QueuedValue : Type 0 where
+  pub judged : Verdict
+  pub list : List Ask
+
+-- the list goes on by one change, judged by the directory after the list before it
+abbrev pub IsNext : State → List Ask → QueuedValue → Type 0
+IsNext start before q =
+    (ask : Ask) × (asks_for_change ask ≡ true) × (q.list ≡ before ++ ask ∷ []) × (q.judged ≡ judged_in (state_after start before) ask)
+
+-- the changes that a press was given, those of them that it has published, and whether it has room for the next one
+pub record Printed : Type 0 where
+  pub pushed : List Ask
+  pub published : List Ask
+  pub has_room : Bool
 
 -- the list ends with the change, and the reply is the last of its run
 abbrev pub EndsWith : State → List Ask → Ask → Told → Type 0

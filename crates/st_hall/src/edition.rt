@@ -1,7 +1,8 @@
 //! What the two copies hold: a store, and the changes that it stands for.
 ghost use Rattle.std.specs.Prelude.{◌≡◌, true};
 ghost use Rattle.st_hall.specs.Steps.{state_after};
-ghost use Rattle.st_hall.specs.inner.Editions.{IsJudged, IsNext};
+ghost use Rattle.st_hall.specs.Views.{IsNext};
+ghost use Rattle.st_hall.specs.inner.Editions.{IsJudged};
 
 use crate::front::Front;
 use crate::name::HallName;
@@ -20,7 +21,8 @@ pub struct Queued<H: HallName> {
 }
 
 impl<H: HallName> Model for Queued<H> {
-    ghost use Rattle.st_hall.specs.inner.Editions.{QueuedValue, IsJudged};
+    ghost use Rattle.st_hall.specs.Views.{QueuedValue};
+    ghost use Rattle.st_hall.specs.inner.Editions.{IsJudged};
 
     ghost Value = { QueuedValue };
 
@@ -56,15 +58,15 @@ impl<H: HallName> Queued<H> {
         Queued { judged, front }
     }
 
-    // The list that ends with it.
-    pub(crate) fn front(&self) -> &Front<H>
+    /// The list that ends with it.
+    pub fn front(&self) -> &Front<H>
         ensures { result.now ≡ self.now.list }
     {
         &self.front
     }
 
-    // Whether it is the next change after a list.
-    fn is_after(&self, front: &Front<H>) -> bool
+    /// Whether it is the next change after a list.
+    pub fn is_after(&self, front: &Front<H>) -> bool
         ensures { result ≡ true → IsNext H.start front.now self.now }
     {
         self.front.is_after(front)

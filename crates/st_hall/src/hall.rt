@@ -13,8 +13,10 @@ use crate::edition::Edition;
 use crate::fault::{AskFault, HallFault};
 use crate::front::{Front, begin};
 use crate::name::{HallName, Unnamed, UnnamedFor};
+use crate::press::Press;
 use crate::queue::EditionWriter;
 use crate::receipt::Receipt;
+use crate::scribe::Scribe;
 use left_right::writer::Writer;
 use st_core::{Asked, Store};
 use st_dir::Directory;
@@ -179,7 +181,9 @@ impl<H: HallName> Hall<H> {
             share,
             workers,
         )?;
-        Ok((Clerk::new(writer, head, front, directory, book, rt), desks))
+        let scribe = Scribe::new(head, front.again(), directory, book);
+        let press = Press::new(writer, front, rt);
+        Ok((Clerk::new(scribe, press), desks))
     }
 
     /// Opens a hall over two stores of one state, with two desks. `NoPlace` where a reader's place was refused.

@@ -10,8 +10,10 @@ mod hall;
 mod history;
 pub mod law;
 mod name;
+mod press;
 mod queue;
 mod receipt;
+mod scribe;
 mod steps;
 mod worker;
 
@@ -22,5 +24,7 @@ pub use fault::{AskFault, HallFault};
 pub use front::Front;
 pub use hall::Hall;
 pub use name::{HallName, Unnamed, UnnamedFor};
+pub use press::Press;
 pub use receipt::Receipt;
+pub use scribe::Scribe;
 pub use worker::{Gate, Worker};

@@ -1,9 +1,10 @@
 //! The queue of changes that the copies have not absorbed yet.
-ghost use Rattle.std.specs.Prelude.{◌≡◌, ◌^◌, ◌<◌, List, [], ◌∷◌, ◌++◌, drop, fold, length, true, None, Some, IfOk, OnOk, MatchResult};
+ghost use Rattle.std.specs.Prelude.{◌≡◌, ◌^◌, ◌<◌, [], ◌∷◌, ◌++◌, drop, fold, length, true, None, Some, IfOk, OnOk, MatchResult};
 ghost use Rattle.st_core.specs.Judging.{judgement};
 ghost use Rattle.st_core.specs.Step.{asks_for_change};
-ghost use Rattle.st_hall.specs.Steps.{Ask, judged_in, state_after};
-ghost use Rattle.st_hall.specs.inner.Editions.{Agrees, Follows, IsNext, absorbed, waiting_list};
+ghost use Rattle.st_hall.specs.Steps.{judged_in, state_after};
+ghost use Rattle.st_hall.specs.Views.{IsNext};
+ghost use Rattle.st_hall.specs.inner.Editions.{Agrees, absorbed, waiting_list};
 
 use crate::edition::{Agreeing, Consistent, Edition, Queued};
 use crate::front::Front;
@@ -20,7 +21,7 @@ const MOST: u64 = 1 << 61;
 pub(crate) type EditionWriter<H> = Writer<Edition<H>, Queued<H>, (), Consistent<H>>;
 
 // Lets a change wait.
-fn hold<H: HallName>(waiting: &mut Option<Queued<H>>, queued: Queued<H>)
+pub(crate) fn hold<H: HallName>(waiting: &mut Option<Queued<H>>, queued: Queued<H>)
     ensures { waiting.new ≡ Some queued }
 {
     drop(waiting.replace(queued));
@@ -75,30 +76,23 @@ fn queued_of<H: HallName>(
     }
 }
 
-// Adds a judged change to the list, after all that is queued or waits. It waits then.
+// Adds a judged change to the list, and gives it for the queue.
 pub(crate) fn enter<H: HallName>(
-    writer: &mut EditionWriter<H>,
-    waiting: &mut Option<Queued<H>>,
     head: &Head<H>,
     front: &mut Front<H>,
     asked: &Asked,
     judged: &JudgedRef,
-) -> Result<(), AllocError>
+) -> Result<Queued<H>, AllocError>
     requires change { asks_for_change asked.now ≡ true }
     requires judged { judgement judged.now ≡ judged_in (state_after H.start front.old) asked.now }
-    ensures desk { writer.new.desk ≡ writer.old.desk }
-    ensures list { MatchResult result
-        (λ _. (front.new ≡ front.old ++ asked.now ∷ []) × (length front.old < 2 ^ 61))
-        (λ _. front.new ≡ front.old) }
-    ensures follows { (xs : List Ask)
-        → Follows H.start xs (drop writer.old.behind writer.old.log.items ++ waiting_list waiting.old) front.old
-        → Follows H.start xs (drop writer.new.behind writer.new.log.items ++ waiting_list waiting.new) front.new }
+    ensures room { OnOk result (length front.old < 2 ^ 61) }
+    ensures list { MatchResult result (λ _. front.new ≡ front.old ++ asked.now ∷ []) (λ _. front.new ≡ front.old) }
+    ensures next { IfOk result (λ queued. IsNext H.start front.old queued) }
+    ensures ends { IfOk result (λ queued. queued.list ≡ front.new) }
 {
-    queue(writer, waiting)?;
     let queued = queued_of(head, front, asked, judged)?;
     *front = queued.front().again();
-    hold(waiting, queued);
-    Ok(())
+    Ok(queued)
 }
 
 // Publishes what is queued.

@@ -1,5 +1,5 @@
--- A station may go to another thread, since a worker of a hall, a clerk whose changes are kept, and the table of routes may. Rattle makes no such lemma for the nodes of
--- the table, which hold each other.
+-- A station may go to another thread, since a worker of a hall and the table of routes may, and threads may share a hall whose changes
+-- are kept. Rattle makes no such lemma for the nodes of the table, which hold each other.
 use denote.RattleType.{RattleType}
 use denote.Ref.{NamedLft}
 use denote.Param.Send.{IsSend, IsSync, sendable}
@@ -16,8 +16,10 @@ use Rattle.st_hall.proofs.Crossing.{desk, worker}
 use Rattle.st_hall.specs.contracts.worker.Worker as Worker
 use Rattle.st_hall.specs.contracts.desk.Desk as Desk
 use Rattle.st_station.specs.contracts.station.Station as Station
-use Rattle.st_durable_hall.proofs.Crossing.{durable_clerk}
-use Rattle.st_durable_hall.specs.contracts.clerk.DurableClerk as DurableClerk
+use Rattle.st_durable_hall.proofs.Crossing.{draft, publisher}
+use Rattle.st_durable_hall.specs.contracts.draft.Draft as Draft
+use Rattle.st_durable_hall.specs.contracts.publisher.Publisher as Publisher
+use Rattle.st_durable_hall.specs.contracts.hall.DurableHall as DurableHall
 use Rattle.st_durable_station.specs.contracts.station.DurableStation as DurableStation
 
 abbrev K : Frame the_members
@@ -55,9 +57,15 @@ station a H R G W h l r g w s y z = search (sendable, crosses, held_routes, held
 held_desk : (H : RattleType) (h : _) (l : _) → IsSend (Desk.the_field H h l).row
 held_desk H h l = desk H h l
 
-held_clerk : (B H R J : RattleType) (b : _) (h : _) (l : _) (j : _) → IsSend R → IsSend J → IsSend (DurableClerk.the_field B H R J b h l j).row
-held_clerk B H R J b h l j s t = durable_clerk B H R J b h l j s t
+held_draft : (H : RattleType) (h : _) (l : _) → IsSend (Draft.the_field H h l).row
+held_draft H h l = draft H h l
+
+held_publisher : (B H R J : RattleType) (b : _) (h : _) (l : _) (j : _) → IsSend R → IsSend J → IsSend (Publisher.the_field B H R J b h l j).row
+held_publisher B H R J b h l j s t = publisher B H R J b h l j s t
+
+held_hall : (B H R J : RattleType) (b : _) (h : _) (l : _) (j : _) → IsSend R → IsSend J → IsSync (DurableHall.the_field B H R J b h l j).row
+held_hall B H R J b h l j s t = search (sendable, crosses, held_draft, held_publisher) depth 60 fits 100000
 
 pub durable_station : (a : NamedLft) (B H R J C W : RattleType) (b : _) (h : _) (l : _) (r : _) (j : _) (c : _) (w : _) → IsSend R → IsSend J → IsSync C
     → IsSync W → IsSend (DurableStation.the_row a B H R J C W b h l r j c w)
-durable_station a B H R J C W b h l r j c w s t x y = search (sendable, crosses, held_routes, held_desk, held_clerk) depth 60 fits 100000
+durable_station a B H R J C W b h l r j c w s t x y = search (sendable, crosses, held_routes, held_desk, held_hall) depth 60 fits 100000

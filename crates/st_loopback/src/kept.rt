@@ -15,7 +15,7 @@ use st_command::{Keeper, stores_and_opening_for};
 use st_command_line::{Fault, ServedArguments};
 use st_core::Store;
 use st_durable::Beginning;
-use st_durable_hall::DurableClerk;
+use st_durable_hall::DurableHall;
 use st_durable_station::DurableStation;
 use st_hall::{Desk, Hall, HallFault, HallName, UnnamedFor};
 use st_journal::Journal;
@@ -23,8 +23,8 @@ use std::alloc::{AllocError, Global};
 use std::io::{Eprint, Write};
 use std::marker::Brand;
 use std::net::{Net, TcpListener, TcpStream};
+use std::sync::Wait;
 use std::sync::atomic::{AtomicBool, Ordering};
-use std::sync::{Mutex, Wait};
 use std::thread::Threads;
 use std::time::Clock;
 
@@ -68,7 +68,7 @@ fn announce<
 fn stations_at<'a, B: Beginning, H: HallName, C: Wait + Drop, J: Journal + Drop, R: Wait + Clock>(
     rt: &'a R,
     alloc: Global,
-    clerk: &'a Mutex<DurableClerk<B, H, C, J>>,
+    hall: &'a DurableHall<B, H, C, J>,
     alarm: &'a AtomicBool,
     desks: Vec<Desk<H>>,
 ) -> Result<Vec<DurableStation<'a, B, H, C, J, R, R>>, AllocError> {
@@ -77,7 +77,7 @@ fn stations_at<'a, B: Beginning, H: HallName, C: Wait + Drop, J: Journal + Drop,
         desks.len(),
     )?;
     for desk in desks {
-        let station = DurableStation::new(rt, alloc, rt, desk, clerk, alarm)?;
+        let station = DurableStation::new(rt, alloc, rt, desk, hall, alarm)?;
         stations.push(station).map_err(|_| AllocError)?;
     }
     Ok(stations)
@@ -95,14 +95,14 @@ fn seat_workers<
     rt: &'c R,
     alloc: Global,
     said: &ServedArguments<'_>,
-    clerk: &Mutex<DurableClerk<B, H, &'c R, J>>,
+    hall: &DurableHall<B, H, &'c R, J>,
     desks: Vec<Desk<H>>,
     output: &mut O,
 ) -> Result<(), Fault>
     ensures { TellsKept said.now.port said.now.connections (O.contents output.old) (O.contents output.new) result }
 {
     let alarm = AtomicBool::new(false);
-    let stations = stations_at(rt, alloc, clerk, &alarm, desks)?;
+    let stations = stations_at(rt, alloc, hall, &alarm, desks)?;
     announce(rt, alloc, said, &alarm, stations, output)
 }
 
@@ -132,8 +132,8 @@ fn open_hall<
 {
     match Hall::<H>::open_for(rt, alloc, name, both.0, both.1, workers) {
         Ok((clerk, desks)) => {
-            let clerk = Mutex::new(DurableClerk::<B, H, &R, J>::new(alloc, clerk, journal));
-            seat_workers(rt, alloc, said, &clerk, desks, output)
+            let hall = DurableHall::<B, H, &R, J>::new(alloc, clerk, journal);
+            seat_workers(rt, alloc, said, &hall, desks, output)
         }
         Err(HallFault::NoPlace) => Err(Fault::NoPlace),
         Err(HallFault::NoMemory) => Err(Fault::NoMemory),

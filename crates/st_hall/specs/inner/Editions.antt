@@ -1,22 +1,12 @@
 -- An invariant of a representation, which no reader has to believe: what the two copies hold, and how the queued changes follow.
-use Rattle.std.specs.Prelude.{◌≡◌, List, [], ◌∷◌, ◌++◌, Option, None, Some, true}
-use Rattle.st_core.specs.Step.{asks_for_change}
-use Rattle.st_hall.specs.Steps.{Ask, State, Verdict, judged_in, settled, state_after}
+use Rattle.std.specs.Prelude.{◌≡◌, List, [], ◌∷◌, Option, None, Some}
+use Rattle.st_hall.specs.Steps.{Ask, State, settled, state_after}
+use Rattle.st_hall.specs.Views.{IsNext, QueuedValue}
 
 -- a state, and the changes that it stands for
 pub record EditionValue : Type 0 where
   pub state : State
   pub list : List Ask
-
--- a judged change, and the list that ends with it
-pub record QueuedValue : Type 0 where
-  pub judged : Verdict
-  pub list : List Ask
-
--- the list goes on by one change, judged by the directory after the list before it
-abbrev pub IsNext : State → List Ask → QueuedValue → Type 0
-IsNext start before q =
-    (ask : Ask) × (asks_for_change ask ≡ true) × (q.list ≡ before ++ ask ∷ []) × (q.judged ≡ judged_in (state_after start before) ask)
 
 -- it goes on some list
 abbrev pub IsJudged : State → QueuedValue → Type 0

@@ -1,6 +1,6 @@
 use Rattle.std.proofs.Common.{rules, ◌≡◌, true, ap, subst, sym, ◌∙◌}
 use Rattle.st_hall.specs.Steps.{state_after}
-use Rattle.st_hall.specs.inner.Editions.{QueuedValue, IsNext}
+use Rattle.st_hall.specs.Views.{IsNext, QueuedValue}
 use Rattle.st_hall.proofs.Following.{judges_next, settles_next}
 use Rattle.st_hall.proofs.edition.EditionAbsorbQueued.absorb_first.Goals as goal
 

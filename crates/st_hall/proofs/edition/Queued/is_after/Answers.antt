@@ -1,5 +1,5 @@
 use Rattle.std.proofs.Common.{subst}
-use Rattle.st_hall.specs.inner.Editions.{QueuedValue, IsNext}
+use Rattle.st_hall.specs.Views.{IsNext, QueuedValue}
 use Rattle.st_hall.proofs.Following.{is_next}
 use Rattle.st_hall.proofs.edition.Queued.is_after.Goals as goal
 

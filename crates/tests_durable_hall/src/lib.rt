@@ -1,0 +1,9 @@
+//! Tests of a hall whose changes are kept in groups.
+#![tactic(auto)]
+
+#[cfg(test)]
+mod groups;
+#[cfg(test)]
+mod journals;
+#[cfg(test)]
+mod puts;
