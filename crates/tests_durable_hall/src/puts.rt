@@ -8,9 +8,9 @@ use st_durable::Beginning;
 use st_durable_hall::DurableHall;
 use st_hall::{Desk, Front, HallName};
 use st_http::message::{Message, Take};
-use st_http::routes::{Route, Routes};
+use st_http::routes::Routes;
 use st_journal::Journal;
-use st_service::asked_of;
+use st_service::{Answer, asked_of};
 use std::alloc::Global;
 use std::sync::Wait;
 use std::time::Clock;
@@ -39,16 +39,6 @@ fn text_of(alloc: Global, id: &[u8]) -> Option<Vec<u8>> {
     Some(text)
 }
 
-// Whether the route of a message is an endpoint.
-fn is_found(message: &Message<'_>) -> bool
-    ensures { result ≡ true → IsFound message.now }
-{
-    match message.route {
-        Route::Found(_, _) => true,
-        Route::NoRoute | Route::BadMethod { .. } => false,
-    }
-}
-
 // The change that a message asks.
 fn change_of(alloc: Global, message: &Message<'_>) -> Option<Asked>
     requires { IsFound message.now }
@@ -73,7 +63,8 @@ fn change<B: Beginning, H: HallName, R: Wait + Drop, J: Journal + Drop, W: Wait 
     desk: &mut Desk<H>,
     message: &Message<'_>,
 ) -> Option<Front<H>> {
-    if !is_found(message) {
+    if let Some(answer) = Answer::of_unrouted(alloc, message) {
+        drop(answer);
         return None;
     }
     let asked = change_of(alloc, message)?;
