@@ -85,17 +85,17 @@ fn stations_at<'a, B: Beginning, H: HallName, C: Wait + Drop, J: Journal + Drop,
 
 // Makes a station at each desk, and serves at them.
 fn seat_workers<
-    'c,
     B: Beginning + Send + Sync,
     H: HallName + Send + Sync,
+    C: Wait + Drop + Send,
     J: Journal + Drop + Send,
     R: Net<Listener = TcpListener, Stream = TcpStream> + Threads + Wait + Clock + Eprint + Sync,
     O: Write,
 >(
-    rt: &'c R,
+    rt: &R,
     alloc: Global,
     said: &ServedArguments<'_>,
-    hall: &DurableHall<B, H, &'c R, J>,
+    hall: &DurableHall<B, H, C, J>,
     desks: Vec<Desk<H>>,
     output: &mut O,
 ) -> Result<(), Fault>

@@ -67,15 +67,15 @@ fn stations_at<'a, H: HallName, C: Wait + Drop, R: Wait>(
 
 // Makes a station at each desk, and serves at them.
 fn seat_workers<
-    'c,
     H: HallName + Send + Sync,
+    C: Wait + Drop + Send,
     R: Net<Listener = TcpListener, Stream = TcpStream> + Threads + Wait + Clock + Eprint + Sync,
     O: Write,
 >(
-    rt: &'c R,
+    rt: &R,
     alloc: Global,
     said: &ServedArguments<'_>,
-    clerk: &Mutex<Clerk<H, &'c R>>,
+    clerk: &Mutex<Clerk<H, C>>,
     desks: Vec<Desk<H>>,
     output: &mut O,
 ) -> Result<(), Fault>
