@@ -1,6 +1,6 @@
 #!/usr/bin/env python3
 """Changes a second that are kept on a disk: by the built `st_served --store`, by SQLite itself and by PostgreSQL, in turns on one disk;
-and the time of a count alone and beside a connection that puts without pause.
+by the server on a disk whose syncs take 4 ms longer; and the time of a count alone and beside a connection that puts without pause.
 
     durable.py [SECONDS [FOLDER]]
 
@@ -36,14 +36,27 @@ VALUES (1700000000000, 'root', 'put', 'points', '{BODY}', '{{"ok":true}}');\n"""
 CONNECTIONS = (1, 8, 64)
 # How many requests a connection sends at once, where it does not wait for each answer.
 MANY = 64
+# A disk whose syncs take 4 ms longer, as a library that is loaded before the C library.
+SLOW = """#define _GNU_SOURCE
+#include <dlfcn.h>
+#include <time.h>
+static int later(const char *name, int file) {
+    struct timespec wait = {0, 4000000};
+    nanosleep(&wait, 0);
+    return ((int (*)(int))dlsym(RTLD_NEXT, name))(file);
+}
+int fsync(int file) { return later("fsync", file); }
+int fdatasync(int file) { return later("fdatasync", file); }
+"""
 
 
 @contextmanager
-def stored(file: Path) -> Iterator[int]:
-    """The port of a server that keeps its changes in the file, with 64 workers."""
+def stored(file: Path, library: Path | None = None) -> Iterator[int]:
+    """The port of a server that keeps its changes in the file, with 64 workers. A library is loaded before the C library."""
     port = free_port()
-    words = [str(PROGRAM), "--root", digest("root"), "--port", str(port), "--store", str(file), "--timeout", "60"]
-    with subprocess.Popen(words, stdout=subprocess.PIPE) as server:
+    words = [str(PROGRAM), "--root", digest("root"), "--port", str(port), "--store", str(file), "--timeout", "60", "--workers", "64"]
+    environment = {**os.environ, "LD_PRELOAD": str(library)} if library else None
+    with subprocess.Popen(words, stdout=subprocess.PIPE, env=environment) as server:
         assert server.stdout is not None
         try:
             assert server.stdout.readline() == b"listening %d\n" % port
@@ -74,8 +87,8 @@ def microseconds(said: str, share: str) -> float:
     return float(value) * {"us": 1, "ms": 1_000, "s": 1_000_000}[unit]
 
 
-def by_server(folder: Path, connections: int, seconds: float, *many: str) -> float:
-    with tempfile.TemporaryDirectory(dir=folder) as name, stored(Path(name) / "points.db") as port:
+def by_server(folder: Path, connections: int, seconds: float, *many: str, library: Path | None = None) -> float:
+    with tempfile.TemporaryDirectory(dir=folder) as name, stored(Path(name) / "points.db", library) as port:
         return rate(told(driven(port, connections, seconds, "put", token("root"), *many)))
 
 
@@ -116,6 +129,15 @@ def by_disk(folder: Path, seconds: float) -> float:
     return done / took
 
 
+def on_a_slow_disk(folder: Path, seconds: float) -> str:
+    code, library = folder / "slow.c", folder / "slow.so"
+    code.write_text(SLOW)
+    subprocess.run(["cc", "-shared", "-fPIC", "-o", library, code, "-ldl"], check=True)
+    rates = [by_server(folder, connections, seconds, library=library) for connections in CONNECTIONS]
+    each = ", ".join(f"{connections} connections {rate:,.0f}" for connections, rate in zip(CONNECTIONS, rates, strict=True))
+    return f"syncs that take 4 ms longer: {each}; the most make {rates[-1] / rates[0]:.1f} times what one makes"
+
+
 def counts_beside_puts(folder: Path, seconds: float) -> str:
     """How much longer a count takes beside a connection that puts without pause."""
     with tempfile.TemporaryDirectory(dir=folder) as name, stored(Path(name) / "points.db") as port:
@@ -147,6 +169,7 @@ def main() -> None:
             many = by_server(folder, 1, seconds, str(MANY))
             singles, batches = by_sqlite(folder, 1, seconds), by_sqlite(folder, 256, seconds)
             print(f"  {MANY} at once on one connection: {many:,.0f}; sqlite3: {singles:,.0f} by one, {batches:,.0f} by 256", flush=True)
+        print(on_a_slow_disk(folder, seconds), flush=True)
         print(counts_beside_puts(folder, seconds))
 
 
