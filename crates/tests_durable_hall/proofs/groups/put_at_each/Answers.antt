@@ -8,4 +8,4 @@ pub for_each_mut-requires-send-T : goal.for_each_mut-requires-send-T
 for_each_mut-requires-send-T g c κs within = search (sendable, crosses, desk) depth 60 fits 100000
 
 pub for_each_mut-requires-sync-F : goal.for_each_mut-requires-sync-F
-for_each_mut-requires-sync-F g c κs within = let r = given_sync 1 g.row.R c.type_bounds.sync-R in search (sendable, crosses, durable_hall) depth 60 fits 100000
+for_each_mut-requires-sync-F g c κs within = let r = given_sync 2 g.row.R c.type_bounds.sync-R in search (sendable, crosses, durable_hall) depth 60 fits 100000
