@@ -4,7 +4,7 @@ It knows of each change what docs/API.md says, judges it in the order that stand
 while each table has at most 1,000 rows, and the audit listing at most 1,024 entries.
 """
 from collections.abc import Callable, Iterable
-from dataclasses import dataclass, field
+from dataclasses import dataclass, field, replace
 
 from changes import LABELS, NAMESPACES, ON_SYSTEM, ON_TABLES, TABLES, USERS, Body, Change
 from served import digest
@@ -53,6 +53,14 @@ class Plain:
     on_tables: Grants = field(default_factory=lambda: {"points": {"root": set(ON_TABLES)}})
     on_namespaces: Grants = field(default_factory=dict)
     entries: list[Body] = field(default_factory=list)
+
+    def copy(self) -> "Plain":
+        """Another store of the same content."""
+        users = {name: replace(user, permissions=set(user.permissions)) for name, user in self.users.items()}
+        tables = {name: replace(table, rows=dict(table.rows)) for name, table in self.tables.items()}
+        on_tables, on_namespaces = ({name: {user: set(held) for user, held in grants.items()} for name, grants in each.items()}
+                                    for each in (self.on_tables, self.on_namespaces))
+        return Plain(users, tables, on_tables, on_namespaces, list(self.entries))
 
     def make(self, change: Change) -> Answer:
         """Makes a change, or refuses it, and lists it."""

@@ -35,6 +35,8 @@ def test_a_mix_is_old_or_new_byte_by_byte_or_sector_by_sector() -> None:
     assert set(bytewise[200:1000]) == {1, 2} and bytewise[:200] == OLDER[:200]
     assert 300 < bytewise[200:1000].count(1) < 500
     assert {sectors[200:512], sectors[512:1000]} <= {bytes([it]) * count for it in (1, 2) for count in (312, 488)}
+    assert {left(Way(unit=1, holes=1), [Event("write", "f", 0, bytes(1000))], seed).count(1) for seed in range(9)} == {1}
+    assert {left(Way(holes=1), [Event("write", "f", 0, bytes(1000))], seed).count(1) for seed in range(9)} == {488, 512}
     outcomes = {left(mixing(random.Random(seed)), WRITES, seed) for seed in range(200)}
     assert len(outcomes) > 100
     for outcome in outcomes:

@@ -82,14 +82,15 @@ class Disk:
 
 @dataclass(frozen=True)
 class Way:
-    """How a crash tears: which share of the units of so many bytes is new below the end and past it, how much of what a file grew by is
-    there (none, some or all), and whether noise stands in it where it is not new, or zeros. Where `only` or `but` is the number of a
-    step of the file, no other step is made, or all others."""
+    """How a crash tears: which share of the units of so many bytes is new, below the end and past it, but for so many holes; how much of
+    what a file grew by is there (none, some or all), and whether noise stands in it where it is not new, or zeros. Where `only` or `but`
+    is the number of a step of the file, no other step is made, or all others."""
 
     share: float = 1.0
     tail: float = 1.0
     grown: float = 1.0
     unit: int = 512
+    holes: int = 0
     is_noise: bool = False
     only: int | None = None
     but: int | None = None
@@ -104,9 +105,12 @@ TAILS = [Way(grown=0.5), Way(tail=0.0), Way(tail=0.0, is_noise=True), Way(grown=
 
 
 def mixing(rng: random.Random) -> Way:
-    """Some of each, by sector or by byte."""
-    share, tail = (rng.choice([0.05, 0.5, 0.95, rng.choice([0.0, 1.0])]) for _ in range(2))
-    return Way(share, tail, rng.choice([0.0, 0.5, 0.5, 1.0]), rng.choice([1, 512]), rng.random() < 0.5)
+    """Some of each, or all but one, by sector or by byte."""
+    unit, grown, is_noise = rng.choice([1, 512]), rng.choice([0.0, 0.5, 1.0, 1.0]), rng.random() < 0.5
+    if rng.random() < 0.4:
+        return Way(1.0, 1.0, grown, unit, 1, is_noise)
+    share, tail = (rng.choice([0.0, 0.05, 0.5, 0.95, 1.0]) for _ in range(2))
+    return Way(share, tail, grown, unit, 0, is_noise)
 
 
 def filler(count: int, way: Way, rng: random.Random) -> bytes:
@@ -123,14 +127,15 @@ def length_between(low: int, high: int, way: Way, rng: random.Random) -> int:
 
 def mask(start: int, end: int, share: float, way: Way, rng: random.Random) -> bytes:
     """For each byte from `start` to `end`, 255 where it is new, and else 0, unit by unit."""
-    if end <= start or share in (0.0, 1.0):
+    if end <= start or share in (0.0, 1.0) and way.holes == 0:
         return (b"\xff" if share == 1.0 else b"\0") * max(0, end - start)
     first = start // way.unit
-    taken = bytes(255 * (it < 256 * share) for it in rng.randbytes((end - 1) // way.unit + 1 - first))
-    if way.unit > 1:
-        taken = b"".join(bytes([it]) * way.unit for it in taken)
+    taken = bytearray(255 * (it < 256 * share) for it in rng.randbytes((end - 1) // way.unit + 1 - first))
+    for _ in range(way.holes):
+        taken[rng.randrange(len(taken))] = 0
+    units = bytes(taken) if way.unit == 1 else b"".join(bytes([it]) * way.unit for it in taken)
     shift = start - first * way.unit
-    return taken[shift:shift + end - start]
+    return units[shift:shift + end - start]
 
 
 def tear_write(file: bytearray, step: Event, way: Way, rng: random.Random) -> None:
