@@ -39,6 +39,16 @@ class Change:
         return request("POST", f"/{kind}/{self.target}/{action}", body, self.user)
 
 
+# A user, a table, a grant, a row of that user, and a refusal.
+FIRST = [
+    Change("root", "create-user", "ann", (("digest", digest("ann")), ("auths", ["A"]))),
+    Change("root", "create-table", "geo.trips", (("period", "day"),)),
+    Change("root", "grant-namespace", "geo", (("user", "ann"), ("permission", "WRITE"))),
+    Change("ann", "put", "geo.trips", (("id", "r0"), ("label", "A"), ("note", ""), ("point", [1, 2, 3]))),
+    Change("ann", "delete", "points", (("id", "r0"), ("label", "A"))),
+]
+
+
 def change_of_users(rng: random.Random, by: str) -> Change:
     """A change of a user or of what one may do."""
     user, where = rng.choice(USERS[1:]), rng.choice(["table", "table", "namespace", "system"])
