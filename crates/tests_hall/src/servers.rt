@@ -190,10 +190,10 @@ fn asked_once<R: Net<Listener = TcpListener, Stream = TcpStream>>(
 
 // The status of a server between stations whose listener accepts one connection, and what its client is told.
 fn ended_at<
-    'c,
     H: HallName + Send + Sync,
+    C: Wait + Drop + Send,
     R: Net<Listener = TcpListener, Stream = TcpStream> + Threads + Wait + Clock + Eprint + Sync,
->(rt: &R, alloc: Global, stations: Vec<Station<'_, H, &'c R, Open, R>>) -> Option<(u8, Vec<u8>)> {
+>(rt: &R, alloc: Global, stations: Vec<Station<'_, H, C, Open, R>>) -> Option<(u8, Vec<u8>)> {
     let Some((listener, mut stream)) = asked_once(rt) else {
         drop(stations);
         return None;
@@ -217,13 +217,13 @@ fn pair_of<T: Drop>(alloc: Global, one: T, two: T) -> Option<Vec<T>> {
 
 // The same, between two desks.
 fn ended_between<
-    'c,
     H: HallName + Send + Sync,
+    C: Wait + Drop + Send,
     R: Net<Listener = TcpListener, Stream = TcpStream> + Threads + Wait + Clock + Eprint + Sync,
 >(
-    rt: &'c R,
+    rt: &R,
     alloc: Global,
-    clerk: &Mutex<Clerk<H, &'c R>>,
+    clerk: &Mutex<Clerk<H, C>>,
     one: Desk<H>,
     two: Desk<H>,
 ) -> Option<(u8, Vec<u8>)> {

@@ -6,5 +6,6 @@ use Rattle.tests_hall.proofs.servers.ended_at.Goals as goal
 
 pub serve_all-fault-requires-send-T : goal.serve_all-fault-requires-send-T
 serve_all-fault-requires-send-T g c κs within =
-    let r = given_sync 1 g.row.R c.type_bounds.sync-R in
+    let r = given_sync 2 g.row.R c.type_bounds.sync-R in
+    let s = c.type_bounds.send-C in
     search (sendable, crosses, station, OpenCross.the_sync) depth 60 fits 100000
