@@ -104,5 +104,5 @@ def test_server_serves_under_the_filter_of_the_unit(root: Path, tmp_path: Path) 
             server.terminate()
     with closing(sqlite3.connect(store)) as base:
         assert base.execute("PRAGMA integrity_check").fetchall() == [("ok",)]
-        kept = base.execute("SELECT user, request, name FROM changes WHERE number = 1").fetchall()
+        kept = base.execute("SELECT user, request, json_extract(body, '$.table') FROM changes WHERE number = 1").fetchall()
     assert kept == [("root", "create-table", "geo.marks")]
