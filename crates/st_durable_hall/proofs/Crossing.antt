@@ -8,6 +8,7 @@ use Rattle.st_hall.specs.contracts.press.Press as Press
 use Rattle.st_hall.specs.contracts.scribe.Scribe as Scribe
 use Rattle.st_hall.proofs.Crossing.{front, press, scribe}
 use Rattle.st_hall.proofs.edition.Queued.TheSendSync as QueuedCross
+use Rattle.st_durable_hall.specs.contracts.board.Board as Board
 use Rattle.st_durable_hall.specs.contracts.draft.Draft as Draft
 use Rattle.st_durable_hall.specs.contracts.publisher.Publisher as Publisher
 use Rattle.st_durable_hall.specs.contracts.hall.DurableHall as DurableHall
@@ -34,5 +35,11 @@ publisher B H R J b h l j s t = search (sendable, crosses, held_front, held_pres
 held_publisher : (B H R J : RattleType) (b : _) (h : _) (l : _) (j : _) → IsSend R → IsSend J → IsSend (Publisher.the_field B H R J b h l j).row
 held_publisher B H R J b h l j s t = publisher B H R J b h l j s t
 
+pub board : (B H J : RattleType) (b : _) (h : _) (l : _) (j : _) → IsSend J → IsSend (Board.the_row B H J b h l j)
+board B H J b h l j t = search (sendable, crosses, held_front) depth 60 fits 100000
+
+held_board : (B H J : RattleType) (b : _) (h : _) (l : _) (j : _) → IsSend J → IsSend (Board.the_field B H J b h l j).row
+held_board B H J b h l j t = board B H J b h l j t
+
 pub durable_hall : (B H R J : RattleType) (b : _) (h : _) (l : _) (j : _) → IsSend R → IsSend J → IsSync (DurableHall.the_row B H R J b h l j)
-durable_hall B H R J b h l j s t = search (sendable, crosses, held_draft, held_publisher) depth 60 fits 100000
+durable_hall B H R J b h l j s t = search (sendable, crosses, held_draft, held_publisher, held_board) depth 60 fits 100000

@@ -1,2 +1,3 @@
--- An invariant of a representation, which no reader has to believe: no clause of a public function cites it.
+-- Invariants and views of a representation, which no reader has to believe: no clause of a public function cites them.
+pub mod Boards
 pub mod Sound

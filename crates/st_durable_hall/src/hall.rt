@@ -1,4 +1,4 @@
-//! A hall with two locks: one for deciding, and one for what keeps and publishes.
+//! A hall with three locks: one for deciding, one for what keeps and publishes, and a short one for waiting.
 ghost use Rattle.std.specs.Prelude.{◌≡◌, ◌+◌, ◌⊎◌, [], true, is_some, List, Err, IfOk, IfSome, OnOk, MatchResult};
 ghost use mathlib.Core.List.{IsPrefix};
 ghost use Rattle.st_core.specs.Step.{asker_of, asks_for_change};
@@ -10,6 +10,7 @@ ghost use Rattle.st_hall.specs.Views.{EndsAfter, IsStranger};
 ghost use Rattle.st_durable_hall.specs.declared.fault.ChangeError.{ChangeError};
 ghost use Rattle.st_durable_hall.specs.Rolls.{WasKept};
 
+use crate::board::Board;
 use crate::draft::Draft;
 use crate::fault::{ChangeError, Lost};
 use crate::publisher::Publisher;
@@ -19,15 +20,20 @@ use st_hall::{Clerk, Desk, Front, HallName, Receipt};
 use st_http::message::Message;
 use st_journal::Journal;
 use std::alloc::Global;
-use std::sync::{Mutex, Wait};
+use std::sync::{Condvar, Mutex, Wait};
 use std::time::Clock;
 
-/// A hall whose changes a journal keeps in groups: while one group is kept, the changes of the next one are decided.
+/// A hall whose changes a journal keeps in groups: while one group is kept, the changes of the next one are decided. One thread keeps
+/// a group for all whose changes are in it, and they wait until it says that they are kept.
 #[derive(Drop)]
 pub struct DurableHall<B: Beginning, H: HallName, R: Wait + Drop, J: Journal + Drop> {
-    // Whoever takes both locks takes this one last.
+    // Whoever takes this lock and the publisher's takes this one last.
     draft: Mutex<Draft<H>>,
     publisher: Mutex<Publisher<B, H, R, J>>,
+    // Whoever has this lock takes no other one.
+    board: Mutex<Board<B, H, J>>,
+    // The thread that led leads no more.
+    ended: Condvar,
 }
 
 impl<B: Beginning, H: HallName, R: Wait + Drop, J: Journal + Drop> DurableHall<B, H, R, J> {
@@ -38,15 +44,23 @@ impl<B: Beginning, H: HallName, R: Wait + Drop, J: Journal + Drop> DurableHall<B
         requires stands { J.misreads journal ≡ 0 → Replays Applies B.first (J.list journal) H.start }
     {
         let (scribe, press) = clerk.apart();
+        let publisher = Publisher::new(press, journal);
+        let board = Board::new(publisher.kept(), publisher.published());
         DurableHall {
             draft: Mutex::new(Draft::new(alloc, scribe)),
-            publisher: Mutex::new(Publisher::new(press, journal)),
+            publisher: Mutex::new(publisher),
+            board: Mutex::new(board),
+            ended: Condvar::new(),
         }
     }
 
     /// Its draft and its publisher, when no thread shares it any more.
     pub fn apart(self) -> (Draft<H>, Publisher<B, H, R, J>) {
-        let Self { draft, publisher } = self;
+        let Self {
+            draft,
+            publisher,
+            ..
+        } = self;
         (draft.into_inner(), publisher.into_inner())
     }
 
@@ -78,7 +92,32 @@ impl<B: Beginning, H: HallName, R: Wait + Drop, J: Journal + Drop> DurableHall<B
     pub fn settle<W: Wait>(&self, rt: &W, front: &Front<H>) -> Result<bool, Lost>
         ensures { OnOk result (WasKept J.list J.misreads B.first H.start front.now) }
     {
-        self.publisher.lock(rt).settle(rt, &self.draft, front)
+        let mut board = self
+            .ended
+            .wait_while(rt, self.board.lock(rt), |board| board.is_awaited(front));
+        if board.keeps(front) {
+            return Ok(board.shows(front));
+        }
+        if board.is_lost() {
+            return Err(Lost);
+        }
+        board.begin();
+        drop(board);
+        self.lead(rt, front)
+    }
+
+    // Keeps and publishes a front with all that is decided by now, for which others may wait, and tells them how far it came.
+    fn lead<W: Wait>(&self, rt: &W, front: &Front<H>) -> Result<bool, Lost>
+        ensures { OnOk result (WasKept J.list J.misreads B.first H.start front.now) }
+    {
+        let mut publisher = self.publisher.lock(rt);
+        let settled = publisher.settle(rt, &self.draft, front);
+        let kept = publisher.kept();
+        let shown = publisher.published();
+        drop(publisher);
+        self.board.lock(rt).end(kept, shown, settled.is_err());
+        self.ended.notify_all();
+        settled
     }
 
     /// Makes a change in any thread: decides it, keeps it and publishes it. Its receipt has a front if there was memory to publish

@@ -1,6 +1,7 @@
 //! A hall whose changes a journal keeps before they are published and answered.
 #![tactic(auto)]
 
+mod board;
 mod draft;
 mod fault;
 mod hall;

@@ -108,6 +108,21 @@ impl<B: Beginning, H: HallName, R: Wait + Drop, J: Journal + Drop> Publisher<B, 
         front.len() <= self.kept.len()
     }
 
+    /// What is kept.
+    pub fn kept(&self) -> Front<H>
+        ensures is { result ≡ self.now.kept }
+        ensures was { WasKept J.list J.misreads B.first H.start result }
+    {
+        self.kept.again()
+    }
+
+    /// What is published.
+    pub fn published(&self) -> Front<H>
+        ensures { result ≡ self.now.published }
+    {
+        self.press.shown()
+    }
+
     /// The journal.
     pub fn journal(&self) -> &J
         ensures { result.now ≡ self.now.journal }

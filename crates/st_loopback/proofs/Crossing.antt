@@ -16,7 +16,8 @@ use Rattle.st_hall.proofs.Crossing.{desk, worker}
 use Rattle.st_hall.specs.contracts.worker.Worker as Worker
 use Rattle.st_hall.specs.contracts.desk.Desk as Desk
 use Rattle.st_station.specs.contracts.station.Station as Station
-use Rattle.st_durable_hall.proofs.Crossing.{draft, publisher}
+use Rattle.st_durable_hall.proofs.Crossing.{board, draft, publisher}
+use Rattle.st_durable_hall.specs.contracts.board.Board as Board
 use Rattle.st_durable_hall.specs.contracts.draft.Draft as Draft
 use Rattle.st_durable_hall.specs.contracts.publisher.Publisher as Publisher
 use Rattle.st_durable_hall.specs.contracts.hall.DurableHall as DurableHall
@@ -63,8 +64,11 @@ held_draft H h l = draft H h l
 held_publisher : (B H R J : RattleType) (b : _) (h : _) (l : _) (j : _) → IsSend R → IsSend J → IsSend (Publisher.the_field B H R J b h l j).row
 held_publisher B H R J b h l j s t = publisher B H R J b h l j s t
 
+held_board : (B H J : RattleType) (b : _) (h : _) (l : _) (j : _) → IsSend J → IsSend (Board.the_field B H J b h l j).row
+held_board B H J b h l j t = board B H J b h l j t
+
 held_hall : (B H R J : RattleType) (b : _) (h : _) (l : _) (j : _) → IsSend R → IsSend J → IsSync (DurableHall.the_field B H R J b h l j).row
-held_hall B H R J b h l j s t = search (sendable, crosses, held_draft, held_publisher) depth 60 fits 100000
+held_hall B H R J b h l j s t = search (sendable, crosses, held_draft, held_publisher, held_board) depth 60 fits 100000
 
 pub durable_station : (a : NamedLft) (B H R J C W : RattleType) (b : _) (h : _) (l : _) (r : _) (j : _) (c : _) (w : _) → IsSend R → IsSend J → IsSync C
     → IsSync W → IsSend (DurableStation.the_row a B H R J C W b h l r j c w)

@@ -1,4 +1,4 @@
-//! Puts at eight desks, each by a thread of its own, into a journal whose appends take time.
+//! Puts at up to sixteen desks, each by a thread of its own, into a journal whose appends take time.
 ghost use Rattle.std.specs.Prelude.{◌≡◌, ◌<◌, IfSome};
 
 use crate::journals::SlowJournal;
@@ -35,7 +35,7 @@ struct Found {
 }
 
 fn letter_of(place: usize) -> u8 {
-    b"abcdefgh".get(place).copied().unwrap_or(b'z')
+    b"abcdefghijklmnop".get(place).copied().unwrap_or(b'z')
 }
 
 // Makes the puts of one desk, which learns the front of each.
@@ -64,7 +64,7 @@ fn put_at_each<
     for_each_mut(
         rt,
         desks,
-        8,
+        16,
         &|place, desk| {
             let _done = put_at(rt, alloc, hall, place, desk);
         },
@@ -178,6 +178,11 @@ fn each_put_of_one_desk_is_kept_by_an_append_of_its_own(rt: HostRuntime) {
 #[test]
 fn puts_of_eight_threads_are_kept_once_and_in_order_by_fewer_appends(rt: HostRuntime) {
     assert!(rt; are_kept(tried(&rt, rt.alloc(), 8, 1000), 8, 200));
+}
+
+#[test]
+fn most_puts_of_sixteen_threads_are_kept_by_the_append_of_another_one(rt: HostRuntime) {
+    assert!(rt; are_kept(tried(&rt, rt.alloc(), 16, 1000), 16, 160));
 }
 
 // Whether a desk was told of no put that is not kept, where the fourth append fails.

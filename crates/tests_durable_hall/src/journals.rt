@@ -6,7 +6,7 @@ use std::alloc::Global;
 use std::thread;
 use std::time::{Clock, Duration};
 
-/// A journal in memory whose appends take a millisecond, and fail after so many.
+/// A journal in memory whose appends take four milliseconds, and fail after so many.
 #[derive(Drop)]
 pub struct SlowJournal<'a, C: Clock> {
     clock: &'a C,
@@ -54,7 +54,7 @@ impl<'a, C: Clock> Journal for SlowJournal<'a, C> {
         if self.appends >= self.limit {
             return Err(AppendError::NotKept);
         }
-        thread::sleep(self.clock, Duration::from_millis(1));
+        thread::sleep(self.clock, Duration::from_millis(4));
         self.appends = self.appends.saturating_add(1);
         self.kept.append(records)
     }
