@@ -1,8 +1,10 @@
 -- What each item is answered at a desk of a hall whose changes are kept.
-use Rattle.std.specs.Prelude.{◌≡◌, ◌≢◌, ◌⊎◌, ℕ, Bool, true, false, List, Option, Result, Ok}
+use Rattle.std.specs.Prelude.{◌≡◌, ◌≢◌, ◌⊎◌, ◌++◌, ℕ, Bool, true, false, List, Option, None, Some, IfSome, Result, Ok}
+use Rattle.std.specs.List.{concat}
+use mathlib.Core.List.{IsPrefix}
 use Rattle.st_http.specs.declared.message.Message.{Message}
 use Rattle.st_http.specs.First.{First, message, fault, more}
-use Rattle.st_connection.specs.Connection.{KeptUnlessLost, Served, ServedWithin}
+use Rattle.st_connection.specs.Connection.{KeptUnlessLost, MayHear, Run, ServedWithin, Told as ToldAhead}
 use Rattle.st_connection.specs.declared.connection.Ended.{Ended}
 use Rattle.st_connection.specs.declared.connection.Ended.TheVariants.{Lost}
 use Rattle.st_connection.specs.declared.connection.IoFault.{IoFault}
@@ -12,23 +14,25 @@ use Rattle.st_hall.specs.Views.{EndsAfter, Seat}
 use Rattle.st_station.specs.Seats.{AsksIn, SeatAnswers}
 use Rattle.st_station.specs.Replies.{SeatReplies}
 
--- What the desk has seen, the changes that were made and kept at it, and whether one was lost: it is in the list, and may not be kept.
+-- what the desk has seen, the changes that were made at it, and the list that ends with the last of them
 pub record Standing : Type 0 where
   pub seat : Seat
-  pub is_lost : Bool
+  pub owed : Option (List Ask)
 
--- the same, and whether a settling said that a change was lost
+-- the same, as it was when it was last settled, and whether a settling failed
 pub record Station : Type 0 where
-  pub seat : Seat
-  pub is_lost : Bool
+  pub standing : Standing
+  pub settled : Standing
   pub failed : Bool
 
-abbrev pub standing : Station → Standing
-standing s = record { seat = s.seat; is_lost = s.is_lost }
+-- A list is owed where it begins the one that is.
+abbrev pub IsOwed : List Ask → Option (List Ask) → Type 0
+IsOwed list None = ⊥
+IsOwed list (Some owed) = IsPrefix list owed
 
--- where no change is lost
-abbrev pub sound : Seat → Standing
-sound seat = record { seat = seat; is_lost = false }
+-- what was owed is owed still
+abbrev pub OwesOn : Option (List Ask) → Option (List Ask) → Type 0
+OwesOn old new = (list : List Ask) → IsOwed list old → IsOwed list new
 
 -- The answer tells the reply to a change, or there was no memory for its text. The change ends a list that goes on what was seen, and of
 -- that list something holds.
@@ -50,28 +54,48 @@ AnswersKept start holds seen (more waits) answer = ⊥
 abbrev pub RepliesKept : State → (List Ask → Type 0) → List Ask → Message → List ℕ → Type 0
 RepliesKept start holds seen m answer = IsFound m × (asked : Ask) × AsksBy m asked × TellsKept start holds seen asked m.close m.bare answer
 
--- Unless a change was lost an item may get this answer at the seat, and what is counted was kept. A station that lost a change stays so.
-pub record AnswersAt (start : State) (holds : List Ask → Type 0) (s : Standing) (item : First) (answer : List ℕ) (t : Standing) : Type 0 where
-  pub told : t.is_lost ≡ false → SeatAnswers start s.seat item answer t.seat
-  pub kept : t.is_lost ≡ false → (t.seat.made ≡ s.seat.made) ⊎ AnswersKept start holds s.seat.seen item answer
-  pub stays : s.is_lost ≡ true → t.is_lost ≡ true
+-- An item may get this answer at the seat, and a change that is counted is owed.
+pub record AnswersAt (start : State) (s : Standing) (item : First) (answer : List ℕ) (t : Standing) : Type 0 where
+  pub told : SeatAnswers start s.seat item answer t.seat
+  pub owes : (t.seat.made ≡ s.seat.made) ⊎ AnswersKept start (λ list. IsOwed list t.owed) s.seat.seen item answer
+  pub goes_on : OwesOn s.owed t.owed
 
 -- the same of a message, whichever head shows it
-pub record RepliesAt (start : State) (holds : List Ask → Type 0) (s : Standing) (m : Message) (answer : List ℕ) (t : Standing) : Type 0 where
-  pub told : t.is_lost ≡ false → SeatReplies start s.seat m answer t.seat
-  pub kept : t.is_lost ≡ false → (t.seat.made ≡ s.seat.made) ⊎ RepliesKept start holds s.seat.seen m answer
-  pub stays : s.is_lost ≡ true → t.is_lost ≡ true
+pub record RepliesAt (start : State) (s : Standing) (m : Message) (answer : List ℕ) (t : Standing) : Type 0 where
+  pub told : SeatReplies start s.seat m answer t.seat
+  pub owes : (t.seat.made ≡ s.seat.made) ⊎ RepliesKept start (λ list. IsOwed list t.owed) s.seat.seen m answer
+  pub goes_on : OwesOn s.owed t.owed
 
--- A connection was served at a station that had lost no change: unless it ended as lost, as at a seat, and each answer that was written
--- is one of those above.
-pub record ServesSound (start : State) (holds : List Ask → Type 0) (s t : Station) (left_old left_new held_old held_new : Option (List ℕ))
-    (read_failed : Bool) (result : Result Ended IoFault) : Type 0 where
-  pub served : result ≢ Ok Lost → Served (SeatAnswers start) s.seat t.seat left_old left_new held_old held_new read_failed result
-  pub within : ServedWithin (AnswersAt start holds) 0 (sound s.seat) (standing t) (sound t.seat) left_old left_new held_old held_new
-      read_failed result
-  pub kept : KeptUnlessLost (sound t.seat) (standing t) t.failed result
+-- An item may get this answer at the seat, and a change that is counted was kept.
+pub record KeptAnswers (start : State) (holds : List Ask → Type 0) (s : Seat) (item : First) (answer : List ℕ) (t : Seat) : Type 0 where
+  pub told : SeatAnswers start s item answer t
+  pub kept : (t.made ≡ s.made) ⊎ AnswersKept start holds s.seen item answer
 
--- A connection was not served, since a change was lost before.
+-- What is out are the answers of the first items, whose changes were kept, and perhaps the interim response of the next item.
+pub record OutKept (start : State) (holds : List Ask → Type 0) (old : Seat) (items : List First) (answers : List (List ℕ))
+    (sent : List ℕ) : Type 0 where
+  pub done : List First
+  pub others : List First
+  pub out : List (List ℕ)
+  pub back : List (List ℕ)
+  pub mid : Seat
+  pub items_are : items ≡ done ++ others
+  pub answers_are : answers ≡ out ++ back
+  pub said : List ℕ
+  pub hears : MayHear others said
+  pub sent_is : sent ≡ concat out ++ said
+  pub run : Run (ToldAhead (KeptAnswers start holds)) old done out mid
+
+-- A connection was served: unless it ended as lost, all that was counted was kept. What is owed where it was last settled was kept.
+pub record ServesSound (start : State) (holds : List Ask → Type 0) (hold : ℕ) (s t : Station)
+    (left_old left_new held_old held_new : Option (List ℕ)) (read_failed : Bool) (result : Result Ended IoFault) : Type 0 where
+  pub served : result ≢ Ok Lost
+      → ServedWithin (KeptAnswers start holds) hold s.standing.seat t.standing.seat t.standing.seat left_old left_new held_old held_new read_failed result
+  pub within : ServedWithin (AnswersAt start) hold s.standing t.standing t.settled left_old left_new held_old held_new read_failed result
+  pub unless_lost : KeptUnlessLost t.settled t.standing t.failed result
+  pub kept : IfSome t.settled.owed holds
+
+-- A connection was not served, since a settling failed before.
 pub record ServesNone (s t : Station) (left_old left_new held_old held_new : Option (List ℕ)) (read_failed : Bool)
     (result : Result Ended IoFault) : Type 0 where
   pub lost : result ≡ Ok Lost
@@ -79,8 +103,8 @@ pub record ServesNone (s t : Station) (left_old left_new held_old held_new : Opt
   pub unread : (left_new ≡ left_old) × (read_failed ≡ false)
   pub unwritten : held_new ≡ held_old
 
-abbrev pub ServesKept : State → (List Ask → Type 0) → Station → Station → Option (List ℕ) → Option (List ℕ) → Option (List ℕ)
+abbrev pub ServesKept : State → (List Ask → Type 0) → ℕ → Station → Station → Option (List ℕ) → Option (List ℕ) → Option (List ℕ)
     → Option (List ℕ) → Bool → Result Ended IoFault → Type 0
-ServesKept start holds s t left_old left_new held_old held_new read_failed result =
-    (s.is_lost ≡ false → ServesSound start holds s t left_old left_new held_old held_new read_failed result)
-    × (s.is_lost ≡ true → ServesNone s t left_old left_new held_old held_new read_failed result)
+ServesKept start holds hold s t left_old left_new held_old held_new read_failed result =
+    (s.failed ≡ false → ServesSound start holds hold s t left_old left_new held_old held_new read_failed result)
+    × (s.failed ≡ true → ServesNone s t left_old left_new held_old held_new read_failed result)

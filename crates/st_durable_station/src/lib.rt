@@ -3,6 +3,7 @@
 
 mod answerer;
 pub mod law;
+mod settled;
 mod station;
 
-pub use station::DurableStation;
+pub use station::{DurableStation, HOLD};

@@ -12,9 +12,10 @@ use Rattle.matchit.specs.contracts.tree.Node.TheKnot as knot
 use Rattle.matchit.specs.declared.tree.Node.TheDeep.{the_members, member-Node}
 use Rattle.slab.proofs.Slab.TheSendSync as SlabCross
 use Rattle.st_http.specs.contracts.routes.Routes as Routes
-use Rattle.st_hall.proofs.Crossing.{desk, worker}
+use Rattle.st_hall.proofs.Crossing.{desk, front, worker}
 use Rattle.st_hall.specs.contracts.worker.Worker as Worker
 use Rattle.st_hall.specs.contracts.desk.Desk as Desk
+use Rattle.st_hall.specs.contracts.front.Front as Front
 use Rattle.st_station.specs.contracts.station.Station as Station
 use Rattle.st_durable_hall.proofs.Crossing.{board, draft, publisher}
 use Rattle.st_durable_hall.specs.contracts.board.Board as Board
@@ -58,6 +59,9 @@ station a H R G W h l r g w s y z = search (sendable, crosses, held_routes, held
 held_desk : (H : RattleType) (h : _) (l : _) → IsSend (Desk.the_field H h l).row
 held_desk H h l = desk H h l
 
+held_front : (H : RattleType) (h : _) (l : _) → IsSend (Front.the_field H h l).row
+held_front H h l = front H h l
+
 held_draft : (H : RattleType) (h : _) (l : _) → IsSend (Draft.the_field H h l).row
 held_draft H h l = draft H h l
 
@@ -70,6 +74,6 @@ held_board B H J b h l j t = board B H J b h l j t
 held_hall : (B H R J : RattleType) (b : _) (h : _) (l : _) (j : _) → IsSend R → IsSend J → IsSync (DurableHall.the_field B H R J b h l j).row
 held_hall B H R J b h l j s t = search (sendable, crosses, held_draft, held_publisher, held_board) depth 60 fits 100000
 
-pub durable_station : (a : NamedLft) (B H R J C W : RattleType) (b : _) (h : _) (l : _) (r : _) (j : _) (c : _) (w : _) → IsSend R → IsSend J → IsSync C
-    → IsSync W → IsSend (DurableStation.the_row a B H R J C W b h l r j c w)
-durable_station a B H R J C W b h l r j c w s t x y = search (sendable, crosses, held_routes, held_desk, held_hall) depth 60 fits 100000
+pub durable_station : (a : NamedLft) (B H R J C W : RattleType) (b : _) (h : _) (l : _) (j : _) → IsSend R → IsSend J → IsSync C → IsSync W
+    → IsSend (DurableStation.the_row a B H R J C W b h l j)
+durable_station a B H R J C W b h l j s t x y = search (sendable, crosses, held_routes, held_desk, held_front, held_hall) depth 60 fits 100000

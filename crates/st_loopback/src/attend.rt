@@ -68,19 +68,20 @@ impl<H: HallName, C: Wait + Drop, W: Wait> Attend for Station<'_, H, C, Open, W>
 
 impl<B: Beginning, H: HallName, R: Wait + Drop, J: Journal + Drop, C: Clock, W: Wait> Attend
     for DurableStation<'_, B, H, R, J, C, W> {
-    ghost use Rattle.std.specs.Prelude.{◌≡◌, ◌≤◌, false};
+    ghost use Rattle.std.specs.Prelude.{◌≤◌};
     ghost use mathlib.Core.List.{IsPrefix};
     ghost use Rattle.st_loopback.specs.inner.Growing.{same_seat};
     ghost use Rattle.st_durable_hall.specs.Rolls.{WasKept};
     ghost use Rattle.st_durable_station.specs.Standing.{ServesKept};
+    ghost use Rattle.st_durable_station.specs.declared.station.TheConstants.{HOLD};
 
     ghost serves = { λ s t left left' held held' failed result.
-        ServesKept H.start (WasKept J.list J.misreads B.first H.start) s t left left' held held' failed result };
+        ServesKept H.start (WasKept J.list J.misreads B.first H.start) HOLD s t left left' held held' failed result };
 
-    // Unless a change was lost.
-    ghost grows = { λ s t. t.failed ≡ false → IsPrefix s.seat.seen t.seat.seen × (s.seat.made ≤ t.seat.made) };
+    ghost grows = { λ s t. IsPrefix s.standing.seat.seen t.standing.seat.seen
+        × (s.standing.seat.made ≤ t.standing.seat.made) };
 
-    ghost stays = { λ s _. same_seat s.seat };
+    ghost stays = { λ s. same_seat s.standing.seat };
 
     fn serve<S: Source, K: Sink>(
         &mut self,

@@ -132,8 +132,8 @@ fn put_by_all<
     Some(found_in(publisher.journal(), workers, told))
 }
 
-// Two stores of one state.
-fn stores(alloc: Global) -> Option<(Store, Store)>
+/// Two stores of one state.
+pub fn stores(alloc: Global) -> Option<(Store, Store)>
     ensures { IfSome result (λ both. both.0 ≡ both.1) }
 {
     let first = Store::open(alloc, DIGEST, &[]).ok()?;

@@ -6,4 +6,6 @@ mod groups;
 #[cfg(test)]
 mod journals;
 #[cfg(test)]
+mod pipelines;
+#[cfg(test)]
 mod puts;

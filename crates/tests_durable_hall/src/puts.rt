@@ -30,13 +30,11 @@ pub fn id_of(letter: u8, number: u8) -> [u8; 4] {
     ]
 }
 
-// The text of a put of a row of this id.
-fn text_of(alloc: Global, id: &[u8]) -> Option<Vec<u8>> {
-    let mut text = Vec::new(alloc);
+/// Puts the text of a put of a row of this id behind others.
+pub fn push_text(text: &mut Vec<u8>, id: &[u8]) -> Option<()> {
     text.extend_from_slice(HEAD).ok()?;
     text.extend_from_slice(id).ok()?;
-    text.extend_from_slice(REST).ok()?;
-    Some(text)
+    text.extend_from_slice(REST).ok()
 }
 
 // The change that a message asks.
@@ -83,7 +81,8 @@ pub fn put<B: Beginning, H: HallName, R: Wait + Drop, J: Journal + Drop, W: Wait
     routes: &Routes,
     id: &[u8],
 ) -> Option<Front<H>> {
-    let text = text_of(alloc, id)?;
+    let mut text = Vec::new(alloc);
+    push_text(&mut text, id)?;
     match routes.take(text.as_slice()) {
         Take::Message(message, _) => change(rt, alloc, hall, desk, &message),
         _ => None,

@@ -1,28 +1,25 @@
 -- That a message's answer is one of the items that it may be, which no reader has to believe.
-use Rattle.std.proofs.Common.{◌≡◌, ◌⊎◌, inl, inr, ℕ, Bool, List, Option, refl, sym, subst}
+use Rattle.std.proofs.Common.{◌≡◌, ◌⊎◌, inl, inr, ℕ, Bool, List, refl, subst}
 use Rattle.httparse.specs.Grammar.{RequestHead}
 use Rattle.st_http.specs.declared.fields.Reason.{Reason}
 use Rattle.st_http.specs.declared.message.Message.{Message}
-use Rattle.st_http.specs.First.{fault, fields_of, message}
+use Rattle.st_http.specs.First.{fault, message}
 use Rattle.st_http.specs.Message.{ShowsMessage}
-use Rattle.st_http.specs.Routes.{routed}
-use Rattle.st_http.specs.Token.{UserAndSecret, token_of}
 use Rattle.st_connection.specs.Connection.{Replied}
 use Rattle.st_connection.specs.Render.{fault_text}
-use Rattle.st_service.specs.Answers.{Asks, AsksBy, IsFound, TellsOrBusy, close_of}
-use Rattle.st_service.specs.inner.Shown.{one_told}
-use Rattle.st_hall.specs.Steps.{Ask, State}
-use Rattle.st_station.specs.Seats.{AsksIn, faulty}
+use Rattle.st_service.specs.Answers.{TellsOrBusy}
+use Rattle.st_hall.specs.Steps.{State}
+use Rattle.st_station.specs.Seats.{faulty}
 use Rattle.st_station.specs.inner.Shown.{asks_in, seat_shown}
-use Rattle.st_durable_station.specs.Standing.{AnswersAt, AnswersKept, RepliesAt, RepliesKept, Standing, TellsKept}
+use Rattle.st_durable_station.specs.Standing.{AnswersAt, AnswersKept, IsOwed, RepliesAt, RepliesKept, Standing}
 
-module _ (start : State) (holds : List Ask → Type 0) where
-  kept_shown : (s t : Standing) (m : Message) (bytes : List ℕ)
-      → (t.seat.made ≡ s.seat.made) ⊎ RepliesKept start holds s.seat.seen m bytes
+module _ (start : State) where
+  owes_shown : (s t : Standing) (m : Message) (bytes : List ℕ)
+      → (t.seat.made ≡ s.seat.made) ⊎ RepliesKept start (λ list. IsOwed list t.owed) s.seat.seen m bytes
       → (h : RequestHead) (body : List ℕ) (bare : Bool) → ShowsMessage h body bare m
-      → (t.seat.made ≡ s.seat.made) ⊎ AnswersKept start holds s.seat.seen (message h body bare) bytes
-  kept_shown s t m bytes (inl same) h body bare shows = inl same
-  kept_shown s t m bytes (inr (is_found, asked, asks, tells)) h body bare shows =
+      → (t.seat.made ≡ s.seat.made) ⊎ AnswersKept start (λ list. IsOwed list t.owed) s.seat.seen (message h body bare) bytes
+  owes_shown s t m bytes (inl same) h body bare shows = inl same
+  owes_shown s t m bytes (inr (is_found, asked, asks, tells)) h body bare shows =
       inr (
         asked,
         asks_in start s.seat t.seat m bytes asked is_found asks h body bare shows,
@@ -36,12 +33,12 @@ module _ (start : State) (holds : List Ask → Type 0) where
         },
       )
 
-  pub shown : (s t : Standing) (m : Message) (bytes : List ℕ) → RepliesAt start holds s m bytes t → Replied (AnswersAt start holds) s m bytes t
+  pub shown : (s t : Standing) (m : Message) (bytes : List ℕ) → RepliesAt start s m bytes t → Replied (AnswersAt start) s m bytes t
   shown s t m bytes replied h body bare shows = record {
-    told = λ sound. seat_shown start s.seat t.seat m bytes (replied.told sound) h body bare shows;
-    kept = λ sound. kept_shown s t m bytes (replied.kept sound) h body bare shows;
-    stays = replied.stays;
+    told = seat_shown start s.seat t.seat m bytes replied.told h body bare shows;
+    owes = owes_shown s t m bytes replied.owes h body bare shows;
+    goes_on = replied.goes_on;
   }
 
-  pub faults : (s : Standing) (reason : Reason) (bare : Bool) → AnswersAt start holds s (fault reason bare) (fault_text reason bare) s
-  faults s reason bare = record { told = λ sound. faulty; kept = λ sound. inl refl; stays = λ lost. lost }
+  pub faults : (s : Standing) (reason : Reason) (bare : Bool) → AnswersAt start s (fault reason bare) (fault_text reason bare) s
+  faults s reason bare = record { told = faulty; owes = inl refl; goes_on = λ list owed. owed }
