@@ -1,4 +1,5 @@
 pub mod Sums
+pub mod Tallying
 pub mod Climbing
 pub mod Rising
 pub mod Names

@@ -4,6 +4,7 @@ pub mod Rows
 pub mod Order
 pub mod Index
 pub mod Counting
+pub mod Fields
 pub mod ListValue
 pub mod RowViews
 pub mod inner

@@ -1,14 +1,16 @@
 //! What an index of rows promises.
-ghost use Rattle.std.specs.Prelude.{◌≡◌, ◌<◌, List, IfOk, IfSome, IfNone};
-ghost use Rattle.std.specs.List.{Contains};
+ghost use Rattle.std.specs.Prelude.{◌≡◌, ◌<◌, List, IfOk, IfSome, IfNone, length};
+ghost use Rattle.std.specs.List.{All, Contains};
 ghost use Rattle.st_key.specs.declared.period.Period.{Period};
 ghost use Rattle.st_index.specs.declared.row.Row.{Row};
 ghost use Rattle.st_index.specs.Rows.{key_end, name_of, rank_of};
 ghost use Rattle.st_key.specs.Key.{rank};
 ghost use Rattle.st_index.specs.Counting.{count_of};
+ghost use Rattle.st_index.specs.Fields.{Counts};
 ghost use Rattle.st_index.specs.Index.{Adds, Swaps, IsAbsent, Holds, Region, region, IsLawful, IsLeafAt};
 
 use crate::entry::Entry;
+use crate::fields::Fields;
 use crate::judge::Judge;
 use crate::row::Row;
 use st_box::Query;
@@ -86,6 +88,18 @@ pub trait RowIndex {
     /// memory of its own.
     fn count<J: Judge<Self::Alloc>>(&self, query: &Query, judge: &mut J) -> u64
         ensures { result ≡ count_of query.now (J.judges judge.old) (content self.now) };
+
+    /// Adds to the number of each field how many rows of the content are in it, inside the query, and have a label that is found
+    /// true. It takes no memory of its own.
+    fn count_fields<J: Judge<Self::Alloc>, F: Fields>(
+        &self,
+        judge: &mut J,
+        fields: &F,
+        counts: &mut [u64],
+    )
+        requires long { length counts.old ≡ F.count fields.now }
+        requires none { All (λ n. n ≡ 0) counts.old }
+        ensures { Counts (F.query fields.now) (J.judges judge.old) (F.field_of fields.now) (content self.now) counts.old counts.new };
 
     /// All the memory that it takes to put in this row now. An error if memory runs out, or if
     /// 2^64 - 1 rows are held.

@@ -4,6 +4,8 @@
 pub mod counting;
 pub mod entries;
 mod entry;
+pub mod field_counting;
+mod fields;
 mod id;
 mod index;
 mod judge;
@@ -17,6 +19,7 @@ mod row_list;
 mod rows_view;
 
 pub use entry::Entry;
+pub use fields::Fields;
 pub use id::{Id, MAX_ID};
 pub use index::{AsRow, Leaf, RowIndex};
 pub use judge::Judge;

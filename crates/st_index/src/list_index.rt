@@ -5,10 +5,11 @@ ghost use Rattle.st_index.specs.Index.{region};
 
 use crate::entries::Change;
 use crate::entry::Entry;
+use crate::fields::Fields;
 use crate::index::{Leaf, RowIndex};
 use crate::judge::Judge;
 use crate::row::Row;
-use crate::{counting, entries, room};
+use crate::{counting, entries, field_counting, room};
 use st_box::Query;
 use st_key::{Key, Period};
 use std::alloc::{AllocError, Allocator, Global};
@@ -86,6 +87,10 @@ impl<A: Allocator + Copy> RowIndex for ListIndex<A> {
 
     fn count<J: Judge<A>>(&self, query: &Query, judge: &mut J) -> u64 {
         counting::count(&self.entries, query, judge)
+    }
+
+    fn count_fields<J: Judge<A>, F: Fields>(&self, judge: &mut J, fields: &F, counts: &mut [u64]) {
+        field_counting::count(&self.entries, judge, fields, counts);
     }
 
     fn prepare(&self, row: &Row<A>) -> Result<ListSpare<A>, AllocError> {

@@ -1,10 +1,5 @@
 -- Rows inside a query that are visible, and those that are seen.
 use Rattle.std.proofs.Common.{◌≡◌, ◌≤◌, List, [], ◌∷◌, length, filter, Bool, true, false, cond, ◌&&◌, refl, ap, ◌∙◌, arith}
-use Rattle.st_box.specs.declared.query.Query.{Query}
-use Rattle.st_index.specs.declared.row.Row.{Row}
-use Rattle.st_text.specs.Texts.{Text}
-use Rattle.st_scan.specs.Rows.{has_row}
-use Rattle.st_scan.specs.Visible.{is_visible, visible_rows}
 
 pub filter_le : {X : Type 0} (p : X → Bool) (xs : List X) → length (filter p xs) ≤ length xs
 filter_le p [] = omega arith
@@ -21,9 +16,6 @@ twice p q false c x xs = refl
 pub filter_twice : {X : Type 0} (p q : X → Bool) (xs : List X) → filter p (filter q xs) ≡ filter (λ x. q x && p x) xs
 filter_twice p q [] = refl
 filter_twice p q (x ∷ xs) = twice p q (q x) (p x) x (filter q xs) ∙ ap (λ ys. cond (q x && p x) (x ∷ ys) ys) (filter_twice p q xs)
-
-pub visible_seen : {A : Type 0} (q : Query) (auths : List Text) (content : List (Row A)) → filter (is_visible auths) (filter (has_row q) content) ≡ visible_rows q auths content
-visible_seen q auths content = filter_twice (is_visible auths) (has_row q) content
 
 pub keep : {X : Type 0} (p : X → Bool) (x : X) (xs : List X) → p x ≡ true → filter p (x ∷ xs) ≡ x ∷ filter p xs
 keep p x xs h = ap (λ b. cond b (x ∷ filter p xs) (filter p xs)) h

@@ -1,4 +1,3 @@
 -- Invariants of representations and stages of the code, which no reader has to believe.
 pub mod Steps
-pub mod Counts
 pub mod Starts

@@ -1,20 +1,15 @@
 //! Grids of a scan.
-ghost use Rattle.std.specs.Prelude.{◌≡◌, ◌↔◌, ◌+◌, ◌-◌, ◌*◌, ◌/◌, ◌<◌, ◌≤◌, ◌^◌, ◌⊎◌, filter, length, IsOk, IfOk, IfErr, IsTrue};
-ghost use Rattle.std.specs.List.{All};
-ghost use Rattle.st_box.specs.Query.{is_inside};
+ghost use Rattle.std.specs.Prelude.{◌≡◌, ◌↔◌, ℕ, ◌+◌, ◌-◌, ◌*◌, ◌/◌, ◌<◌, ◌≤◌, ◌^◌, ◌⊎◌, IsOk, IfOk, IfErr, IfSome};
 ghost use Rattle.st_scan.specs.declared.fault.ScanFault.TheVariants.{BadGrid, BadLimit};
 ghost use Rattle.st_scan.specs.Grids.{field_of, grid_of};
-ghost use Rattle.st_scan.specs.inner.Counts.{AreCounts};
-ghost use Rattle.st_scan.specs.Rows.{has_row};
-ghost use Rattle.st_scan.specs.Visible.{is_visible, visible_rows};
+ghost use Rattle.st_scan.specs.Visible.{visible_rows};
 
 use crate::fault::ScanFault;
-use crate::verdicts::verdicts_for;
-use crate::walk::Walk;
-use st_auth::{Auths, SetVerdicts};
+use crate::sight::Sight;
+use st_auth::Auths;
 use st_box::Query;
-use st_index::RowIndex;
-use st_key::{Key, Point};
+use st_index::{Fields, RowIndex};
+use st_key::Point;
 use std::alloc::Allocator;
 
 /// The most columns of a grid, and the most lines.
@@ -33,45 +28,61 @@ fn share_of(first: u32, last: u32, shares: u32, number: u32) -> u32
     (number - first) * shares / (last - first + 1)
 }
 
-// The number of the field that a point inside the query is in.
-fn field_at(query: &Query, nx: u32, ny: u32, point: &Point) -> usize
-    requires columns { 1 ≤ nx }
-    requires few_columns { nx ≤ 32 }
-    requires lines { 1 ≤ ny }
-    requires few_lines { ny ≤ 32 }
-    requires inside { IsTrue (is_inside query.now point.now) }
-    ensures value { result ≡ field_of query.now nx ny point.now }
-    ensures below { result < nx * ny }
+// The one share that those of the numbers are in that are between two others, if they are found to share one.
+fn one_share(first: u32, last: u32, shares: u32, from: u32, to: u32) -> Option<u32>
+    requires some { 1 ≤ shares }
+    requires few { shares ≤ 32 }
+    requires in_range { last < 2 ^ 21 }
+    ensures some { IfSome result (λ share. (number : ℕ) → first ≤ number → number ≤ last → from ≤ number → number ≤ to
+        → (number - first) * shares / (last - first + 1) ≡ share) }
+    ensures below { IfSome result (λ share. share < shares) }
 {
-    let column = share_of(query.x0(), query.x1(), nx, point.x());
-    let line = share_of(query.y0(), query.y1(), ny, point.y());
-    (line * nx + column) as usize
+    let (from, to) = (from.max(first), to.min(last));
+    if from > to {
+        return None;
+    }
+    let share = share_of(first, last, shares, from);
+    if share_of(first, last, shares, to) != share {
+        return None;
+    }
+    Some(share)
 }
 
-// Counts the visible rows that a walk still gives in the fields that they are in.
-fn count_fields<I: RowIndex, B: Allocator>(
-    walk: &mut Walk<'_, '_, I>,
-    verdicts: &mut SetVerdicts<'_, I::Alloc, B>,
-    query: &Query,
-    nx: u32,
-    ny: u32,
-    counts: &mut [u64],
-)
-    requires columns { 1 ≤ nx }
-    requires few_columns { nx ≤ 32 }
-    requires lines { 1 ≤ ny }
-    requires few_lines { ny ≤ 32 }
-    requires fields { length counts.old ≡ nx * ny }
-    requires empty { All (λ n. n ≡ 0) counts.old }
-    requires few { length walk.old.left < 2 ^ 64 }
-    requires inside { All (λ row. IsTrue (has_row query.now row)) walk.old.left }
-    ensures { AreCounts query.now nx ny (filter (is_visible verdicts.old) walk.old.left) counts.new }
-{
-    'rows: while let Some(row) = walk.next() {
-        if verdicts.ask(&row.label) {
-            let field = field_at(query, nx, ny, &row.point);
-            counts[field] += 1;
-        }
+// The fields of a grid of so many columns and lines over the query's box.
+#[derive(Clone, Copy)]
+struct GridFields<'q> {
+    query: &'q Query,
+    columns: u32,
+    lines: u32,
+    ghost some_columns: { 1 ≤ columns },
+    ghost few_columns: { columns ≤ 32 },
+    ghost some_lines: { 1 ≤ lines },
+    ghost few_lines: { lines ≤ 32 },
+}
+
+impl Fields for GridFields<'_> {
+    ghost query = { λ g. g.query.now };
+
+    ghost field_of = { λ g p. field_of g.query.now g.columns g.lines p };
+
+    ghost count = { λ g. g.columns * g.lines };
+
+    fn query(&self) -> &Query {
+        self.query
+    }
+
+    fn field(&self, point: &Point) -> usize {
+        let query = self.query;
+        let column = share_of(query.x0(), query.x1(), self.columns, point.x());
+        let line = share_of(query.y0(), query.y1(), self.lines, point.y());
+        (line * self.columns + column) as usize
+    }
+
+    fn one_field(&self, x0: u32, x1: u32, y0: u32, y1: u32) -> Option<usize> {
+        let query = self.query;
+        let column = one_share(query.x0(), query.x1(), self.columns, x0, x1)?;
+        let line = one_share(query.y0(), query.y1(), self.lines, y0, y1)?;
+        Some((line * self.columns + column) as usize)
     }
 }
 
@@ -96,16 +107,13 @@ pub fn grid<I: RowIndex, B: Allocator>(
     if columns == 0 || columns > MAX_SHARES || lines == 0 || lines > MAX_SHARES {
         return Err(ScanFault::BadGrid);
     }
-    let mut verdicts = verdicts_for(alloc, auths);
+    let mut sight = Sight::new(alloc, auths);
     let mut counts = vec![in alloc; 0u64; columns * lines]?;
-    let mut walk = Walk::with_own_plan(alloc, index, query, Key::FIRST);
-    count_fields(
-        &mut walk,
-        &mut verdicts,
+    let fields = GridFields {
         query,
-        columns as u32,
-        lines as u32,
-        &mut counts,
-    );
+        columns: columns as u32,
+        lines: lines as u32,
+    };
+    index.count_fields(&mut sight, &fields, &mut counts);
     Ok(counts)
 }

@@ -19,3 +19,4 @@ pub mod Labels
 pub mod Marking
 pub mod ByMarks
 pub mod Shifting
+pub mod Fielding

@@ -1,9 +1,11 @@
 //! Bounds of points.
-ghost use Rattle.std.specs.Prelude.{◌≡◌};
+ghost use Rattle.std.specs.Prelude.{◌≡◌, ◌<◌, IfSome, IsTrue};
 ghost use Rattle.st_key.specs.declared.point.Point.{Point as PointValue};
+ghost use Rattle.st_box.specs.Query.{is_inside};
 ghost use Rattle.st_ubtree.specs.inner.Sums.{IsWithin, lies_in, meets};
 
 use st_box::Query;
+use st_index::Fields;
 use st_key::Point;
 
 /// The least and the greatest coordinates and times of some points. They may be wider than need be.
@@ -68,6 +70,15 @@ impl Bounds {
             && query.y0() <= self.y1
             && self.t0 <= query.t1()
             && query.t0() <= self.t1
+    }
+
+    /// The one field of all points between the bounds that are inside the query, if they are found to share one.
+    pub fn one_field<F: Fields>(&self, fields: &F) -> Option<usize>
+        ensures some { IfSome result (λ field. (p : PointValue) → IsTrue (is_inside (F.query fields.now) p) → IsWithin self.now p
+            → F.field_of fields.now p ≡ field) }
+        ensures below { IfSome result (λ field. field < F.count fields.now) }
+    {
+        fields.one_field(self.x0, self.x1, self.y0, self.y1)
     }
 
     /// Whether each point between the bounds is inside the query.

@@ -13,8 +13,8 @@ use st_index::{Entry, Judge, RowsView, counting};
 use st_key::Point;
 use std::alloc::Allocator;
 
-// Whether the point is inside the query. All is compared, since to branch at each would take longer.
-fn is_in(query: &Query, point: &Point) -> bool
+/// Whether the point is inside the query. All is compared, since to branch at each would take longer.
+pub fn is_in(query: &Query, point: &Point) -> bool
     ensures { result ≡ is_inside query.now point.now }
 {
     (query.x0() <= point.x())

@@ -12,6 +12,7 @@ ghost use Rattle.st_ubtree.specs.inner.Splits.{splits};
 
 mod child;
 mod count;
+mod fields;
 mod grow;
 mod join;
 mod marking;

@@ -1,5 +1,7 @@
 //! What a node knows of the rows below it.
 ghost use Rattle.std.specs.Prelude.{◌≡◌, ◌++◌, [], ◌∷◌, Bool, List, ◌<◌, ◌^◌, IsFalse, IsTrue, IfSome, length};
+ghost use Rattle.std.specs.List.{All};
+ghost use Rattle.st_box.specs.Query.{is_inside};
 ghost use Rattle.st_index.specs.declared.row.Row.{Row as RowValue};
 ghost use Rattle.st_index.specs.Rows.{rows_of};
 ghost use Rattle.st_index.specs.Counting.{count_of};
@@ -9,7 +11,7 @@ ghost use Rattle.st_ubtree.specs.inner.Sums.{AreInside, IsWithin, Sums};
 use crate::bounds::Bounds;
 use crate::label_counts::{LabelCount, LabelCounts};
 use st_box::Query;
-use st_index::{Entry, Judge, Row, RowsView};
+use st_index::{Entry, Fields, Judge, Row, RowsView};
 use st_key::Point;
 use std::alloc::{Allocator, Global};
 
@@ -132,6 +134,15 @@ impl<A: Allocator + Copy> Summary<A> {
         ensures { (rows : List (RowValue A)) → Sums self.now rows → IsTrue result → AreInside query.now rows }
     {
         self.bounds.lies_in(query)
+    }
+
+    /// The one field of all rows that are inside the query, if they are found to share one.
+    pub fn one_field<F: Fields>(&self, fields: &F) -> Option<usize>
+        ensures some { (rows : List (RowValue A)) → Sums self.now rows → IfSome result (λ field. All (λ (row : RowValue A).
+            IsTrue (is_inside (F.query fields.now) row.point) → F.field_of fields.now row.point ≡ field) rows) }
+        ensures below { IfSome result (λ field. field < F.count fields.now) }
+    {
+        self.bounds.one_field(fields)
     }
 
     /// The number of rows that are counted, where the labels are counted and all rows are inside the query.

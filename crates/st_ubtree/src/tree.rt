@@ -12,7 +12,7 @@ ghost use Rattle.st_ubtree.specs.Ranges.{region_in};
 use crate::node::{Blank, Node};
 use st_box::Query;
 use st_index::entries::{self, Change};
-use st_index::{Entry, Judge, Leaf, Row, RowIndex};
+use st_index::{Entry, Fields, Judge, Leaf, Row, RowIndex};
 use st_key::{Key, Period};
 use std::alloc::{AllocError, Allocator, Global};
 use std::marker::Model;
@@ -161,6 +161,10 @@ impl<A: Allocator + Copy> RowIndex for UbTree<A> {
 
     fn count<J: Judge<A>>(&self, query: &Query, judge: &mut J) -> u64 {
         self.root.count(query, judge)
+    }
+
+    fn count_fields<J: Judge<A>, F: Fields>(&self, judge: &mut J, fields: &F, counts: &mut [u64]) {
+        self.root.count_fields(judge, fields, counts);
     }
 
     fn prepare(&self, row: &Row<A>) -> Result<UbSpare<A>, AllocError> {

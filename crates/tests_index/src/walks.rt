@@ -2,7 +2,7 @@
 
 use crate::putting::put_at;
 use st_box::Query;
-use st_index::{Judge, Leaf, Row, RowIndex};
+use st_index::{Fields, Judge, Leaf, Row, RowIndex};
 use st_key::{Key, Period};
 use st_plan::plan;
 use st_scan::Walk;
@@ -43,6 +43,15 @@ impl<I: RowIndex> RowIndex for Counted<I> {
 
     fn count<J: Judge<I::Alloc>>(&self, query: &Query, judge: &mut J) -> u64 {
         self.index.count(query, judge)
+    }
+
+    fn count_fields<J: Judge<I::Alloc>, F: Fields>(
+        &self,
+        judge: &mut J,
+        fields: &F,
+        counts: &mut [u64],
+    ) {
+        self.index.count_fields(judge, fields, counts)
     }
 
     fn prepare(&self, row: &Row<I::Alloc>) -> Result<I::Spare, AllocError> {

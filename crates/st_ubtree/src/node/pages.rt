@@ -1,5 +1,5 @@
 //! Counting what lies in pages that have marks.
-ghost use Rattle.std.specs.Prelude.{◌≡◌, ◌<◌, ◌^◌, IfSome, List, length};
+ghost use Rattle.std.specs.Prelude.{◌≡◌, ◌<◌, ◌^◌, IfSome, List, None, length};
 ghost use Rattle.std.specs.List.{All};
 ghost use Rattle.st_index.specs.Counting.{count_of};
 ghost use Rattle.st_ubtree.specs.Pages.{NodeValue, rows_of_pages};
@@ -19,14 +19,24 @@ const FEW: u64 = 24;
 
 // The verdicts on a node's labels, once enough pages and rows were counted without.
 #[derive(Clone, Copy)]
-struct Verdicts {
+pub(super) struct Verdicts {
     few: u64,
     found: Option<[bool; MAX_NUMBERS]>,
 }
 
 impl Verdicts {
+    // None so far.
+    pub(super) fn none() -> Verdicts
+        ensures { result.found ≡ None }
+    {
+        Verdicts {
+            few: FEW,
+            found: None,
+        }
+    }
+
     // The verdicts, if it is time for them.
-    fn next<A: Allocator + Copy, J: Judge<A>>(
+    pub(super) fn next<A: Allocator + Copy, J: Judge<A>>(
         &mut self,
         marks: &Marks<A>,
         judge: &mut J,
@@ -48,7 +58,7 @@ impl Verdicts {
     }
 
     // Notes that so many rows of a page were counted without.
-    fn spend(&mut self, rows: u64)
+    pub(super) fn spend(&mut self, rows: u64)
         ensures { self.new.found ≡ self.old.found }
     {
         self.few = self.few.saturating_sub(rows).saturating_sub(1);
@@ -57,7 +67,7 @@ impl Verdicts {
 
 impl<A: Allocator + Copy> Node<A> {
     // How many rows of a page are inside the query and have a label that is found true, by its marks if it has some.
-    fn count_page<J: Judge<A>>(
+    pub(super) fn count_page<J: Judge<A>>(
         &self,
         at: usize,
         marks: &Marks<A>,
@@ -108,10 +118,7 @@ pub(super) fn count_pages<A: Allocator + Copy, J: Judge<A>>(
     ensures count { result ≡ count_of query.now (J.judges judge.old) (rows_of_pages (pages_of kids.now)) }
     ensures same { J.judges judge.new ≡ J.judges judge.old }
 {
-    let mut verdicts = Verdicts {
-        few: FEW,
-        found: None,
-    };
+    let mut verdicts = Verdicts::none();
     let mut sum = 0;
     for at in 0..kids.len() {
         let kid = &kids[at];

@@ -1,4 +1,4 @@
-use Rattle.std.proofs.Common.{◌≡◌, ◌<◌, length, get_or, arith, rules}
+use Rattle.std.proofs.Common.{◌<◌, get_or, arith, rules}
 use Rattle.st_ubtree.proofs.Marking.{any_default}
 use Rattle.st_ubtree.proofs.Shifting.{opened_more, opened_none}
 use Rattle.st_ubtree.proofs.numbering.insert_number.Goals as goal

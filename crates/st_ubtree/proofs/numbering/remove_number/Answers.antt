@@ -1,4 +1,4 @@
-use Rattle.std.proofs.Common.{◌≡◌, ◌+◌, ◌<◌, length, get_or, arith, rules}
+use Rattle.std.proofs.Common.{◌+◌, ◌<◌, length, get_or, arith, rules}
 use Rattle.st_ubtree.proofs.Marking.{any_default}
 use Rattle.st_ubtree.proofs.Shifting.{closed_more, closed_none}
 use Rattle.st_ubtree.proofs.numbering.remove_number.Goals as goal

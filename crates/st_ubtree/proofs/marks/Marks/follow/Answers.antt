@@ -2,7 +2,7 @@ use Rattle.std.proofs.Common.{◌<◌, ◌≤◌, length, refl, sym, subst, arit
 use Rattle.st_ubtree.specs.Pages.{entries_of_pages}
 use Rattle.st_ubtree.specs.inner.Marks.{AreMarkedBy, AreNumbers}
 use Rattle.st_ubtree.proofs.Lifting.{set_read}
-use Rattle.st_ubtree.proofs.Marking.{keeps_all, marked_off, marked_set, marked_unknown}
+use Rattle.st_ubtree.proofs.Marking.{marked_off, marked_set, marked_unknown}
 use Rattle.st_ubtree.proofs.marks.Marks.follow.Goals as goal
 
 pub returns-then-at-len : goal.returns-then-at-len

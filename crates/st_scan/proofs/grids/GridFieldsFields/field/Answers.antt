@@ -1,5 +1,5 @@
 use Rattle.st_scan.specs.Grids.{field_of}
-use Rattle.st_scan.proofs.grids.field_at.Goals as goal
+use Rattle.st_scan.proofs.grids.GridFieldsFields.field.Goals as goal
 
 pub returns-clause-value : goal.returns-clause-value
 unfolding field_of
