@@ -38,7 +38,8 @@ fn one_share(first: u32, last: u32, shares: u32, from: u32, to: u32) -> Option<u
     ensures below { IfSome result (λ share. share < shares) }
 {
     let (from, to) = (from.max(first), to.min(last));
-    if from > to {
+    // Numbers that are further apart than a share is wide are in several, which needs no division to see.
+    if from > to || (to - from) * shares > last - first {
         return None;
     }
     let share = share_of(first, last, shares, from);
