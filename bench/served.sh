@@ -3,21 +3,25 @@
 # beside a constant of nginx by as many processes; puts of 1, 8 and 64 connections; the time of a count alone and beside a
 # connection that puts without pause, which is to be no slower than twice as long, at the 99th percentile too; and counts of 64
 # clients through HAProxy. The time that a server's own code and the system took for a request stands behind each line. At the end
-# it compares.
+# it compares. Counts and the constant take TURNS turns each, one after the other, and the middle of their ratios counts: it is
+# chance whether nginx gives two connections to one process or to two, and other work comes and goes.
 #
-#     served.sh [PROGRAM [SECONDS]]
+#     served.sh [PROGRAM [SECONDS [TURNS]]]
 #
 # First build it: (cd crates/st_served && rt run -- $(cat args)). It needs wrk, and leaves out HAProxy or nginx where there is none.
-# It takes 20 times SECONDS, which are 10 where they are left out; ports 47001, 47009, 8080 and 8404 are to be free.
+# It takes (13 + 8 * TURNS) times SECONDS, which are 10 and 3 where they are left out; ports 47001, 47009, 8080 and 8404 are to be free.
 set -euo pipefail
 cd "$(dirname "$0")/.."
 digest=66687aadf862bd776c8fc18b8e9f8e20089714856ee233b3902a591d0d5f2925
 program=${1:-crates/st_served/out/st_served}
 seconds=${2:-10}
+turns=${3:-3}
 folder=$(mktemp -d)
 started=
+served=
+constant=
 edge=
-trap 'stop; end "$edge"; rm -rf "$folder"' EXIT
+trap 'stop; end "$served"; end "$constant"; end "$edge"; rm -rf "$folder"' EXIT
 
 # Ends a program, if there is one.
 end() {
@@ -126,15 +130,26 @@ measure() {
 
 : > "$folder/all"
 for number in 1 2 4 8; do
-    serve "$number"
-    measure "counts.$number" "counts of $number connections" "$number" 47001 count
-    measure "puts.$number" "puts of $number connections" "$number" 47001 put
-    stop
     if command -v nginx > "$folder/which"; then
         serve_constant "$number"
-        measure "constant.$number" "a constant of nginx on $number connections" "$number" 47009 count
-        stop
+        constant=$started
     fi
+    serve "$number"
+    served=$started
+    for ((turn = 1; turn <= turns; turn++)); do
+        started=$served
+        measure "counts.$number" "counts of $number connections" "$number" 47001 count
+        if [ -n "$constant" ]; then
+            started=$constant
+            measure "constant.$number" "a constant of nginx on $number connections" "$number" 47009 count
+        fi
+    done
+    end "$constant"
+    constant=
+    started=$served
+    measure "puts.$number" "puts of $number connections" "$number" 47001 put
+    stop
+    served=
 done
 for number in 1 8 64; do
     serve 64
@@ -161,11 +176,23 @@ if command -v haproxy > "$folder/which"; then
     until_open 8080 "$edge"
     measure edge "counts of 64 clients through HAProxy" 64 8080 count
 fi
-awk '{ rate[$1] = $2; middle[$1] = $3; most[$1] = $4 }
+awk '{ turn = ++seen[$1]; rate[$1, turn] = $2; middle[$1] = $3; most[$1] = $4 }
+    function sort(list, size,    at, place, item) {
+        for (at = 2; at <= size; at++) {
+            item = list[at]
+            for (place = at - 1; place > 0 && list[place] > item; place--) list[place + 1] = list[place]
+            list[place + 1] = item
+        }
+    }
     END {
-        for (number = 1; number <= 8; number *= 2)
-            if (rate["constant." number])
-                printf "counts beside nginx on %d: %.2f\n", number, rate["counts." number] / rate["constant." number]
+        for (number = 1; number <= 8; number *= 2) {
+            size = seen["constant." number]
+            for (turn = 1; turn <= size; turn++) ratio[turn] = rate["counts." number, turn] / rate["constant." number, turn]
+            sort(ratio, size)
+            if (size)
+                printf "counts beside nginx on %d: %.2f in the middle of %d turns, %.2f to %.2f\n", number,
+                    (ratio[int((size + 1) / 2)] + ratio[int(size / 2) + 1]) / 2, size, ratio[1], ratio[size]
+        }
         printf "a count beside puts: %.2f times as long in the middle, %.2f for 99 of 100 (no more than 2)\n",
             middle["beside"] / middle["alone"], most["beside"] / most["alone"]
     }' "$folder/all"

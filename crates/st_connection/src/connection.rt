@@ -87,6 +87,9 @@ fn answer_next<X: Replies, W: Sink>(
     ensures room_stays { length block.new ≡ length block.old }
     ensures within_stays { held.new ≤ length block.old }
 {
+    if text.is_empty() {
+        return Ok(Next::Waits(false));
+    }
     let taken = routes.take(text);
     if taken.expects() {
         return Ok(Next::Waits(true));

@@ -1,13 +1,21 @@
-use Rattle.std.proofs.Common.{List, [], take, ℕ, Bool, true, false, refl, inl, sym, subst, arith}
+use Rattle.std.proofs.Common.{◌≡◌, ◌∙◌, List, [], take, ℕ, Bool, true, false, refl, inl, sym, subst, arith}
 use Rattle.std.proofs.KnownBytes.{Appends-nil}
+use Rattle.std.proofs.lemmas.Bool.{eqb-true}
+use Rattle.std.proofs.lemmas.List.{nil_from_length}
 use Rattle.httparse.specs.Grammar.{RequestHead}
 use Rattle.st_http.specs.Message.{ShowsMessage}
-use Rattle.st_http.specs.First.{message, fault}
+use Rattle.st_http.specs.First.{message, fault, more, IsFirst}
 use Rattle.st_connection.specs.Connection.{Told}
 use Rattle.st_connection.specs.inner.Stages.{One}
+use Rattle.st_connection.proofs.Empty.{first_empty}
 use Rattle.st_connection.proofs.Steps.{told_so, stands_due, waits_so, fault_one, message_one, message_stays, next_stops, next_closed, next_open}
 use Rattle.st_connection.proofs.connection.answer_next.Goals.{then-message, else-message}
 use Rattle.st_connection.proofs.connection.answer_next.Goals as goal
+
+pub returns-then-is_empty-clause-answered : goal.returns-then-is_empty-clause-answered
+returns-then-is_empty-clause-answered g c =
+    let none : c.args.text.now ≡ [] = nil_from_length c.args.text.now (eqb-true _ _ (sym c.is_empty.ensures ∙ c.if-is_empty.true)) in
+    (subst (λ (t : List ℕ). IsFirst t (more false)) (sym none) first_empty, refl, refl, refl, Appends-nil _, refl)
 
 pub returns-then-expects-clause-answered : goal.returns-then-expects-clause-answered
 returns-then-expects-clause-answered g c =
