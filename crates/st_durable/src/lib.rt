@@ -4,6 +4,7 @@
 mod answer;
 mod answerer;
 mod beginning;
+mod copies;
 mod durable;
 mod judged;
 mod keep;
@@ -13,6 +14,7 @@ mod pending;
 mod replayed;
 
 pub use beginning::Beginning;
+pub use copies::ReplayedCopies;
 pub use durable::DurableService;
 pub use judged::note;
 pub use pending::Pending;

@@ -1,4 +1,3 @@
-pub mod Copying
 pub mod Crossing
 pub mod Lasting
 pub mod Telling

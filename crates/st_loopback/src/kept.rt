@@ -9,12 +9,11 @@ ghost use Rattle.st_command_line.specs.ServedArguments.{SaysServed, store_of};
 ghost use Rattle.st_command_line.specs.Status.{exit_status_after};
 
 use crate::attend::Attend;
-use crate::copies::ReplayedCopies;
 use crate::listening::{attend, begin, tell};
 use st_command::{Keeper, stores_and_opening_for};
 use st_command_line::{Fault, ServedArguments};
 use st_core::Store;
-use st_durable::Beginning;
+use st_durable::{Beginning, ReplayedCopies};
 use st_durable_hall::DurableHall;
 use st_durable_station::DurableStation;
 use st_hall::{Desk, Hall, HallFault, HallName, UnnamedFor};

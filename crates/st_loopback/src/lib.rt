@@ -3,7 +3,6 @@
 
 mod attend;
 mod connection;
-mod copies;
 mod door;
 mod kept;
 mod listening;

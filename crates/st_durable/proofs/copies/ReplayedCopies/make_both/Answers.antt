@@ -2,8 +2,8 @@ use Rattle.std.proofs.Common.{rules, ◌≡◌, true, sym, subst, ◌∙◌}
 use Rattle.std.proofs.lemmas.Result.{err_from_is_err_and}
 use Rattle.st_journal.specs.declared.replay.ReplayError.{ReplayError}
 use Rattle.st_durable.specs.Applying.{Applies}
-use Rattle.st_loopback.proofs.Copying.{alike_still}
-use Rattle.st_loopback.proofs.copies.ReplayedCopiesReplay.apply.Goals as goal
+use Rattle.st_durable.proofs.Copying.{alike_still}
+use Rattle.st_durable.proofs.copies.ReplayedCopies.make_both.Goals as goal
 
 pub invariant_of-self-2 : goal.invariant_of-self-2
 invariant_of-self-2 c = λ _.
