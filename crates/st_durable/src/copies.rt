@@ -66,6 +66,9 @@ impl ReplayedCopies {
         ensures err { OnErr result (self.new ≡ self.old) }
         ensures invalid { result ≡ Err ReplayError.Invalid → (after : State Heap) → Applies self.old change.now after → ⊥ }
     {
+        if !self.are_alike {
+            return Err(ReplayError::NoMemory);
+        }
         make_again(&mut self.first, change, request)?;
         self.are_alike = false;
         make_again(&mut self.second, change, request)?;
@@ -80,9 +83,6 @@ impl Replay for ReplayedCopies {
     ghost applies = { Applies };
 
     fn apply(&mut self, change: &Record) -> Result<(), ReplayError> {
-        if !self.are_alike {
-            return Err(ReplayError::NoMemory);
-        }
         let request = request_in(self.alloc, self.alloc, change)?;
         let made = self.make_both(change, &request);
         drop(request);
