@@ -3,10 +3,12 @@
 
 mod journal;
 mod memory;
+mod read_back;
 mod record;
 mod replay;
 
 pub use journal::{AppendError, Journal};
 pub use memory::MemoryJournal;
+pub use read_back::{ReadBack, ReadError};
 pub use record::Record;
 pub use replay::{Replay, ReplayError};

@@ -1,15 +1,17 @@
 //! A journal in memory.
-ghost use Rattle.std.specs.Prelude.{◌≡◌, ◌++◌, ℕ, [], List, OnOk, ⊤};
+ghost use Rattle.std.specs.Prelude.{◌≡◌, ◌++◌, ℕ, [], List, IfOk, OnOk, drop, take, ⊤};
 ghost use Rattle.st_journal.specs.declared.record.Record.{Record};
 ghost use Rattle.st_journal.specs.inner.Copies.{GrowsTo};
 
 use crate::journal::{AppendError, Journal};
+use crate::read_back::{ReadBack, ReadError};
 use crate::record::Record;
 use std::alloc::{AllocError, Global};
 
 /// A journal in memory, for tests. A crash leaves none.
 #[derive(Drop)]
 pub struct MemoryJournal {
+    alloc: Global,
     records: Vec<Record>,
 }
 
@@ -24,12 +26,31 @@ fn push_copies(list: &mut Vec<Record>, records: &[Record]) -> Result<(), AllocEr
     Ok(())
 }
 
+// Copies of the records behind the first `from`, at most so many.
+fn copies_of(
+    alloc: Global,
+    records: &[Record],
+    from: u64,
+    most: usize,
+) -> Result<Vec<Record>, AllocError>
+    ensures { IfOk result (λ copies. copies.items ≡ take most (drop from records.now)) }
+{
+    let mut copies = Vec::new(alloc);
+    let from = usize::try_from(from)
+        .unwrap_or(usize::MAX)
+        .min(records.len());
+    let to = from.saturating_add(most).min(records.len());
+    push_copies(&mut copies, &records[from..to])?;
+    Ok(copies)
+}
+
 impl MemoryJournal {
     /// An empty journal.
     pub fn new(alloc: Global) -> MemoryJournal
         ensures { ⟦<MemoryJournal as Journal>⟧.list result ≡ [] }
     {
         MemoryJournal {
+            alloc,
             records: Vec::new(alloc),
         }
     }
@@ -61,6 +82,15 @@ impl Journal for MemoryJournal {
                 self.records.truncate(before);
                 Err(AppendError::NotKept)
             }
+        }
+    }
+}
+
+impl ReadBack for MemoryJournal {
+    fn read(&mut self, from: u64, most: usize) -> Result<Vec<Record>, ReadError> {
+        match copies_of(self.alloc, self.records.as_slice(), from, most) {
+            Ok(copies) => Ok(copies),
+            Err(_) => Err(ReadError::NotRead),
         }
     }
 }

@@ -88,7 +88,7 @@ written old mid new edit first empty sets adds = record {
 }
 
 -- a database whose table has such rows
-has_table : (trees : Trees) (records : List Record) → ListsTable trees → trees table_tree ≡ rows_from 0 records → 0 < length records → HasTable trees
+pub has_table : (trees : Trees) (records : List Record) → ListsTable trees → trees table_tree ≡ rows_from 0 records → 0 < length records → HasTable trees
 has_table trees [] listed rows some = absurd (omega (arith, some))
 has_table trees (r ∷ records) listed rows some = record { listed = listed; some = omega (arith, ap length rows) }
 

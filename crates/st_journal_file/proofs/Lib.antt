@@ -5,3 +5,5 @@ mod Reading
 mod FileLemmas
 mod Opened
 mod Restart
+mod Backs
+pub mod RewriteLemmas

@@ -14,7 +14,7 @@ use Rattle.st_journal_file.specs.Table.{table_tree, row_of, rows_from, record_in
 use Rattle.st_journal_file.specs.inner.Ready.{Adds}
 use Rattle.st_journal_file.proofs.ViewLemmas.{writes_then}
 
-below : (m n : ℕ) → m < n → value_cmp (Int (pos m)) (Int (pos n)) ≡ Less
+pub below : (m n : ℕ) → m < n → value_cmp (Int (pos m)) (Int (pos n)) ≡ Less
 below m n low = value_cmp-Int (pos m) (pos n) ∙ sym (int_cmp_is (pos m) (pos n) Less (omega (arith, ints, low)))
 
 pub put_last : (n at : ℕ) (list : List Record) (r : Record) → at ≡ n + length list → put_row (row_of at r) (rows_from n list) ≡ rows_from n (list ++ r ∷ [])

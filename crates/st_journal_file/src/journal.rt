@@ -6,12 +6,14 @@ ghost use Rattle.sqlite_store.specs.FileStore.{view, recovers};
 ghost use Rattle.st_journal_file.specs.Table.{changes_in};
 ghost use Rattle.st_journal_file.specs.inner.Ready.{HasTable, IsReady};
 
+use crate::back::{mend, read_from};
+use crate::error::OpenError;
 use crate::finish::finish;
 use crate::table::MOST;
 use crate::write::put_all;
 use sqlite_disk::Disk;
 use sqlite_store::FileStore;
-use st_journal::{AppendError, Journal, Record};
+use st_journal::{AppendError, Journal, ReadBack, ReadError, Record};
 use std::alloc::Global;
 
 /// A journal in the table of a store. An append is one transaction, whose commit is synced once
@@ -53,5 +55,29 @@ impl<D: Disk + Drop> Journal for FileJournal<D> {
         finish(&mut self.store, written)?;
         self.count += added;
         Ok(())
+    }
+}
+
+impl<D: Disk + Drop> ReadBack for FileJournal<D> {
+    fn read(&mut self, from: u64, most: usize) -> Result<Vec<Record>, ReadError> {
+        if from >= MOST || most as u64 > MOST {
+            return Err(ReadError::NotRead);
+        }
+        match read_from(&mut self.store, self.alloc, from + 1, most) {
+            Ok(records) => Ok(records),
+            Err(_) => Err(mend(&mut self.store)),
+        }
+    }
+}
+
+impl<D: Disk + Drop> FileJournal<D> {
+    /// Copies the log into the database file, which then has all records without it, and closes both. At an error the records are in
+    /// the two files together, as before.
+    pub fn close(self) -> Result<(), OpenError> {
+        let FileJournal { mut store, .. } = self;
+        match store.checkpoint() {
+            Ok(()) => Ok(()),
+            Err(_) => Err(OpenError::Io),
+        }
     }
 }

@@ -1,6 +1,7 @@
 //! A journal in a SQLite file (https://www.sqlite.org/fileformat2.html): one table, which `sqlite3` reads.
 #![tactic(auto)]
 
+mod back;
 mod begin;
 mod error;
 mod files;
@@ -9,6 +10,7 @@ mod journal;
 pub mod law;
 mod open;
 mod read;
+mod rewrite;
 mod table;
 mod write;
 

@@ -49,7 +49,7 @@ fn is_numbered(row: &Row, number: u64) -> bool
 }
 
 // The record in a row, which has to have this number.
-fn read_row(alloc: Global, row: &Row, number: u64) -> Result<Record, OpenError>
+pub(crate) fn read_row(alloc: Global, row: &Row, number: u64) -> Result<Record, OpenError>
     requires { number < 2 ^ 63 }
     ensures { IfOk result (λ change. row.now ≡ row_of number change) }
 {

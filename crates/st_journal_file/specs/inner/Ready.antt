@@ -1,5 +1,5 @@
 -- An invariant of a representation, which no reader has to believe: a store that has the table.
-use Rattle.std.specs.Prelude.{◌≡◌, ◌≢◌, ◌<◌, ℕ, false, List, ◌++◌, length, IsTrue}
+use Rattle.std.specs.Prelude.{◌≡◌, ◌≢◌, ◌<◌, ℕ, false, List, ◌++◌, length, take, IsTrue}
 use Rattle.sqlite_trees.specs.declared.store.Shape.TheVariants.{Table}
 use Rattle.sqlite_trees.specs.Tree.{Trees}
 use Rattle.sqlite_trees.specs.Objects.{catalog_tree}
@@ -15,6 +15,20 @@ pub record Adds (old new : View) (count : ℕ) (more : List Record) : Type 0 whe
   pub others : (t : ℕ) → t ≢ table_tree → new.trees t ≡ old.trees t
   pub rows : (records : List Record) → length records ≡ count → old.trees table_tree ≡ rows_from 0 records
       → new.trees table_tree ≡ rows_from 0 (records ++ more)
+
+-- Only the table differs. Where it had so many rows of records, it has so many of the first of them.
+pub record Trims (old new : View) (count left : ℕ) : Type 0 where
+  pub frame : OnlyWrites old new
+  pub others : (t : ℕ) → t ≢ table_tree → new.trees t ≡ old.trees t
+  pub rows : (records : List Record) → length records ≡ count → old.trees table_tree ≡ rows_from 0 records
+      → new.trees table_tree ≡ rows_from 0 (take left records)
+
+-- Only the table differs. Where it had so many rows of records, it has these behind the first.
+pub record Replaces (old new : View) (count : ℕ) (more : List Record) : Type 0 where
+  pub frame : OnlyWrites old new
+  pub others : (t : ℕ) → t ≢ table_tree → new.trees t ≡ old.trees t
+  pub rows : (records : List Record) → length records ≡ count → old.trees table_tree ≡ rows_from 0 records
+      → new.trees table_tree ≡ rows_from 0 (take 1 records ++ more)
 
 -- the database lists the table, and nothing else
 abbrev pub ListsTable : Trees → Type 0
