@@ -14,7 +14,11 @@ use std::alloc::{AllocError, Global};
 use std::marker::Model;
 
 // Makes a recorded change again.
-pub(crate) fn make_again(store: &mut Store, change: &Record, request: &Request) -> Result<(), ReplayError>
+pub(crate) fn make_again(
+    store: &mut Store,
+    change: &Record,
+    request: &Request,
+) -> Result<(), ReplayError>
     requires reads { ReadsAs change.now (Ok request.now) }
     ensures ok { OnOk result (Applies store.old change.now store.new) }
     ensures err { OnErr result (store.new ≡ store.old) }
