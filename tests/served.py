@@ -12,8 +12,9 @@ from contextlib import contextmanager
 
 TOP = pathlib.Path(__file__).resolve().parent.parent
 PROGRAM = pathlib.Path(os.environ.get("ST_SERVED", TOP / "crates/st_served/out/st_served"))
-# Ports below those that Linux gives to clients.
-PORTS = itertools.cycle(random.sample(range(20_000, 32_000), 12_000))
+# Ports below those that Linux gives to clients. Processes that run beside each other begin at other ones, and go on in order.
+FIRST_PORT = random.randrange(20_000, 32_000)
+PORTS = itertools.cycle(list(range(FIRST_PORT, 32_000)) + list(range(20_000, FIRST_PORT)))
 
 
 def token(user: str) -> str:
