@@ -47,6 +47,14 @@ FIRST = [
     Change("ann", "put", "geo.trips", (("id", "r0"), ("label", "A"), ("note", ""), ("point", [1, 2, 3]))),
     Change("ann", "delete", "points", (("id", "r0"), ("label", "A"))),
 ]
+# What makes each of the users one that may change rows, whoever was dropped or has another token.
+ALL = [
+    change for user in USERS[1:] for change in (
+        Change("root", "create-user", user, (("digest", digest(user)), ("auths", ["A", "B"]))),
+        Change("root", "token", user, (("digest", digest(user)),)),
+        Change("root", "grant-table", "points", (("user", user), ("permission", "WRITE"))),
+    )
+]
 
 
 def change_of_users(rng: random.Random, by: str) -> Change:
@@ -90,14 +98,17 @@ def change_of_rows(rng: random.Random, by: str, longest: int) -> Change:
     return Change(by, "put", table, (("id", id), ("label", label), ("note", note), ("point", point)))
 
 
+def change_by(rng: random.Random, by: str, longest: int) -> Change:
+    """A change of any kind by a user."""
+    kind = rng.random()
+    if kind < 0.25:
+        return change_of_users(rng, by)
+    if kind < 0.4:
+        return change_of_tables(rng, by)
+    return change_of_rows(rng, by, longest)
+
+
 def changes_from(rng: random.Random, knows: Callable[[str], bool], longest: int) -> Iterator[Change]:
     """Changes of each kind, by those whose token is known to hold. Many are refused. Each is to be made before the next is asked for."""
     while True:
-        by = rng.choice(["root", "root", *filter(knows, USERS)])
-        kind = rng.random()
-        if kind < 0.25:
-            yield change_of_users(rng, by)
-        elif kind < 0.4:
-            yield change_of_tables(rng, by)
-        else:
-            yield change_of_rows(rng, by, longest)
+        yield change_by(rng, rng.choice(["root", "root", *filter(knows, USERS)]), longest)

@@ -1,4 +1,4 @@
-"""A run of the built `st_run --store` of which each file that is made, each write, cut and sync, and each answer is noted, in order.
+"""A run of a built program with `--store` of which each file that is made, each write, cut and sync, and each answer is noted, in order.
 
 A few lines of C before the C library note a call once it was made, and an answer before it is written. What they do not know (another
 call that writes, another program) shows when the noted events do not lead to the files as they are.
@@ -9,7 +9,7 @@ from contextlib import AbstractContextManager
 from pathlib import Path
 
 from served import digest
-from stored import AUTHS, RUN, Run, started
+from stored import AUTHS, Run, started
 from torn import Event
 
 SHIM = r"""
@@ -45,6 +45,10 @@ ssize_t write(int fd, const void *bytes, size_t count) {
     note("answer", fd, 0, bytes, count);
     return syscall(SYS_write, fd, bytes, count);
 }
+ssize_t send(int fd, const void *bytes, size_t count, int flags) {
+    note("answer", fd, 0, bytes, count);
+    return syscall(SYS_sendto, fd, bytes, count, flags, NULL, 0);
+}
 ssize_t pwrite(int fd, const void *bytes, size_t count, off_t at) {
     ssize_t put = syscall(SYS_pwrite64, fd, bytes, count, at);
     if (put > 0) note("write", fd, at, bytes, put);
@@ -75,20 +79,23 @@ def make_shim(folder: Path) -> Path:
     return shim
 
 
-def noted(file: Path, shim: Path, trace: Path) -> AbstractContextManager[Run]:
+def noted(file: Path, shim: Path, trace: Path, program: Path, connections: int) -> AbstractContextManager[Run]:
     """A run over the store in a file, of which the events come to stand in another."""
-    words = [f"LD_PRELOAD={shim}", f"TRACE={trace}", str(RUN), "--root", digest("root"), "--store", str(file), *AUTHS]
-    return started(*words, program=Path("/usr/bin/env"))
+    words = ["--root", digest("root"), "--store", str(file), *AUTHS]
+    return started(*words, program=program, connections=connections, environment={"LD_PRELOAD": str(shim), "TRACE": str(trace)})
 
 
 def events_in(trace: bytes, folder: Path) -> Iterator[Event]:
-    """The events of a run over a store in a folder."""
+    """The events of a run over a store in a folder. Of what is written to a pipe, the lines of `st_served` are no answers."""
     at = 0
     while at < len(trace):
         end = trace.index(b"\n", at)
         kind, offset, count, path = trace[at:end].decode().split(" ", 3)
         at = end + 1 + int(count)
+        text = trace[end + 1:at]
         if path == str(folder):
             yield Event("settle")
-        else:
-            yield Event(kind, "" if kind == "answer" else Path(path).name, int(offset), trace[end + 1:at])
+        elif kind != "answer":
+            yield Event(kind, Path(path).name, int(offset), text)
+        elif not text.startswith((b"listening", b"served")):
+            yield Event(kind, path, 0, text)

@@ -1,7 +1,10 @@
 """A server of its own for a test: the built `st_served` at a free port of the loopback interface."""
+import contextlib
 import hashlib
+import itertools
 import os
 import pathlib
+import random
 import socket
 import subprocess
 from collections.abc import Iterator
@@ -9,6 +12,9 @@ from contextlib import contextmanager
 
 TOP = pathlib.Path(__file__).resolve().parent.parent
 PROGRAM = pathlib.Path(os.environ.get("ST_SERVED", TOP / "crates/st_served/out/st_served"))
+# Ports below those that Linux gives to clients. Processes that run beside each other begin at other ones, and go on in order.
+FIRST_PORT = random.randrange(20_000, 32_000)
+PORTS = itertools.cycle(list(range(FIRST_PORT, 32_000)) + list(range(20_000, FIRST_PORT)))
 
 
 def token(user: str) -> str:
@@ -22,11 +28,12 @@ def digest(user: str) -> str:
 
 
 def free_port() -> int:
-    """A port that nobody listens at."""
-    with socket.socket() as probe:
-        probe.bind(("127.0.0.1", 0))
-        port: int = probe.getsockname()[1]
-        return port
+    """A port that nobody listens at, each time another one."""
+    for port in PORTS:
+        with socket.socket() as probe, contextlib.suppress(OSError):
+            probe.bind(("127.0.0.1", port))
+            break
+    return port
 
 
 @contextmanager

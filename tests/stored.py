@@ -110,10 +110,11 @@ class Run:
 
 
 class ServedRun(Run):
-    """A server for one connection, and that connection, where the server comes to listen."""
+    """A server for so many connections, and the first one, where the server comes to listen."""
 
-    def __init__(self, process: "subprocess.Popen[bytes]", port: int) -> None:
+    def __init__(self, process: "subprocess.Popen[bytes]", port: int, connections: int = 1) -> None:
         super().__init__(process)
+        self.port, self.connections = port, connections
         self.told = self.stdout
         self.client: socket.socket | None = None
         if self.told.readline() == b"listening %d\n" % port:
@@ -137,7 +138,7 @@ class ServedRun(Run):
                 rest = self.stdout.read()
         told, faults = self.told.read(), self.stderr.read()
         status = self.process.wait(PATIENCE)
-        assert told == (b"served 1\n" if status == 0 else b"")
+        assert told == (b"served %d\n" % self.connections if status == 0 else b"")
         return status, rest, faults
 
     def close(self) -> None:
@@ -153,21 +154,19 @@ class ServedRun(Run):
             self.process.stdin.close()
 
 
-def process_of(program: Path, words: list[str]) -> "subprocess.Popen[bytes]":
-    return subprocess.Popen([str(program), *words], stdin=subprocess.PIPE, stdout=subprocess.PIPE, stderr=subprocess.PIPE)
-
-
-def run_of(program: Path, words: list[str]) -> Run:
-    if program != SERVED:
-        return Run(process_of(program, words))
-    port = free_port()
-    return ServedRun(process_of(program, ["--port", str(port), "--connections", "1", *words]), port)
+def run_of(program: Path, words: list[str], connections: int = 1, environment: dict[str, str] | None = None) -> Run:
+    port, pipe = free_port(), subprocess.PIPE
+    if program == SERVED:
+        words = ["--port", str(port), "--connections", str(connections), "--workers", str(max(2, connections)), *words]
+    process = subprocess.Popen([str(program), *words], env={**os.environ, **(environment or {})}, stdin=pipe, stdout=pipe, stderr=pipe)
+    return ServedRun(process, port, connections) if program == SERVED else Run(process)
 
 
 @contextmanager
-def started(*words: str, program: Path = RUN) -> Iterator[Run]:
-    """A run with these arguments. It is killed at the end of the context, if it has not ended."""
-    run = run_of(program, list(words))
+def started(*words: str, program: Path = RUN, connections: int = 1, environment: dict[str, str] | None = None) -> Iterator[Run]:
+    """A run with these arguments, and these names in its environment; `st_served` for so many connections. It is killed at the end of the
+    context, if it has not ended."""
+    run = run_of(program, list(words), connections, environment)
     try:
         yield run
     finally:

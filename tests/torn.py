@@ -12,8 +12,8 @@ from dataclasses import dataclass, field
 
 @dataclass(frozen=True)
 class Event:
-    """What a run did: `make`, `write`, `cut` and `sync` are of a file, `settle` syncs the folder, `answer` is of no file. `at` is an
-    offset or a length."""
+    """What a run did: `make`, `write`, `cut` and `sync` are of a file, `settle` syncs the folder, `answer` is of a connection, or of
+    standard output. `at` is an offset or a length."""
 
     kind: str
     file: str = ""
