@@ -1,0 +1,5 @@
+pub mod LastOnes
+pub mod RowChanges
+pub mod Shorter
+pub mod Joining
+pub mod Taking
