@@ -177,8 +177,8 @@ fn main() {
         let counted = count(&parts(&bounds), &rows, &sees);
         let count_took = start.elapsed().as_nanos();
         let start = Instant::now();
-        let fields = grid(&parts(&bounds), &rows, &sees);
+        let in_fields: u64 = grid(&parts(&bounds), &rows, &sees).iter().sum();
         let grid_took = start.elapsed().as_nanos();
-        println!("{class} {counted} {} {count_took} {grid_took}", fields.iter().sum::<u64>());
+        println!("{class} {counted} {in_fields} {count_took} {grid_took}");
     }
 }
