@@ -262,9 +262,9 @@ def kinds() -> Iterator[tuple[str, list[bytes], bool]]:
     yield "put again among 10,000 of a point", [put("crowd", "r05000", "A", "7,7,7", note) for note in ("n", "")], False
     line, auths = "POST /tables/motley", '"auths":["A","B"]'
     box = box_of(7, 7, 7, 7, 7, 7)
-    yield "count of 10,000 labels of a point", [ask(f"{line}/count", f'{{{auths},"box":{box}}}')], True
-    yield "grid of 10,000 labels of a point", [ask(f"{line}/grid", f'{{{auths},"box":{box},"nx":1,"ny":1}}')], True
-    yield "scan of 10,000 labels of a point", [ask(f"{line}/scan", f'{{"auths":["C"],"box":{box},"limit":1}}')], True
+    yield "count of 10,000 labels of a point", [ask(f"{line}/count", f'{{{auths},"box":{box}}}')], False
+    yield "grid of 10,000 labels of a point", [ask(f"{line}/grid", f'{{{auths},"box":{box},"nx":1,"ny":1}}')], False
+    yield "scan of 10,000 labels of a point", [ask(f"{line}/scan", f'{{"auths":["C"],"box":{box},"limit":1}}')], False
     gone = ask(f"{line}/delete", '{"id":"r05000","label":"B|x"}')
     yield "put and delete among 10,000 labels of a point", [put("motley", "r05000", "B|x", "7,7,7"), gone], False
     yield "labels that come and go", comings(), False

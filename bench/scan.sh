@@ -3,7 +3,7 @@
 #
 # usage: scan.sh [ROWS [LABELS [ORDER]]]: 1,000,000 rows of 16 labels, put in mixed, or in the order of their times where ORDER
 # is `rising`. TURNS=3 says how often; PROGRAM=FILE measures another build. Memory has huge pages, as the unit under deploy/ asks
-# for: GLIBC_TUNABLES= takes it as it comes. 10,000,000 rows take 4 GB and a quarter of an hour.
+# for: GLIBC_TUNABLES= takes it as it comes.
 # First build it: (cd crates/bench_scan && rt run > /dev/null).
 set -eu
 cd "$(dirname "$0")/.."
