@@ -125,13 +125,32 @@ def rows() -> Iterator[bytes]:
 
 
 def crowds() -> Iterator[bytes]:
-    """10,000 rows of one point; 2,000 rows of one id."""
-    for table in ("crowd", "same"):
+    """10,000 rows of one point; 2,000 rows of one id; 10,000 rows of one point under as many labels; 100,000 rows under as many."""
+    for table in ("crowd", "same", "motley", "labels"):
         yield ask("POST /tables", f'{{"table":"{table}"}}')
     for i in range(10_000):
         yield put("crowd", f"r{i:05}", "A", "7,7,7")
+        yield put("motley", f"r{i:05}", f"A|(B&x{i:05})", "7,7,7")
     for i in range(2_000):
         yield put("same", "p", f"A|B{i:04}", f"{i},7,7")
+    random.seed(3)
+    for i in range(ROWS):
+        x, y = random.randrange(1 << 21), random.randrange(1 << 21)
+        yield put("labels", f"r{i}", f"A|x{i}", f"{x},{y},{random.randrange(19_818_086_400)}")
+
+
+def comings() -> list[bytes]:
+    """600 labels that come and go beside a row of weeks, one by one, and then 20 at a time."""
+    gone = "POST /tables/weeks/delete"
+    place = "1048576,1048576,50"
+    asked = []
+    for number in range(600):
+        asked += [put("weeks", "comes", f"x{number}", place), ask(gone, f'{{"id":"comes","label":"x{number}"}}')]
+    for first in range(600, 1_200, 20):
+        some = range(first, first + 20)
+        asked += [put("weeks", "comes", f"x{number}", place) for number in some]
+        asked += [ask(gone, f'{{"id":"comes","label":"x{number}"}}') for number in some]
+    return asked
 
 
 def names(count: int) -> list[str]:
@@ -219,7 +238,7 @@ def kinds() -> Iterator[tuple[str, list[bytes], bool]]:
     for _ in range(50):
         x, y = pick.randrange(1 << 21), pick.randrange(1 << 21)
         thin += [box_of(x, x, y, y, 0, 19818086399), box_of(x, x, 0, 2097151, 0, 19818086399), box_of(0, 2097151, y, y, 0, 19818086399)]
-    for table in ("points", "weeks"):
+    for table in ("points", "weeks", "labels"):
         line = f"POST /tables/{table}"
         auths = '"auths":["A","B","C"]'
         yield f"count of a line, {table}", [ask(f"{line}/count", f'{{{auths},"box":{box}}}') for box in thin], False
@@ -241,6 +260,16 @@ def kinds() -> Iterator[tuple[str, list[bytes], bool]]:
     gone = ask("POST /tables/crowd/delete", '{"id":"a","label":"A"}')
     yield "put and delete among 10,000 of a point", [put("crowd", "a", "A", "7,7,7"), gone], False
     yield "put again among 10,000 of a point", [put("crowd", "r05000", "A", "7,7,7", note) for note in ("n", "")], False
+    line, auths = "POST /tables/motley", '"auths":["A","B"]'
+    box = box_of(7, 7, 7, 7, 7, 7)
+    yield "count of 10,000 labels of a point", [ask(f"{line}/count", f'{{{auths},"box":{box}}}')], False
+    yield "grid of 10,000 labels of a point", [ask(f"{line}/grid", f'{{{auths},"box":{box},"nx":1,"ny":1}}')], False
+    yield "scan of 10,000 labels of a point", [ask(f"{line}/scan", f'{{"auths":["C"],"box":{box},"limit":1}}')], False
+    gone = ask(f"{line}/delete", '{"id":"r05000","label":"B|x"}')
+    yield "put and delete among 10,000 labels of a point", [put("motley", "r05000", "B|x", "7,7,7"), gone], False
+    yield "labels that come and go", comings(), False
+    near = box_of(1048576 - 50_000, 1048576 + 50_000, 1048576 - 50_000, 1048576 + 50_000, 0, 99)
+    yield "count where labels came and went", [ask("POST /tables/weeks/count", f'{{"auths":["A","B","C"],"box":{near}}}')], False
     yield "count among 10,000 of a point", [ask("POST /tables/crowd/count", f'{{"auths":["A"],"box":{ALL}}}')], True
     place = '{"id":"r09998","label":"A","point":[7,7,7]}'
     after = ask("POST /tables/crowd/scan", f'{{"after":{place},"auths":["A"],"box":{ALL},"limit":1}}')
@@ -256,7 +285,7 @@ def main() -> None:
     server = Server(os.environ.get("PROGRAM", TOP / "crates/st_run/out/st_run"))
     server.tell_all(rows())
     server.tell_all(crowds())
-    print(f"{server.memory():.1f} MiB with {ROWS:,} rows in each of two tables")
+    print(f"{server.memory():.1f} MiB with {ROWS:,} rows in each of three tables")
     askings: Askings = defaultdict(lambda: defaultdict(list))
     proportional: set[str] = set()
     for round in range(rounds):

@@ -1,39 +1,24 @@
 #!/usr/bin/env bash
-# What a count costs in a table, against a sorted array in plain Rust over the same rows (of three runs each, the quickest
-# counts), and what a grid of 32 by 32, a page, a put, a delete and a row cost: once as memory comes, and once with huge pages
-# for both, as the unit under deploy/ asks for. First build it: (cd crates/bench_scan && rt run > /dev/null).
+# What reads and changes of a table cost, beside a sorted array in plain Rust over the same rows, in turns.
+#
+# usage: scan.sh [ROWS [LABELS [ORDER]]]: 1,000,000 rows of 16 labels, put in mixed, or in the order of their times where ORDER
+# is `rising`. TURNS=3 says how often; PROGRAM=FILE measures another build. Memory has huge pages, as the unit under deploy/ asks
+# for: GLIBC_TUNABLES= takes it as it comes.
+# First build it: (cd crates/bench_scan && rt run > /dev/null).
 set -eu
 cd "$(dirname "$0")/.."
-program=crates/bench_scan/out/bench_scan
-count=${1:-1000000}
+program=${PROGRAM:-crates/bench_scan/out/bench_scan}
+rows=${1:-1000000} labels=${2:-16} order=${3:-mixed}
+export GLIBC_TUNABLES=${GLIBC_TUNABLES-glibc.malloc.hugetlb=1}
 folder=$(mktemp -d -p /dev/shm)
 trap 'rm -rf "$folder"' EXIT
-python3 bench/scan_data.py "$count" > "$folder/points"
-python3 bench/scan_data.py --boxes > "$folder/boxes"
+python3 bench/scan_data.py points "$rows" "$labels" > "$folder/points"
+[ "$order" != rising ] || sort -t, -k4,4n -o "$folder/points" "$folder/points"
+python3 bench/scan_data.py boxes "$rows" > "$folder/boxes"
 rustc -O -C target-cpu=native -o "$folder/baseline" bench/scan_baseline.rs
-for run in 1 2 3; do
-    for pages in small huge; do
-        [ $pages = huge ] && export GLIBC_TUNABLES=glibc.malloc.hugetlb=1 || unset GLIBC_TUNABLES
-        "$folder/baseline" "$folder/points" "$folder/boxes" > "$folder/$pages.plain.$run"
-        "$program" "$folder/points" "$folder/boxes" > "$folder/$pages.shown.$run" 2> "$folder/$pages.proved.$run"
-    done
+for turn in $(seq "${TURNS:-3}"); do
+    "$folder/baseline" "$folder/points" "$folder/boxes" > "$folder/array.$turn"
+    "$program" "$folder/points" "$folder/boxes" > "$folder/shown.$turn" 2> "$folder/took.$turn"
 done
-for pages in small huge; do
-    echo "$pages pages of memory"
-    python3 - "$folder/$pages" <<'END'
-import sys
-
-def runs(kind):
-    return [[line.split() for line in open(f"{sys.argv[1]}.{kind}.{run}")] for run in (1, 2, 3)]
-
-def quickest(kind, at):
-    return [min(lines, key=lambda words: int(words[at])) for lines in zip(*runs(kind))]
-
-times = {words[0]: int(words[1]) for words in quickest("proved", 1)}
-for plain, shown in zip(quickest("plain", 8), [line for line in runs("shown")[0] if line[2] == "counts"]):
-    assert plain[4] == shown[4], "the counts differ"
-    print(f"box of {plain[0][:-1]} of a side, {int(plain[4]) // int(plain[1])} rows: "
-          f"{times[plain[0]]:,} ns, sorted array {int(plain[8]):,} ns, {times[plain[0]] / int(plain[8]):.1f} times")
-END
-    grep -h -e put: -e delete: -e page: -e grid- "$folder/$pages".proved.*
-done
+echo "$rows rows of $labels labels, $order; times of a call in microseconds, on average over the boxes of a class"
+python3 bench/scan_table.py "$folder"

@@ -1,9 +1,11 @@
-//! Counts in plain Rust, to measure bench_scan by: one array sorted by week and Morton address, jumps where 32 rows in a
-//! row are outside the box, and each label's truth decided once. `scan_baseline POINTS BOXES`
+//! Counts and grids in plain Rust, to measure bench_scan by: one array sorted by week and Morton address, jumps where 32 rows in
+//! a row are outside the box, and each label's truth decided once, before all. `scan_baseline POINTS BOXES` prints for each box its
+//! class, the rows that a count and a grid of 32 by 32 show, and what they take, in nanoseconds.
 use std::{collections::HashMap, env, fs, iter::Peekable, str::Chars, time::Instant};
 
 const WEEK: u64 = 604_800;
 const HELD: [char; 4] = ['A', 'B', 'D', 'G'];
+const SHARES: u32 = 32;
 
 struct Row {
     week: u64,
@@ -11,7 +13,7 @@ struct Row {
     x: u32,
     y: u32,
     offset: u32,
-    label: u8,
+    label: u32,
 }
 
 /// A box in one week.
@@ -66,19 +68,21 @@ impl Part {
             && self.offset.0 <= row.offset && row.offset <= self.offset.1
     }
 
-    fn count(&self, rows: &[Row], sees: &[bool]) -> u64 {
+    /// Hands on each visible row.
+    fn each(&self, rows: &[Row], sees: &[bool], mut found: impl FnMut(&Row)) {
         let first = interleave(self.x.0, self.y.0, self.offset.0);
         let last = interleave(self.x.1, self.y.1, self.offset.1);
         let to = rows.partition_point(|row| (row.week, row.address) <= (self.week, last));
         let mut at = rows.partition_point(|row| (row.week, row.address) < (self.week, first));
-        let mut count = 0;
         while at < to {
             let some = &rows[at..to.min(at + 32)];
             let mut hit = false;
             for row in some {
                 if self.has(row) {
                     hit = true;
-                    count += u64::from(sees[usize::from(row.label)]);
+                    if sees[row.label as usize] {
+                        found(row);
+                    }
                 }
             }
             at += some.len();
@@ -87,7 +91,6 @@ impl Part {
                 at += rows[at..to].partition_point(|row| row.address < next);
             }
         }
-        count
     }
 }
 
@@ -120,7 +123,7 @@ fn read(points: &str) -> (Vec<Row>, Vec<bool>) {
         let [x, y, t] = [1, 2, 3].map(|at| words[at].parse::<u64>().unwrap());
         let label = *labels.entry(words[4]).or_insert_with(|| {
             sees.push(is_true(&mut words[4].chars().peekable()));
-            sees.len() as u8 - 1
+            sees.len() as u32 - 1
         });
         let (x, y, offset) = (x as u32, y as u32, (t % WEEK) as u32);
         Row { week: t / WEEK, address: interleave(x, y, offset), x, y, offset, label }
@@ -143,18 +146,39 @@ fn parts(bounds: &[u64]) -> Vec<Part> {
     (first / WEEK..=last / WEEK).map(part).collect()
 }
 
+fn count(parts: &[Part], rows: &[Row], sees: &[bool]) -> u64 {
+    let mut count = 0;
+    for part in parts {
+        part.each(rows, sees, |_| count += 1);
+    }
+    count
+}
+
+/// In which of the equal shares of some numbers one of them is.
+fn share(of: (u32, u32), number: u32) -> u32 {
+    (number - of.0) * SHARES / (of.1 - of.0 + 1)
+}
+
+fn grid(parts: &[Part], rows: &[Row], sees: &[bool]) -> Vec<u64> {
+    let mut counts = vec![0; (SHARES * SHARES) as usize];
+    for part in parts {
+        part.each(rows, sees, |row| counts[(share(part.y, row.y) * SHARES + share(part.x, row.x)) as usize] += 1);
+    }
+    counts
+}
+
 fn main() {
     let files: Vec<String> = env::args().skip(1).map(|file| fs::read_to_string(file).unwrap()).collect();
     let (rows, sees) = read(&files[0]);
-    for share in ["0.02", "0.1", "0.4"] {
-        let (mut times, mut seen) = (vec![], 0);
-        for line in files[1].lines().filter(|line| line.split(' ').next() == Some(share)) {
-            let bounds: Vec<u64> = line.split(' ').skip(1).map(|word| word.parse().unwrap()).collect();
-            let start = Instant::now();
-            seen += parts(&bounds).iter().map(|part| part.count(&rows, &sees)).sum::<u64>();
-            times.push(start.elapsed().as_nanos());
-        }
-        times.sort_unstable();
-        println!("{share}: {} counts of {seen} rows in all, {} ns the middle one", times.len(), times[times.len() / 2]);
+    for line in files[1].lines() {
+        let (class, bounds) = line.split_once(' ').unwrap();
+        let bounds: Vec<u64> = bounds.split(' ').map(|word| word.parse().unwrap()).collect();
+        let start = Instant::now();
+        let counted = count(&parts(&bounds), &rows, &sees);
+        let count_took = start.elapsed().as_nanos();
+        let start = Instant::now();
+        let in_fields: u64 = grid(&parts(&bounds), &rows, &sees).iter().sum();
+        let grid_took = start.elapsed().as_nanos();
+        println!("{class} {counted} {in_fields} {count_took} {grid_took}");
     }
 }
