@@ -47,9 +47,7 @@ fn print_reads(rt: &HostRuntime, bench: &Bench, asked: &Asked<'_>) -> io::Result
     println!(rt; "{class} {} {} {}", count.rows, grid.rows, page.rows)?;
     eprintln!(rt;
         "{class} {} {} {}",
-        count.nanoseconds,
-        grid.nanoseconds,
-        page.nanoseconds
+        count.nanoseconds, grid.nanoseconds, page.nanoseconds
     )
 }
 
