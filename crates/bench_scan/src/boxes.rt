@@ -12,7 +12,7 @@ pub struct Asked<'t> {
 /// The box of a line `class x0 x1 y0 y1 t0 t1`.
 pub fn box_in(line: &str) -> Option<Asked<'_>> {
     let mut words = line.split(' ');
-    let class = words.next()?;
+    let class = words.next().unwrap_or("");
     let mut bounds = [0; 6];
     for bound in &mut bounds {
         *bound = number_of(words.next());
