@@ -3,3 +3,4 @@ pub mod RowChanges
 pub mod Shorter
 pub mod Joining
 pub mod Taking
+pub mod Seeing

@@ -88,6 +88,14 @@ module _ {A : Type 0} where
         subst (λ (q : Request A). is_change q ≡ true) request a.change,
       )
 
+  -- the directory after it
+  pub directory_next : (s : State A) (c : Noted A) (t : State A) → ReadsAs c.note (Ok c.request)
+      → c.accepted ≡ is_none (refusal_of s.directory c.note.user c.request) → Applies s c.note t
+      → t.directory ≡ (if c.accepted then directory_after c.note.user c.request s.directory else s.directory)
+  directory_next s c t reads judged a =
+      let is = is_made s c t reads a in
+      ap (λ (u : State A). u.directory) is.0 ∙ (made_by s c is.1 judged).directory
+
   -- it applies to each state of the same directory
   applies_too : (s : State A) (c : Noted A) (t short : State A) → ReadsAs c.note (Ok c.request) → Applies s c.note t → short.directory ≡ s.directory
       → Applies short c.note (made short c)

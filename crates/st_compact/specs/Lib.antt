@@ -1,3 +1,4 @@
 pub mod Shortening
 pub mod Judging
+pub mod Watching
 pub mod inner

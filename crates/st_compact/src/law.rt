@@ -1,9 +1,12 @@
 //! Laws of short lists.
 ghost use Rattle.std.specs.Prelude.{◌≡◌, [], List};
 ghost use Rattle.st_core.specs.State.{State};
+ghost use Rattle.st_journal.specs.declared.record.Record.{Record};
 ghost use Rattle.st_journal.specs.Replays.{Replays};
 ghost use Rattle.st_durable.specs.Applying.{Applies};
 ghost use Rattle.st_compact.specs.Shortening.{Noted, AreNoted, records_of, shortened};
+ghost use Rattle.st_compact.specs.Judging.{AreShortOf};
+ghost use Rattle.st_compact.specs.Watching.{Watched, Watches};
 
 use std::alloc::Allocator;
 
@@ -12,4 +15,12 @@ use std::alloc::Allocator;
 pub fn one_state<A: Allocator>()
     ensures { (first after : State A) (changes : List (Noted A)) → first.rows ≡ [] → first.audit ≡ [] → AreNoted first.directory changes
         → Replays Applies first (records_of changes) after → Replays Applies first (records_of (shortened changes)) after }
+{}
+
+/// Whoever makes a state again from records, and puts what `shorten` makes of them in their place, has records that lead to the same
+/// state from the one that a server begins with.
+pub fn stands_for_the_same()
+    ensures { (first after : Watched) (records kept : List Record) → first.state.rows ≡ [] → first.state.audit ≡ [] → first.changes ≡ []
+        → Replays Watches first records after → AreShortOf after.changes kept
+        → Replays Applies first.state records after.state × Replays Applies first.state kept after.state }
 {}
