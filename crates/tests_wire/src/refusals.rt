@@ -92,7 +92,7 @@ fn each_growth_refused(rt: HostRuntime) {
         &[ZERO, DONE, BUSY][..],
     ];
     let runs = busy_runs(&heap, rt.alloc(), INPUT, &[ZERO, DONE, ONE], &busy);
-    assert!(rt; runs.is_some_and(|runs| runs > 10));
+    assert!(rt; runs.is_some_and(|runs| runs >= 9));
 }
 
 // So is the answer to a request for the normal form of a label.
