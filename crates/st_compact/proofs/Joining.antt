@@ -1,6 +1,5 @@
 -- Names of rows as one text.
-use Rattle.std.proofs.Common.{◌≡◌, ℕ, suc, List, [], ◌∷◌, ◌++◌, length, Bool, true, false, cond, ◌&&◌, ◌||◌, bytes_eq, String, Global, refl, sym, ap, ap₂, subst, ◌∙◌}
-use Rattle.std.specs.HashSet.{HashSet, contains_text}
+use Rattle.std.proofs.Common.{◌≡◌, ℕ, suc, [], ◌∷◌, ◌++◌, length, Bool, true, false, cond, ◌&&◌, ◌||◌, bytes_eq, refl, sym, ap, subst, ◌∙◌}
 use Rattle.st_text.specs.Texts.{Text, same}
 use Rattle.st_text.proofs.Same.{same-eq, same-refl}
 use Rattle.st_table.specs.Rows.{Held, is_held}

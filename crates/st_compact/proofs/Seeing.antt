@@ -1,5 +1,5 @@
 -- A state that was made again beside the changes.
-use Rattle.std.proofs.Common.{◌≡◌, List, [], ◌∷◌, ◌++◌, map, Bool, true, false, is_none, is_ok, if◌then◌else◌, Option, Some, None, Result, Ok, Global, refl, sym, ap, ap₂, subst, ◌∙◌, append_assoc, append-nil}
+use Rattle.std.proofs.Common.{◌≡◌, List, [], ◌∷◌, ◌++◌, map, Bool, is_none, is_ok, if◌then◌else◌, Option, Some, None, Result, Ok, Global, refl, sym, ap, ap₂, subst, ◌∙◌, append_assoc, append-nil}
 use Rattle.std.specs.List.{AllByRecursion}
 use Rattle.st_dir.specs.Directory.{Directory}
 use Rattle.st_text.specs.Texts.{Text}
@@ -14,7 +14,7 @@ use Rattle.st_record.specs.Records.{ReadsAs}
 use Rattle.st_record.proofs.ReadBack.{one}
 use Rattle.st_durable.specs.Applying.{Applies}
 use Rattle.st_compact.specs.declared.judged_record.JudgedRecord.{JudgedRecord}
-use Rattle.st_compact.specs.Shortening.{Noted, AreNoted, records_of, shortened}
+use Rattle.st_compact.specs.Shortening.{Noted, AreNoted, IsShortList, records_of, shortened}
 use Rattle.st_compact.specs.Judging.{AreShortOf, judged}
 use Rattle.st_compact.specs.Watching.{Watched, Watches}
 use Rattle.st_compact.proofs.Shorter.{directory_next, one_state}
@@ -104,18 +104,71 @@ same_changes d (x ∷ a) (y ∷ b) n r e =
         let request : x.request ≡ y.request = cc in
         λ i. record { note = note i; request = request i; accepted = accepted i }
 
+-- the records that `shorten` made are those of the short list of the changes that were made
+short_of : (first after : Watched) (records kept : List Record) → (made : Replays Watches first records after) → first.changes ≡ []
+    → AreShortOf after.changes kept → kept ≡ records_of (shortened (seen first after records made).changes)
+short_of first after records kept made none short =
+    let all = seen first after records made in
+    let alike : map judged all.changes ≡ map judged short.changes =
+    sym (all.put ∙ ap (λ l. l ++ map judged all.changes) none) ∙ short.judged_are in
+    let same : all.changes ≡ short.changes = same_changes first.state.directory all.changes short.changes all.noted short.read alike in
+    short.kept_are ∙ ap (λ l. records_of (shortened l)) (sym same)
+
+pub is_short_list : (first after : Watched) (records kept : List Record) → first.changes ≡ []
+    → Replays Watches first records after → AreShortOf after.changes kept → IsShortList first.state.directory records kept
+is_short_list first after records kept none made short =
+    let all = seen first after records made in
+    record {
+      changes = all.changes;
+      noted = all.noted;
+      old_are = all.records_are;
+      short_are = short_of first after records kept made none short;
+    }
+
 pub stands_for_the_same : (first after : Watched) (records kept : List Record) → first.state.rows ≡ [] → first.state.audit ≡ [] → first.changes ≡ []
     → Replays Watches first records after → AreShortOf after.changes kept
     → Replays Applies first.state records after.state × Replays Applies first.state kept after.state
 stands_for_the_same first after records kept no_rows no_audit none made short =
     let all = seen first after records made in
-    let alike : map judged all.changes ≡ map judged short.changes =
-    sym (all.put ∙ ap (λ l. l ++ map judged all.changes) none) ∙ short.judged_are in
-    let same : all.changes ≡ short.changes = same_changes first.state.directory all.changes short.changes all.noted short.read alike in
-    let is : kept ≡ records_of (shortened all.changes) = short.kept_are ∙ ap (λ l. records_of (shortened l)) (sym same) in
     let whole : Replays Applies first.state (records_of all.changes) after.state =
     subst (λ l. Replays Applies first.state l after.state) all.records_are all.made in (
       all.made,
-      subst (λ l. Replays Applies first.state l after.state) (sym is)
+      subst (λ l. Replays Applies first.state l after.state) (sym (short_of first after records kept made none short))
           (one_state first.state after.state all.changes no_rows no_audit all.noted whole),
     )
+
+-- changes of the same records, judged by the same directory, are the same
+alike_noted : {A : Type 0} (d : Directory A) (a b : List (Noted A)) → AreNoted d a → AreNoted d b → records_of a ≡ records_of b → a ≡ b
+alike_noted d [] [] n m e = refl
+alike_noted d [] (y ∷ b) n m e = absurd (nil_cons (records_of b) e)
+  where
+    nil_cons : (l : List Record) → [] ≡ y.note ∷ l → ⊥
+    nil_cons l p = cc
+alike_noted d (x ∷ a) [] n m e = absurd (cons_nil (records_of a) e)
+  where
+    cons_nil : (l : List Record) → x.note ∷ l ≡ [] → ⊥
+    cons_nil l p = cc
+alike_noted {A} d (x ∷ a) (y ∷ b) n m e =
+    let note : x.note ≡ y.note = head (records_of a) (records_of b) e in
+    let reads : ReadsAs x.note (Ok y.request) = subst (λ (k : Record). ReadsAs k (Ok y.request)) (sym note) m.0 in
+    let both : Ok x.request ≡ Ok y.request = one x.note (Ok x.request) (Ok y.request) n.0 reads in
+    let request : x.request ≡ y.request = cc in
+    let accepted : x.accepted ≡ y.accepted =
+    n.1 ∙ ap₂ (λ (r : Record) (q : Request A). is_none (refusal_of d r.user q)) note request ∙ sym m.1 in
+    let same : x ≡ y = (λ i. record { note = note i; request = request i; accepted = accepted i }) in
+    let later : AreNoted (if x.accepted then directory_after x.note.user x.request d else d) b =
+    subst (λ (z : Noted A). AreNoted (if z.accepted then directory_after z.note.user z.request d else d) b) (sym same) m.2 in
+    let tails : a ≡ b =
+    alike_noted (if x.accepted then directory_after x.note.user x.request d else d) a b n.2 later (tail (records_of a) (records_of b) e) in
+    λ i. same i ∷ tails i
+  where
+    head : (p q : List Record) → x.note ∷ p ≡ y.note ∷ q → x.note ≡ y.note
+    head p q h = cc
+
+    tail : (p q : List Record) → x.note ∷ p ≡ y.note ∷ q → p ≡ q
+    tail p q h = cc
+
+pub one_short_list : {A : Type 0} (d : Directory A) (old short other : List Record) → IsShortList d old short → IsShortList d old other → short ≡ other
+one_short_list d old short other a b =
+    let same : a.changes ≡ b.changes = alike_noted d a.changes b.changes a.noted b.noted (sym a.old_are ∙ b.old_are) in
+    a.short_are ∙ ap (λ l. records_of (shortened l)) same ∙ sym b.short_are

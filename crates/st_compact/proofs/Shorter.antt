@@ -1,5 +1,5 @@
 -- The short list leads to the same state.
-use Rattle.std.proofs.Common.{◌≡◌, ℕ, suc, ◌+◌, ◌-◌, ◌≤◌, List, [], ◌∷◌, ◌++◌, length, map, filter, Bool, true, false, not, ◌&&◌, ◌||◌, if◌then◌else◌, is_none, nat_le, Option, Some, None, Ok, refl, sym, ap, subst, ◌∙◌, arith, length-drop, le_refl, leb→le, le→leb, eqb→eq, nat_eq, T}
+use Rattle.std.proofs.Common.{◌≡◌, ℕ, suc, ◌-◌, ◌≤◌, List, [], ◌∷◌, ◌++◌, length, Bool, true, false, not, ◌&&◌, ◌||◌, if◌then◌else◌, is_none, nat_le, Option, Some, None, Ok, refl, sym, ap, subst, ◌∙◌, arith, le_refl, leb→le, le→leb, eqb→eq, nat_eq, T}
 use Rattle.circular_buffer.specs.Buffer.{keep_last}
 use Rattle.st_text.specs.Texts.{Text, in_order}
 use Rattle.st_policy.specs.declared.entry.Entry.{Entry}
@@ -11,18 +11,17 @@ use Rattle.st_policy.specs.Policy.{refusal_of}
 use Rattle.st_dir.specs.Directory.{Directory, is_user}
 use Rattle.st_table.specs.Rows.{Held, full_name}
 use Rattle.st_core.specs.declared.asked.Call.{Call}
-use Rattle.st_core.specs.Changes.{rows_after, directory_after}
+use Rattle.st_core.specs.Changes.{directory_after}
 use Rattle.st_core.specs.State.{State}
 use Rattle.st_core.specs.declared.judged.Judged.TheVariants.{Heard}
-use Rattle.st_core.specs.Step.{audit_after, judge_call, result_of, settle}
-use Rattle.st_journal.specs.declared.record.Record.{Record}
+use Rattle.st_core.specs.Step.{judge_call, result_of, settle}
 use Rattle.st_journal.specs.Replays.{Replays}
 use Rattle.st_record.specs.Records.{ReadsAs}
 use Rattle.st_record.proofs.ReadBack.{one}
 use Rattle.st_durable.specs.Applying.{Applies}
 use Rattle.st_compact.specs.Shortening.{Noted, AreNoted, is_decided, is_left_out, is_undone, records_of, shortened}
 use Rattle.st_compact.proofs.LastOnes.{last_of_last, last_none, last_same}
-use Rattle.st_compact.proofs.RowChanges.{Kind, IsPut, IsDelete, IsDrop, IsOther, kind_of, rows_with, own, live, live_again, filter_all, ordered_with, alike_with, bare_with, bare_without, clash}
+use Rattle.st_compact.proofs.RowChanges.{Kind, IsPut, IsDelete, IsDrop, IsOther, kind_of, rows_with, live, live_again, filter_all, ordered_with, alike_with, bare_with, bare_without, clash}
 
 -- a list of at most so many
 full_with : (xs : List Entry) → keep_last 1024 (keep_last 1024 xs) ≡ keep_last 1024 xs

@@ -1,6 +1,5 @@
 -- What is known once one change more was looked at.
-use Rattle.std.proofs.Common.{◌≡◌, ℕ, suc, ◌+◌, List, [], ◌∷◌, ◌++◌, length, reverse, map, Bool, true, false, not, ◌&&◌, ◌||◌, if◌then◌else◌, nat_le, Result, Ok, Err, OnOk, Global, refl, sym, ap, subst, ◌∙◌, arith, append_assoc}
-use Rattle.std.specs.List.{AllByRecursion}
+use Rattle.std.proofs.Common.{◌≡◌, ◌+◌, List, [], ◌∷◌, ◌++◌, length, reverse, map, Bool, true, false, not, ◌&&◌, ◌||◌, if◌then◌else◌, nat_le, Result, Ok, Err, OnOk, Global, refl, sym, ap, ◌∙◌, arith, append_assoc}
 use Rattle.std.proofs.lemmas.List.{reverse-append}
 use Rattle.st_policy.specs.declared.request.Request.{Request}
 use Rattle.st_table.specs.Rows.{Held}

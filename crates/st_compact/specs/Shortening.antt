@@ -52,3 +52,11 @@ AreNoted d (c ∷ rest) =
 
 abbrev pub records_of : {A : Type 0} → List (Noted A) → List Record
 records_of = map (λ c. c.note)
+
+-- The first are the records of changes that the directories which they meet, from this one on, judge so; the others those of their short
+-- list.
+pub record IsShortList {A : Type 0} (d : Directory A) (old short : List Record) : Type 0 where
+  pub changes : List (Noted A)
+  pub noted : AreNoted d changes
+  pub old_are : old ≡ records_of changes
+  pub short_are : short ≡ records_of (shortened changes)

@@ -1,10 +1,11 @@
 //! Laws of short lists.
 ghost use Rattle.std.specs.Prelude.{◌≡◌, [], List};
+ghost use Rattle.st_dir.specs.Directory.{Directory};
 ghost use Rattle.st_core.specs.State.{State};
 ghost use Rattle.st_journal.specs.declared.record.Record.{Record};
 ghost use Rattle.st_journal.specs.Replays.{Replays};
 ghost use Rattle.st_durable.specs.Applying.{Applies};
-ghost use Rattle.st_compact.specs.Shortening.{Noted, AreNoted, records_of, shortened};
+ghost use Rattle.st_compact.specs.Shortening.{Noted, AreNoted, IsShortList, records_of, shortened};
 ghost use Rattle.st_compact.specs.Judging.{AreShortOf};
 ghost use Rattle.st_compact.specs.Watching.{Watched, Watches};
 
@@ -23,4 +24,15 @@ pub fn stands_for_the_same()
     ensures { (first after : Watched) (records kept : List Record) → first.state.rows ≡ [] → first.state.audit ≡ [] → first.changes ≡ []
         → Replays Watches first records after → AreShortOf after.changes kept
         → Replays Applies first.state records after.state × Replays Applies first.state kept after.state }
+{}
+
+/// What `shorten` makes of the records that a state was made again from is their short list, by the directory that the state began with.
+pub fn is_short_list()
+    ensures { (first after : Watched) (records kept : List Record) → first.changes ≡ []
+        → Replays Watches first records after → AreShortOf after.changes kept → IsShortList first.state.directory records kept }
+{}
+
+/// Records have one short list.
+pub fn one_short_list<A: Allocator>()
+    ensures { (d : Directory A) (old short other : List Record) → IsShortList d old short → IsShortList d old other → short ≡ other }
 {}

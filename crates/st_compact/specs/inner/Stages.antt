@@ -1,12 +1,11 @@
 -- A stage of the code, which no reader has to believe: what is known of the changes behind the one that is looked at.
-use Rattle.std.specs.Prelude.{◌≡◌, ℕ, List, [], ◌∷◌, ◌++◌, length, reverse, map, Bool, ◌||◌, Ok}
+use Rattle.std.specs.Prelude.{◌≡◌, List, ◌∷◌, ◌++◌, length, reverse, map, Bool, ◌||◌, Ok}
 use Rattle.std.specs.List.{AllByRecursion}
 use Rattle.std.specs.HashSet.{contains_text}
 use Rattle.std.specs.declared.alloc.Global.{Global}
 use Rattle.st_text.specs.Texts.{Text}
 use Rattle.st_policy.specs.declared.request.Request.{Request}
 use Rattle.st_table.specs.Rows.{Held}
-use Rattle.st_journal.specs.declared.record.Record.{Record}
 use Rattle.st_record.specs.Records.{ReadsAs}
 use Rattle.st_compact.specs.declared.decided.Decided.{Decided}
 use Rattle.st_compact.specs.declared.judged_record.JudgedRecord.{JudgedRecord}

@@ -1,4 +1,3 @@
-use Rattle.std.proofs.Common.{rules}
 use Rattle.st_compact.proofs.Taking.{past_more}
 use Rattle.st_compact.proofs.short_list.shorten.Goals as goal
 

@@ -1,4 +1,4 @@
-use Rattle.std.proofs.Common.{◌≡◌, true, false, rules, sym, ◌∙◌}
+use Rattle.std.proofs.Common.{◌≡◌, true, rules, sym, ◌∙◌}
 use Rattle.st_dir.specs.Directory.{is_user}
 use Rattle.st_durable.proofs.Replaying.{applies_none}
 use Rattle.st_compact.proofs.watched.make_again.Goals.{then-not-is_change-via-then-not-is_change, then-not-is_change-via-else-not-is_change+then-not-has_user}
