@@ -1,0 +1,3 @@
+pub mod Shortened
+pub mod Asking
+pub mod inner
