@@ -1,0 +1,22 @@
+-- What a turn of copying leaves in a file.
+use Rattle.std.specs.Prelude.{◌≡◌, ◌≢◌, ◌⊎◌, ℕ, List, [], Option, Some, length}
+use Rattle.sqlite_wal.specs.Recovery.{Image}
+use Rattle.st_journal.specs.declared.record.Record.{Record}
+use Rattle.st_journal_file.specs.Opening.{HoldJournal, HoldNoJournal}
+use Rattle.st_copy.specs.Following.{GoesOn, IsAtEnd, IsGiven}
+
+-- the files held a copy with these changes, of a store that was opened so; or none, and there are no changes
+abbrev pub HoldCopy : Image → List ℕ → List Record → Type 0
+HoldCopy image opening changes = HoldJournal image opening changes ⊎ (HoldNoJournal image × (changes ≡ []))
+
+-- The copy, as it was before it was closed, has what its files held and, behind that, what was read behind as many records, to an end of
+-- the list: so many by now. Unless it had as many as the last turn had left in it, all that it has was compared or appended.
+pub record Copied {J : Type 0} (holds : List Record → Type 0) (list : J → List Record) (misreads : J → ℕ)
+    (gives : (from most : ℕ) → List Record → Type 0) (left : Option ℕ) (now : ℕ) : Type 0 where
+  pub copy : J
+  pub old : List Record
+  pub found : misreads copy ≡ 0 → holds old
+  pub goes_on : misreads copy ≡ 0 → GoesOn gives old (list copy)
+  pub whole : misreads copy ≡ 0 → left ≢ Some (length old) → IsGiven gives 0 (list copy)
+  pub counted : misreads copy ≡ 0 → now ≡ length (list copy)
+  pub at_end : IsAtEnd gives now
