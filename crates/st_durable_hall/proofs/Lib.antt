@@ -1,3 +1,4 @@
 pub mod Batches
 pub mod Crossing
 pub mod Grouping
+mod Backs

@@ -1,5 +1,5 @@
 -- What contracts see of what keeps and publishes changes, and what is left of it if the process ends.
-use Rattle.std.specs.Prelude.{◌≡◌, ◌⊎◌, ℕ, Bool, List}
+use Rattle.std.specs.Prelude.{◌≡◌, ◌⊎◌, ℕ, Bool, List, drop, take}
 use mathlib.Core.List.{IsPrefix}
 use Rattle.st_journal.specs.declared.record.Record.{Record}
 use Rattle.st_journal.specs.Replays.{Replays}
@@ -33,3 +33,12 @@ pub record WasKept {J : Type 0} (list_of : J → List Record) (misreads : J → 
   pub front : List Ask
   pub has : IsPrefix changes front
   pub stands : misreads journal ≡ 0 → Replays Applies first (list_of journal) (state_after start front)
+
+-- These records were read: at some moment they were what the journal's list had behind the first so many, at most so many, and that list
+-- led from the first state to the state after the changes that were kept.
+pub record WasRead {J : Type 0} (list_of : J → List Record) (misreads : J → ℕ) (first start : State) (from most : ℕ)
+    (records : List Record) : Type 0 where
+  pub journal : J
+  pub kept : List Ask
+  pub stood : misreads journal ≡ 0 → records ≡ take most (drop from (list_of journal))
+  pub stands : misreads journal ≡ 0 → Replays Applies first (list_of journal) (state_after start kept)

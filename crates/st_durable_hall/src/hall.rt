@@ -8,7 +8,7 @@ ghost use Rattle.st_durable.specs.Applying.{Applies};
 ghost use Rattle.st_hall.specs.Steps.{Ask, state_after};
 ghost use Rattle.st_hall.specs.Views.{EndsAfter, IsStranger};
 ghost use Rattle.st_durable_hall.specs.declared.fault.ChangeError.{ChangeError};
-ghost use Rattle.st_durable_hall.specs.Rolls.{WasKept};
+ghost use Rattle.st_durable_hall.specs.Rolls.{WasKept, WasRead};
 
 use crate::board::Board;
 use crate::draft::Draft;
@@ -18,7 +18,7 @@ use st_core::{Asked, Reply};
 use st_durable::Beginning;
 use st_hall::{Clerk, Desk, Front, HallName, Receipt};
 use st_http::message::Message;
-use st_journal::Journal;
+use st_journal::{Journal, ReadBack, ReadError, Record};
 use std::alloc::Global;
 use std::sync::{Condvar, Mutex, Wait};
 use std::time::Clock;
@@ -157,5 +157,15 @@ impl<B: Beginning, H: HallName, R: Wait + Drop, J: Journal + Drop> DurableHall<B
             }),
             Err(Lost) => Err(ChangeError::Lost),
         }
+    }
+}
+
+impl<B: Beginning, H: HallName, R: Wait + Drop, J: ReadBack + Drop> DurableHall<B, H, R, J> {
+    /// The kept records behind the first `from`, in order, at most so many: what the journal had there at the moment of the reading.
+    /// No change is kept meanwhile. `Lost` comes once an append failed, or where the journal takes no more.
+    pub fn read<W: Wait>(&self, rt: &W, from: u64, most: usize) -> Result<Vec<Record>, ReadError>
+        ensures { IfOk result (λ records. WasRead J.Journal.list J.Journal.misreads B.first H.start from most records.items) }
+    {
+        self.publisher.lock(rt).read(from, most)
     }
 }

@@ -1,18 +1,19 @@
 //! What keeps the changes that are decided, and publishes them.
-ghost use Rattle.std.specs.Prelude.{◌≡◌, ◌<◌, [], length, true, false, List, IfOk, OnOk, MatchResult};
+ghost use Rattle.std.specs.Prelude.{◌≡◌, ◌≢◌, ◌<◌, [], length, true, false, List, Err, IfOk, OnOk, MatchResult};
 ghost use mathlib.Core.List.{IsPrefix};
 ghost use Rattle.st_journal.specs.declared.record.Record.{Record};
+ghost use Rattle.st_journal.specs.declared.read_back.ReadError.TheVariants as ends;
 ghost use Rattle.st_journal.specs.Replays.{Replays};
 ghost use Rattle.st_durable.specs.Applying.{Applies};
 ghost use Rattle.st_hall.specs.Steps.{state_after};
-ghost use Rattle.st_durable_hall.specs.Rolls.{LeadPast, LeadToOne, WasKept};
+ghost use Rattle.st_durable_hall.specs.Rolls.{LeadPast, LeadToOne, WasKept, WasRead};
 
 use crate::draft::{Batch, Draft};
 use crate::fault::Lost;
 use crate::keeping::append_all;
 use st_durable::Beginning;
 use st_hall::{Front, HallName, Press};
-use st_journal::Journal;
+use st_journal::{Journal, ReadBack, ReadError, Record};
 use std::marker::{Model, PhantomData};
 use std::sync::{Mutex, Wait};
 
@@ -219,5 +220,27 @@ impl<B: Beginning, H: HallName, R: Wait + Drop, J: Journal + Drop> Publisher<B, 
             self.publish(rt, draft);
         }
         Ok(self.shows(front))
+    }
+}
+
+// Whether a reading says that the journal takes no more.
+fn says_lost(read: &Result<Vec<Record>, ReadError>) -> bool
+    ensures { result ≡ false → read.now ≢ Err ends.Lost }
+{
+    matches!(read, Err(ReadError::Lost))
+}
+
+impl<B: Beginning, H: HallName, R: Wait + Drop, J: ReadBack + Drop> Publisher<B, H, R, J> {
+    /// The kept records behind the first `from`, in order, at most so many. At `Lost` the journal takes no more.
+    pub fn read(&mut self, from: u64, most: usize) -> Result<Vec<Record>, ReadError>
+        ensures read { IfOk result (λ records. WasRead J.Journal.list J.Journal.misreads B.first H.start from most records.items) }
+        ensures same { (self.new.list ≡ self.old.list) × (self.new.kept ≡ self.old.kept) × (self.new.published ≡ self.old.published) }
+    {
+        if self.is_lost {
+            return Err(ReadError::Lost);
+        }
+        let read = self.journal.read(from, most);
+        self.is_lost = says_lost(&read);
+        read
     }
 }

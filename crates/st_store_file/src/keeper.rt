@@ -5,17 +5,9 @@ ghost use Rattle.st_command.specs.Opening.{IsOfStore};
 use sqlite_std_file::{FileFrom, Start};
 use st_command::Keeper;
 use st_command_line::Fault;
+use st_copy_file::milliseconds;
 use st_journal::Replay;
 use st_journal_file::{FileJournal, OpenError};
-use std::time::Clock;
-
-// Milliseconds since 1970-01-01 00:00 UTC, and 0 where the clock gives no time.
-fn milliseconds<C: Clock>(clock: &C) -> i64 {
-    match clock.since_1970() {
-        Ok(time) => i64::try_from(time.as_millis()).unwrap_or(i64::MAX),
-        Err(_) => 0,
-    }
-}
 
 // The fault that an error of an opening is.
 fn fault_of(error: OpenError) -> Fault
