@@ -1,6 +1,7 @@
 //! What the server reads from a client.
 ghost use Rattle.std.specs.Prelude.{◌≡◌, ◌↔◌, ◌<◌, ◌≤◌, false, IfOk, IsTrue};
 
+use crate::watching::{Crowd, Watch};
 use st_connection::{Failed, FromRead, Source};
 use std::io;
 use std::net::TcpStream;
@@ -29,16 +30,19 @@ pub struct Incoming<'a, C> {
     came: usize,
     // How long a read of the stream waits.
     wait: Duration,
+    watch: Watch<'a>,
 }
 
 impl<'a, C: Clock> Incoming<'a, C> {
     /// Gives each message `limit` from the read that brings its first byte to its last byte, the first byte of a connection `limit`
-    /// too, and that of each later message `idle` from the answer to the one before it. A read for which no time is left fails.
+    /// too, and that of each later message `idle` from the answer to the one before it. A read for which no time is left fails. Of
+    /// the connections that are answered at the same time this is one.
     pub fn new(
         clock: &'a C,
         stream: &'a TcpStream,
         limit: Duration,
         idle: Duration,
+        crowd: &'a Crowd,
     ) -> io::Result<Incoming<'a, C>>
         ensures { IfOk result (λ incoming. ⟦<Incoming<'a, C> as Source>⟧.has_failed incoming ≡ false) }
     {
@@ -53,6 +57,7 @@ impl<'a, C: Clock> Incoming<'a, C> {
             until: None,
             came: 0,
             wait: limit,
+            watch: Watch::new(crowd),
         })
     }
 
@@ -95,6 +100,9 @@ impl<'a, C: Clock> Source for Incoming<'a, C> {
     ghost has_failed = { λ s. ⟦<FromRead<&'a TcpStream> as Source>⟧.has_failed s.source };
 
     fn read(&mut self, buffer: &mut [u8]) -> Result<usize, Failed> {
+        if self.until.is_none() {
+            self.watch.wait(self.stream);
+        }
         match self.limit_wait() {
             Ok(()) => {
                 let count = self.source.read(buffer)?;

@@ -5,8 +5,10 @@ mod accepting;
 mod incoming;
 mod outgoing;
 mod parting;
+mod watching;
 
 pub use accepting::{Acceptor, BadListener};
 pub use incoming::Incoming;
 pub use outgoing::Outgoing;
 pub use parting::part;
+pub use watching::Crowd;
