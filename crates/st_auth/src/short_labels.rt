@@ -10,14 +10,20 @@ use st_label::Label;
 use st_text::{MAX_SHORT, ShortText};
 use std::alloc::Allocator;
 
-// How many slots there are.
-const SLOTS: usize = 64;
+// How many slots there are at first.
+const FEWEST: usize = 64;
+
+// How many slots there are at most.
+const MOST: usize = 8192;
+
+// What stands in a slot of no label.
+const FREE: u16 = u16::MAX;
 
 // In how many consecutive slots a label may be.
 const STEPS: usize = 4;
 
 // The factor of the hash of a text, whose highest bits depend on all bits that are multiplied.
-const FACTOR: u32 = 0x8b52_9b4b;
+const FACTOR: u64 = 0x9e37_79b9_7f4a_7c15;
 
 // A label's text and whether it is true.
 #[derive(Drop)]
@@ -27,21 +33,21 @@ struct Known {
 }
 
 /// A cache of the verdicts on labels of at most [`MAX_SHORT`] bytes. A label that finds no free slot
-/// replaces another. It allocates with the first label.
+/// replaces another. It allocates with the first label, and grows with how many there are, up to 8,192 slots.
 #[derive(Drop)]
 pub struct ShortLabels<A: Allocator> {
-    // The index in `known` of each slot's label. A free slot has an index past its end.
-    slots: [u8; SLOTS],
+    // The index in `known` of each slot's label. A free slot has an index past its end. Their number is a power of two, or 0.
+    slots: Vec<u16, A>,
     known: Vec<Known, A>,
 }
 
-impl<A: Allocator> ShortLabels<A> {
+impl<A: Allocator + Copy> ShortLabels<A> {
     /// The empty cache.
     pub fn new(alloc: A) -> ShortLabels<A>
         ensures { (names : List Text) → AreKnown names result.known.items }
     {
         ShortLabels {
-            slots: [u8::MAX; SLOTS],
+            slots: Vec::new(alloc),
             known: Vec::new(alloc),
         }
     }
@@ -50,7 +56,7 @@ impl<A: Allocator> ShortLabels<A> {
     pub fn forget(&mut self)
         ensures { (names : List Text) → AreKnown names self.new.known.items }
     {
-        self.slots = [u8::MAX; SLOTS];
+        self.slots.clear();
         self.known.clear();
     }
 
@@ -80,12 +86,10 @@ impl<A: Allocator> ShortLabels<A> {
         ensures { (names : List Text) → AreKnown names self.now.known.items
             → IfSome result (λ verdict. verdict ≡ is_true (is_among names) text.now) }
     {
-        let first = slot_of(text);
+        let hash = hash_of(text);
         for step in 0..STEPS {
-            let number = self.slots[(first + step) % SLOTS];
-            let Some(known) = self.known.get(number as usize) else {
-                return None;
-            };
+            let number = *self.slots.get(slot_at(&self.slots, hash, step))?;
+            let known = self.known.get(number as usize)?;
             if known.text.is(text) {
                 return Some(known.verdict);
             }
@@ -101,50 +105,81 @@ impl<A: Allocator> ShortLabels<A> {
         let Some(short) = ShortText::new(text) else {
             return;
         };
-        let slot = self.slot_for(text);
-        let number = self.slots[slot] as usize;
+        self.grow();
         let count = self.known.len();
+        let slot = slot_for(&self.slots, text, count);
+        let Some(place) = self.slots.get_mut(slot) else {
+            return;
+        };
+        let number = *place as usize;
         let known = Known {
             text: short,
             verdict,
         };
         if number < count {
             self.known[number] = known;
-        } else if count < SLOTS && self.known.push(known).is_ok() {
-            self.slots[slot] = count as u8;
+        } else if count < MOST && self.known.push(known).is_ok() {
+            *place = count as u16;
         }
     }
 
-    // The first free slot of those that a label may have, or the first of them.
-    fn slot_for(&self, text: &str) -> usize
-        ensures { result < SLOTS }
+    // Makes more slots where half of them have a label, if memory suffices.
+    fn grow(&mut self)
+        ensures { self.new.known ≡ self.old.known }
     {
-        let first = slot_of(text);
-        for step in 0..STEPS {
-            let slot = (first + step) % SLOTS;
-            if self.slots[slot] as usize >= self.known.len() {
-                return slot;
-            }
+        if self.known.len() < self.slots.len() / 2 || self.slots.len() >= MOST {
+            return;
         }
-        first
+        let many = (self.slots.len() * 4).max(FEWEST);
+        let alloc = *self.known.allocator();
+        let Ok(mut slots) = vec![in alloc; FREE; many] else {
+            return;
+        };
+        fill(&mut slots, &self.known);
+        self.slots = slots;
     }
 }
 
-// The first slot of a label's text, by a hash of its length and of four of its bytes.
-fn slot_of(text: &str) -> usize
-    ensures { result < SLOTS }
-{
-    let bytes = text.as_bytes();
-    let Some(last) = bytes.last() else {
+// Finds each label a slot.
+fn fill(slots: &mut [u16], known: &[Known]) {
+    for (number, label) in known.iter().enumerate() {
+        let slot = slot_for(slots, label.text.as_str(), known.len());
+        let Some(place) = slots.get_mut(slot) else {
+            return;
+        };
+        *place = u16::try_from(number).unwrap_or(FREE);
+    }
+}
+
+// The first free slot of those that a label may have, or the first of them, where so many labels are known.
+fn slot_for(slots: &[u16], text: &str, count: usize) -> usize {
+    let hash = hash_of(text);
+    for step in 0..STEPS {
+        let slot = slot_at(slots, hash, step);
+        match slots.get(slot) {
+            Some(number) if (*number as usize) < count => {}
+            _ => return slot,
+        }
+    }
+    slot_at(slots, hash, 0)
+}
+
+// The slot that is so many steps behind the first one of a hash.
+fn slot_at(slots: &[u16], hash: usize, step: usize) -> usize {
+    hash.wrapping_add(step) & slots.len().wrapping_sub(1)
+}
+
+// A hash of a label's text, by its length and all its bytes.
+fn hash_of(text: &str) -> usize {
+    let count = text.len();
+    if count > MAX_SHORT {
         return 0;
-    };
-    let count = bytes.len();
-    let some = [
-        bytes[0],
-        bytes[count / 2],
-        bytes[count - 1 - count / 4],
-        *last,
-    ];
-    let hash = (u32::from_le_bytes(some) ^ (count % 16) as u32).wrapping_mul(FACTOR);
-    ((hash >> 26) % 64) as usize
+    }
+    let mut bytes = [0; 16];
+    bytes[..count].copy_from_slice(text.as_bytes());
+    let [a, b, c, d, e, f, g, h, i, j, k, l, m, n, o, _] = bytes;
+    let low = u64::from_le_bytes([a, b, c, d, e, f, g, h]);
+    let high = u64::from_le_bytes([i, j, k, l, m, n, o, count as u8]);
+    let mixed = (low ^ high.rotate_left(29)).wrapping_mul(FACTOR);
+    (mixed >> 40) as usize
 }

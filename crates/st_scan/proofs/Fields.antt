@@ -1,7 +1,6 @@
 -- Fields of a grid, and the rows that are counted in them.
 use Rattle.std.proofs.Common.{◌≡◌, ℕ, suc, ◌+◌, ◌*◌, ◌/◌, ◌^◌, ◌<◌, ◌≤◌, List, [], ◌∷◌, length, filter, map, count_by, Bool, ◌&&◌, nat_eq, get_or, refl, sym, ap, ◌∙◌, arith}
 use Rattle.std.proofs.Math.Nat.{div-lt_iff_lt-mul, mul-lt-mul_of_pos_right}
-use Rattle.std.proofs.lemmas.List.Sums.{length-filter}
 use Rattle.std.proofs.lemmas.Nat.{mul-lt}
 use Rattle.std.specs.List.{All}
 use Rattle.st_label.specs.Reading.{is_true}
@@ -13,7 +12,7 @@ use Rattle.st_index.specs.Fields.{Counts}
 use Rattle.st_index.proofs.Tallying.{zero_at}
 use Rattle.st_scan.specs.Grids.{field_of, grid_of}
 use Rattle.st_scan.specs.Visible.{is_visible_inside, visible_rows}
-use Rattle.st_scan.proofs.Visible.{filter_twice}
+use Rattle.st_scan.proofs.Visible.{count_kept}
 
 pub share_below : (a w s : ℕ) → a < w → 1 ≤ s → a * s / w < s
 share_below a w s l some =
@@ -33,10 +32,6 @@ counted f (x ∷ xs) from h =
     let first : x ≡ f from = h 0 (omega arith) ∙ ap f z in
     let rest : xs ≡ map f (numbers (from + 1) (length xs)) = counted f xs (from + 1) (λ k l. h (suc k) (omega (arith, l)) ∙ (let e : from + suc k ≡ from + 1 + k = omega arith in ap f e)) in
     ap (λ y. y ∷ xs) first ∙ ap (λ ys. f from ∷ ys) rest
-
--- how many pass of those that a filter keeps
-count_kept : {X : Type 0} (p s : X → Bool) (xs : List X) → count_by p (filter s xs) ≡ count_by (λ x. s x && p x) xs
-count_kept p s xs = sym (length-filter p (filter s xs)) ∙ ap length (filter_twice p s xs) ∙ length-filter (λ x. s x && p x) xs
 
 -- where as many were added to zeros as there are rows in each field, that is the grid of those that are seen
 pub are_grid : {A : Type 0} (q : Query) (nx ny : ℕ) (auths : List Text) (content : List (Row A)) (old new : List ℕ) → All (λ n. n ≡ 0) old

@@ -9,3 +9,4 @@ pub mod Positions
 pub mod Fields
 pub mod Past
 pub mod Filling
+pub mod Counting

@@ -1,5 +1,6 @@
 -- Rows inside a query that are visible, and those that are seen.
-use Rattle.std.proofs.Common.{◌≡◌, ◌≤◌, List, [], ◌∷◌, length, filter, Bool, true, false, cond, ◌&&◌, refl, ap, ◌∙◌, arith}
+use Rattle.std.proofs.Common.{◌≡◌, ◌≤◌, List, [], ◌∷◌, length, filter, count_by, Bool, true, false, cond, ◌&&◌, refl, sym, ap, ◌∙◌, arith}
+use Rattle.std.proofs.lemmas.List.Sums.{length-filter}
 
 pub filter_le : {X : Type 0} (p : X → Bool) (xs : List X) → length (filter p xs) ≤ length xs
 filter_le p [] = omega arith
@@ -16,6 +17,10 @@ twice p q false c x xs = refl
 pub filter_twice : {X : Type 0} (p q : X → Bool) (xs : List X) → filter p (filter q xs) ≡ filter (λ x. q x && p x) xs
 filter_twice p q [] = refl
 filter_twice p q (x ∷ xs) = twice p q (q x) (p x) x (filter q xs) ∙ ap (λ ys. cond (q x && p x) (x ∷ ys) ys) (filter_twice p q xs)
+
+-- how many pass of those that a filter keeps
+pub count_kept : {X : Type 0} (p s : X → Bool) (xs : List X) → count_by p (filter s xs) ≡ count_by (λ x. s x && p x) xs
+count_kept p s xs = sym (length-filter p (filter s xs)) ∙ ap length (filter_twice p s xs) ∙ length-filter (λ x. s x && p x) xs
 
 pub keep : {X : Type 0} (p : X → Bool) (x : X) (xs : List X) → p x ≡ true → filter p (x ∷ xs) ≡ x ∷ filter p xs
 keep p x xs h = ap (λ b. cond b (x ∷ filter p xs) (filter p xs)) h

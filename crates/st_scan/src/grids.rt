@@ -1,15 +1,18 @@
 //! Grids of a scan.
-ghost use Rattle.std.specs.Prelude.{◌≡◌, ◌↔◌, ℕ, ◌+◌, ◌-◌, ◌*◌, ◌/◌, ◌<◌, ◌≤◌, ◌^◌, ◌⊎◌, IsOk, IfOk, IfErr, IfSome};
+ghost use Rattle.std.specs.Prelude.{◌≡◌, ◌↔◌, ℕ, ◌+◌, ◌-◌, ◌*◌, ◌/◌, ◌<◌, ◌≤◌, ◌^◌, ◌⊎◌, length, IsOk, IsTrue, IfOk, IfErr, IfSome};
+ghost use Rattle.std.specs.List.{All};
+ghost use Rattle.st_index.specs.Fields.{Counts};
 ghost use Rattle.st_scan.specs.declared.fault.ScanFault.TheVariants.{BadGrid, BadLimit};
 ghost use Rattle.st_scan.specs.Grids.{field_of, grid_of};
 ghost use Rattle.st_scan.specs.Visible.{visible_rows};
 
 use crate::fault::ScanFault;
 use crate::sight::Sight;
+use crate::step::{FEW, open_next};
 use st_auth::Auths;
 use st_box::Query;
-use st_index::{Fields, RowIndex};
-use st_key::Point;
+use st_index::{Fields, Judge, RowIndex, field_counting};
+use st_key::{Key, Point};
 use std::alloc::Allocator;
 
 /// The most columns of a grid, and the most lines.
@@ -87,6 +90,56 @@ impl Fields for GridFields<'_> {
     }
 }
 
+// Adds to the number of each field how many rows of an index are in it, inside the query, and have a label that is found
+// true, and tells whether it did so, as it does where at most `FEW` regions meet the query.
+fn count_few<I: RowIndex, J: Judge<I::Alloc>, F: Fields>(
+    index: &I,
+    judge: &mut J,
+    fields: &F,
+    counts: &mut [u64],
+) -> bool
+    requires long { length counts.old ≡ F.count fields.now }
+    requires none { All (λ n. n ≡ 0) counts.old }
+    ensures counts { IsTrue result → Counts (F.query fields.now) (J.judges judge.old) (F.field_of fields.now) (I.content index.now)
+        counts.old counts.new }
+    ensures same { J.judges judge.new ≡ J.judges judge.old }
+{
+    let query = fields.query();
+    let period = index.period();
+    let mut from = Some(Key::FIRST);
+    let mut opened = 0;
+    'regions: while let Some(key) = from {
+        let Some((entries, next)) = open_next(index, query, period, key) else {
+            return true;
+        };
+        if opened >= FEW {
+            return false;
+        }
+        opened += 1;
+        field_counting::count(entries, judge, fields, counts);
+        from = next;
+    }
+    true
+}
+
+// Adds to the number of each field how many rows of an index are in it, inside the query, and have a label that is found true.
+fn count_fields<I: RowIndex, J: Judge<I::Alloc>, F: Fields>(
+    index: &I,
+    judge: &mut J,
+    fields: &F,
+    counts: &mut [u64],
+)
+    requires long { length counts.old ≡ F.count fields.now }
+    requires none { All (λ n. n ≡ 0) counts.old }
+    ensures { Counts (F.query fields.now) (J.judges judge.old) (F.field_of fields.now) (I.content index.now) counts.old counts.new }
+{
+    if count_few(index, judge, fields, counts) {
+        return;
+    }
+    counts.fill(0);
+    index.count_fields(judge, fields, counts);
+}
+
 /// How many rows that are inside the query, and have a label that the authorizations satisfy, are in
 /// each field of a grid of so many columns and lines over the query's box, line by line. `BadGrid`
 /// where there are not 1 to 32 columns and 1 to 32 lines.
@@ -115,6 +168,6 @@ pub fn grid<I: RowIndex, B: Allocator>(
         columns: columns as u32,
         lines: lines as u32,
     };
-    index.count_fields(&mut sight, &fields, &mut counts);
+    count_fields(index, &mut sight, &fields, &mut counts);
     Ok(counts)
 }

@@ -22,6 +22,9 @@ use st_index::{Entry, RowIndex, RowsView, order};
 use st_key::{Key, Period};
 use std::alloc::Allocator;
 
+// In how many regions rows are counted one by one.
+pub(crate) const FEW: u64 = 12;
+
 // The rows of an entry.
 pub(crate) fn rows_of_entry<A: Allocator + Copy>(entry: &Entry<A>) -> RowsView<'_, A>
     ensures { viewed result ≡ entry.now.rows }
@@ -97,7 +100,7 @@ fn entries_from<A: Allocator + Copy>(entries: &[Entry<A>], first: Key, from: Key
 }
 
 // The entries of the first region from a key on that meets the query, and the first key after it.
-fn open_next<'a, I: RowIndex>(
+pub(crate) fn open_next<'a, I: RowIndex>(
     index: &'a I,
     query: &Query,
     period: Period,

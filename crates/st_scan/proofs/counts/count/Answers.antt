@@ -6,10 +6,19 @@ use Rattle.st_index.specs.Counting.{count_of}
 use Rattle.st_scan.specs.Visible.{is_visible_inside}
 use Rattle.st_scan.proofs.counts.count.Goals as goal
 
+pub returns-in-Some : goal.returns-in-Some
+returns-in-Some g c =
+    let q = c.args.query.now in
+    let content = g.I.RowIndex.content c.args.index.now in
+    c.in-Some.ensures.count
+    ∙ ap (λ names. count_of q (λ label. is_true (is_among names) label) content) c.new-sight.ensures
+    ∙ sym (length-filter (is_visible_inside q c.args.auths.now) content)
+
 pub returns : goal.returns
 returns g c =
     let q = c.args.query.now in
     let content = g.I.RowIndex.content c.args.index.now in
     c.count.ensures
+    ∙ ap (λ judges. count_of q judges content) c.count_few.ensures.same
     ∙ ap (λ names. count_of q (λ label. is_true (is_among names) label) content) c.new-sight.ensures
     ∙ sym (length-filter (is_visible_inside q c.args.auths.now) content)
