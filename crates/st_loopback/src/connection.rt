@@ -7,7 +7,7 @@ use crate::attend::Attend;
 use st_connection::connection::{Ended, IoFault, MAX_READS};
 use st_connection::streams::{FromWrite, Sink, Source};
 use st_hall::Gate;
-use st_peer::{Incoming, Outgoing, part};
+use st_peer::{Crowd, Incoming, Outgoing, part};
 use std::net::TcpStream;
 use std::time::{Clock, Duration};
 
@@ -89,16 +89,17 @@ pub fn answer_stream<T: Attend, R: Source, S: Sink, E: Hangup>(
 #[derive(Clone, Copy, Debug, PartialEq, Eq)]
 pub struct Lost;
 
-/// Answers the requests of one connection until it ends. A fault ends this connection alone; `Lost` ends all.
-pub fn converse<T: Attend, R: Clock>(
+// Answers the requests of one connection of a crowd until it ends.
+fn converse_in<T: Attend, R: Clock>(
     rt: &R,
     attendant: &mut T,
     stream: TcpStream,
     limits: Limits,
+    crowd: &Crowd,
 ) -> Result<(), Lost>
     ensures { T.grows attendant.old attendant.new }
 {
-    let Ok(mut reader) = Incoming::new(rt, &stream, limits.message, limits.idle) else {
+    let Ok(mut reader) = Incoming::new(rt, &stream, limits.message, limits.idle, crowd) else {
         return Ok(());
     };
     let Ok(outgoing) = Outgoing::new(&stream, limits.message) else {
@@ -114,4 +115,21 @@ pub fn converse<T: Attend, R: Clock>(
         Ok(Ended::Lost) => Err(Lost),
         _ => Ok(()),
     }
+}
+
+/// Answers the requests of one connection until it ends, and counts it among those that are answered meanwhile. A fault ends this
+/// connection alone; `Lost` ends all.
+pub fn converse<T: Attend, R: Clock>(
+    rt: &R,
+    attendant: &mut T,
+    stream: TcpStream,
+    limits: Limits,
+    crowd: &Crowd,
+) -> Result<(), Lost>
+    ensures { T.grows attendant.old attendant.new }
+{
+    crowd.join();
+    let ended = converse_in(rt, attendant, stream, limits, crowd);
+    crowd.leave();
+    ended
 }

@@ -1,14 +1,14 @@
 //! Where connections are accepted.
-use st_peer::Acceptor;
+use st_peer::{Acceptor, Crowd};
 use std::io::{Eprint, ErrorKind};
 use std::net::{Net, TcpListener, TcpStream};
 use std::sync::atomic::{AtomicBool, Ordering};
 use std::sync::{Mutex, Wait};
-use std::thread;
+use std::thread::{self, Threads, available_parallelism};
 use std::time::{Clock, Duration};
 
 // The program, as its lines on standard error name it.
-const PROGRAM: &str = "st_served";
+pub(crate) const PROGRAM: &str = "st_served";
 
 // How many knocks there are at most, how long one may take, and how long the wait is between two, in milliseconds.
 const KNOCKS: u32 = 600;
@@ -39,15 +39,22 @@ fn knock<R: Net<Listener = TcpListener, Stream = TcpStream> + Clock>(
 #[derive(Drop)]
 pub(crate) struct Door<'a> {
     pub(crate) acceptor: Mutex<Option<Acceptor<'a, TcpListener>>>,
+    // The connections that were let in and are being answered.
+    pub(crate) crowd: Crowd,
     listener: &'a TcpListener,
     is_shut: AtomicBool,
 }
 
 impl<'a> Door<'a> {
-    // A door at a listener.
-    pub(crate) fn new(listener: &'a TcpListener) -> Door<'a> {
+    // A door at a listener, for as many processors as the program may use.
+    pub(crate) fn new<R: Threads>(rt: &R, listener: &'a TcpListener) -> Door<'a> {
+        let processors = match available_parallelism(rt) {
+            Ok(number) => number.get(),
+            Err(_) => 1,
+        };
         Door {
             acceptor: Mutex::new(Some(Acceptor::new(listener, PROGRAM))),
+            crowd: Crowd::new(processors),
             listener,
             is_shut: AtomicBool::new(false),
         }

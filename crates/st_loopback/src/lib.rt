@@ -3,6 +3,7 @@
 
 mod attend;
 mod connection;
+mod copying;
 mod door;
 mod kept;
 mod listening;

@@ -13,9 +13,10 @@ use crate::kept::run_kept;
 use crate::listening::{attend, begin, tell};
 use st_command::{Keeper, stores_for};
 use st_command_line::{Fault, ServedArguments, give_up};
+use st_copy::Copier;
 use st_core::Store;
 use st_hall::{Clerk, Desk, Hall, HallFault, HallName, UnnamedFor};
-use st_journal::Journal;
+use st_journal::ReadBack;
 use st_station::Station;
 use std::alloc::{AllocError, Global};
 use std::io::{Eprint, Write};
@@ -130,19 +131,28 @@ fn run_in_memory<
 
 // Reads the words, and serves.
 fn run<
-    J: Journal + Drop + Send,
+    J: ReadBack + Drop + Send,
     K: Keeper<J> + Drop,
+    L: Copier + Drop + Send,
     R: Net<Listener = TcpListener, Stream = TcpStream> + Threads + Wait + Clock + Eprint + Sync,
     O: Write,
->(rt: &R, alloc: Global, keeper: K, words: &[String], output: &mut O) -> Result<(), Fault>
-    ensures { Ran (K.holds keeper) J.list J.misreads (map string_bytes words.now) (O.contents output.old) (O.contents output.new)
+>(
+    rt: &R,
+    alloc: Global,
+    keeper: K,
+    copier: L,
+    words: &[String],
+    output: &mut O,
+) -> Result<(), Fault>
+    ensures { Ran (K.holds keeper) J.Journal.list J.Journal.misreads (map string_bytes words.now) (O.contents output.old) (O.contents output.new)
         (exit_status_after result) }
 {
     let said = ServedArguments::read(alloc, words)?;
     match said.store {
-        Some(path) => run_kept::<J, K, R, O>(rt, alloc, keeper, &said, path, output),
+        Some(path) => run_kept::<J, K, L, R, O>(rt, alloc, keeper, copier, &said, path, output),
         None => {
             drop(keeper);
+            drop(copier);
             run_in_memory(rt, alloc, &said, output)
         }
     }
@@ -155,17 +165,28 @@ fn run<
 /// no authorization; 5 where the port was not bound, a connection was not accepted, or the output took no
 /// more; 6 where there was no memory, no place or no thread. Each but 0 has its text in `faults`. Where the words name no store, it
 /// is in memory. Where they name one, the keeper opens its journal before the port is bound: 5 and 8 to 13 say why it does not
-/// (`Fault`). Each change is kept before it is answered, and 7 says that one was not, or may not have been.
+/// (`Fault`). Each change is kept before it is answered, and 7 says that one was not, or may not have been. Where the words name a
+/// copy, the copier takes a turn when connections are served first, and after each time that they say, and a last one at the end;
+/// standard error is told when it begins to fail, and when it copies again.
 pub fn serve_words<
-    J: Journal + Drop + Send,
+    J: ReadBack + Drop + Send,
     K: Keeper<J> + Drop,
+    L: Copier + Drop + Send,
     R: Net<Listener = TcpListener, Stream = TcpStream> + Threads + Wait + Clock + Eprint + Sync,
     O: Write,
     F: Write,
->(rt: &R, alloc: Global, keeper: K, words: &[String], output: &mut O, faults: &mut F) -> u8
-    ensures { Ran (K.holds keeper) J.list J.misreads (map string_bytes words.now) (O.contents output.old) (O.contents output.new) result }
+>(
+    rt: &R,
+    alloc: Global,
+    keeper: K,
+    copier: L,
+    words: &[String],
+    output: &mut O,
+    faults: &mut F,
+) -> u8
+    ensures { Ran (K.holds keeper) J.Journal.list J.Journal.misreads (map string_bytes words.now) (O.contents output.old) (O.contents output.new) result }
 {
-    match run(rt, alloc, keeper, words, output) {
+    match run(rt, alloc, keeper, copier, words, output) {
         Ok(()) => 0,
         Err(fault) => give_up("st_served", fault, faults),
     }

@@ -10,6 +10,7 @@ use crate::connection::{Limits, Lost, converse};
 use crate::door::Door;
 use crossbeam_channel::{Receiver, Sender, unbounded};
 use st_command_line::Fault;
+use st_peer::Crowd;
 use std::alloc::{AllocError, Global};
 use std::io::Eprint;
 use std::net::{Net, TcpListener, TcpStream};
@@ -23,10 +24,11 @@ fn answer_queued<T: Attend, R: Wait + Clock>(
     rt: &R,
     attendant: &mut T,
     queue: &Receiver<TcpStream>,
+    crowd: &Crowd,
     limits: Limits,
 ) -> Result<(), Lost> {
     for stream in queue.iter(rt) {
-        converse(rt, attendant, stream, limits)?;
+        converse(rt, attendant, stream, limits, crowd)?;
     }
     Ok(())
 }
@@ -36,7 +38,7 @@ fn work_from_queue<
     T: Attend + Drop,
     R: Net<Listener = TcpListener, Stream = TcpStream> + Wait + Clock,
 >(rt: &R, mut attendant: T, queue: Receiver<TcpStream>, door: &Door<'_>, limits: Limits) {
-    if answer_queued(rt, &mut attendant, &queue, limits).is_err() {
+    if answer_queued(rt, &mut attendant, &queue, &door.crowd, limits).is_err() {
         door.shut(rt);
     }
 }
@@ -88,7 +90,7 @@ pub fn serve_number<
 ) -> Result<(), Fault>
     ensures { IfErr result Stops }
 {
-    let door = Door::new(listener);
+    let door = Door::new(rt, listener);
     let door = &door;
     thread::scope(
         thread::scope_env(),
@@ -120,7 +122,7 @@ fn answer_at_door<
         let Some(stream) = door.next(rt) else {
             return;
         };
-        if converse(rt, attendant, stream, limits).is_err() {
+        if converse(rt, attendant, stream, limits, &door.crowd).is_err() {
             door.shut(rt);
             return;
         }
@@ -143,7 +145,7 @@ pub fn serve_all<
 >(rt: &R, listener: &TcpListener, limits: Limits, attendants: Vec<T>) -> Fault
     ensures { Stops result }
 {
-    let door = Door::new(listener);
+    let door = Door::new(rt, listener);
     let door = &door;
     thread::scope(
         thread::scope_env(),
