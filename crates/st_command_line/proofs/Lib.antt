@@ -1,4 +1,5 @@
 pub mod Numbers
 pub mod Refusing
+pub mod Wanting
 mod WorkedRun
 mod WorkedServed

@@ -9,7 +9,7 @@ use Rattle.clap.specs.declared.parser.matches.ArgMatches.{ArgMatches}
 use Rattle.clap.proofs.WalkLemmas.{one_text-rows}
 use Rattle.st_text.specs.Texts.{Text}
 use Rattle.st_command_line.specs.declared.fault.Fault.{Fault}
-use Rattle.st_command_line.specs.declared.fault.Fault.TheVariants.{BadAddress, BadNumber}
+use Rattle.st_command_line.specs.declared.fault.Fault.TheVariants.{BadAddress, BadNumber, WantsCopy}
 use Rattle.st_command_line.specs.Common as common
 use Rattle.st_command_line.specs.Common.{IsParsed}
 use Rattle.st_command_line.specs.ServedArguments.{Gives, GivesAddress, HasBadAddress, HasBadNumber, IsNoAddress, IsUnread, RefusesServedWords, text_of, served_command}
@@ -18,6 +18,7 @@ use Rattle.st_command_line.specs.ServedArguments.{Gives, GivesAddress, HasBadAdd
 pub widens : (words : List Text) (fault : Fault) → common.RefusesWords served_command words fault → RefusesServedWords words fault
 widens words BadNumber h = absurd h
 widens words BadAddress h = absurd h
+widens words WantsCopy h = absurd h
 widens words _ h = h
 
 -- the text of a number is the one that the matches have

@@ -1,10 +1,10 @@
 -- Command lines of the first program, worked out.
 use Rattle.std.specs.Prelude.{Some, None}
-use Rattle.std.proofs.Common.{[], ◌∷◌, codes, ◌≡◌, refl}
+use Rattle.std.proofs.Common.{[], ◌∷◌, codes, ◌≡◌, refl, true, false}
 use Rattle.clap.specs.Words.{fault_of, first_of, matches_of}
 use Rattle.clap.specs.declared.error.kind.ErrorKind.TheVariants.{ArgumentConflict, DisplayHelp, DisplayVersion, InvalidValue, MissingRequiredArgument, UnknownArgument}
 use Rattle.clap.proofs.OnLiterals.{clap_on_literals}
-use Rattle.st_command_line.specs.Common.{SaysRoot}
+use Rattle.st_command_line.specs.Common.{SaysRoot, has_flag}
 use Rattle.st_command_line.specs.RunArguments.{run_command}
 
 two_names : SaysRoot run_command (codes "st_run" ∷ codes "--root" ∷ codes "66" ∷ codes "A" ∷ codes "B" ∷ []) (codes "66") (codes "A" ∷ codes "B" ∷ [])
@@ -30,6 +30,14 @@ the_store = refl
 no_store : first_of (codes "store") (matches_of run_command (codes "st_run" ∷ codes "--root=66" ∷ codes "store" ∷ [])) ≡ None
 unfolding clap_on_literals
 no_store = refl
+
+made_short : has_flag (codes "compact") run_command (codes "st_run" ∷ codes "--root=66" ∷ codes "--store=a" ∷ codes "--compact" ∷ []) ≡ true
+unfolding clap_on_literals
+made_short = refl
+
+left_long : has_flag (codes "compact") run_command (codes "st_run" ∷ codes "--root=66" ∷ codes "compact" ∷ []) ≡ false
+unfolding clap_on_literals
+left_long = refl
 
 two_stores : fault_of run_command (codes "st_run" ∷ codes "--root=66" ∷ codes "--store=a" ∷ codes "--store=b" ∷ []) ≡ ArgumentConflict ∷ []
 unfolding clap_on_literals

@@ -54,6 +54,18 @@ the_store : first_of (codes "store") (matches_of served_command (codes "st_serve
 unfolding clap_on_literals
 the_store = refl
 
+with_copy : fault_of served_command (codes "st_served" ∷ codes "--root=66" ∷ codes "--port=1" ∷ codes "--store=a" ∷ codes "--compact" ∷ codes "--copy=b" ∷ codes "--copy-every" ∷ codes "3600" ∷ []) ≡ []
+unfolding clap_on_literals
+with_copy = refl
+
+the_copy : first_of (codes "copy") (matches_of served_command (codes "st_served" ∷ codes "--root=66" ∷ codes "--port=1" ∷ codes "--store=a" ∷ codes "--copy" ∷ codes "b" ∷ [])) ≡ Some (codes "b")
+unfolding clap_on_literals
+the_copy = refl
+
+copy_at_once : fault_of served_command (codes "st_served" ∷ codes "--root=66" ∷ codes "--port=1" ∷ codes "--copy-every=0" ∷ []) ≡ ValueValidation ∷ []
+unfolding clap_on_literals
+copy_at_once = refl
+
 no_idle_time : fault_of served_command (codes "st_served" ∷ codes "--root" ∷ codes "66" ∷ codes "--port" ∷ codes "1" ∷ codes "--idle" ∷ codes "0" ∷ []) ≡ ValueValidation ∷ []
 unfolding clap_on_literals
 no_idle_time = refl

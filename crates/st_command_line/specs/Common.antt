@@ -1,13 +1,15 @@
--- What both command lines have, `--root DIGEST`, `--store FILE` and `[NAME]...`: what the words say by it, and why they are refused.
-use Rattle.std.specs.Prelude.{◌≡◌, ℕ, List, [], ◌∷◌, Some, Ok, IsErr, codes, true, unwrap_or}
+-- What both command lines have, `--root DIGEST`, `--store FILE`, `--compact` and `[NAME]...`: what the words say by it, and why they
+-- are refused.
+use Rattle.std.specs.Prelude.{◌≡◌, ◌⊎◌, ℕ, Bool, List, [], ◌∷◌, Option, Some, None, Ok, IsErr, IsSome, codes, true, false, unwrap_or}
+use Rattle.std.specs.Str.{bytes_eq}
 use Rattle.hex.specs.Hex.{decode_sized}
 use Rattle.clap.specs.Words.{App, Rule, IsAmong, all_of, fault_of, first_of, found_of, kind_of, matches_of, new_rule, rows_of, with_rule}
 use Rattle.clap.specs.declared.parser.matches.ArgMatches.{ArgMatches}
-use Rattle.clap.specs.declared.builder.action.ArgAction.TheVariants.{Append, Set}
+use Rattle.clap.specs.declared.builder.action.ArgAction.TheVariants.{Append, Set, SetTrue}
 use Rattle.st_text.specs.Texts.{Text}
 use Rattle.st_auth.specs.Names.{first_bad}
 use Rattle.st_command_line.specs.declared.fault.Fault.{Fault}
-use Rattle.st_command_line.specs.declared.fault.Fault.TheVariants.{Usage, BadDigest, BadName, NoMemory}
+use Rattle.st_command_line.specs.declared.fault.Fault.TheVariants.{Usage, WantsStore, BadDigest, BadName, NoMemory}
 
 -- a command that tells a version when it is asked for one
 abbrev pub with_version : App → App
@@ -35,6 +37,10 @@ store_option = record (new_rule (codes "store")) {
   action = Some Set;
 }
 
+-- the flag `--compact`
+abbrev pub compact_flag : Rule
+compact_flag = record (new_rule (codes "compact")) { long = Some (codes "compact"); action = Some SetTrue }
+
 -- the names, any number of them
 abbrev pub name_operand : Rule
 name_operand = record (new_rule (codes "NAME")) { action = Some Append }
@@ -49,6 +55,32 @@ pub record SaysRoot (app : App) (words : List Text) (digits : Text) (names : Lis
   pub whole : fault_of app words ≡ []
   pub digits_are : first_of (codes "root") (matches_of app words) ≡ Some digits
   pub names_are : unwrap_or (all_of (codes "NAME") (matches_of app words)) [] ≡ names
+
+abbrev pub says_true : Option Text → Bool
+says_true None = false
+says_true (Some text) = bytes_eq text (codes "true")
+
+-- whether the words give this flag
+abbrev pub has_flag : Text → App → List Text → Bool
+has_flag id app words = says_true (first_of id (matches_of app words))
+
+-- the file that the words name by this option
+abbrev pub file_of : Text → App → List Text → Option Text
+file_of id app words = first_of id (matches_of app words)
+
+-- the words give `--compact`, or `--copy`, which only one of the programs takes
+abbrev pub WantsAStore : App → List Text → Type 0
+WantsAStore app words = (has_flag (codes "compact") app words ≡ true) ⊎ IsSome (file_of (codes "copy") app words)
+
+-- words that want a store name one
+abbrev pub NamesItsStore : App → List Text → Type 0
+NamesItsStore app words = WantsAStore app words → IsSome (file_of (codes "store") app words)
+
+-- the words want a store, and name none
+pub record HasNoStore (app : App) (words : List Text) : Type 0 where
+  pub whole : fault_of app words ≡ []
+  pub wants : WantsAStore app words
+  pub without : file_of (codes "store") app words ≡ None
 
 -- the digest is not 64 hexadecimal digits
 pub record HasBadDigest (app : App) (words : List Text) : Type 0 where
@@ -70,6 +102,7 @@ pub record HasBadName (app : App) (words : List Text) : Type 0 where
 -- why the words are refused; nothing is said of them if memory runs out
 abbrev pub RefusesWords : App → List Text → Fault → Type 0
 RefusesWords app words (Usage error) = IsAmong (kind_of error) (fault_of app words)
+RefusesWords app words WantsStore = HasNoStore app words
 RefusesWords app words BadDigest = HasBadDigest app words
 RefusesWords app words BadName = HasBadName app words
 RefusesWords app words NoMemory = Unit {0}

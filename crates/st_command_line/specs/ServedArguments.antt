@@ -1,6 +1,7 @@
--- The command line `st_served --root DIGEST --port P [--store FILE] [--connections N] [--workers N] [--timeout SECONDS]
--- [--idle SECONDS] [--listen ADDRESS] [NAME]...`: what its words say, and why words are refused.
-use Rattle.std.specs.Prelude.{◌≡◌, ◌⊎◌, ◌<◌, ◌^◌, ℕ, List, [], ◌∷◌, Option, Some, None}
+-- The command line `st_served --root DIGEST --port P [--store FILE] [--compact] [--copy FILE] [--copy-every SECONDS]
+-- [--connections N] [--workers N] [--timeout SECONDS] [--idle SECONDS] [--listen ADDRESS] [NAME]...`: what its words say, and why
+-- words are refused.
+use Rattle.std.specs.Prelude.{◌≡◌, ◌⊎◌, ◌<◌, ◌^◌, ℕ, List, [], ◌∷◌, Option, Some, None, IsSome}
 use Rattle.std.specs.Prelude.{codes, map, max, option_map, true, pos, unwrap_or}
 use Rattle.std.specs.Str.Parse.{IsNumeral, digits_value, without_leading_plus}
 use Rattle.std.specs.Net.Addr.{ipv4_octets}
@@ -13,10 +14,11 @@ use Rattle.clap.specs.declared.builder.action.ArgAction.TheVariants.{Set}
 use Rattle.clap.specs.declared.builder.value_parser.ValueParser.TheVariants.{Signed}
 use Rattle.st_text.specs.Texts.{Text}
 use Rattle.st_command_line.specs.declared.fault.Fault.{Fault}
-use Rattle.st_command_line.specs.declared.fault.Fault.TheVariants.{BadAddress, BadNumber}
+use Rattle.st_command_line.specs.declared.fault.Fault.TheVariants.{BadAddress, BadNumber, WantsCopy}
 use Rattle.st_command_line.specs.declared.served_arguments.ServedArguments.{ServedArguments}
 use Rattle.st_command_line.specs.Common as common
-use Rattle.st_command_line.specs.Common.{SaysRoot, name_operand, root_option, store_option, with_rules, with_version}
+use Rattle.st_command_line.specs.Common.{SaysRoot, NamesItsStore, file_of, has_flag}
+use Rattle.st_command_line.specs.Common.{compact_flag, name_operand, root_option, store_option, with_rules, with_version}
 
 -- the option `--port P`, 1 to 65,535, which must be there, once
 abbrev pub port_option : Rule
@@ -26,6 +28,23 @@ port_option = record (new_rule (codes "port")) {
   action = Some Set;
   parser = Some (Signed (pos 1) (pos 65535));
   required = true;
+}
+
+-- the option `--copy FILE`
+abbrev pub copy_option : Rule
+copy_option = record (new_rule (codes "copy")) {
+  long = Some (codes "copy");
+  value_names = 1;
+  action = Some Set;
+}
+
+-- the option `--copy-every SECONDS`, 1 to 3,600
+abbrev pub copy_every_option : Rule
+copy_every_option = record (new_rule (codes "copy-every")) {
+  long = Some (codes "copy-every");
+  value_names = 1;
+  action = Some Set;
+  parser = Some (Signed (pos 1) (pos 3600));
 }
 
 -- the option `--connections N`, 0 to 1,000
@@ -73,8 +92,8 @@ listen_option = record (new_rule (codes "listen")) {
 }
 
 abbrev pub served_rules : List Rule
-served_rules = root_option ∷ port_option ∷ store_option ∷ connections_option ∷ workers_option ∷ timeout_option ∷ idle_option
-    ∷ listen_option ∷ name_operand ∷ []
+served_rules = root_option ∷ port_option ∷ store_option ∷ compact_flag ∷ copy_option ∷ copy_every_option ∷ connections_option
+    ∷ workers_option ∷ timeout_option ∷ idle_option ∷ listen_option ∷ name_operand ∷ []
 
 abbrev pub served_command : App
 served_command = with_rules (with_version (new_app (codes "st_served"))) served_rules
@@ -107,11 +126,25 @@ text_of id words = one_of id (matches_of served_command words)
 abbrev pub store_of : ServedArguments → Option Text
 store_of said = option_map (λ path. path.now) said.store
 
+-- the path of the copy, where the words name one
+abbrev pub copy_of : ServedArguments → Option Text
+copy_of said = option_map (λ path. path.now) said.copy
+
+-- words that say how far a copy stays behind name one
+abbrev pub NamesItsCopy : List Text → Type 0
+NamesItsCopy words =
+    IsSome (first_of (codes "copy-every") (matches_of served_command words)) → IsSome (file_of (codes "copy") served_command words)
+
 -- the words are such a command line, and say this
 pub record SaysServed (words : List Text) (said : ServedArguments) : Type 0 where
   pub root : SaysRoot served_command words said.digest.now (map (λ name. name.now) said.names.items)
   pub port_is : Gives (text_of (codes "port") words) (Some said.port)
   pub store_is : first_of (codes "store") (matches_of served_command words) ≡ store_of said
+  pub compacts_is : has_flag (codes "compact") served_command words ≡ said.compacts
+  pub stored : NamesItsStore served_command words
+  pub copy_is : first_of (codes "copy") (matches_of served_command words) ≡ copy_of said
+  pub copy_every_is : Gives (text_of (codes "copy-every") words) said.copy_every
+  pub copied : NamesItsCopy words
   pub connections_are : Gives (text_of (codes "connections") words) said.connections
   pub workers_are : Gives (text_of (codes "workers") words) said.workers
   pub timeout_is : Gives (text_of (codes "timeout") words) said.timeout
@@ -138,10 +171,17 @@ pub record HasBadAddress (words : List Text) : Type 0 where
   pub whole : fault_of served_command words ≡ []
   pub bad : (id : Text) × IsNoAddress (text_of id words)
 
+-- the words say how far a copy stays behind, and name none
+pub record HasNoCopy (words : List Text) : Type 0 where
+  pub whole : fault_of served_command words ≡ []
+  pub wants : IsSome (first_of (codes "copy-every") (matches_of served_command words))
+  pub without : file_of (codes "copy") served_command words ≡ None
+
 -- why the words are refused
 abbrev pub RefusesServedWords : List Text → Fault → Type 0
 RefusesServedWords words BadNumber = HasBadNumber words
 RefusesServedWords words BadAddress = HasBadAddress words
+RefusesServedWords words WantsCopy = HasNoCopy words
 RefusesServedWords words fault = common.RefusesWords served_command words fault
 
 -- where the server listens: at 127.0.0.1 where the words say nothing else
@@ -161,6 +201,10 @@ workers_of said = workers_or said.connections said.workers
 -- how many seconds a message may take, and a reply
 abbrev pub seconds_of : ServedArguments → ℕ
 seconds_of said = unwrap_or said.timeout 30
+
+-- how many seconds a copy stays behind
+abbrev pub copy_seconds_of : ServedArguments → ℕ
+copy_seconds_of said = unwrap_or said.copy_every 60
 
 -- how many seconds may pass between two messages
 abbrev pub idle_seconds_of : ServedArguments → ℕ

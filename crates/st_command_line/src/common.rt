@@ -1,9 +1,11 @@
-//! What both command lines have: `--root DIGEST`, `--store FILE` and `[NAME]...`, the version, and how words are parsed.
-ghost use Rattle.std.specs.Prelude.{◌≡◌, ◌⊎◌, [], IfOk, IfErr, IsSome, codes, false, map, string_bytes};
+//! What both command lines have: `--root DIGEST`, `--store FILE`, `--compact` and `[NAME]...`, the version, and how words are parsed.
+ghost use Rattle.std.specs.Prelude.{◌≡◌, ◌⊎◌, [], None, IfOk, IfErr, IsSome, OnOk, List, codes, true, false, map, string_bytes};
 ghost use Rattle.clap.specs.Built.{FitsChain, TakesValue};
 ghost use Rattle.clap.specs.Words.{App, app_of, args_of, first_value, found_of, groups_of, new_app, rule_of};
 ghost use Rattle.clap.specs.declared.builder.command.Command.TheViews.{out-Command as fields_of};
-ghost use Rattle.st_command_line.specs.Common.{IsParsed, RefusesWords, root_option, store_option, name_operand, with_version};
+ghost use Rattle.st_text.specs.Texts.{Text};
+ghost use Rattle.st_command_line.specs.Common.{IsParsed, NamesItsStore, RefusesWords, says_true};
+ghost use Rattle.st_command_line.specs.Common.{root_option, store_option, compact_flag, name_operand, with_version};
 ghost use Rattle.st_command_line.specs.inner.Commands.{Builds};
 ghost use Rattle.st_command_line.specs.declared.fault.Fault.TheVariants.{NotText, NoMemory};
 
@@ -52,6 +54,18 @@ pub fn store<'a>(alloc: Global) -> Arg<'a>
         .action(ArgAction::Set)
 }
 
+/// The flag `--compact`.
+pub fn compact<'a>(alloc: Global) -> Arg<'a>
+    ensures id { result.id.now ≡ codes "compact" }
+    ensures rule { rule_of result ≡ compact_flag }
+    ensures fits { FitsChain result }
+{
+    Arg::new(alloc, "compact")
+        .long("compact")
+        .help("Before anything is served, make the store's list of changes short; wants --store")
+        .action(ArgAction::SetTrue)
+}
+
 /// The operands `[NAME]...`.
 pub fn names<'a>(alloc: Global) -> Arg<'a>
     ensures id { result.id.now ≡ codes "NAME" }
@@ -72,6 +86,47 @@ pub fn parse_by<'a>(command: Command<'a>, words: &'a [String]) -> Result<ArgMatc
         → RefusesWords app (map string_bytes words.now) fault) }
 {
     Ok(command.try_get_matches_from(words)?)
+}
+
+/// Whether a flag is given.
+pub fn flag(matches: &ArgMatches<'_>, id: &str) -> bool
+    ensures { result ≡ says_true (first_value (found_of matches.now) id.now) }
+{
+    match matches.get_str(id) {
+        Some(text) => text == "true",
+        None => false,
+    }
+}
+
+// Whether an option is given that wants a store.
+fn wants_store(matches: &ArgMatches<'_>) -> bool
+    ensures yes { result ≡ true → (says_true (first_value (found_of matches.now) (codes "compact")) ≡ true)
+        ⊎ IsSome (first_value (found_of matches.now) (codes "copy")) }
+    ensures no { result ≡ false → (says_true (first_value (found_of matches.now) (codes "compact")) ≡ false)
+        × (first_value (found_of matches.now) (codes "copy") ≡ None) }
+{
+    if flag(matches, "compact") {
+        return true;
+    }
+    match matches.get_str("copy") {
+        Some(_) => true,
+        None => false,
+    }
+}
+
+/// Refuses words that want a store and name none.
+pub fn check_store(matches: &ArgMatches<'_>) -> Result<(), Fault>
+    ensures ok { OnOk result ((app : App) (words : List Text) → IsParsed app words matches.now → NamesItsStore app words) }
+    ensures err { IfErr result (λ fault. (app : App) (words : List Text) → IsParsed app words matches.now
+        → RefusesWords app words fault) }
+{
+    if !wants_store(matches) {
+        return Ok(());
+    }
+    match matches.get_str("store") {
+        Some(_) => Ok(()),
+        None => Err(Fault::WantsStore),
+    }
 }
 
 /// The words of the process's command line; the first is the program's own name. `NotText` if one is not UTF-8.

@@ -22,6 +22,12 @@ pub enum Fault {
     /// The address to listen at is not an IPv4 address.
     #[error("bad address")]
     BadAddress,
+    /// `--compact` or `--copy` is given, and no store is named.
+    #[error("--compact and --copy want --store FILE")]
+    WantsStore,
+    /// `--copy-every` is given, and no copy is named.
+    #[error("--copy-every wants --copy FILE")]
+    WantsCopy,
     /// The digest is not 64 hexadecimal digits.
     #[error("bad digest")]
     BadDigest,
@@ -91,6 +97,8 @@ impl Fault {
             | Fault::NotText
             | Fault::BadNumber
             | Fault::BadAddress
+            | Fault::WantsStore
+            | Fault::WantsCopy
             | Fault::BadDigest
             | Fault::BadName => 2,
             Fault::Cut => 3,

@@ -1,11 +1,11 @@
-//! The command line `st_run --root DIGEST [--store FILE] [NAME]...`.
+//! The command line `st_run --root DIGEST [--store FILE] [--compact] [NAME]...`.
 ghost use Rattle.std.specs.Prelude.{◌≡◌, IfOk, IfErr, IsSome, codes, map, string_bytes};
 ghost use Rattle.clap.specs.Words.{first_value, found_of};
 ghost use Rattle.st_command_line.specs.Common.{IsParsed, RefusesWords};
 ghost use Rattle.st_command_line.specs.RunArguments.{run_command, SaysRun};
 ghost use Rattle.st_command_line.specs.inner.Commands.{Builds};
 
-use crate::common::{named, names, parse_by, root, store};
+use crate::common::{check_store, compact, flag, named, names, parse_by, root, store};
 use crate::fault::Fault;
 use clap::{ArgMatches, Command};
 use std::alloc::{AllocError, Global};
@@ -19,6 +19,8 @@ pub struct RunArguments<'a> {
     pub digest: &'a str,
     /// The path of the file that keeps the store; without it the store is in memory alone.
     pub store: Option<&'a str>,
+    /// Whether the store's list of changes is made short before anything is served; only with a store.
+    pub compacts: bool,
     /// Root's authorizations; not checked here.
     pub names: Vec<&'a str>,
 }
@@ -30,6 +32,7 @@ fn command<'a>(alloc: Global) -> Result<Command<'a>, AllocError>
     let command = named(alloc, "st_run", ABOUT)
         .arg(root(alloc))?
         .arg(store(alloc))?
+        .arg(compact(alloc))?
         .arg(names(alloc))?;
     Ok(command)
 }
@@ -53,11 +56,14 @@ impl<'a> RunArguments<'a> {
         let Some(digest) = matches.get_str("root") else {
             unreachable!()
         };
+        check_store(&matches)?;
         let store = matches.get_str("store");
+        let compacts = flag(&matches, "compact");
         let names = matches.get_strs("NAME").unwrap_or(&[]);
         Ok(RunArguments {
             digest,
             store,
+            compacts,
             names: Vec::from_slice(alloc, names)?,
         })
     }

@@ -1,13 +1,15 @@
-//! The command line `st_served --root DIGEST --port P [--store FILE] [--connections N] [--workers N] [--timeout SECONDS]
-//! [--idle SECONDS] [--listen ADDRESS] [NAME]...`.
-ghost use Rattle.std.specs.Prelude.{◌≡◌, ◌<◌, ◌*◌, IfOk, IfErr, List, map, string_bytes, unwrap_or};
+//! The command line `st_served --root DIGEST --port P [--store FILE] [--compact] [--copy FILE] [--copy-every SECONDS]
+//! [--connections N] [--workers N] [--timeout SECONDS] [--idle SECONDS] [--listen ADDRESS] [NAME]...`.
+ghost use Rattle.std.specs.Prelude.{◌≡◌, ◌<◌, ◌*◌, IfOk, IfErr, OnOk, List, map, string_bytes, unwrap_or};
 ghost use Rattle.std.specs.Net.Socket.{v4_port};
 ghost use Rattle.std.specs.Duration.{as_nanos};
 ghost use Rattle.st_text.specs.Texts.{Text};
-ghost use Rattle.st_command_line.specs.Common.{IsParsed};
-ghost use Rattle.st_command_line.specs.ServedArguments.{Gives, GivesAddress, ListensAt, SaysServed, RefusesServedWords};
-ghost use Rattle.st_command_line.specs.ServedArguments.{served_command, text_of, seconds_of, idle_seconds_of, workers_of};
+ghost use Rattle.st_command_line.specs.Common.{IsParsed, NamesItsStore};
+ghost use Rattle.st_command_line.specs.ServedArguments.{Gives, GivesAddress, NamesItsCopy, ListensAt, SaysServed, RefusesServedWords};
+ghost use Rattle.st_command_line.specs.ServedArguments.{served_command, text_of};
+ghost use Rattle.st_command_line.specs.ServedArguments.{seconds_of, idle_seconds_of, copy_seconds_of, workers_of};
 
+use crate::common::{check_store, flag};
 use crate::fault::Fault;
 use crate::served_options::parse;
 use clap::ArgMatches;
@@ -18,6 +20,9 @@ use std::time::Duration;
 // How many seconds a client may take for a message, and the server to send a reply, without `--timeout`.
 const SECONDS: u16 = 30;
 
+// How many seconds the copy stays behind, without `--copy-every`.
+const COPY_SECONDS: u16 = 60;
+
 /// The arguments of `st_served`.
 #[derive(Drop)]
 pub struct ServedArguments<'a> {
@@ -27,6 +32,12 @@ pub struct ServedArguments<'a> {
     pub port: u16,
     /// The path of the file that keeps the store; without it the store is in memory alone.
     pub store: Option<&'a str>,
+    /// Whether the store's list of changes is made short before anything is served; only with a store.
+    pub compacts: bool,
+    /// The path of the file that is a copy of the store; only with a store.
+    pub copy: Option<&'a str>,
+    /// How many seconds the copy stays behind, 1 to 3,600; only with a copy.
+    pub copy_every: Option<u16>,
     /// How many connections to serve, 0 to 1,000; without it, all that come.
     pub connections: Option<u16>,
     /// How many workers serve, 1 to 256.
@@ -67,6 +78,33 @@ fn address_in(matches: &ArgMatches<'_>, id: &str) -> Result<Option<Ipv4Addr>, Fa
     }
 }
 
+// Refuses words that want a copy and name none.
+fn check_copy(matches: &ArgMatches<'_>) -> Result<(), Fault>
+    ensures ok { OnOk result ((words : List Text) → IsParsed served_command words matches.now → NamesItsCopy words) }
+    ensures err { IfErr result (λ fault. (words : List Text) → IsParsed served_command words matches.now
+        → RefusesServedWords words fault) }
+{
+    let Some(_) = matches.get_str("copy-every") else {
+        return Ok(());
+    };
+    match matches.get_str("copy") {
+        Some(_) => Ok(()),
+        None => Err(Fault::WantsCopy),
+    }
+}
+
+// Refuses words that want a file and name none.
+fn check_files(matches: &ArgMatches<'_>) -> Result<(), Fault>
+    ensures store { OnOk result ((words : List Text) → IsParsed served_command words matches.now
+        → NamesItsStore served_command words) }
+    ensures copy { OnOk result ((words : List Text) → IsParsed served_command words matches.now → NamesItsCopy words) }
+    ensures err { IfErr result (λ fault. (words : List Text) → IsParsed served_command words matches.now
+        → RefusesServedWords words fault) }
+{
+    check_store(matches)?;
+    check_copy(matches)
+}
+
 impl<'a> ServedArguments<'a> {
     /// Parses a command line, whose first word is the program's own name.
     pub fn read(alloc: Global, words: &'a [String]) -> Result<ServedArguments<'a>, Fault>
@@ -74,6 +112,7 @@ impl<'a> ServedArguments<'a> {
         ensures err { IfErr result (λ fault. RefusesServedWords (map string_bytes words.now) fault) }
     {
         let matches = parse(alloc, words)?;
+        check_files(&matches)?;
         let Some(digest) = matches.get_str("root") else {
             unreachable!()
         };
@@ -81,6 +120,9 @@ impl<'a> ServedArguments<'a> {
             return Err(Fault::BadNumber);
         };
         let store = matches.get_str("store");
+        let compacts = flag(&matches, "compact");
+        let copy = matches.get_str("copy");
+        let copy_every = number(&matches, "copy-every")?;
         let connections = number(&matches, "connections")?;
         let workers = number(&matches, "workers")?;
         let timeout = number(&matches, "timeout")?;
@@ -91,6 +133,9 @@ impl<'a> ServedArguments<'a> {
             digest,
             port,
             store,
+            compacts,
+            copy,
+            copy_every,
             connections,
             workers,
             timeout,
@@ -125,6 +170,13 @@ impl<'a> ServedArguments<'a> {
         ensures { as_nanos result ≡ seconds_of self.now * 1000000000 }
     {
         Duration::from_secs(u64::from(self.timeout.unwrap_or(SECONDS)))
+    }
+
+    /// How long the copy stays behind: 60 seconds without `--copy-every`.
+    pub fn copy_period(&self) -> Duration
+        ensures { as_nanos result ≡ copy_seconds_of self.now * 1000000000 }
+    {
+        Duration::from_secs(u64::from(self.copy_every.unwrap_or(COPY_SECONDS)))
     }
 
     /// How long a client may take to begin its next message: as long as `limit` says without `--idle`.

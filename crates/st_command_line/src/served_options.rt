@@ -4,10 +4,11 @@ ghost use Rattle.clap.specs.Built.{FitsChain};
 ghost use Rattle.clap.specs.Words.{first_value, found_of, rule_of};
 ghost use Rattle.st_command_line.specs.Common.{IsParsed, RefusesWords};
 ghost use Rattle.st_command_line.specs.ServedArguments.{served_command, port_option, connections_option};
-ghost use Rattle.st_command_line.specs.ServedArguments.{workers_option, timeout_option, idle_option, listen_option};
+ghost use Rattle.st_command_line.specs.ServedArguments.{copy_option, copy_every_option, workers_option};
+ghost use Rattle.st_command_line.specs.ServedArguments.{timeout_option, idle_option, listen_option};
 ghost use Rattle.st_command_line.specs.inner.Commands.{Builds};
 
-use crate::common::{named, names, parse_by, root, store};
+use crate::common::{compact, named, names, parse_by, root, store};
 use crate::fault::Fault;
 use clap::{Arg, ArgAction, ArgMatches, Command};
 use std::alloc::{AllocError, Global};
@@ -27,6 +28,33 @@ fn port<'a>(alloc: Global) -> Arg<'a>
         .required(true)
         .action(ArgAction::Set)
         .value_parser(clap::value_parser!(u16).range(1..))
+}
+
+// The option `--copy FILE`.
+fn copy<'a>(alloc: Global) -> Arg<'a>
+    ensures id { result.id.now ≡ codes "copy" }
+    ensures rule { rule_of result ≡ copy_option }
+    ensures fits { FitsChain result }
+{
+    Arg::new(alloc, "copy")
+        .long("copy")
+        .value_name("FILE")
+        .help("A copy of the store, a SQLite file of its own that follows; wants --store")
+        .action(ArgAction::Set)
+}
+
+// The option `--copy-every SECONDS`.
+fn copy_every<'a>(alloc: Global) -> Arg<'a>
+    ensures id { result.id.now ≡ codes "copy-every" }
+    ensures rule { rule_of result ≡ copy_every_option }
+    ensures fits { FitsChain result }
+{
+    Arg::new(alloc, "copy-every")
+        .long("copy-every")
+        .value_name("SECONDS")
+        .help("How long the copy stays behind, 1 to 3600 seconds; without it 60")
+        .action(ArgAction::Set)
+        .value_parser(clap::value_parser!(u16).range(1..=3600))
 }
 
 // The option `--connections N`.
@@ -110,6 +138,9 @@ fn command<'a>(alloc: Global) -> Result<Command<'a>, AllocError>
         .arg(root(alloc))?
         .arg(port(alloc))?
         .arg(store(alloc))?
+        .arg(compact(alloc))?
+        .arg(copy(alloc))?
+        .arg(copy_every(alloc))?
         .arg(connections(alloc))?
         .arg(workers(alloc))?
         .arg(timeout(alloc))?

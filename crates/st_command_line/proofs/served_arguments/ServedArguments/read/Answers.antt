@@ -3,9 +3,11 @@ use Rattle.std.specs.Prelude.{option_map, unwrap_or}
 use Rattle.std.proofs.lemmas.Result.{err_from_is_err_and}
 use Rattle.clap.specs.Words.{all_of, first_of, found_of}
 use Rattle.clap.proofs.WalkLemmas.{first_value-rows, raw_values-rows}
-use Rattle.st_command_line.specs.ServedArguments.{Gives, RefusesServedWords}
+use Rattle.st_command_line.specs.Common.{says_true}
+use Rattle.st_command_line.specs.ServedArguments.{Gives, RefusesServedWords, served_command}
 use Rattle.st_command_line.proofs.Numbers.{no_port, widens}
 use Rattle.st_command_line.proofs.Refusing.{names_given}
+use Rattle.st_command_line.proofs.Wanting.{file_is}
 use Rattle.st_command_line.proofs.served_arguments.ServedArguments.read.Goals as goal
 
 pub returns-in_err-matches-clause-err : goal.returns-in_err-matches-clause-err
@@ -19,6 +21,18 @@ returns-in_default-2-clause-err c =
     let words = map string_bytes c.args.words.now in
     let parsed = c.in_ok-matches.ensures.ok in
     no_port words parsed.whole (subst (Gives _) c.in_default-2.is (c.in_ok-port.ensures.ok words parsed))
+
+pub returns-in_err-check_files-clause-err : goal.returns-in_err-check_files-clause-err
+returns-in_err-check_files-clause-err c =
+    let words = map string_bytes c.args.words.now in
+    let p = err_from_is_err_and c.from_residual-in_err-check_files.result c.from_residual-in_err-check_files.ensures.1 in
+    rw p.1 (subst (RefusesServedWords words) (sym p.2) (c.in_err-check_files.ensures.err words c.in_ok-matches.ensures.ok))
+
+pub returns-in_err-copy_every-clause-err : goal.returns-in_err-copy_every-clause-err
+returns-in_err-copy_every-clause-err c =
+    let words = map string_bytes c.args.words.now in
+    let p = err_from_is_err_and c.from_residual-in_err-copy_every.result c.from_residual-in_err-copy_every.ensures.1 in
+    rw p.1 (subst (RefusesServedWords words) (sym p.2) (c.in_err-copy_every.ensures.err words c.in_ok-matches.ensures.ok))
 
 pub returns-in_err-port-clause-err : goal.returns-in_err-port-clause-err
 returns-in_err-port-clause-err c =
@@ -69,6 +83,11 @@ returns-clause-ok c =
       };
       port_is = subst (Gives _) c.in-Some-2.is (c.in_ok-port.ensures.ok words parsed);
       store_is = ap (first_of (codes "store")) (sym parsed.rows_are) ∙ (sym (first_value-rows found (codes "store")) ∙ sym c.get_str-store.ensures);
+      compacts_is = ap says_true (sym (file_is served_command words (codes "compact") c.in_ok-matches.matches parsed)) ∙ sym c.flag-compacts.ensures;
+      stored = c.in_ok-check_files.ensures.store words parsed;
+      copy_is = ap (first_of (codes "copy")) (sym parsed.rows_are) ∙ (sym (first_value-rows found (codes "copy")) ∙ sym c.get_str-copy.ensures);
+      copy_every_is = c.in_ok-copy_every.ensures.ok words parsed;
+      copied = c.in_ok-check_files.ensures.copy words parsed;
       connections_are = c.in_ok-connections.ensures.ok words parsed;
       workers_are = c.in_ok-workers.ensures.ok words parsed;
       timeout_is = c.in_ok-timeout.ensures.ok words parsed;

@@ -1,0 +1,14 @@
+use Rattle.std.proofs.Common.{sym, subst}
+use Rattle.std.proofs.lemmas.Result.{err_from_is_err_and}
+use Rattle.st_command_line.specs.ServedArguments.{RefusesServedWords, served_command}
+use Rattle.st_command_line.proofs.Numbers.{widens}
+use Rattle.st_command_line.proofs.Wanting.{on_ok}
+use Rattle.st_command_line.proofs.served_arguments.check_files.Goals as goal
+
+pub returns-in_err-check_store-clause-err : goal.returns-in_err-check_store-clause-err
+returns-in_err-check_store-clause-err c =
+    let p = err_from_is_err_and c.from_residual.result c.from_residual.ensures.1 in
+    rw p.1 (λ words parsed. subst (RefusesServedWords words) (sym p.2) (widens words _ (c.in_err-check_store.ensures.err served_command words parsed)))
+
+pub returns-clause-store : goal.returns-clause-store
+returns-clause-store c = on_ok c.check_copy.result (λ words parsed. c.in_ok-check_store.ensures.ok served_command words parsed)
