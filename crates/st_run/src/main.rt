@@ -1,4 +1,4 @@
-//! `st_run --root DIGEST [--store FILE] [NAME]...` serves standard input to standard output, as one connection.
+//! `st_run --root DIGEST [--store FILE] [--compact] [NAME]...` serves standard input to standard output, as one connection.
 #![tactic(auto)]
 
 mod sqlite;
@@ -6,6 +6,7 @@ mod sqlite;
 use sqlite::run_files;
 use sqlite_std_file::Unknown;
 use st_command_line::{give_up, show_run, words_of};
+use st_compact_file::shorten_for_run;
 use st_connection::{FromRead, FromWrite};
 use std::process::ExitCode;
 
@@ -16,7 +17,13 @@ fn main(rt: HostRuntime) -> ExitCode {
     let status = match words_of(&rt) {
         Ok(words) => match show_run(rt.alloc(), &words, &mut rt.stdout()) {
             Ok(true) => 0,
-            Ok(false) => run_files(&rt, Unknown, &words, &mut reader, &mut writer, &mut faults),
+            Ok(false) => match shorten_for_run(&rt, Unknown, &words, &mut faults) {
+                Ok(journal) => {
+                    drop(journal);
+                    run_files(&rt, Unknown, &words, &mut reader, &mut writer, &mut faults)
+                }
+                Err(fault) => give_up("st_run", fault, &mut faults),
+            },
             Err(fault) => give_up("st_run", fault, &mut faults),
         },
         Err(fault) => give_up("st_run", fault, &mut faults),

@@ -1,5 +1,5 @@
-//! `st_served --root DIGEST --port P [--store FILE] [--listen ADDRESS] [--workers N] [--connections N] [--timeout SECONDS]
-//! [--idle SECONDS] [NAME]...` serves connections at a port.
+//! `st_served --root DIGEST --port P [--store FILE] [--compact] [--copy FILE] [--copy-every SECONDS] [--listen ADDRESS]
+//! [--workers N] [--connections N] [--timeout SECONDS] [--idle SECONDS] [NAME]...` serves connections at a port.
 #![tactic(auto)]
 
 mod sqlite;
@@ -7,6 +7,7 @@ mod sqlite;
 use sqlite::serve_files;
 use sqlite_std_file::Unknown;
 use st_command_line::{give_up, show_served, words_of};
+use st_compact_file::shorten_for_served;
 use std::process::ExitCode;
 
 fn main(rt: HostRuntime) -> ExitCode {
@@ -15,7 +16,13 @@ fn main(rt: HostRuntime) -> ExitCode {
     let status = match words_of(&rt) {
         Ok(words) => match show_served(rt.alloc(), &words, &mut output) {
             Ok(true) => 0,
-            Ok(false) => serve_files(&rt, &rt, Unknown, &words, &mut output, &mut faults),
+            Ok(false) => match shorten_for_served(&rt, Unknown, &words, &mut faults) {
+                Ok(journal) => {
+                    drop(journal);
+                    serve_files(&rt, &rt, Unknown, &words, &mut output, &mut faults)
+                }
+                Err(fault) => give_up("st_served", fault, &mut faults),
+            },
             Err(fault) => give_up("st_served", fault, &mut faults),
         },
         Err(fault) => give_up("st_served", fault, &mut faults),

@@ -5,6 +5,7 @@ ghost use Rattle.st_loopback.specs.Serving.{Ran};
 ghost use Rattle.st_store_file.specs.Holding.{HoldStore};
 
 use sqlite_std_file::{FileFrom, Start};
+use st_copy_file::SqliteCopier;
 use st_journal::Journal;
 use st_journal_file::FileJournal;
 use st_loopback::serve_words;
@@ -28,5 +29,6 @@ pub fn serve_files<
         (map string_bytes words.now) (O.contents output.old) (O.contents output.new) result }
 {
     let keeper = SqliteKeeper::new(files, start);
-    serve_words(rt, files.alloc(), keeper, words, output, faults)
+    let copier = SqliteCopier::new(files);
+    serve_words(rt, files.alloc(), keeper, copier, words, output, faults)
 }

@@ -4,6 +4,7 @@ ghost use Rattle.std.specs.Prelude.{◌≡◌, IfSome};
 use crate::words::{DIGEST, words_for};
 use st_command::{Keeper, stores_for};
 use st_command_line::Fault;
+use st_copy::{Copier, CopyFault, Source};
 use st_core::Store;
 use st_hall::{Clerk, Desk, Hall, HallName, Unnamed};
 use st_journal::{MemoryJournal, Replay};
@@ -65,6 +66,21 @@ impl Keeper<MemoryJournal> for Blank {
         _state: &mut R,
     ) -> Result<MemoryJournal, Fault> {
         Ok(MemoryJournal::new(self.alloc))
+    }
+}
+
+// A copy that nobody wants.
+#[derive(Drop)]
+struct Unwanted;
+
+impl Copier for Unwanted {
+    fn take_turn<S: Source>(
+        &mut self,
+        _path: &str,
+        _opening: &str,
+        _source: &mut S,
+    ) -> Result<(), CopyFault> {
+        Ok(())
     }
 }
 
@@ -137,7 +153,15 @@ fn served<
     let mut faults = Vec::new(alloc);
     let (status, found) = join(
         rt,
-        || serve_words(rt, alloc, Blank { alloc }, &words, &mut output, &mut faults),
+        || serve_words(
+            rt,
+            alloc,
+            Blank { alloc },
+            Unwanted,
+            &words,
+            &mut output,
+            &mut faults,
+        ),
         || are_answered(rt, alloc),
     );
     let is_told = output.as_slice() == b"listening 47002\nserved 2\n".as_slice()
@@ -152,7 +176,15 @@ fn refused<
     let words = words_for(alloc, line)?;
     let mut output = Vec::new(alloc);
     let mut faults = Vec::new(alloc);
-    let status = serve_words(rt, alloc, Blank { alloc }, &words, &mut output, &mut faults);
+    let status = serve_words(
+        rt,
+        alloc,
+        Blank { alloc },
+        Unwanted,
+        &words,
+        &mut output,
+        &mut faults,
+    );
     Some((status, output.is_empty(), faults))
 }
 
