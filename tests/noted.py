@@ -79,9 +79,9 @@ def make_shim(folder: Path) -> Path:
     return shim
 
 
-def noted(file: Path, shim: Path, trace: Path, program: Path, connections: int) -> AbstractContextManager[Run]:
-    """A run over the store in a file, of which the events come to stand in another."""
-    words = ["--root", digest("root"), "--store", str(file), *AUTHS]
+def noted(file: Path, shim: Path, trace: Path, program: Path, connections: int, *more: str) -> AbstractContextManager[Run]:
+    """A run over the store in a file, with more words behind the usual ones, of which the events come to stand in another."""
+    words = ["--root", digest("root"), "--store", str(file), *more, *AUTHS]
     return started(*words, program=program, connections=connections, environment={"LD_PRELOAD": str(shim), "TRACE": str(trace)})
 
 

@@ -43,6 +43,18 @@ def test_arguments_that_are_refused() -> None:
         assert (status, told, faults[:7]) == (2, "", "error: ")
 
 
+def test_options_that_want_a_file_name_it() -> None:
+    line = ["--root", digest("root"), "--port", "47001"]
+    stored = "--compact and --copy want --store FILE\n"
+    assert ran(PROGRAM, *line, "--compact") == (2, "", f"st_served: {stored}")
+    assert ran(PROGRAM, *line, "--copy", "copy.db") == (2, "", f"st_served: {stored}")
+    assert ran(PROGRAM, *line, "--store", "store.db", "--copy-every", "1") == (2, "", "st_served: --copy-every wants --copy FILE\n")
+    assert ran(RUN, "--root", digest("root"), "--compact") == (2, "", f"st_run: {stored}")
+    for wrong in (["--copy-every", "0"], ["--copy-every", "3601"]):
+        status, told, faults = ran(PROGRAM, *line, *wrong)
+        assert (status, told, faults[:7]) == (2, "", "error: ")
+
+
 def test_server_listens_at_the_address_that_it_is_told() -> None:
     """Every address of 127.0.0.0/8 is one of the loopback interface."""
     port = free_port()
