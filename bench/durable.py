@@ -1,10 +1,11 @@
 #!/usr/bin/env python3
 """Changes a second that are kept on a disk: by the built `st_served --store`, by SQLite itself and by PostgreSQL, in turns on one disk;
 by the server on a disk whose syncs take 4 ms longer; and the time of a count alone and beside a connection that puts without pause.
+Beside the changes that one connection sends at once stands how often nginx answers the same requests of the same client with a constant.
 
     durable.py [SECONDS [FOLDER]]
 
-3 seconds for each figure, in a folder of /var/tmp, where they are left out. It needs the built st_served, wrk, and what
+3 seconds for each figure, in a folder of /var/tmp, where they are left out. It needs the built st_served, wrk, nginx, and what
 tools/packages names. A change is a put of a row with a label and a note; SQLite's (Python's sqlite3, journal_mode=WAL, synchronous=FULL)
 and PostgreSQL's (pgbench, as it is installed) is a row of the same texts. Run it with /usr/bin/python3.
 """
@@ -13,13 +14,14 @@ from __future__ import annotations
 import json
 import os
 import re
+import socket
 import sqlite3
 import subprocess
 import sys
 import tempfile
 import time
 from collections.abc import Iterator
-from contextlib import contextmanager
+from contextlib import contextmanager, suppress
 from pathlib import Path
 
 TOP = Path(__file__).resolve().parent.parent
@@ -48,6 +50,49 @@ static int later(const char *name, int file) {
 int fsync(int file) { return later("fsync", file); }
 int fdatasync(int file) { return later("fdatasync", file); }
 """
+
+
+# nginx, which answers each request with what a change is answered.
+CONSTANT = """daemon off;
+worker_processes 1;
+pid {folder}/nginx.pid;
+events {{}}
+http {{
+    access_log off;
+    client_body_temp_path {folder};
+    proxy_temp_path {folder};
+    fastcgi_temp_path {folder};
+    uwsgi_temp_path {folder};
+    scgi_temp_path {folder};
+    server {{
+        listen 127.0.0.1:{port};
+        keepalive_requests 1000000000;
+        location / {{ default_type application/json; return 200 '{{"ok":true}}'; }}
+    }}
+}}
+"""
+
+
+def until_open(port: int) -> None:
+    """Returns once a port takes connections."""
+    for _ in range(100):
+        with suppress(OSError), socket.create_connection(("127.0.0.1", port)):
+            return
+        time.sleep(0.1)
+    raise TimeoutError(port)
+
+
+@contextmanager
+def constant(folder: Path) -> Iterator[int]:
+    """The port of an nginx of one process that answers with a constant."""
+    port, file = free_port(), folder / "nginx.conf"
+    file.write_text(CONSTANT.format(folder=folder, port=port))
+    with subprocess.Popen(["nginx", "-c", str(file), "-e", str(folder / "nginx.log")]) as server:
+        try:
+            until_open(port)
+            yield port
+        finally:
+            server.terminate()
 
 
 @contextmanager
@@ -90,6 +135,11 @@ def microseconds(said: str, share: str) -> float:
 def by_server(folder: Path, connections: int, seconds: float, *many: str, library: Path | None = None) -> float:
     with tempfile.TemporaryDirectory(dir=folder) as name, stored(Path(name) / "points.db", library) as port:
         return rate(told(driven(port, connections, seconds, "put", token("root"), *many)))
+
+
+def by_nginx(folder: Path, many: int, seconds: float) -> float:
+    with tempfile.TemporaryDirectory(dir=folder) as name, constant(Path(name)) as port:
+        return rate(told(driven(port, 1, seconds, "put", token("root"), str(many))))
 
 
 def by_sqlite(folder: Path, batch: int, seconds: float) -> float:
@@ -168,7 +218,9 @@ def main() -> None:
                 print(f"  {connections} connections: st_served {here:,.0f}, PostgreSQL {there:,.0f}", flush=True)
             many = by_server(folder, 1, seconds, str(MANY))
             singles, batches = by_sqlite(folder, 1, seconds), by_sqlite(folder, 256, seconds)
-            print(f"  {MANY} at once on one connection: {many:,.0f}; sqlite3: {singles:,.0f} by one, {batches:,.0f} by 256", flush=True)
+            constants = by_nginx(folder, MANY, seconds)
+            print(f"  {MANY} at once on one connection: {many:,.0f}; a constant of nginx {constants:,.0f}", flush=True)
+            print(f"  sqlite3: {singles:,.0f} by one, {batches:,.0f} by 256", flush=True)
         print(on_a_slow_disk(folder, seconds), flush=True)
         print(counts_beside_puts(folder, seconds))
 

@@ -5,7 +5,8 @@ by requests.
     opening.py [ROWS [FOLDER [opened]]]
 
 1,000,000 rows, in a folder of /var/tmp, where they are left out; with `opened` no server gets them by requests. SQLite writes the rows
-as the server does: some that the server wrote are compared with them first. It needs the built st_served. Run it with /usr/bin/python3.
+as the server does: some that the server wrote are compared with them first. Memory has huge pages, as the unit under deploy/ asks for;
+GLIBC_TUNABLES= takes it as it comes. It needs the built st_served. Run it with /usr/bin/python3.
 """
 from __future__ import annotations
 
@@ -30,6 +31,7 @@ sys.path.insert(0, str(TOP / "tests"))
 from served import PROGRAM, digest, free_port  # noqa: E402
 from stored import AUTHS, BOX, answer, asked, request  # noqa: E402
 
+ENVIRONMENT = {"GLIBC_TUNABLES": "glibc.malloc.hugetlb=1", **os.environ}
 LABELS = ("", "A", "B", "A&B", "A|B")
 COLUMNS = 'number, "user", request, name, body, result'
 INSERT = f"INSERT INTO changes ({COLUMNS}, time) VALUES (?, 'root', 'put', 'points', ?, '{{\"ok\":true}}', 1700000000000)"
@@ -97,7 +99,7 @@ def serving(file: Path) -> Iterator[Server]:
     """A server over the store in a file, which is ended with the context."""
     port, start = free_port(), time.perf_counter()
     words = [str(PROGRAM), "--root", digest("root"), "--port", str(port), "--store", str(file), *AUTHS]
-    with subprocess.Popen(words, stdout=subprocess.PIPE) as process:
+    with subprocess.Popen(words, stdout=subprocess.PIPE, env=ENVIRONMENT) as process:
         assert process.stdout is not None
         try:
             assert process.stdout.readline() == b"listening %d\n" % port
