@@ -98,8 +98,8 @@ class Shell:
     def close(self) -> None:
         """Ends the shell and what it left running: processes that a file names, in whose folder they are."""
         for file in self._home.glob("storms/*.pid"):
-            pid = int(file.read_text())
-            with contextlib.suppress(OSError):  # it has ended
+            with contextlib.suppress(OSError):  # it has ended, and its file may go with it
+                pid = int(file.read_text())
                 if Path(f"/proc/{pid}/cwd").readlink() == file.parent.resolve():
                     os.kill(pid, signal.SIGTERM)
         os.killpg(self._bash.pid, signal.SIGTERM)
