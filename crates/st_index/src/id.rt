@@ -10,7 +10,7 @@ use std::marker::Model;
 /// The greatest length of an id, in bytes.
 pub const MAX_ID: usize = 64;
 
-/// The id of a row: a text of 1 to [`MAX_ID`] bytes. One of at most 15 bytes takes no memory of its own.
+/// The id of a row: a text of 1 to [`MAX_ID`] bytes. One of at most 14 bytes takes no memory of its own.
 #[derive(Drop)]
 pub struct Id<A: Allocator = Global> {
     text: CompactText<A>,

@@ -1,5 +1,5 @@
 //! Texts of any length. Short ones allocate nothing.
-ghost use Rattle.std.specs.Prelude.{◌≡◌, IfOk};
+ghost use Rattle.std.specs.Prelude.{◌≡◌, IfOk, IfSome};
 ghost use Rattle.st_text.specs.Texts.{same};
 
 use crate::short::{MAX_SHORT, ShortText};
@@ -14,14 +14,14 @@ enum Storage<A: Allocator> {
 }
 
 /// A text of any length. Up to [`MAX_SHORT`] bytes are stored in the value itself, more on the heap.
-/// The value takes 24 bytes when its allocator takes none.
+/// The value takes 16 bytes when its allocator takes none.
 #[derive(Drop)]
 pub struct CompactText<A: Allocator = Global> {
     alloc: A,
     storage: Storage<A>,
 }
 
-const _: () = prove!(size_of::<CompactText>() == 24);
+const _: () = prove!(size_of::<CompactText>() == 16);
 
 impl<A: Allocator> Model for CompactText<A> {
     ghost use Rattle.std.specs.Prelude.{ℕ, List};
@@ -53,7 +53,13 @@ impl<A: Allocator + Copy> CompactText<A> {
     pub fn copy(&self) -> Result<CompactText<A>, AllocError>
         ensures { IfOk result (λ compact. compact ≡ self.now) }
     {
-        CompactText::new(self.alloc, self.as_str())
+        match &self.storage {
+            Storage::Inline(short) => Ok(CompactText {
+                alloc: self.alloc,
+                storage: Storage::Inline(short.copy()),
+            }),
+            Storage::Heap(text) => CompactText::new(self.alloc, text.as_str()),
+        }
     }
 }
 
@@ -65,6 +71,16 @@ impl<A: Allocator> CompactText<A> {
         match &self.storage {
             Storage::Inline(short) => short.as_str(),
             Storage::Heap(text) => text.as_str(),
+        }
+    }
+
+    /// The text as a short one, where it is stored in the value itself.
+    pub fn as_short(&self) -> Option<&ShortText>
+        ensures value { IfSome result (λ short. short.now ≡ self.now) }
+    {
+        match &self.storage {
+            Storage::Inline(short) => Some(short),
+            Storage::Heap(_) => None,
         }
     }
 

@@ -1,31 +1,36 @@
-//! Texts of at most 15 bytes.
-ghost use Rattle.std.specs.Prelude.{◌≡◌, ◌≤◌, IsSome, IfSome, ◌↔◌, length};
+//! Texts of at most 14 bytes.
+ghost use Rattle.std.specs.Prelude.{◌≡◌, ◌≤◌, IsSome, IfSome, IsTrue, ◌↔◌, length};
 ghost use Rattle.st_text.specs.Texts.{same};
 
 use std::marker::Model;
 use std::str;
 
 /// The greatest length of a [`ShortText`], in bytes.
-pub const MAX_SHORT: usize = 15;
+pub const MAX_SHORT: usize = 14;
 
-/// A text of at most [`MAX_SHORT`] bytes, stored in the value itself: 16 bytes in all.
+// The factor of a number that is made of a text, whose highest bits depend on all bits that are multiplied.
+const FACTOR: u64 = 0x9e37_79b9_7f4a_7c15;
+
+/// A text of at most [`MAX_SHORT`] bytes, stored in the value itself: 15 bytes in all.
 #[derive(Drop)]
 pub struct ShortText {
     len: u8,
     bytes: [u8; MAX_SHORT],
 }
 
-const _: () = prove!(size_of::<ShortText>() == 16);
+const _: () = prove!(size_of::<ShortText>() == 15);
 
 impl Model for ShortText {
-    ghost use Rattle.std.specs.Prelude.{ℕ, ◌≤◌, List, take, IsUtf8};
+    ghost use Rattle.std.specs.Prelude.{ℕ, ◌≡◌, ◌≤◌, ◌-◌, ◌++◌, List, take, replicate, IsUtf8};
     ghost use Rattle.st_text.specs.declared.short.TheConstants.{MAX_SHORT};
 
     ghost Value = { List ℕ };
 
     ghost view = { λ t. take t.len t.bytes };
 
-    ghost invariant = { λ t. (t.len ≤ MAX_SHORT) × ∥ IsUtf8 (take t.len t.bytes) ∥₁ };
+    // The bytes behind the text are 0, so that equal texts are stored in equal bytes.
+    ghost invariant = { λ t. (t.len ≤ MAX_SHORT) × ∥ IsUtf8 (take t.len t.bytes) ∥₁
+        × (t.bytes ≡ take t.len t.bytes ++ replicate (MAX_SHORT - t.len) 0) };
 }
 
 impl ShortText {
@@ -61,6 +66,21 @@ impl ShortText {
         ensures fits { length result.now ≤ MAX_SHORT }
     {
         unsafe { str::from_utf8_unchecked(&self.bytes[..self.len as usize]) }
+    }
+
+    /// Whether the two texts are equal. It compares the bytes that they are stored in, and takes a few instructions.
+    pub fn is_same(&self, other: &ShortText) -> bool
+        ensures { IsTrue result ↔ (self.now ≡ other.now) }
+    {
+        self.len == other.len && self.bytes == other.bytes
+    }
+
+    /// A number of 64 bits that depends on the length and on all bytes of the text. Equal texts have equal numbers.
+    pub fn mixed(&self) -> u64 {
+        let [a, b, c, d, e, f, g, h, i, j, k, l, m, n] = self.bytes;
+        let low = u64::from_le_bytes([a, b, c, d, e, f, g, h]);
+        let high = u64::from_le_bytes([i, j, k, l, m, n, self.len, 0]);
+        (low ^ high.rotate_left(29)).wrapping_mul(FACTOR)
     }
 
     /// Whether this is the text, byte by byte.
