@@ -1,5 +1,5 @@
 //! Labels: their text as written, and what it means.
-ghost use Rattle.std.specs.Prelude.{◌≡◌, ◌↔◌, ◌≤◌, IfOk, IfErr, IsTrue, length, string_bytes};
+ghost use Rattle.std.specs.Prelude.{◌≡◌, ◌↔◌, ◌≤◌, IfOk, IfErr, IfSome, IsTrue, length, string_bytes};
 ghost use Rattle.st_label.specs.Reading.{reading, is_true, IsLabel};
 ghost use Rattle.st_label.specs.inner.Views.{tree_view};
 ghost use Rattle.st_label.specs.declared.label.LabelFault.TheVariants.{NoMemory};
@@ -12,7 +12,7 @@ use crate::reader::{ReadFault, Reader};
 use crate::term::{Names, Nobody};
 use crate::tree::Tree;
 use crate::truth::judge;
-use st_text::CompactText;
+use st_text::{CompactText, ShortText};
 use std::alloc::{AllocError, Allocator, Global};
 use std::marker::Model;
 use thiserror::Error;
@@ -126,6 +126,23 @@ impl<A: Allocator> Label<A> {
         ensures fits { length result.now ≤ MAX_LEN }
     {
         self.text.as_str()
+    }
+
+    /// The text as a short one, where it takes no memory of its own.
+    pub fn as_short(&self) -> Option<&ShortText>
+        ensures { IfSome result (λ short. short.now ≡ self.now) }
+    {
+        self.text.as_short()
+    }
+
+    /// Whether the labels are equal. Short ones are compared in a few instructions.
+    pub fn is_same<B: Allocator>(&self, other: &Label<B>) -> bool
+        ensures { IsTrue result ↔ (self.now ≡ other.now) }
+    {
+        match (self.as_short(), other.as_short()) {
+            (Some(one), Some(other)) => one.is_same(other),
+            _ => self.text() == other.text(),
+        }
     }
 
     /// Whether the label is true for the names: the empty label is, a term if its name is one of them,

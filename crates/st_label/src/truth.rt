@@ -1,12 +1,12 @@
 //! Whether a label is true, by one pass over its text that allocates nothing.
-ghost use Rattle.std.specs.Prelude.{◌≡◌, ◌<◌, ◌≤◌, ◌≢◌, ◌^◌, IfOk, IfErr, Ok, Err, length, reverse, [], slice_index_or};
+ghost use Rattle.std.specs.Prelude.{◌≡◌, ◌<◌, ◌≤◌, ◌≢◌, ◌^◌, IfOk, IfErr, Err, length, reverse, [], slice_index_or};
 ghost use Rattle.st_label.specs.inner.Machine.{class_of as class_at};
 ghost use Rattle.st_label.specs.inner.Views.{class_view};
 ghost use Rattle.st_label.specs.Refusals.{max_len};
 ghost use Rattle.st_label.specs.Reading.{is_true, IsLabel};
 ghost use Rattle.st_label.specs.Faults.{RefusesLabel};
-ghost use Rattle.st_label.specs.inner.Truth.{joins, sign_truth, level_truth, pass_done, pass_start, pass_step, pass_truth, Passes};
-ghost use Rattle.st_label.specs.inner.Truth.{IsPlaced};
+ghost use Rattle.st_label.specs.inner.Truth.{joins, sign_truth, level_truth, pass_done, pass_start, pass_step, pass_truth, stage_of};
+ghost use Rattle.st_label.specs.inner.Truth.{IsPlaced, PassesTo};
 
 use crate::class::{Class, class_of};
 use crate::label::LabelFault;
@@ -53,15 +53,6 @@ struct Pass {
     unit: Part,
 }
 
-type Outer = ArrayVec<Level, MAX_DEPTH>;
-
-// A reader with these parts.
-fn pass_at(outer: Outer, level: Level, unit: Part) -> Result<Pass, Stop>
-    ensures { result ≡ Ok (record { outer = outer; level = level; unit = unit }) }
-{
-    Ok(Pass { outer, level, unit })
-}
-
 impl Pass {
     fn new() -> Pass
         ensures outer { result.outer.items ≡ [] }
@@ -75,22 +66,21 @@ impl Pass {
         }
     }
 
-    // The reader after the byte at this index.
-    fn step<N: Names>(self, names: &N, text: &[u8], at: usize) -> Result<Pass, Stop>
+    // Reads the byte at this index.
+    fn step<N: Names>(&mut self, names: &N, text: &[u8], at: usize) -> Result<(), Stop>
         requires inside { at < length text.now }
-        requires placed { IsPlaced self.unit at }
-        ensures { Passes (λ room. pass_step room (N.among names.now) text.now at
-            (reverse self.outer.items) self.level self.unit (class_at (slice_index_or text.now at 0))) result }
+        requires placed { IsPlaced self.old.unit at }
+        ensures { PassesTo (λ room. pass_step room (N.among names.now) text.now at (reverse self.old.outer.items)
+            self.old.level self.old.unit (class_at (slice_index_or text.now at 0))) (stage_of self.new) result }
     {
-        let Pass { outer, level, unit } = self;
         let class = class_of(text[at] as char);
-        match unit {
-            Part::Start => start(outer, level, at, class),
+        match self.unit {
+            Part::Start => self.start(at, class),
             Part::Word(from) => match class {
-                Class::Plain => pass_at(outer, level, Part::Word(from)),
+                Class::Plain => Ok(()),
                 _ => {
                     let truth = names.has_term(&Term::word(&text[from..at]));
-                    behind(outer, level, truth, class)
+                    self.behind(truth, class)
                 }
             },
             Part::Quoted(from) => match class {
@@ -99,16 +89,77 @@ impl Pass {
                         return Err(Stop::NotViable);
                     }
                     let truth = names.has_term(&Term::quoted(&text[from..at]));
-                    pass_at(outer, level, Part::Done(truth))
+                    self.unit = Part::Done(truth);
+                    Ok(())
                 }
-                Class::Backslash => pass_at(outer, level, Part::Escape(from)),
-                _ => pass_at(outer, level, Part::Quoted(from)),
+                Class::Backslash => {
+                    self.unit = Part::Escape(from);
+                    Ok(())
+                }
+                _ => Ok(()),
             },
             Part::Escape(from) => match class {
-                Class::Quote | Class::Backslash => pass_at(outer, level, Part::Quoted(from)),
+                Class::Quote | Class::Backslash => {
+                    self.unit = Part::Quoted(from);
+                    Ok(())
+                }
                 _ => Err(Stop::NotViable),
             },
-            Part::Done(truth) => behind(outer, level, truth, class),
+            Part::Done(truth) => self.behind(truth, class),
+        }
+    }
+
+    // A unit begins.
+    fn start(&mut self, at: usize, class: Class) -> Result<(), Stop>
+        requires fits { at < 2 ^ 63 }
+        requires between { self.old.unit ≡ Part.Start }
+        ensures { PassesTo (λ room. pass_start room (reverse self.old.outer.items) self.old.level at (class_view class))
+            (stage_of self.new) result }
+    {
+        match class {
+            Class::Plain => {
+                self.unit = Part::Word(at);
+                Ok(())
+            }
+            Class::Quote => {
+                self.unit = Part::Quoted(at + 1);
+                Ok(())
+            }
+            Class::Open => {
+                if self.outer.len() >= MAX_DEPTH {
+                    return Err(Stop::TooDeep);
+                }
+                self.outer.push(self.level);
+                self.level = Level::Free;
+                Ok(())
+            }
+            _ => Err(Stop::NotViable),
+        }
+    }
+
+    // The step after a whole unit.
+    fn behind(&mut self, truth: bool, class: Class) -> Result<(), Stop>
+        ensures { PassesTo (λ room. pass_done (reverse self.old.outer.items) self.old.level truth (class_view class))
+            (stage_of self.new) result }
+    {
+        match class {
+            Class::Sign(operator) => match joined(operator, self.level, truth) {
+                Some(level) => {
+                    self.level = level;
+                    self.unit = Part::Start;
+                    Ok(())
+                }
+                None => Err(Stop::NotViable),
+            },
+            Class::Close => match self.outer.pop() {
+                Some(around) => {
+                    self.unit = Part::Done(closed(self.level, truth));
+                    self.level = around;
+                    Ok(())
+                }
+                None => Err(Stop::NotViable),
+            },
+            _ => Err(Stop::NotViable),
         }
     }
 
@@ -143,51 +194,15 @@ pub(crate) fn judge<N: Names>(text: &[u8], names: &N) -> Result<bool, LabelFault
 {
     let mut pass = Pass::new();
     for at in 0..text.len() {
-        pass = match pass.step(names, text, at) {
-            Ok(next) => next,
+        match pass.step(names, text, at) {
+            Ok(()) => {}
             Err(Stop::NotViable) => return Err(LabelFault::BadLabel { at }),
             Err(Stop::TooDeep) => return Err(LabelFault::TooDeep { at }),
-        };
+        }
     }
     match pass.finish(names, text) {
         Some(truth) => Ok(truth),
         None => Err(LabelFault::BadLabel { at: text.len() }),
-    }
-}
-
-// A unit begins.
-fn start(mut outer: Outer, level: Level, at: usize, class: Class) -> Result<Pass, Stop>
-    requires { at < 2 ^ 63 }
-    ensures { Passes (λ room. pass_start room (reverse outer.items) level at (class_view class)) result }
-{
-    match class {
-        Class::Plain => pass_at(outer, level, Part::Word(at)),
-        Class::Quote => pass_at(outer, level, Part::Quoted(at + 1)),
-        Class::Open => {
-            if outer.len() >= MAX_DEPTH {
-                return Err(Stop::TooDeep);
-            }
-            outer.push(level);
-            pass_at(outer, Level::Free, Part::Start)
-        }
-        _ => Err(Stop::NotViable),
-    }
-}
-
-// The step after a whole unit.
-fn behind(mut outer: Outer, level: Level, truth: bool, class: Class) -> Result<Pass, Stop>
-    ensures { Passes (λ room. pass_done (reverse outer.items) level truth (class_view class)) result }
-{
-    match class {
-        Class::Sign(operator) => match joined(operator, level, truth) {
-            Some(level) => pass_at(outer, level, Part::Start),
-            None => Err(Stop::NotViable),
-        },
-        Class::Close => match outer.pop() {
-            Some(around) => pass_at(outer, around, Part::Done(closed(level, truth))),
-            None => Err(Stop::NotViable),
-        },
-        _ => Err(Stop::NotViable),
     }
 }
 

@@ -133,6 +133,7 @@ abbrev pub Halts : (ℕ → Option Stage) → Stop → Type 0
 Halts steps Stop.NotViable = (room : ℕ) → steps room ≡ None
 Halts steps Stop.TooDeep = (steps max_depth ≡ None) × (wide : ℕ) × (next : Stage) × (steps wide ≡ Some next)
 
-abbrev pub Passes : (ℕ → Option Stage) → Result Pass Stop → Type 0
-Passes steps (Ok next) = steps max_depth ≡ Some (stage_of next)
-Passes steps (Err stop) = Halts steps stop
+-- The steps lead to that stage, or halt as the result says.
+abbrev pub PassesTo : (ℕ → Option Stage) → Stage → Result (Unit {0}) Stop → Type 0
+PassesTo steps next (Ok done) = steps max_depth ≡ Some next
+PassesTo steps next (Err stop) = Halts steps stop

@@ -17,7 +17,7 @@ returns-in-Err-TooDeep-clause-fault g c =
     (c.requires, deep_at (g.N.Names.among c.args.names.now) c.args.text.now c.loop-at.at (stage_of c.loop-at.pass) deep.2 deep.1 c.loop-at-test.true c.loop-at.invariant deep.0 deep.3)
 
 pub loop-at-preserved : goal.loop-at-preserved
-loop-at-preserved g c = further (g.N.Names.among c.args.names.now) c.args.text.now c.loop-at.at (stage_of c.loop-at.pass) (stage_of c.in-Ok.next) c.loop-at-test.true c.loop-at.invariant c.in-Ok.ensures
+loop-at-preserved g c = further (g.N.Names.among c.args.names.now) c.args.text.now c.loop-at.at (stage_of c.loop-at.pass) (stage_of c.step.new.self) c.loop-at-test.true c.loop-at.invariant c.in-Ok.ensures
 
 pub returns-in-Some-clause-label : goal.returns-in-Some-clause-label
 returns-in-Some-clause-label g c =
