@@ -7,23 +7,23 @@ ghost use Rattle.st_auth.specs.inner.Remembered.{AreKnown};
 use crate::auths::Auths;
 use crate::truth::satisfies;
 use st_label::Label;
-use st_text::{MAX_SHORT, ShortText};
+use st_text::ShortText;
 use std::alloc::Allocator;
 
 // How many slots there are at first.
 const FEWEST: usize = 64;
 
 // How many slots there are at most.
-const MOST: usize = 8192;
+const MOST_SLOTS: usize = 32_768;
+
+// How many labels are known at most.
+const MOST: usize = MOST_SLOTS / 4;
 
 // What stands in a slot of no label.
 const FREE: u16 = u16::MAX;
 
 // In how many consecutive slots a label may be.
 const STEPS: usize = 4;
-
-// The factor of the hash of a text, whose highest bits depend on all bits that are multiplied.
-const FACTOR: u64 = 0x9e37_79b9_7f4a_7c15;
 
 // A label's text and whether it is true.
 #[derive(Drop)]
@@ -32,8 +32,8 @@ struct Known {
     verdict: bool,
 }
 
-/// A cache of the verdicts on labels of at most [`MAX_SHORT`] bytes. A label that finds no free slot
-/// replaces another. It allocates with the first label, and grows with how many there are, up to 8,192 slots.
+/// A cache of the verdicts on labels of at most [`st_text::MAX_SHORT`] bytes. A label that finds no free slot
+/// replaces another. It allocates with the first label, and grows with how many there are, up to 8,192 labels.
 #[derive(Drop)]
 pub struct ShortLabels<A: Allocator> {
     // The index in `known` of each slot's label. A free slot has an index past its end. Their number is a power of two, or 0.
@@ -70,19 +70,17 @@ impl<A: Allocator + Copy> ShortLabels<A> {
         ensures value { IfSome result (λ verdict. verdict ≡ is_true (is_among auths.now) label.now) }
         ensures known { AreKnown auths.now self.new.known.items }
     {
-        if label.text().len() > MAX_SHORT {
-            return None;
-        }
-        if let Some(verdict) = self.verdict(label.text()) {
+        let text = label.as_short()?;
+        if let Some(verdict) = self.verdict(text) {
             return Some(verdict);
         }
         let verdict = satisfies(label, auths);
-        self.keep(label.text(), verdict);
+        self.keep(text, verdict);
         Some(verdict)
     }
 
     // The verdict on a label, if it is remembered.
-    fn verdict(&self, text: &str) -> Option<bool>
+    fn verdict(&self, text: &ShortText) -> Option<bool>
         ensures { (names : List Text) → AreKnown names self.now.known.items
             → IfSome result (λ verdict. verdict ≡ is_true (is_among names) text.now) }
     {
@@ -90,21 +88,18 @@ impl<A: Allocator + Copy> ShortLabels<A> {
         for step in 0..STEPS {
             let number = *self.slots.get(slot_at(&self.slots, hash, step))?;
             let known = self.known.get(number as usize)?;
-            if known.text.is(text) {
+            if known.text.is_same(text) {
                 return Some(known.verdict);
             }
         }
         None
     }
 
-    // Remembers the verdict on a label, if its text is short and memory suffices.
-    fn keep(&mut self, text: &str, verdict: bool)
+    // Remembers the verdict on a label, if memory suffices.
+    fn keep(&mut self, text: &ShortText, verdict: bool)
         ensures { (names : List Text) → verdict ≡ is_true (is_among names) text.now
             → AreKnown names self.old.known.items → AreKnown names self.new.known.items }
     {
-        let Some(short) = ShortText::new(text) else {
-            return;
-        };
         self.grow();
         let count = self.known.len();
         let slot = slot_for(&self.slots, text, count);
@@ -113,7 +108,7 @@ impl<A: Allocator + Copy> ShortLabels<A> {
         };
         let number = *place as usize;
         let known = Known {
-            text: short,
+            text: text.copy(),
             verdict,
         };
         if number < count {
@@ -123,11 +118,11 @@ impl<A: Allocator + Copy> ShortLabels<A> {
         }
     }
 
-    // Makes more slots where half of them have a label, if memory suffices.
+    // Makes more slots where a quarter of them have a label, if memory suffices.
     fn grow(&mut self)
         ensures { self.new.known ≡ self.old.known }
     {
-        if self.known.len() < self.slots.len() / 2 || self.slots.len() >= MOST {
+        if self.known.len() < self.slots.len() / 4 || self.slots.len() >= MOST_SLOTS {
             return;
         }
         let many = (self.slots.len() * 4).max(FEWEST);
@@ -143,7 +138,7 @@ impl<A: Allocator + Copy> ShortLabels<A> {
 // Finds each label a slot.
 fn fill(slots: &mut [u16], known: &[Known]) {
     for (number, label) in known.iter().enumerate() {
-        let slot = slot_for(slots, label.text.as_str(), known.len());
+        let slot = slot_for(slots, &label.text, known.len());
         let Some(place) = slots.get_mut(slot) else {
             return;
         };
@@ -152,7 +147,7 @@ fn fill(slots: &mut [u16], known: &[Known]) {
 }
 
 // The first free slot of those that a label may have, or the first of them, where so many labels are known.
-fn slot_for(slots: &[u16], text: &str, count: usize) -> usize {
+fn slot_for(slots: &[u16], text: &ShortText, count: usize) -> usize {
     let hash = hash_of(text);
     for step in 0..STEPS {
         let slot = slot_at(slots, hash, step);
@@ -169,17 +164,7 @@ fn slot_at(slots: &[u16], hash: usize, step: usize) -> usize {
     hash.wrapping_add(step) & slots.len().wrapping_sub(1)
 }
 
-// A hash of a label's text, by its length and all its bytes.
-fn hash_of(text: &str) -> usize {
-    let count = text.len();
-    if count > MAX_SHORT {
-        return 0;
-    }
-    let mut bytes = [0; 16];
-    bytes[..count].copy_from_slice(text.as_bytes());
-    let [a, b, c, d, e, f, g, h, i, j, k, l, m, n, o, _] = bytes;
-    let low = u64::from_le_bytes([a, b, c, d, e, f, g, h]);
-    let high = u64::from_le_bytes([i, j, k, l, m, n, o, count as u8]);
-    let mixed = (low ^ high.rotate_left(29)).wrapping_mul(FACTOR);
-    (mixed >> 40) as usize
+// A hash of a label's text.
+fn hash_of(text: &ShortText) -> usize {
+    (text.mixed() >> 40) as usize
 }
