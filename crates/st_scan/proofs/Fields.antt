@@ -1,5 +1,5 @@
 -- Fields of a grid, and the rows that are counted in them.
-use Rattle.std.proofs.Common.{◌≡◌, ℕ, suc, ◌+◌, ◌*◌, ◌/◌, ◌^◌, ◌<◌, ◌≤◌, List, [], ◌∷◌, length, filter, map, count_by, Bool, ◌&&◌, nat_eq, get_or, refl, sym, ap, ◌∙◌, arith}
+use Rattle.std.proofs.Common.{◌≡◌, ℕ, suc, ◌+◌, ◌*◌, ◌/◌, ◌^◌, ◌<◌, ◌≤◌, List, [], ◌∷◌, length, map, count_by, Bool, nat_eq, get_or, refl, ap, ◌∙◌, arith}
 use Rattle.std.proofs.Math.Nat.{div-lt_iff_lt-mul, mul-lt-mul_of_pos_right}
 use Rattle.std.proofs.lemmas.Nat.{mul-lt}
 use Rattle.std.specs.List.{All}

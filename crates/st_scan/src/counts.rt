@@ -11,8 +11,11 @@ use st_index::{Judge, RowIndex, counting};
 use st_key::Key;
 use std::alloc::Allocator;
 
+// After how many rows an index is asked, which counts by its nodes.
+const FEW_ROWS: u64 = 8;
+
 // How many rows of an index are inside the query and have a label that is found true, where at most `FEW` regions
-// meet the query.
+// meet the query and few such rows are in them.
 fn count_few<I: RowIndex, J: Judge<I::Alloc>>(
     index: &I,
     query: &Query,
@@ -29,7 +32,7 @@ fn count_few<I: RowIndex, J: Judge<I::Alloc>>(
         let Some((entries, next)) = open_next(index, query, period, key) else {
             return Some(count);
         };
-        if opened >= FEW {
+        if opened >= FEW || count > FEW_ROWS {
             return None;
         }
         opened += 1;

@@ -1,4 +1,4 @@
-use Rattle.std.proofs.Common.{◌≡◌, ◌+◌, ◌≤◌, length, refl, sym, ap, subst, ◌∙◌, arith}
+use Rattle.std.proofs.Common.{◌+◌, ◌≤◌, length, refl, ap, subst, ◌∙◌, arith}
 use Rattle.st_key.specs.Key.{rank}
 use Rattle.st_index.specs.Counting.{count_of}
 use Rattle.st_index.specs.Rows.{rows_of}
