@@ -1,7 +1,8 @@
 -- Rows that are all in one field.
-use Rattle.std.proofs.Common.{◌≡◌, ℕ, ◌<◌, List, [], ◌∷◌, Bool, true, false, Option, Some, None, IsTrue, get_or, sym, ap, subst, ◌∙◌}
+use Rattle.std.proofs.Common.{◌≡◌, ℕ, ◌+◌, ◌<◌, ◌&&◌, List, [], Bool, true, false, Option, Some, None, IsTrue, cond, nat_eq, length, get_or, sym, ap, subst, ◌∙◌, arith}
 use Rattle.std.specs.Prelude.{IfSome}
 use Rattle.std.proofs.lemmas.Bool.{and_parts}
+use Rattle.std.proofs.lemmas.List.Sums.{sum_by-cons}
 use Rattle.std.specs.List.{All}
 use Rattle.st_key.specs.declared.point.Point.{Point}
 use Rattle.st_box.specs.declared.query.Query.{Query}
@@ -9,11 +10,13 @@ use Rattle.st_box.specs.Query.{is_inside}
 use Rattle.st_text.specs.Texts.{Text}
 use Rattle.st_index.specs.declared.row.Row.{Row}
 use Rattle.st_index.specs.Counting.{is_counted}
-use Rattle.st_index.specs.Fields.{Counts, IsBetween}
+use Rattle.st_index.specs.Fields.{CanAdd, Counts, IsBetween}
+use Rattle.st_index.proofs.Tallying.{counts_not}
 use Rattle.st_ubtree.specs.declared.bounds.Bounds.{Bounds}
 use Rattle.st_index.specs.Rows.{EntryValue}
-use Rattle.st_ubtree.specs.inner.Marks.{IsJudged}
+use Rattle.st_ubtree.specs.inner.Marks.{IsMark, verdict_on}
 use Rattle.st_ubtree.specs.inner.Sums.{IsWithin}
+use Rattle.st_ubtree.proofs.Tallied.{verdict_here}
 
 -- what holds of what is found holds of what follows from it
 pub some_then : {X : Type 0} (P Q : X → Type 0) (r : Option X) → ((x : X) → P x → Q x) → IfSome r P → IfSome r Q
@@ -39,13 +42,36 @@ module _ {A : Type 0} (q : Query) (field_of : Point → ℕ) (rows : List (Row A
       → All (λ (row : Row A). is_counted q judges row ≡ true → field_of row.point ≡ one) rows
   all_in_one judges one all = λ k d l counted. all k d l (and_parts _ _ counted).0
 
--- the label of the row of an entry that has a mark is judged as the mark says
-pub marked_row : {A : Type 0} (judges : Text → Bool) (verdicts : List Bool) (e : EntryValue A) (number : ℕ) (row : Row A) → IsJudged judges verdicts e number
-    → number < 16 → e.rows ≡ row ∷ [] → judges row.label ≡ get_or verdicts number false
-marked_row {A = A} judges verdicts e number row judged low one =
-    let is = judged low in
-    let same : is.0 ≡ row = ap (λ rows. get_or rows 0 row) (sym is.1 ∙ one) in
-    ap (λ (r : Row A). judges r.label) (sym same) ∙ sym is.2
+-- what was counted of an entry of one row by its mark
+pub marked_counts : {A : Type 0} (q : Query) (judges : Text → Bool) (field_of : Point → ℕ) (labels : List Text) (e : EntryValue A) (number : ℕ) (point : Point) (old new : List ℕ)
+    → IsMark labels e number point → number < 16
+    → ((at : ℕ) → get_or new at 0 ≡ get_or old at 0 + cond (is_inside q point && verdict_on judges labels number && nat_eq (field_of point) at) 1 0)
+    → Counts q judges field_of e.rows old new
+marked_counts {A = A} q judges field_of labels e number point old new mark low added =
+    let is = mark (omega (arith, low)) in
+    let row = is.0 in
+    subst (λ rows. Counts q judges field_of rows old new) (sym is.1)
+    (λ field.
+    let one = sum_by-cons (λ (r : Row A). cond (is_counted q judges r && nat_eq (field_of r.point) field) 1 0) row [] in
+    let same : cond (is_counted q judges row && nat_eq (field_of row.point) field) 1 0 ≡ cond (is_inside q point && verdict_on judges labels number && nat_eq (field_of point) field) 1 0 =
+    ap {B = ℕ} (λ p. cond (is_inside q p && judges row.label && nat_eq (field_of p) field) 1 0) is.2
+    ∙ ap {B = ℕ} (λ b. cond (is_inside q point && b && nat_eq (field_of point) field) 1 0) (sym (verdict_here judges labels number row.label (is.3 low))) in
+    let more = added field in
+    omega (arith, one, same, more))
+
+-- as many can be added
+pub marked_fits : {A : Type 0} (labels : List Text) (e : EntryValue A) (number : ℕ) (point : Point) (counts : List ℕ)
+    → IsMark labels e number point → number < 255 → CanAdd (length e.rows) counts → CanAdd 1 counts
+marked_fits {A = A} labels e number point counts mark few can =
+    let is = mark few in subst (λ (rows : List (Row A)). CanAdd (length rows) counts) is.1 can
+
+-- and where its point is outside
+pub outside_counts : {A : Type 0} (q : Query) (judges : Text → Bool) (field_of : Point → ℕ) (labels : List Text) (e : EntryValue A) (number : ℕ) (point : Point) (counts : List ℕ)
+    → IsMark labels e number point → number < 255 → is_inside q point ≡ false → Counts q judges field_of e.rows counts counts
+outside_counts q judges field_of labels e number point counts mark few outside =
+    let is = mark few in
+    subst (λ rows. Counts q judges field_of rows counts counts) (sym is.1)
+    (counts_not q judges field_of is.0 counts (ap {B = Bool} (λ b. b && judges is.0.label) (ap (is_inside q) is.2 ∙ outside)))
 
 -- what was counted of rows, by another name for the judgement and for the rows
 pub counts_by : {A : Type 0} (q : Query) (field_of : Point → ℕ) (old new : List ℕ) (j k : Text → Bool) (rows others : List (Row A)) → j ≡ k → rows ≡ others

@@ -11,7 +11,7 @@ same_read [] i x y l a b = absurd (omega (arith, l))
 same_read (z ∷ zs) zero x y l a b = a ∙ sym b
 same_read (z ∷ zs) (suc i) x y l a b = same_read zs i x y (omega (arith, l)) a b
 
-found_more : (b : Bool) (m n : ℕ) → cond b (m + n) 0 ≡ cond b m 0 + cond b n 0
+pub found_more : (b : Bool) (m n : ℕ) → cond b (m + n) 0 ≡ cond b m 0 + cond b n 0
 found_more true m n = refl
 found_more false m n = refl
 

@@ -16,7 +16,8 @@ pub mod Summing
 pub mod Bounding
 pub mod Keeping
 pub mod Labels
+pub mod Placing
 pub mod Marking
 pub mod ByMarks
-pub mod Shifting
 pub mod Fielding
+pub mod Tallied

@@ -1,40 +1,54 @@
-//! Counts in fields of marked entries, whose labels were judged before.
-ghost use Rattle.std.specs.Prelude.{◌≡◌, ◌<◌, ◌≤◌, [], ◌∷◌, Bool, length};
+//! Counts in fields of marked entries, whose labels are judged by their numbers.
+ghost use Rattle.std.specs.Prelude.{◌≡◌, ℕ, ◌+◌, ◌<◌, ◌≤◌, ◌&&◌, cond, get_or, length, nat_eq};
+ghost use Rattle.st_box.specs.Query.{is_inside};
 ghost use Rattle.st_index.specs.Fields.{CanAdd, Counts};
 ghost use Rattle.st_index.specs.Rows.{EntryValue, rows_of};
-ghost use Rattle.st_text.specs.Texts.{Text};
-ghost use Rattle.st_ubtree.specs.inner.Marks.{AreJudged, HasAt};
+ghost use Rattle.st_ubtree.specs.inner.Marks.{AreKnown, AreMarks, HasAt, verdict_on};
 
 use crate::marked::is_in;
-use crate::marks::PageMarks;
 use crate::numbering::MAX_NUMBERS;
-use st_index::{Entry, Fields, Judge, Row, RowsView, field_counting};
+use crate::page_marks::{MANY, PageMarks};
+use crate::verdicts::Verdicts;
+use st_index::{Entry, Fields, Judge, field_counting};
+use st_key::Point;
 use std::alloc::Allocator;
 
-// Counts a row, whose label is found true or not, in its field.
-fn count_row<A: Allocator + Copy, F: Fields>(
-    row: &Row<A>,
-    verdict: bool,
+// Counts a row at a point, whose label has a number, in its field. The label is judged only where the point is inside the query.
+fn count_numbered<A: Allocator + Copy, J: Judge<A>, F: Fields>(
+    point: &Point,
+    number: usize,
+    verdicts: &mut Verdicts<'_, A>,
+    judge: &mut J,
     fields: &F,
     counts: &mut [u64],
 )
+    requires low { number < 16 }
     requires long { length counts.old ≡ F.count fields.now }
     requires fits { CanAdd 1 counts.old }
-    ensures { (judges : Text → Bool) → judges row.now.label ≡ verdict
-        → Counts (F.query fields.now) judges (F.field_of fields.now) (row.now ∷ []) counts.old counts.new }
+    requires known { AreKnown (J.judges judge.old) verdicts.old.marks.now.labels.items verdicts.old.found }
+    ensures marks { verdicts.new.marks ≡ verdicts.old.marks }
+    ensures known { AreKnown (J.judges judge.old) verdicts.old.marks.now.labels.items verdicts.new.found }
+    ensures counts { (at : ℕ) → get_or counts.new at 0 ≡ get_or counts.old at 0
+        + cond (is_inside (F.query fields.now) point.now && verdict_on (J.judges judge.old) verdicts.old.marks.now.labels.items number
+        && nat_eq (F.field_of fields.now point.now) at) 1 0 }
+    ensures same { J.judges judge.new ≡ J.judges judge.old }
 {
-    if is_in(fields.query(), &row.point) & verdict {
-        let field = fields.field(&row.point);
+    if !is_in(fields.query(), point) {
+        return;
+    }
+    if verdicts.of(number, judge) {
+        let field = fields.field(point);
         field_counting::add(counts, field, 1);
     }
 }
 
-// Counts the rows of the entry at a place in their fields, by its mark if it has one.
+// Counts the rows of the entry at a place in their fields, by its mark if it has one. The entry is read only where the mark
+// does not tell.
 fn count_at<A: Allocator + Copy, J: Judge<A>, F: Fields>(
     entries: &[Entry<A>],
     at: usize,
     marks: &PageMarks,
-    verdicts: &[bool; MAX_NUMBERS],
+    verdicts: &mut Verdicts<'_, A>,
     judge: &mut J,
     fields: &F,
     counts: &mut [u64],
@@ -43,16 +57,22 @@ fn count_at<A: Allocator + Copy, J: Judge<A>, F: Fields>(
     requires not_more { length entries.now ≤ 32 }
     requires long { length counts.old ≡ F.count fields.now }
     requires fits { (e : EntryValue A) → HasAt entries.now at e → CanAdd (length e.rows) counts.old }
-    requires judged { AreJudged (J.judges judge.old) verdicts.now entries.now marks.now }
+    requires marked { AreMarks verdicts.old.marks.now.labels.items entries.now marks.now }
+    requires known { AreKnown (J.judges judge.old) verdicts.old.marks.now.labels.items verdicts.old.found }
+    ensures marks { verdicts.new.marks ≡ verdicts.old.marks }
+    ensures known { AreKnown (J.judges judge.old) verdicts.old.marks.now.labels.items verdicts.new.found }
     ensures counts { (e : EntryValue A) → HasAt entries.now at e
         → Counts (F.query fields.now) (J.judges judge.old) (F.field_of fields.now) e.rows counts.old counts.new }
     ensures same { J.judges judge.new ≡ J.judges judge.old }
 {
-    let number = usize::from(marks.numbers[at]);
-    if number < MAX_NUMBERS
-        && let RowsView::One(row) = entries[at].rows()
-    {
-        count_row(row, verdicts[number], fields, counts);
+    let number = marks.numbers[at];
+    let point = &marks.points[at];
+    let index = usize::from(number);
+    if index < MAX_NUMBERS {
+        count_numbered(point, index, verdicts, judge, fields, counts);
+        return;
+    }
+    if number < MANY && !is_in(fields.query(), point) {
         return;
     }
     field_counting::count(&entries[at..at + 1], judge, fields, counts);
@@ -63,7 +83,7 @@ fn count_at<A: Allocator + Copy, J: Judge<A>, F: Fields>(
 pub fn count_marked<A: Allocator + Copy, J: Judge<A>, F: Fields>(
     entries: &[Entry<A>],
     marks: &PageMarks,
-    verdicts: &[bool; MAX_NUMBERS],
+    verdicts: &mut Verdicts<'_, A>,
     judge: &mut J,
     fields: &F,
     counts: &mut [u64],
@@ -71,7 +91,10 @@ pub fn count_marked<A: Allocator + Copy, J: Judge<A>, F: Fields>(
     requires not_more { length entries.now ≤ 32 }
     requires long { length counts.old ≡ F.count fields.now }
     requires fits { CanAdd (length (rows_of entries.now)) counts.old }
-    requires judged { AreJudged (J.judges judge.old) verdicts.now entries.now marks.now }
+    requires marked { AreMarks verdicts.old.marks.now.labels.items entries.now marks.now }
+    requires known { AreKnown (J.judges judge.old) verdicts.old.marks.now.labels.items verdicts.old.found }
+    ensures marks { verdicts.new.marks ≡ verdicts.old.marks }
+    ensures known { AreKnown (J.judges judge.old) verdicts.old.marks.now.labels.items verdicts.new.found }
     ensures counts { Counts (F.query fields.now) (J.judges judge.old) (F.field_of fields.now) (rows_of entries.now)
         counts.old counts.new }
     ensures same { J.judges judge.new ≡ J.judges judge.old }

@@ -20,7 +20,7 @@ pub struct LabelCount<A: Allocator = Global> {
 pub fn is_same<A: Allocator + Copy>(one: &Label<A>, other: &Label<A>) -> bool
     ensures { IsTrue result ↔ (one.now ≡ other.now) }
 {
-    one.text() == other.text()
+    one.is_same(other)
 }
 
 // The index of a label that is equal to this one.

@@ -1,15 +1,16 @@
-//! Counts of marked entries, whose labels were judged before.
-ghost use Rattle.std.specs.Prelude.{◌≡◌, ◌<◌, ◌≤◌, ◌^◌, length};
+//! Counts of marked entries, whose rows are tallied by the numbers of their labels.
+ghost use Rattle.std.specs.Prelude.{◌≡◌, ◌+◌, ◌<◌, ◌≤◌, ◌^◌, List, length, sum};
 ghost use Rattle.st_box.specs.Query.{is_inside};
+ghost use Rattle.st_text.specs.Texts.{Text};
 ghost use Rattle.st_index.specs.Counting.{count_of};
 ghost use Rattle.st_index.specs.Rows.{EntryValue, rows_of};
-ghost use Rattle.st_ubtree.specs.inner.Marks.{AreJudged, HasAt, IsJudged};
+ghost use Rattle.st_ubtree.specs.inner.Marks.{AreMarks, HasAt, MakeUp};
 ghost use Rattle.st_ubtree.specs.inner.Sums.{AreInside};
 
-use crate::marks::PageMarks;
 use crate::numbering::MAX_NUMBERS;
+use crate::page_marks::{MANY, PageMarks};
 use st_box::Query;
-use st_index::{Entry, Judge, RowsView, counting};
+use st_index::{Entry, Judge, counting};
 use st_key::Point;
 use std::alloc::Allocator;
 
@@ -33,7 +34,7 @@ fn count_at<A: Allocator + Copy, J: Judge<A>>(
     judge: &mut J,
 ) -> u64
     requires within { at < length entries.now }
-    requires fits { length (rows_of entries.now) < 2 ^ 64 }
+    requires fits { (e : EntryValue A) → HasAt entries.now at e → length e.rows < 2 ^ 64 }
     ensures count { (e : EntryValue A) → HasAt entries.now at e → result ≡ count_of query.now (J.judges judge.old) e.rows }
     ensures same { J.judges judge.new ≡ J.judges judge.old }
 {
@@ -41,73 +42,85 @@ fn count_at<A: Allocator + Copy, J: Judge<A>>(
     counting::count(one, query, judge)
 }
 
-// The same by its mark, if it has one.
-fn count_marked_at<A: Allocator + Copy, J: Judge<A>>(
+// Tallies the row of the entry at a place by its mark, if it is inside and its label has a number. How many rows of another
+// entry are counted, which is read only where its mark does not tell.
+fn tally_at<A: Allocator + Copy, J: Judge<A>>(
     entries: &[Entry<A>],
     at: usize,
     marks: &PageMarks,
-    verdicts: &[bool; MAX_NUMBERS],
     query: &Query,
     judge: &mut J,
+    tally: &mut [u64; MAX_NUMBERS],
 ) -> u64
     requires within { at < length entries.now }
     requires not_more { length entries.now ≤ 32 }
-    requires fits { length (rows_of entries.now) < 2 ^ 64 }
-    requires judged { AreJudged (J.judges judge.old) verdicts.now entries.now marks.now }
-    ensures count { (e : EntryValue A) → HasAt entries.now at e → result ≡ count_of query.now (J.judges judge.old) e.rows }
+    requires marked { (labels : List Text) × AreMarks labels entries.now marks.now }
+    requires fits { (e : EntryValue A) → HasAt entries.now at e → sum tally.old + length e.rows < 2 ^ 64 }
+    ensures count { (labels : List Text) (e : EntryValue A) → AreMarks labels entries.now marks.now → HasAt entries.now at e
+        → MakeUp (J.judges judge.old) labels result (count_of query.now (J.judges judge.old) e.rows) tally.old tally.new }
+    ensures most { (e : EntryValue A) → HasAt entries.now at e → sum tally.new ≤ sum tally.old + length e.rows }
     ensures same { J.judges judge.new ≡ J.judges judge.old }
 {
-    let number = usize::from(marks.numbers[at]);
-    if number >= MAX_NUMBERS {
-        return count_at(entries, at, query, judge);
+    let number = marks.numbers[at];
+    let inside = is_in(query, &marks.points[at]);
+    let index = usize::from(number);
+    if index < MAX_NUMBERS {
+        tally[index] += u64::from(inside);
+        return 0;
     }
-    match entries[at].rows() {
-        RowsView::One(row) => u64::from(is_in(query, &row.point) & verdicts[number]),
-        RowsView::Many(_) => count_at(entries, at, query, judge),
+    if number < MANY && !inside {
+        return 0;
     }
+    count_at(entries, at, query, judge)
 }
 
 // The same where all rows are inside the query.
-fn count_inside_at<A: Allocator + Copy, J: Judge<A>>(
+fn tally_inside_at<A: Allocator + Copy, J: Judge<A>>(
     entries: &[Entry<A>],
     at: usize,
     marks: &PageMarks,
-    verdicts: &[bool; MAX_NUMBERS],
     query: &Query,
     judge: &mut J,
+    tally: &mut [u64; MAX_NUMBERS],
 ) -> u64
     requires within { at < length entries.now }
     requires not_more { length entries.now ≤ 32 }
-    requires fits { length (rows_of entries.now) < 2 ^ 64 }
     requires inside { AreInside query.now (rows_of entries.now) }
-    requires judged { AreJudged (J.judges judge.old) verdicts.now entries.now marks.now }
-    ensures count { (e : EntryValue A) → HasAt entries.now at e → result ≡ count_of query.now (J.judges judge.old) e.rows }
+    requires marked { (labels : List Text) × AreMarks labels entries.now marks.now }
+    requires fits { (e : EntryValue A) → HasAt entries.now at e → sum tally.old + length e.rows < 2 ^ 64 }
+    ensures count { (labels : List Text) (e : EntryValue A) → AreMarks labels entries.now marks.now → HasAt entries.now at e
+        → MakeUp (J.judges judge.old) labels result (count_of query.now (J.judges judge.old) e.rows) tally.old tally.new }
+    ensures most { (e : EntryValue A) → HasAt entries.now at e → sum tally.new ≤ sum tally.old + length e.rows }
     ensures same { J.judges judge.new ≡ J.judges judge.old }
 {
-    let number = usize::from(marks.numbers[at]);
-    if number >= MAX_NUMBERS {
-        return count_at(entries, at, query, judge);
+    let index = usize::from(marks.numbers[at]);
+    if index < MAX_NUMBERS {
+        tally[index] += 1;
+        return 0;
     }
-    u64::from(verdicts[number])
+    count_at(entries, at, query, judge)
 }
 
-/// How many rows of a page's entries are inside the query and have a label that is found true.
+/// Tallies the rows of a page's entries that are inside the query, by the numbers of their labels. How many of the rows whose
+/// labels have no number are inside, and have a label that is found true.
 pub fn count_marked<A: Allocator + Copy, J: Judge<A>>(
     entries: &[Entry<A>],
     marks: &PageMarks,
-    verdicts: &[bool; MAX_NUMBERS],
     query: &Query,
     judge: &mut J,
+    tally: &mut [u64; MAX_NUMBERS],
 ) -> u64
     requires not_more { length entries.now ≤ 32 }
-    requires fits { length (rows_of entries.now) < 2 ^ 64 }
-    requires judged { AreJudged (J.judges judge.old) verdicts.now entries.now marks.now }
-    ensures count { result ≡ count_of query.now (J.judges judge.old) (rows_of entries.now) }
+    requires marked { (labels : List Text) × AreMarks labels entries.now marks.now }
+    requires fits { sum tally.old + length (rows_of entries.now) < 2 ^ 64 }
+    ensures count { (labels : List Text) → AreMarks labels entries.now marks.now
+        → MakeUp (J.judges judge.old) labels result (count_of query.now (J.judges judge.old) (rows_of entries.now)) tally.old tally.new }
+    ensures most { sum tally.new ≤ sum tally.old + length (rows_of entries.now) }
     ensures same { J.judges judge.new ≡ J.judges judge.old }
 {
     let mut count = 0;
     for at in 0..entries.len() {
-        count += count_marked_at(entries, at, marks, verdicts, query, judge);
+        count += tally_at(entries, at, marks, query, judge, tally);
     }
     count
 }
@@ -116,20 +129,22 @@ pub fn count_marked<A: Allocator + Copy, J: Judge<A>>(
 pub fn count_inside<A: Allocator + Copy, J: Judge<A>>(
     entries: &[Entry<A>],
     marks: &PageMarks,
-    verdicts: &[bool; MAX_NUMBERS],
     query: &Query,
     judge: &mut J,
+    tally: &mut [u64; MAX_NUMBERS],
 ) -> u64
     requires not_more { length entries.now ≤ 32 }
-    requires fits { length (rows_of entries.now) < 2 ^ 64 }
     requires inside { AreInside query.now (rows_of entries.now) }
-    requires judged { AreJudged (J.judges judge.old) verdicts.now entries.now marks.now }
-    ensures count { result ≡ count_of query.now (J.judges judge.old) (rows_of entries.now) }
+    requires marked { (labels : List Text) × AreMarks labels entries.now marks.now }
+    requires fits { sum tally.old + length (rows_of entries.now) < 2 ^ 64 }
+    ensures count { (labels : List Text) → AreMarks labels entries.now marks.now
+        → MakeUp (J.judges judge.old) labels result (count_of query.now (J.judges judge.old) (rows_of entries.now)) tally.old tally.new }
+    ensures most { sum tally.new ≤ sum tally.old + length (rows_of entries.now) }
     ensures same { J.judges judge.new ≡ J.judges judge.old }
 {
     let mut count = 0;
     for at in 0..entries.len() {
-        count += count_inside_at(entries, at, marks, verdicts, query, judge);
+        count += tally_inside_at(entries, at, marks, query, judge, tally);
     }
     count
 }

@@ -22,8 +22,9 @@ mod root;
 mod sums;
 
 use crate::label_counts::LabelCount;
-use crate::marks::{Marks, PageMarks};
+use crate::marks::Marks;
 use crate::numbering::MAX_NUMBERS;
+use crate::page_marks::PageMarks;
 use crate::summary::{MAX_LABELS, Summary};
 use child::{child_for, count_up_to};
 use grow::{put_in_page, settle};

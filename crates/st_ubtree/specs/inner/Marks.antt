@@ -1,11 +1,12 @@
 -- An invariant of a representation, which no reader has to believe: what the marks of pages say of their rows' labels.
-use Rattle.std.specs.Prelude.{◌≡◌, ℕ, ◌+◌, ◌-◌, ◌<◌, ◌≤◌, Bool, false, IsTrue, List, [], ◌∷◌, length, get_or}
+use Rattle.std.specs.Prelude.{◌≡◌, ℕ, ◌+◌, ◌-◌, ◌<◌, ◌≤◌, Bool, false, cond, IfSome, IsTrue, List, [], ◌∷◌, Option, None, length, get_or, map}
+use Rattle.st_key.specs.declared.point.Point.{Point}
 use Rattle.st_text.specs.Texts.{Text}
 use Rattle.st_index.specs.declared.row.Row.{Row}
 use Rattle.st_index.specs.Rows.{EntryValue}
 use Rattle.st_ubtree.specs.Pages.{NodeValue, entries_of_pages}
 use Rattle.st_ubtree.specs.declared.marks.Marks.{Marks}
-use Rattle.st_ubtree.specs.declared.marks.PageMarks.{PageMarks}
+use Rattle.st_ubtree.specs.declared.page_marks.PageMarks.{PageMarks}
 
 -- the list has this at this place
 abbrev pub HasAt : {X : Type 0} → List X → ℕ → X → Type 0
@@ -15,20 +16,22 @@ HasAt xs i x = (i < length xs) × (x ≡ get_or xs i x)
 abbrev pub Keeps : (old new : List Text) → Type 0
 Keeps old new = (i : ℕ) (l : Text) → HasAt old i l → HasAt new i l
 
--- a number below 16 is that of the label of the entry's only row
-abbrev pub IsMark : {A : Type 0} → List Text → EntryValue A → ℕ → Type 0
-IsMark {A} labels e number = number < 16 → (row : Row A) × (e.rows ≡ row ∷ []) × HasAt labels number row.label
+-- a number below 255 says that the entry has one row, at this point, and one below 16 is the number of the row's label
+abbrev pub IsMark : {A : Type 0} → List Text → EntryValue A → ℕ → Point → Type 0
+IsMark {A} labels e number point = number < 255
+    → (row : Row A) × (e.rows ≡ row ∷ []) × (row.point ≡ point) × (number < 16 → HasAt labels number row.label)
 
--- each entry has such a number, at the same place
-abbrev pub AreNumbers : {A : Type 0} → List Text → List (EntryValue A) → List ℕ → Type 0
-AreNumbers {A} labels es numbers = (i : ℕ) (e : EntryValue A) → HasAt es i e → IsMark labels e (get_or numbers i 255)
+-- what stands at this place is such a mark of the entry
+abbrev pub IsMarkedAt : {A : Type 0} → List Text → PageMarks → ℕ → EntryValue A → Type 0
+IsMarkedAt labels p i e = (number : ℕ) (point : Point) → HasAt p.numbers i number → HasAt p.points i point → IsMark labels e number point
 
+-- each entry has such a mark, at the same place
 abbrev pub AreMarks : {A : Type 0} → List Text → List (EntryValue A) → PageMarks → Type 0
-AreMarks labels es p = AreNumbers labels es p.numbers
+AreMarks {A} labels es p = (i : ℕ) (e : EntryValue A) → HasAt es i e → IsMarkedAt labels p i e
 
--- none are known, and there is room for those of 32 entries
+-- none are known
 abbrev pub HasNone : PageMarks → Type 0
-HasNone p = (p.known ≡ false) × (length p.numbers ≡ 32)
+HasNone p = p.known ≡ false
 
 -- the marks of each page that are known are those of its entries
 abbrev pub AreMarkedBy : {A : Type 0} → List Text → List PageMarks → List (NodeValue A) → Type 0
@@ -42,6 +45,10 @@ AreMarked m kids = AreMarkedBy m.labels.items m.pages.items kids
 abbrev pub DifferAt : {X : Type 0} → ℕ → (old new : List X) → Type 0
 DifferAt {X} at old new = (i : ℕ) (x : X) → (i ≡ at → ⊥) → HasAt new i x → HasAt old i x
 
+-- no mark differs, except at this place
+abbrev pub DifferInMarks : ℕ → (old new : PageMarks) → Type 0
+DifferInMarks at old new = DifferAt at old.numbers new.numbers × DifferAt at old.points new.points
+
 -- something comes in at this place
 abbrev pub OpensAt : {X : Type 0} → ℕ → (old new : List X) → Type 0
 OpensAt {X} at old new = (i : ℕ) (x : X) → HasAt new i x → (i < at → HasAt old i x) × (at < i → HasAt old (i - 1) x)
@@ -50,14 +57,20 @@ OpensAt {X} at old new = (i : ℕ) (x : X) → HasAt new i x → (i < at → Has
 abbrev pub ClosesAt : {X : Type 0} → ℕ → (old new : List X) → Type 0
 ClosesAt {X} at old new = (i : ℕ) (x : X) → HasAt new i x → (i < at → HasAt old i x) × (at ≤ i → HasAt old (i + 1) x)
 
--- for each number of a label, whether it is found true
-abbrev pub AreVerdicts : (Text → Bool) → List Text → List Bool → Type 0
-AreVerdicts judges labels verdicts = (i : ℕ) (l : Text) → i < 16 → HasAt labels i l → get_or verdicts i false ≡ judges l
+-- whether the label of this number is found true; without a label it is not
+abbrev pub verdict_on : (Text → Bool) → List Text → ℕ → Bool
+verdict_on judges labels number = get_or (map judges labels) number false
 
--- a number below 16 is that of the verdict on the label of the entry's only row
-abbrev pub IsJudged : {A : Type 0} → (Text → Bool) → List Bool → EntryValue A → ℕ → Type 0
-IsJudged {A} judges verdicts e number = number < 16
-    → (row : Row A) × (e.rows ≡ row ∷ []) × (get_or verdicts number false ≡ judges row.label)
+-- each verdict that is known is that on the label of its number
+abbrev pub AreKnown : (Text → Bool) → List Text → List (Option Bool) → Type 0
+AreKnown judges labels found = (number : ℕ) → IfSome (get_or found number None) (λ verdict. verdict ≡ verdict_on judges labels number)
 
-abbrev pub AreJudged : {A : Type 0} → (Text → Bool) → List Bool → List (EntryValue A) → PageMarks → Type 0
-AreJudged {A} judges verdicts es p = (i : ℕ) (e : EntryValue A) → HasAt es i e → IsJudged judges verdicts e (get_or p.numbers i 255)
+-- how many of the rows tallied by the numbers of their labels have a label that is found true
+unfoldable pub tallied : (Text → Bool) → List Text → List ℕ → ℕ
+tallied judges [] ns = 0
+tallied judges (l ∷ ls) [] = 0
+tallied judges (l ∷ ls) (n ∷ ns) = cond (judges l) n 0 + tallied judges ls ns
+
+-- the number, with what was tallied since, makes up the count
+abbrev pub MakeUp : (Text → Bool) → List Text → (number count : ℕ) → (old new : List ℕ) → Type 0
+MakeUp judges labels number count old new = number + tallied judges labels new ≡ count + tallied judges labels old

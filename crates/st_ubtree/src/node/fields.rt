@@ -1,15 +1,15 @@
 //! Counting in fields what lies below nodes.
-ghost use Rattle.std.specs.Prelude.{◌≡◌, ◌<◌, ◌^◌, IfSome, List, length};
+ghost use Rattle.std.specs.Prelude.{◌≡◌, List, length};
 ghost use Rattle.std.specs.List.{All};
 ghost use Rattle.st_index.specs.Fields.{CanAdd, Counts};
 ghost use Rattle.st_ubtree.specs.Pages.{NodeValue, rows_of_pages};
 ghost use Rattle.st_ubtree.specs.inner.Kids.{pages_of};
-ghost use Rattle.st_ubtree.specs.inner.Marks.{AreMarked, AreVerdicts, HasAt};
+ghost use Rattle.st_ubtree.specs.inner.Marks.{AreKnown, AreMarked, HasAt};
 
-use super::pages::Verdicts;
 use super::{Kids, Node};
 use crate::field_marked::count_marked;
 use crate::marks::Marks;
+use crate::verdicts::Verdicts;
 use st_index::{Fields, Judge, field_counting};
 use std::alloc::Allocator;
 
@@ -57,8 +57,7 @@ impl<A: Allocator + Copy> Node<A> {
     fn count_page_fields<J: Judge<A>, F: Fields>(
         &self,
         at: usize,
-        marks: &Marks<A>,
-        verdicts: &mut Verdicts,
+        verdicts: &mut Verdicts<'_, A>,
         judge: &mut J,
         fields: &F,
         counts: &mut [u64],
@@ -66,9 +65,10 @@ impl<A: Allocator + Copy> Node<A> {
         requires lowest { self.now.height ≡ 0 }
         requires long { length counts.old ≡ F.count fields.now }
         requires fits { CanAdd (length (rows_of_pages self.now.pages)) counts.old }
-        requires marked { (kids : List (NodeValue A)) × AreMarked marks.now kids × HasAt kids at self.now }
-        requires judged { IfSome verdicts.old.found (AreVerdicts (J.judges judge.old) marks.now.labels.items) }
-        ensures judged { IfSome verdicts.new.found (AreVerdicts (J.judges judge.old) marks.now.labels.items) }
+        requires marked { (kids : List (NodeValue A)) × AreMarked verdicts.old.marks.now kids × HasAt kids at self.now }
+        requires known { AreKnown (J.judges judge.old) verdicts.old.marks.now.labels.items verdicts.old.found }
+        ensures marks { verdicts.new.marks ≡ verdicts.old.marks }
+        ensures known { AreKnown (J.judges judge.old) verdicts.old.marks.now.labels.items verdicts.new.found }
         ensures counts { Counts (F.query fields.now) (J.judges judge.old) (F.field_of fields.now) (rows_of_pages self.now.pages)
             counts.old counts.new }
         ensures same { J.judges judge.new ≡ J.judges judge.old }
@@ -78,7 +78,7 @@ impl<A: Allocator + Copy> Node<A> {
             return;
         }
         if let Some(field) = self.sum.one_field(fields) {
-            let rows = self.count_page(at, marks, verdicts, query, judge);
+            let rows = self.count_page(at, verdicts, query, judge);
             field_counting::add(counts, field, rows);
             return;
         }
@@ -86,14 +86,10 @@ impl<A: Allocator + Copy> Node<A> {
             unreachable!()
         };
         let entries = entries.as_slice();
-        let Some(found) = verdicts.next(marks, judge) else {
-            verdicts.spend(entries.len() as u64);
+        let Some(page) = verdicts.marks.page(at) else {
             return field_counting::count(entries, judge, fields, counts);
         };
-        let Some(page) = marks.page(at) else {
-            return field_counting::count(entries, judge, fields, counts);
-        };
-        count_marked(entries, page, &found, judge, fields, counts);
+        count_marked(entries, page, verdicts, judge, fields, counts);
     }
 }
 
@@ -113,9 +109,9 @@ fn count_pages<A: Allocator + Copy, J: Judge<A>, F: Fields>(
         counts.old counts.new }
     ensures same { J.judges judge.new ≡ J.judges judge.old }
 {
-    let mut verdicts = Verdicts::none();
+    let mut verdicts = Verdicts::none(marks);
     for at in 0..kids.len() {
         let kid = &kids[at];
-        kid.count_page_fields(at, marks, &mut verdicts, judge, fields, counts);
+        kid.count_page_fields(at, &mut verdicts, judge, fields, counts);
     }
 }

@@ -1,37 +1,61 @@
-use Rattle.std.proofs.Common.{◌≡◌, ◌<◌, List, false, [], ◌∷◌, length, get_or, sym, ap, subst, ◌∙◌, arith, rules}
+use Rattle.std.proofs.Common.{◌≡◌, ◌+◌, ◌&&◌, ℕ, List, cond, false, nat_eq, length, get_or, sym, ap, subst, ◌∙◌, arith, rules}
+use Rattle.st_box.specs.Query.{is_inside}
 use Rattle.st_index.specs.declared.row.Row.{Row}
 use Rattle.st_index.specs.Fields.{CanAdd, Counts}
-use Rattle.st_index.specs.RowViews.{viewed}
-use Rattle.st_index.specs.Rows.{EntryValue, rows_of}
+use Rattle.st_index.specs.Rows.{rows_of}
+use Rattle.st_ubtree.specs.inner.Marks.{verdict_on}
 use Rattle.st_ubtree.proofs.ByMarks.{one_entry, rows_of_one}
-use Rattle.st_ubtree.proofs.Fielding.{marked_row}
-use Rattle.st_ubtree.proofs.Marking.{any_default, same_at, there_is}
+use Rattle.st_ubtree.proofs.Fielding.{marked_counts, marked_fits, outside_counts}
+use Rattle.st_ubtree.proofs.Placing.{there_is}
+use Rattle.st_ubtree.proofs.Tallied.{mark_at}
 use Rattle.st_ubtree.proofs.field_marked.count_at.Goals as goal
 
-pub count_row-requires-clause-fits : goal.count_row-requires-clause-fits
-count_row-requires-clause-fits g c =
-    let some = there_is c.args.entries.now c.args.at c.requires.within in
-    let entry = same_at c.args.entries.now c.args.at some.0 c.index-entries-at.result some.1 (c.requires.within, c.index-entries-at.is) in
-    let one : some.0.rows ≡ c.in-One.row.now ∷ [] = ap (λ (x : EntryValue g.row.A.Denot). x.rows) entry ∙ sym c.rows.ensures ∙ ap viewed c.in-One.is in
-    subst (λ (rs : List (Row g.row.A.Denot)). CanAdd (length rs) c.args.counts.now) one (c.requires.fits some.0 some.1)
-
-pub returns-clause-counts : goal.returns-clause-counts
-returns-clause-counts g c = λ e h.
-    let judges = g.J.Judge.judges c.args.judge.now in
+pub count_numbered-requires-clause-fits : goal.count_numbered-requires-clause-fits
+count_numbered-requires-clause-fits g c =
     let marks = c.args.marks.now in
-    let verdicts = c.args.verdicts.now in
-    let at = c.args.at in
+    let labels = c.args.verdicts.now.marks.now.labels.items in
     let w = c.requires.within in
     let m = c.requires.not_more in
+    let number = c.from-index.result in
+    let point = c.index-marks-at.result in
     let numbers : length marks.numbers ≡ 32 = search rules in
-    let within : at < length marks.numbers = omega (arith, w, m, numbers) in
-    let number : c.from-number.result ≡ get_or marks.numbers at 255 = c.from-number.ensures ∙ any_default marks.numbers at 0 255 within in
-    let low : get_or marks.numbers at 255 < 16 = omega (arith, number, c.if-number-lt-MAX_NUMBERS.true) in
-    let entry = same_at c.args.entries.now at e c.index-entries-at.result h (w, c.index-entries-at.is) in
-    let one : e.rows ≡ c.in-One.row.now ∷ [] = ap (λ (x : EntryValue g.row.A.Denot). x.rows) entry ∙ sym c.rows.ensures ∙ ap viewed c.in-One.is in
-    let judged = marked_row judges verdicts e (get_or marks.numbers at 255) c.in-One.row.now (c.requires.judged at e h) low one in
-    subst (λ (rs : List (Row g.row.A.Denot)). Counts (g.F.Fields.query c.args.fields.now) judges (g.F.Fields.field_of c.args.fields.now) rs c.args.counts.now c.count_row.new.counts) (sym one)
-    (c.count_row.ensures judges (judged ∙ ap (λ n. get_or verdicts n false) (sym number)))
+    let points : length marks.points ≡ 32 = search rules in
+    let some = there_is c.args.entries.now c.args.at w in
+    let mark = mark_at labels c.args.entries.now marks c.args.at some.0 number point c.requires.marked some.1 (omega (arith, w, m, numbers)) (omega (arith, w, m, points)) c.from-index.ensures c.index-marks-at.is in
+    marked_fits labels some.0 number point c.args.counts.now mark (omega (arith, c.if-index-lt-MAX_NUMBERS.true)) (c.requires.fits some.0 some.1)
+
+pub returns-then-index-lt-MAX_NUMBERS-clause-counts : goal.returns-then-index-lt-MAX_NUMBERS-clause-counts
+returns-then-index-lt-MAX_NUMBERS-clause-counts g c = λ e h.
+    let marks = c.args.marks.now in
+    let labels = c.args.verdicts.now.marks.now.labels.items in
+    let q = g.F.Fields.query c.args.fields.now in
+    let judges = g.J.Judge.judges c.args.judge.now in
+    let field_of = g.F.Fields.field_of c.args.fields.now in
+    let w = c.requires.within in
+    let m = c.requires.not_more in
+    let number = c.from-index.result in
+    let point = c.index-marks-at.result in
+    let numbers : length marks.numbers ≡ 32 = search rules in
+    let points : length marks.points ≡ 32 = search rules in
+    let mark = mark_at labels c.args.entries.now marks c.args.at e number point c.requires.marked h (omega (arith, w, m, numbers)) (omega (arith, w, m, points)) c.from-index.ensures c.index-marks-at.is in
+    marked_counts q judges field_of labels e number point c.args.counts.now c.count_numbered.new.counts mark c.if-index-lt-MAX_NUMBERS.true
+    (λ field. c.count_numbered.ensures.counts field
+    ∙ ap {B = ℕ} (λ p. get_or c.args.counts.now field 0 + cond (is_inside q p && verdict_on judges labels number && nat_eq (field_of p) field) 1 0) (sym c.index-marks-at.is))
+
+pub returns-then-not-is_in-clause-counts : goal.returns-then-not-is_in-clause-counts
+returns-then-not-is_in-clause-counts g c = λ e h.
+    let marks = c.args.marks.now in
+    let labels = c.args.verdicts.now.marks.now.labels.items in
+    let q = g.F.Fields.query c.args.fields.now in
+    let w = c.requires.within in
+    let m = c.requires.not_more in
+    let number = get_or marks.numbers c.args.at 0 in
+    let point = c.index-marks-at.result in
+    let numbers : length marks.numbers ≡ 32 = search rules in
+    let points : length marks.points ≡ 32 = search rules in
+    let mark = mark_at labels c.args.entries.now marks c.args.at e number point c.requires.marked h (omega (arith, w, m, numbers)) (omega (arith, w, m, points)) (λ i. number) c.index-marks-at.is in
+    let outside : is_inside q point ≡ false = ap (is_inside q) c.index-marks-at.is ∙ ap (λ r. is_inside r (get_or marks.points c.args.at point)) (sym c.query.ensures) ∙ sym c.is_in.ensures ∙ c.if-not-is_in.true in
+    outside_counts q (g.J.Judge.judges c.args.judge.now) (g.F.Fields.field_of c.args.fields.now) labels e number point c.args.counts.now mark c.if-number-lt-MANY.true outside
 
 pub count-requires-clause-fits : goal.count-requires-clause-fits
 count-requires-clause-fits g c =
@@ -39,7 +63,7 @@ count-requires-clause-fits g c =
     let some = there_is es c.args.at c.requires.within in
     subst (λ (rs : List (Row g.row.A.Denot)). CanAdd (length rs) c.args.counts.now) (sym (ap rows_of (one_entry es c.args.at some.0 some.1) ∙ rows_of_one some.0)) (c.requires.fits some.0 some.1)
 
-pub returns-2-clause-counts : goal.returns-2-clause-counts
-returns-2-clause-counts g c = λ e h.
+pub returns-clause-counts : goal.returns-clause-counts
+returns-clause-counts g c = λ e h.
     subst (λ (rs : List (Row g.row.A.Denot)). Counts (g.F.Fields.query c.args.fields.now) (g.J.Judge.judges c.args.judge.now) (g.F.Fields.field_of c.args.fields.now) rs c.args.counts.now c.count.new.counts)
     (ap rows_of (one_entry c.args.entries.now c.args.at e h) ∙ rows_of_one e) c.count.ensures.counts

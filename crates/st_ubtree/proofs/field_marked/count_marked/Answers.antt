@@ -1,13 +1,21 @@
-use Rattle.std.proofs.Common.{◌<◌, ◌≤◌, length, sym, subst, ◌∙◌, arith}
+use Rattle.std.proofs.Common.{◌<◌, ◌≤◌, length, sym, subst, ◌∙◌, arith, Bor}
 use Rattle.st_index.specs.Fields.{Counts}
 use Rattle.st_index.specs.Rows.{EntryValue}
 use Rattle.st_index.proofs.Tallying.{far_all, far_fits, far_next}
-use Rattle.st_ubtree.specs.inner.Marks.{AreJudged}
-use Rattle.st_ubtree.proofs.Marking.{there_is}
+use Rattle.st_ubtree.specs.declared.marks.Marks.{Marks}
+use Rattle.st_ubtree.specs.inner.Marks.{AreMarks}
+use Rattle.st_ubtree.proofs.Placing.{there_is}
+use Rattle.st_ubtree.proofs.Tallied.{known_by}
 use Rattle.st_ubtree.proofs.field_marked.count_marked.Goals as goal
 
-pub count_at-requires-clause-judged : goal.count_at-requires-clause-judged
-count_at-requires-clause-judged g c = subst (λ j. AreJudged j c.args.verdicts.now c.args.entries.now c.args.marks.now) (sym c.loop-at.invariant.same) c.requires.judged
+pub count_at-requires-clause-marked : goal.count_at-requires-clause-marked
+count_at-requires-clause-marked g c =
+    subst (λ (m : Bor (Marks g.row.A.Denot)). AreMarks m.now.labels.items c.args.entries.now c.args.marks.now) (sym c.loop-at.invariant.marks) c.requires.marked
+
+pub count_at-requires-clause-known : goal.count_at-requires-clause-known
+count_at-requires-clause-known g c =
+    known_by (g.J.Judge.judges c.loop-at.judge) (g.J.Judge.judges c.args.judge.now) c.args.verdicts.now.marks c.loop-at.verdicts.marks c.loop-at.verdicts.found
+    (sym c.loop-at.invariant.same) (sym c.loop-at.invariant.marks) c.loop-at.invariant.known
 
 pub count_at-requires-clause-fits : goal.count_at-requires-clause-fits
 count_at-requires-clause-fits g c = λ e h.
@@ -25,6 +33,9 @@ loop-at-preserved g c =
     record {
       far = far_next q (g.J.Judge.judges c.args.judge.now) field_of (λ (e : EntryValue g.row.A.Denot). e.rows) entries at some.0 c.args.counts.now c.loop-at.counts c.count_at.new.counts
           c.loop-at.invariant.far below some.1.1 (subst (λ j. Counts q j field_of some.0.rows c.loop-at.counts c.count_at.new.counts) c.loop-at.invariant.same (c.count_at.ensures.counts some.0 some.1));
+      marks = c.count_at.ensures.marks ∙ c.loop-at.invariant.marks;
+      known = known_by (g.J.Judge.judges c.args.judge.now) (g.J.Judge.judges c.loop-at.judge) c.loop-at.verdicts.marks c.args.verdicts.now.marks c.count_at.new.verdicts.found
+          c.loop-at.invariant.same c.loop-at.invariant.marks c.count_at.ensures.known;
       same = c.count_at.ensures.same ∙ c.loop-at.invariant.same;
     }
 

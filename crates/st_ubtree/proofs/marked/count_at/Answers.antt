@@ -1,18 +1,15 @@
-use Rattle.std.proofs.Common.{◌<◌, length, sym, ap, subst, ◌∙◌, arith}
+use Rattle.std.proofs.Common.{◌<◌, length, sym, ap, subst, ◌∙◌}
 use Rattle.st_index.specs.Counting.{count_of}
 use Rattle.st_index.specs.Rows.{rows_of}
-use Rattle.st_ubtree.proofs.ByMarks.{fewer_at, one_entry, rows_of_one}
-use Rattle.st_ubtree.proofs.Marking.{there_is}
+use Rattle.st_ubtree.proofs.ByMarks.{one_entry, rows_of_one}
+use Rattle.st_ubtree.proofs.Placing.{there_is}
 use Rattle.st_ubtree.proofs.marked.count_at.Goals as goal
 
 pub count-requires : goal.count-requires
 count-requires g c =
     let es = c.args.entries.now in
     let some = there_is es c.args.at c.requires.within in
-    let fewer = fewer_at es c.args.at some.0 some.1 in
-    let fits = c.requires.fits in
-    let few : length some.0.rows < 18446744073709551616 = omega (arith, fewer, fits) in
-    subst (λ rows. length rows < 18446744073709551616) (sym (ap rows_of (one_entry es c.args.at some.0 some.1) ∙ rows_of_one some.0)) few
+    subst (λ rows. length rows < 18446744073709551616) (sym (ap rows_of (one_entry es c.args.at some.0 some.1) ∙ rows_of_one some.0)) (c.requires.fits some.0 some.1)
 
 pub returns-clause-count : goal.returns-clause-count
 returns-clause-count g c = λ e h.

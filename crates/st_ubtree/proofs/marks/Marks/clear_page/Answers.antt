@@ -1,5 +1,6 @@
 use Rattle.std.proofs.Common.{◌<◌, ◌≤◌, false, length, arith}
-use Rattle.st_ubtree.proofs.Marking.{keeps_all, marked_off, marked_set}
+use Rattle.st_ubtree.proofs.Marking.{marked_off, marked_set}
+use Rattle.st_ubtree.proofs.Placing.{keeps_all}
 use Rattle.st_ubtree.proofs.marks.Marks.clear_page.Goals as goal
 
 pub returns-then-at-len : goal.returns-then-at-len

@@ -1,6 +1,6 @@
 use Rattle.std.proofs.Common.{◌<◌, ◌≤◌, length, refl, sym, subst, arith}
 use Rattle.st_ubtree.specs.Pages.{entries_of_pages}
-use Rattle.st_ubtree.specs.inner.Marks.{AreMarkedBy, AreNumbers}
+use Rattle.st_ubtree.specs.inner.Marks.{AreMarkedBy, AreMarks}
 use Rattle.st_ubtree.proofs.Lifting.{set_read}
 use Rattle.st_ubtree.proofs.Marking.{marked_off, marked_set, marked_unknown}
 use Rattle.st_ubtree.proofs.marks.Marks.follow.Goals as goal
@@ -16,9 +16,9 @@ returns g c = λ old new u here change same differ marked.
     let page = c.index_mut-page.result.now in
     let before = marked c.args.at page u (low, c.index_mut-page.ensures.value) c.if-not-page.false here in
     let labels = c.follow-page.new.labels.items in
-    let now = record page { numbers = c.follow-page.new.numbers; known = c.follow-page.result } in
+    let now = record c.follow-page.new.page { known = c.follow-page.result } in
     marked_set c.args.self.now.labels.items labels c.args.self.now.pages.items old new c.args.at now c.follow-page.ensures.keeps low differ
-    (λ v known h. subst (λ es. AreNumbers labels es c.follow-page.new.numbers) (sym (same v h)) (c.follow-page.ensures.numbers (entries_of_pages u.pages) change before known)) marked
+    (λ v known h. subst (λ es. AreMarks labels es now) (sym (same v h)) (c.follow-page.ensures.marks (entries_of_pages u.pages) change before known)) marked
 
 pub returns-then-not-page : goal.returns-then-not-page
 returns-then-not-page g c = λ old new u here change same differ marked.

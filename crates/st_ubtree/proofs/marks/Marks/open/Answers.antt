@@ -13,7 +13,7 @@ returns g c = λ old new opens marked.
     let fits : c.args.at ≤ length c.args.self.now.pages.items = omega (arith, c.if-at-len.false, c.len.ensures, c.args.self.now.pages.ok.0) in
     let labels = c.args.self.now.labels.items in
     subst (λ ps. AreMarkedBy labels ps new) (sym c.in-Ok.ensures.items)
-    (marked_open labels c.args.self.now.pages.items old new c.args.at c.beside-marks.result fits c.beside-marks.ensures.0 opens marked)
+    (marked_open labels c.args.self.now.pages.items old new c.args.at c.beside-marks.result fits c.beside-marks.ensures opens marked)
 
 pub unreachable-requires : goal.unreachable-requires
 unreachable-requires g c =

@@ -21,7 +21,8 @@ use Rattle.st_ubtree.specs.inner.Nodes.{AreMarkedUnder, rows_under}
 use Rattle.st_ubtree.specs.inner.Sums.{Sums}
 use Rattle.st_ubtree.proofs.Keeping.{kept_sums}
 use Rattle.std.proofs.lemmas.List.{get_or-set_same}
-use Rattle.st_ubtree.proofs.Marking.{differ_set, none_so, opens_insert}
+use Rattle.st_ubtree.proofs.Marking.{none_so}
+use Rattle.st_ubtree.proofs.Placing.{differ_set, opens_insert}
 use Rattle.st_ubtree.proofs.Keeping.{settled_same}
 use Rattle.st_ubtree.specs.inner.Marks.{AreMarked, HasAt, OpensAt}
 use Rattle.st_ubtree.proofs.Splitting.{one_rows}

@@ -19,7 +19,8 @@ use Rattle.st_ubtree.specs.inner.Nodes.{AreMarkedUnder, rows_under}
 use Rattle.std.proofs.Math.ListN.{set}
 use Rattle.st_ubtree.specs.inner.Sums.{Sums}
 use Rattle.st_ubtree.proofs.Keeping.{kept_taken}
-use Rattle.st_ubtree.proofs.Marking.{changed_kid, differ_set, page_changed}
+use Rattle.st_ubtree.proofs.Marking.{changed_kid, page_changed}
+use Rattle.st_ubtree.proofs.Placing.{differ_set}
 use Rattle.st_ubtree.proofs.Splitting.{one_rows}
 use Rattle.st_ubtree.proofs.node.Node.+remove.Goals as goal
 use Rattle.st_ubtree.proofs.node.Node.+remove.Goals.{in-Page, in-Inner+in_ok-row-in-Inner}

@@ -19,7 +19,8 @@ use Rattle.st_ubtree.specs.inner.Marks.{HasAt}
 use Rattle.st_ubtree.specs.inner.Nodes.{AreMarkedUnder, rows_under}
 use Rattle.st_ubtree.specs.inner.Sums.{Sums}
 use Rattle.st_ubtree.proofs.Keeping.{kept_traded, kid_stays_so, page_stays}
-use Rattle.st_ubtree.proofs.Marking.{differ_set, ok_so, ok_then}
+use Rattle.st_ubtree.proofs.Marking.{ok_so, ok_then}
+use Rattle.st_ubtree.proofs.Placing.{differ_set}
 use Rattle.st_ubtree.proofs.Splitting.{one_rows}
 use Rattle.st_ubtree.proofs.node.Node.+replace.Goals as goal
 

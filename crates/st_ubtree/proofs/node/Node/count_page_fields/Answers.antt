@@ -1,4 +1,4 @@
-use Rattle.std.proofs.Common.{◌≡◌, ℕ, ◌+◌, List, IsTrue, cond, nat_eq, get_or, length, sym, ap, subst, ◌∙◌, arith}
+use Rattle.std.proofs.Common.{◌≡◌, ℕ, ◌+◌, List, IsTrue, cond, nat_eq, get_or, length, refl, sym, ap, subst, ◌∙◌, arith}
 use Rattle.std.proofs.lemmas.List.{append-nil}
 use Rattle.std.specs.List.{All}
 use Rattle.st_key.specs.Key.{rank}
@@ -9,11 +9,10 @@ use Rattle.st_index.specs.Fields.{CanAdd}
 use Rattle.st_index.specs.Rows.{rows_of}
 use Rattle.st_index.proofs.Tallying.{counts_in_one, counts_none}
 use Rattle.st_ubtree.specs.Pages.{NodeValue, rows_of_pages, entries_of_pages}
-use Rattle.st_ubtree.specs.inner.Marks.{AreJudged, AreMarks}
+use Rattle.st_ubtree.specs.inner.Marks.{AreMarks}
 use Rattle.st_ubtree.specs.inner.Nodes.{pages_under, rows_under}
 use Rattle.st_ubtree.proofs.Fielding.{all_in_one, counts_by}
 use Rattle.st_ubtree.proofs.Keeping.{rows_are}
-use Rattle.st_ubtree.proofs.Marking.{marks_judged}
 use Rattle.st_ubtree.proofs.node.Node.count_page_fields.Goals as goal
 
 pub returns-then-not-meets-clause-counts : goal.returns-then-not-meets-clause-counts
@@ -47,45 +46,29 @@ count-requires-clause-fits g c =
     let rows : rows_of_pages c.args.self.now.pages ≡ rows_under c.self.inside.kids = ap (λ (v : NodeValue g.row.A.Denot). rows_of_pages v.pages) (sym c.self.view_is) ∙ sym (rows_are (rank c.self.inside.first) c.self.inside.kids) in
     subst (λ (rs : List (Row g.row.A.Denot)). CanAdd (length rs) c.args.counts.now) (rows ∙ ap rows_under c.in-Page.is ∙ ap rows_of (sym c.as_slice-entries.ensures.value)) c.requires.fits
 
-pub returns-in_default-next-clause-counts : goal.returns-in_default-next-clause-counts
-returns-in_default-next-clause-counts g c =
-    let rows : rows_of_pages c.args.self.now.pages ≡ rows_under c.self.inside.kids = ap (λ (v : NodeValue g.row.A.Denot). rows_of_pages v.pages) (sym c.self.view_is) ∙ sym (rows_are (rank c.self.inside.first) c.self.inside.kids) in
-    let q = g.F.Fields.query c.args.fields.now in
-    let judges = g.J.Judge.judges c.args.judge.now in
-    let field_of = g.F.Fields.field_of c.args.fields.now in
-    counts_by q field_of c.args.counts.now c.count.new.counts (g.J.Judge.judges c.next.new.judge) judges (rows_of c.as_slice-entries.result.now) (rows_of_pages c.args.self.now.pages) c.next.ensures.same
-    (sym (rows ∙ ap rows_under c.in-Page.is ∙ ap rows_of (sym c.as_slice-entries.ensures.value))) c.count.ensures.counts
-
-pub count-requires-in_default-page-clause-fits : goal.count-requires-in_default-page-clause-fits
-count-requires-in_default-page-clause-fits g c =
-    let rows : rows_of_pages c.args.self.now.pages ≡ rows_under c.self.inside.kids = ap (λ (v : NodeValue g.row.A.Denot). rows_of_pages v.pages) (sym c.self.view_is) ∙ sym (rows_are (rank c.self.inside.first) c.self.inside.kids) in
-    subst (λ (rs : List (Row g.row.A.Denot)). CanAdd (length rs) c.args.counts.now) (rows ∙ ap rows_under c.in-Page.is ∙ ap rows_of (sym c.as_slice-entries.ensures.value)) c.requires.fits
-
 pub returns-in_default-page-clause-counts : goal.returns-in_default-page-clause-counts
 returns-in_default-page-clause-counts g c =
     let rows : rows_of_pages c.args.self.now.pages ≡ rows_under c.self.inside.kids = ap (λ (v : NodeValue g.row.A.Denot). rows_of_pages v.pages) (sym c.self.view_is) ∙ sym (rows_are (rank c.self.inside.first) c.self.inside.kids) in
     let q = g.F.Fields.query c.args.fields.now in
     let judges = g.J.Judge.judges c.args.judge.now in
     let field_of = g.F.Fields.field_of c.args.fields.now in
-    counts_by q field_of c.args.counts.now c.count-in_default-page.new.counts (g.J.Judge.judges c.next.new.judge) judges (rows_of c.as_slice-entries.result.now) (rows_of_pages c.args.self.now.pages) c.next.ensures.same
-    (sym (rows ∙ ap rows_under c.in-Page.is ∙ ap rows_of (sym c.as_slice-entries.ensures.value))) c.count-in_default-page.ensures.counts
+    counts_by q field_of c.args.counts.now c.count.new.counts judges judges (rows_of c.as_slice-entries.result.now) (rows_of_pages c.args.self.now.pages) refl
+    (sym (rows ∙ ap rows_under c.in-Page.is ∙ ap rows_of (sym c.as_slice-entries.ensures.value))) c.count.ensures.counts
 
 pub count_marked-requires-clause-fits : goal.count_marked-requires-clause-fits
 count_marked-requires-clause-fits g c =
     let rows : rows_of_pages c.args.self.now.pages ≡ rows_under c.self.inside.kids = ap (λ (v : NodeValue g.row.A.Denot). rows_of_pages v.pages) (sym c.self.view_is) ∙ sym (rows_are (rank c.self.inside.first) c.self.inside.kids) in
     subst (λ (rs : List (Row g.row.A.Denot)). CanAdd (length rs) c.args.counts.now) (rows ∙ ap rows_under c.in-Page.is ∙ ap rows_of (sym c.as_slice-entries.ensures.value)) c.requires.fits
 
-pub count_marked-requires-clause-judged : goal.count_marked-requires-clause-judged
-count_marked-requires-clause-judged g c =
+pub count_marked-requires-clause-marked : goal.count_marked-requires-clause-marked
+count_marked-requires-clause-marked g c =
     let entries : entries_of_pages c.args.self.now.pages ≡ c.as_slice-entries.result.now =
     ap (λ (v : NodeValue g.row.A.Denot). entries_of_pages v.pages) (sym c.self.view_is)
     ∙ ap (λ k. entries_of_pages (pages_under (rank c.self.inside.first) k)) c.in-Page.is
     ∙ append-nil c.in-Page.entries.items
     ∙ sym c.as_slice-entries.ensures.value in
     let given = c.requires.marked in
-    subst (λ j. AreJudged j c.in-Some-next.found c.as_slice-entries.result.now c.in-Some-page.page.now) (sym c.next.ensures.same)
-    (marks_judged (g.J.Judge.judges c.args.judge.now) c.args.marks.now.labels.items c.in-Some-next.found c.as_slice-entries.result.now c.in-Some-page.page.now c.in-Some-next.ensures.some
-    (subst (λ es. AreMarks c.args.marks.now.labels.items es c.in-Some-page.page.now) entries (c.in-Some-page.ensures given.0 c.args.self.now given.2 given.1)))
+    subst (λ es. AreMarks c.args.verdicts.now.marks.now.labels.items es c.in-Some-page.page.now) entries (c.in-Some-page.ensures given.0 c.args.self.now given.2 given.1)
 
 pub returns-clause-counts : goal.returns-clause-counts
 returns-clause-counts g c =
@@ -93,5 +76,5 @@ returns-clause-counts g c =
     let q = g.F.Fields.query c.args.fields.now in
     let judges = g.J.Judge.judges c.args.judge.now in
     let field_of = g.F.Fields.field_of c.args.fields.now in
-    counts_by q field_of c.args.counts.now c.count_marked.new.counts (g.J.Judge.judges c.next.new.judge) judges (rows_of c.as_slice-entries.result.now) (rows_of_pages c.args.self.now.pages) c.next.ensures.same
+    counts_by q field_of c.args.counts.now c.count_marked.new.counts judges judges (rows_of c.as_slice-entries.result.now) (rows_of_pages c.args.self.now.pages) refl
     (sym (rows ∙ ap rows_under c.in-Page.is ∙ ap rows_of (sym c.as_slice-entries.ensures.value))) c.count_marked.ensures.counts

@@ -1,10 +1,12 @@
-use Rattle.std.proofs.Common.{◌<◌, ◌≤◌, List, IfSome, length, sym, ap, subst, ◌∙◌, arith}
+use Rattle.std.proofs.Common.{◌<◌, ◌≤◌, List, length, sym, ap, subst, ◌∙◌, arith, Bor}
 use Rattle.st_index.specs.declared.row.Row.{Row}
 use Rattle.st_index.specs.Fields.{CanAdd, Counts}
 use Rattle.st_index.proofs.Tallying.{far_all, far_fits, far_next}
 use Rattle.st_ubtree.specs.Pages.{NodeValue, rows_of_pages}
-use Rattle.st_ubtree.specs.inner.Marks.{AreVerdicts}
+use Rattle.st_ubtree.specs.declared.marks.Marks.{Marks}
+use Rattle.st_ubtree.specs.inner.Marks.{AreMarked}
 use Rattle.st_ubtree.proofs.Keeping.{rows_of_kids}
+use Rattle.st_ubtree.proofs.Tallied.{known_by}
 use Rattle.st_ubtree.proofs.node.fields.count_pages.Goals as goal
 
 pub count_page_fields-requires-clause-lowest : goal.count_page_fields-requires-clause-lowest
@@ -22,11 +24,15 @@ count_page_fields-requires-clause-fits g c =
 
 pub count_page_fields-requires-clause-marked : goal.count_page_fields-requires-clause-marked
 count_page_fields-requires-clause-marked g c =
-    let below : c.loop-at.at < length c.args.kids.now = omega (arith, c.loop-at-test.true, c.loop-at.auto.at-end) in
-    (c.args.kids.now, c.requires.marked, (below, c.index-kids-at.is))
+    let kids = c.args.kids.now in
+    let below : c.loop-at.at < length kids = omega (arith, c.loop-at-test.true, c.loop-at.auto.at-end) in
+    let marks = ap (λ (m : Bor (Marks g.row.A.Denot)). m.now) c.loop-at.invariant.marks ∙ c.none-verdicts.ensures.marks in
+    (kids, subst (λ m. AreMarked m kids) (sym marks) c.requires.marked, (below, c.index-kids-at.is))
 
-pub count_page_fields-requires-clause-judged : goal.count_page_fields-requires-clause-judged
-count_page_fields-requires-clause-judged g c = subst (λ j. IfSome c.loop-at.verdicts.found (AreVerdicts j c.args.marks.now.labels.items)) (sym c.loop-at.invariant.same) c.loop-at.invariant.judged
+pub count_page_fields-requires-clause-known : goal.count_page_fields-requires-clause-known
+count_page_fields-requires-clause-known g c =
+    known_by (g.J.Judge.judges c.loop-at.judge) (g.J.Judge.judges c.args.judge.now) c.none-verdicts.result.marks c.loop-at.verdicts.marks c.loop-at.verdicts.found
+    (sym c.loop-at.invariant.same) (sym c.loop-at.invariant.marks) c.loop-at.invariant.known
 
 pub loop-at-preserved : goal.loop-at-preserved
 loop-at-preserved g c =
@@ -40,7 +46,9 @@ loop-at-preserved g c =
       far = far_next q (g.J.Judge.judges c.args.judge.now) field_of (λ (v : NodeValue g.row.A.Denot). rows_of_pages v.pages) kids at kid c.args.counts.now c.loop-at.counts c.count_page_fields.new.counts
           c.loop-at.invariant.far below c.index-kids-at.is (subst (λ j. Counts q j field_of (rows_of_pages kid.pages) c.loop-at.counts c.count_page_fields.new.counts) c.loop-at.invariant.same c.count_page_fields.ensures.counts);
       same = c.count_page_fields.ensures.same ∙ c.loop-at.invariant.same;
-      judged = subst (λ j. IfSome c.count_page_fields.new.verdicts.found (AreVerdicts j c.args.marks.now.labels.items)) c.loop-at.invariant.same c.count_page_fields.ensures.judged;
+      marks = c.count_page_fields.ensures.marks ∙ c.loop-at.invariant.marks;
+      known = known_by (g.J.Judge.judges c.args.judge.now) (g.J.Judge.judges c.loop-at.judge) c.loop-at.verdicts.marks c.none-verdicts.result.marks c.count_page_fields.new.verdicts.found
+          c.loop-at.invariant.same c.loop-at.invariant.marks c.count_page_fields.ensures.known;
     }
 
 pub returns-clause-counts : goal.returns-clause-counts

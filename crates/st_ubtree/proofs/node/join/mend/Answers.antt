@@ -2,7 +2,7 @@ use Rattle.std.proofs.Common.{◌≡◌, ◌+◌, ◌-◌, ◌<◌, ◌≤◌, m
 use Rattle.std.proofs.lemmas.List.Edits.{length-remove}
 use Rattle.st_ubtree.specs.Pages.{NodeValue}
 use Rattle.st_ubtree.specs.inner.Marks.{ClosesAt, OpensAt}
-use Rattle.st_ubtree.proofs.Marking.{closes_remove, differ_set, opens_insert}
+use Rattle.st_ubtree.proofs.Placing.{closes_remove, differ_set, opens_insert}
 use Rattle.st_ubtree.proofs.Mending.{joins_worn, mends_alone, mends_both, mends_none, paired, worn_is}
 use Rattle.st_ubtree.proofs.node.join.mend.Goals as goal
 

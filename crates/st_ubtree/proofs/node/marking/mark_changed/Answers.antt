@@ -3,7 +3,7 @@ use Rattle.st_index.specs.inner.Changes.{IsChange}
 use Rattle.st_ubtree.specs.Pages.{NodeValue, entries_of_pages}
 use Rattle.st_ubtree.specs.inner.Marks.{AreMarked, DifferAt, HasAt}
 use Rattle.st_ubtree.specs.inner.Nodes.{AreMarkedUnder, kids_under}
-use Rattle.st_ubtree.proofs.Marking.{same_at}
+use Rattle.st_ubtree.proofs.Placing.{same_at}
 use Rattle.st_ubtree.proofs.node.marking.mark_changed.Goals as goal
 
 pub returns : goal.returns

@@ -1,83 +1,107 @@
-use Rattle.std.proofs.Common.{◌≡◌, ◌+◌, ◌<◌, ◌≤◌, IfSome, length, sym, ap, subst, ◌∙◌, arith}
-use Rattle.std.proofs.lemmas.List.Sums.{count_by-le-length, sum_by-take-le}
+use Rattle.std.proofs.Common.{◌+◌, ◌<◌, ◌≤◌, length, ap, subst, ◌∙◌, arith}
+use Rattle.std.proofs.lemmas.List.Sums.{count_by-le-length}
+use Rattle.std.specs.List.{flat_map}
 use Rattle.st_index.specs.Counting.{count_of, is_counted}
-use Rattle.st_index.proofs.Sums.{sum_all, sum_one_more}
+use Rattle.st_ubtree.specs.declared.marks.Marks.{Marks}
 use Rattle.st_ubtree.specs.Pages.{NodeValue, rows_of_pages}
-use Rattle.st_ubtree.specs.inner.Kids.{pages_of}
-use Rattle.st_ubtree.specs.inner.Marks.{AreVerdicts}
-use Rattle.st_ubtree.proofs.Keeping.{count_of_kids, fewer_in_kid}
+use Rattle.st_ubtree.specs.inner.Marks.{MakeUp, tallied}
+use Rattle.st_ubtree.proofs.Keeping.{rows_of_kids}
+use Rattle.st_ubtree.proofs.Tallied.{counted_all, counted_fits, counted_next, fits_none, most_fits, most_next, whole}
 use Rattle.st_ubtree.proofs.node.pages.count_pages.Goals as goal
 
-pub count_page-sum-requires-clause-lowest : goal.count_page-sum-requires-clause-lowest
-count_page-sum-requires-clause-lowest g c =
+pub tally_page-rest-requires-clause-lowest : goal.tally_page-rest-requires-clause-lowest
+tally_page-rest-requires-clause-lowest g c =
+    ap (λ (v : NodeValue g.row.A.Denot). v.height) c.index-kids-at.is ∙ c.requires.lowest c.loop-at.at c.index-kids-at.result c.loop-at-test.true
+
+pub tally_page-rest-requires-clause-marked : goal.tally_page-rest-requires-clause-marked
+tally_page-rest-requires-clause-marked g c = (c.args.kids.now, c.requires.marked, (c.loop-at-test.true, c.index-kids-at.is))
+
+pub tally_page-rest-requires-clause-fits : goal.tally_page-rest-requires-clause-fits
+tally_page-rest-requires-clause-fits g c =
     let kids = c.args.kids.now in
-    let at = c.loop-at.at in
-    let kid = c.index-kids-at.result in
-    let below : at < length kids = omega (arith, c.loop-at-test.true, c.loop-at.auto.at-end) in
-    ap (λ (v : NodeValue g.row.A.Denot). v.height) c.index-kids-at.is ∙ c.requires.lowest at kid below
+    let fits = fits_none _ 18446744073709551616 (subst (λ rs. length rs < 18446744073709551616) (rows_of_kids kids) c.requires.fits) in
+    most_fits (λ (v : NodeValue g.row.A.Denot). rows_of_pages v.pages) kids c.loop-at.at c.index-kids-at.result _ _ 18446744073709551616 c.loop-at-test.true c.index-kids-at.is
+    c.loop-at.invariant.most fits
 
-pub count_page-sum-requires-clause-fits : goal.count_page-sum-requires-clause-fits
-count_page-sum-requires-clause-fits g c =
-    let kids = c.args.kids.now in
-    let at = c.loop-at.at in
-    let kid = c.index-kids-at.result in
-    let below : at < length kids = omega (arith, c.loop-at-test.true, c.loop-at.auto.at-end) in
-    let fewer = fewer_in_kid kids at kid below c.index-kids-at.is in
-    let r = c.requires.fits in
-    omega (arith, fewer, r)
-
-pub count_page-sum-requires-clause-marked : goal.count_page-sum-requires-clause-marked
-count_page-sum-requires-clause-marked g c =
-    let below : c.loop-at.at < length c.args.kids.now = omega (arith, c.loop-at-test.true, c.loop-at.auto.at-end) in
-    (c.args.kids.now, c.requires.marked, (below, c.index-kids-at.is))
-
-pub count_page-sum-requires-clause-judged : goal.count_page-sum-requires-clause-judged
-count_page-sum-requires-clause-judged g c = subst (λ j. IfSome c.loop-at.verdicts.found (AreVerdicts j c.args.marks.now.labels.items)) (sym c.loop-at.invariant.same) c.loop-at.invariant.judged
-
-pub overflow_add-sum : goal.overflow_add-sum
-overflow_add-sum g c =
+pub overflow_add-rest : goal.overflow_add-rest
+overflow_add-rest g c =
     let kids = c.args.kids.now in
     let q = c.args.query.now in
     let judges = g.J.Judge.judges c.args.judge.now in
-    let f = λ (v : NodeValue g.row.A.Denot). count_of q judges (rows_of_pages v.pages) in
+    let labels = c.args.marks.now.labels.items in
     let at = c.loop-at.at in
     let kid = c.index-kids-at.result in
-    let below : at < length kids = omega (arith, c.loop-at-test.true, c.loop-at.auto.at-end) in
-    let here : c.count_page-sum.result ≡ f kid = c.count_page-sum.ensures.count ∙ ap (λ j. count_of q j (rows_of_pages kid.pages)) c.loop-at.invariant.same in
-    let more = sum_one_more f kids at kid below c.index-kids-at.is in
-    let most = sum_by-take-le f kids (at + 1) in
-    let total = count_of_kids q judges kids in
-    let fits = count_by-le-length (is_counted q judges) (rows_of_pages (pages_of kids)) in
-    let r = c.requires.fits in
-    omega (arith, here, more, most, total, fits, r, c.loop-at.invariant.sum)
+    let fits = fits_none _ 18446744073709551616 (subst (λ rs. length rs < 18446744073709551616) (rows_of_kids kids) c.requires.fits) in
+    let now = subst (λ j. MakeUp j labels c.tally_page-rest.result (count_of q j (rows_of_pages kid.pages)) c.loop-at.tally c.tally_page-rest.new.tally) c.loop-at.invariant.same c.tally_page-rest.ensures.count in
+    let next = counted_next (λ (v : NodeValue g.row.A.Denot). rows_of_pages v.pages) kids at q judges labels kid c.loop-at.rest c.tally_page-rest.result _ c.loop-at.tally c.tally_page-rest.new.tally
+    c.loop-at-test.true c.index-kids-at.is c.loop-at.invariant.count now in
+    let few = counted_fits (λ (v : NodeValue g.row.A.Denot). rows_of_pages v.pages) kids (at + 1) q judges labels (c.loop-at.rest + c.tally_page-rest.result) 18446744073709551616 _ c.tally_page-rest.new.tally next fits in
+    omega (arith, few)
 
 pub loop-at-preserved : goal.loop-at-preserved
 loop-at-preserved g c =
     let kids = c.args.kids.now in
     let q = c.args.query.now in
     let judges = g.J.Judge.judges c.args.judge.now in
-    let f = λ (v : NodeValue g.row.A.Denot). count_of q judges (rows_of_pages v.pages) in
+    let labels = c.args.marks.now.labels.items in
     let at = c.loop-at.at in
     let kid = c.index-kids-at.result in
-    let below : at < length kids = omega (arith, c.loop-at-test.true, c.loop-at.auto.at-end) in
-    let here : c.count_page-sum.result ≡ f kid = c.count_page-sum.ensures.count ∙ ap (λ j. count_of q j (rows_of_pages kid.pages)) c.loop-at.invariant.same in
-    let more = sum_one_more f kids at kid below c.index-kids-at.is in
+    let now = subst (λ j. MakeUp j labels c.tally_page-rest.result (count_of q j (rows_of_pages kid.pages)) c.loop-at.tally c.tally_page-rest.new.tally) c.loop-at.invariant.same c.tally_page-rest.ensures.count in
     record {
-      sum = omega (arith, here, more, c.loop-at.invariant.sum);
-      same = c.count_page-sum.ensures.same ∙ c.loop-at.invariant.same;
-      judged = subst (λ j. IfSome c.count_page-sum.new.verdicts.found (AreVerdicts j c.args.marks.now.labels.items)) c.loop-at.invariant.same c.count_page-sum.ensures.judged;
+      count = counted_next (λ (v : NodeValue g.row.A.Denot). rows_of_pages v.pages) kids at q judges labels kid c.loop-at.rest c.tally_page-rest.result _ c.loop-at.tally c.tally_page-rest.new.tally
+          c.loop-at-test.true c.index-kids-at.is c.loop-at.invariant.count now;
+      most = most_next (λ (v : NodeValue g.row.A.Denot). rows_of_pages v.pages) kids at kid _ _ _ c.loop-at-test.true c.index-kids-at.is c.loop-at.invariant.most c.tally_page-rest.ensures.most;
+      same = c.tally_page-rest.ensures.same ∙ c.loop-at.invariant.same;
     }
+
+pub total-requires-clause-known : goal.total-requires-clause-known
+total-requires-clause-known g c = c.none-verdicts.ensures.known (g.J.Judge.judges c.loop-at.judge)
+
+pub total-requires-clause-fits : goal.total-requires-clause-fits
+total-requires-clause-fits g c =
+    let kids = c.args.kids.now in
+    let q = c.args.query.now in
+    let judges = g.J.Judge.judges c.args.judge.now in
+    let after = g.J.Judge.judges c.loop-at.judge in
+    let labels = c.args.marks.now.labels.items in
+    let rows = flat_map (λ (v : NodeValue g.row.A.Denot). rows_of_pages v.pages) kids in
+    let over : length kids ≤ c.loop-at.at = omega (arith, c.loop-at-test.false, c.loop-at.auto.at-end) in
+    let made = counted_all (λ (v : NodeValue g.row.A.Denot). rows_of_pages v.pages) kids c.loop-at.at q judges labels c.loop-at.rest _ c.loop-at.tally over c.loop-at.invariant.count in
+    let all = whole judges after labels c.loop-at.rest (count_of q judges rows) c.loop-at.tally c.loop-at.invariant.same made in
+    let here = ap (λ (m : Marks g.row.A.Denot). tallied after m.labels.items c.loop-at.tally) c.none-verdicts.ensures.marks in
+    let few = count_by-le-length (is_counted q judges) rows in
+    let fits = subst (λ rs. length rs < 18446744073709551616) (rows_of_kids kids) c.requires.fits in
+    omega (arith, all, here, few, fits)
+
+pub overflow_add-result : goal.overflow_add-result
+overflow_add-result g c =
+    let kids = c.args.kids.now in
+    let q = c.args.query.now in
+    let judges = g.J.Judge.judges c.args.judge.now in
+    let after = g.J.Judge.judges c.loop-at.judge in
+    let labels = c.args.marks.now.labels.items in
+    let rows = flat_map (λ (v : NodeValue g.row.A.Denot). rows_of_pages v.pages) kids in
+    let over : length kids ≤ c.loop-at.at = omega (arith, c.loop-at-test.false, c.loop-at.auto.at-end) in
+    let made = counted_all (λ (v : NodeValue g.row.A.Denot). rows_of_pages v.pages) kids c.loop-at.at q judges labels c.loop-at.rest _ c.loop-at.tally over c.loop-at.invariant.count in
+    let all = whole judges after labels c.loop-at.rest (count_of q judges rows) c.loop-at.tally c.loop-at.invariant.same made in
+    let here = ap (λ (m : Marks g.row.A.Denot). tallied after m.labels.items c.loop-at.tally) c.none-verdicts.ensures.marks in
+    let total = c.total.ensures.total in
+    let few = count_by-le-length (is_counted q judges) rows in
+    let fits = subst (λ rs. length rs < 18446744073709551616) (rows_of_kids kids) c.requires.fits in
+    omega (arith, all, here, total, few, fits)
 
 pub returns-clause-count : goal.returns-clause-count
 returns-clause-count g c =
     let kids = c.args.kids.now in
     let q = c.args.query.now in
     let judges = g.J.Judge.judges c.args.judge.now in
-    let f = λ (v : NodeValue g.row.A.Denot). count_of q judges (rows_of_pages v.pages) in
+    let after = g.J.Judge.judges c.loop-at.judge in
+    let labels = c.args.marks.now.labels.items in
+    let rows = flat_map (λ (v : NodeValue g.row.A.Denot). rows_of_pages v.pages) kids in
     let over : length kids ≤ c.loop-at.at = omega (arith, c.loop-at-test.false, c.loop-at.auto.at-end) in
-    c.loop-at.invariant.sum
-    ∙ sum_all f kids c.loop-at.at over
-    ∙ sym (count_of_kids q judges kids)
-
-pub returns-clause-same : goal.returns-clause-same
-returns-clause-same g c = c.loop-at.invariant.same
+    let made = counted_all (λ (v : NodeValue g.row.A.Denot). rows_of_pages v.pages) kids c.loop-at.at q judges labels c.loop-at.rest _ c.loop-at.tally over c.loop-at.invariant.count in
+    let all = whole judges after labels c.loop-at.rest (count_of q judges rows) c.loop-at.tally c.loop-at.invariant.same made in
+    let here = ap (λ (m : Marks g.row.A.Denot). tallied after m.labels.items c.loop-at.tally) c.none-verdicts.ensures.marks in
+    let total = c.total.ensures.total in
+    let same = ap (count_of q judges) (rows_of_kids kids) in
+    omega (arith, all, here, total, same)

@@ -1,0 +1,66 @@
+use Rattle.std.proofs.Common.{◌≡◌, ℕ, cond, length, sym, ap, arith, rules}
+use Rattle.st_ubtree.proofs.ByMarks.{inside_at}
+use Rattle.st_ubtree.proofs.Placing.{there_is}
+use Rattle.st_ubtree.proofs.Tallied.{below_sum, mark_at, one_in, point_inside, sum_set, tallied_at}
+use Rattle.st_ubtree.proofs.marked.tally_inside_at.Goals as goal
+
+pub overflow_add-tally : goal.overflow_add-tally
+overflow_add-tally g c =
+    let marks = c.args.marks.now in
+    let tally = c.args.tally.now in
+    let w = c.requires.within in
+    let m = c.requires.not_more in
+    let given = c.requires.marked in
+    let number = c.from-index.result in
+    let numbers : length marks.numbers ≡ 32 = search rules in
+    let points : length marks.points ≡ 32 = search rules in
+    let long : length tally ≡ 16 = search rules in
+    let low = c.if-index-lt-MAX_NUMBERS.true in
+    let some = there_is c.args.entries.now c.args.at w in
+    let point = there_is marks.points c.args.at (omega (arith, w, m, points)) in
+    let mark = mark_at given.0 c.args.entries.now marks c.args.at some.0 number point.0 given.1 some.1 (omega (arith, w, m, numbers)) point.1.0 c.from-index.ensures point.1.1 in
+    let one = one_in given.0 some.0 number point.0 mark (omega (arith, low)) in
+    let most = below_sum tally number (omega (arith, low, long)) in
+    let fits = c.requires.fits some.0 some.1 in
+    omega (arith, one, most, fits)
+
+pub returns-then-index-lt-MAX_NUMBERS-clause-count : goal.returns-then-index-lt-MAX_NUMBERS-clause-count
+returns-then-index-lt-MAX_NUMBERS-clause-count g c = λ labels e are h.
+    let marks = c.args.marks.now in
+    let tally = c.args.tally.now in
+    let q = c.args.query.now in
+    let w = c.requires.within in
+    let m = c.requires.not_more in
+    let number = c.from-index.result in
+    let numbers : length marks.numbers ≡ 32 = search rules in
+    let points : length marks.points ≡ 32 = search rules in
+    let long : length tally ≡ 16 = search rules in
+    let low = c.if-index-lt-MAX_NUMBERS.true in
+    let point = there_is marks.points c.args.at (omega (arith, w, m, points)) in
+    let mark = mark_at labels c.args.entries.now marks c.args.at e number point.0 are h (omega (arith, w, m, numbers)) point.1.0 c.from-index.ensures point.1.1 in
+    let inside = point_inside q labels e number point.0 mark (omega (arith, low)) (inside_at q c.args.entries.now c.args.at e h c.requires.inside) in
+    tallied_at q labels e number point.0 mark (g.J.Judge.judges c.args.judge.now) tally 1 low (omega (arith, low, long)) (sym (ap {B = ℕ} (λ b. cond b 1 0) inside))
+
+pub returns-then-index-lt-MAX_NUMBERS-clause-most : goal.returns-then-index-lt-MAX_NUMBERS-clause-most
+returns-then-index-lt-MAX_NUMBERS-clause-most g c = λ e h.
+    let marks = c.args.marks.now in
+    let tally = c.args.tally.now in
+    let w = c.requires.within in
+    let m = c.requires.not_more in
+    let given = c.requires.marked in
+    let number = c.from-index.result in
+    let numbers : length marks.numbers ≡ 32 = search rules in
+    let points : length marks.points ≡ 32 = search rules in
+    let long : length tally ≡ 16 = search rules in
+    let low = c.if-index-lt-MAX_NUMBERS.true in
+    let point = there_is marks.points c.args.at (omega (arith, w, m, points)) in
+    let mark = mark_at given.0 c.args.entries.now marks c.args.at e number point.0 given.1 h (omega (arith, w, m, numbers)) point.1.0 c.from-index.ensures point.1.1 in
+    let one = one_in given.0 e number point.0 mark (omega (arith, low)) in
+    let more = sum_set tally number 1 (omega (arith, low, long)) in
+    omega (arith, one, more)
+
+pub count_at-requires-clause-fits : goal.count_at-requires-clause-fits
+count_at-requires-clause-fits g c = λ e h. let fits = c.requires.fits e h in omega (arith, fits)
+
+pub returns-clause-count : goal.returns-clause-count
+returns-clause-count g c = λ labels e are h. let count = c.count_at.ensures.count e h in omega (arith, count)

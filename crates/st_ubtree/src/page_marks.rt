@@ -1,0 +1,192 @@
+//! The marks of a page's entries: where their rows are, and the numbers of their labels.
+ghost use Rattle.std.specs.Prelude.{◌≡◌, ◌<◌, ◌≤◌, IsTrue, List, length};
+ghost use Rattle.st_index.specs.Rows.{EntryValue};
+ghost use Rattle.st_index.specs.inner.Changes.{IsChange};
+ghost use Rattle.st_ubtree.specs.inner.Marks.{AreMarks, ClosesAt, DifferAt, DifferInMarks, HasNone, IsMarkedAt, Keeps, OpensAt};
+
+use crate::numbering::{NO_NUMBER, number_of};
+use st_index::entries::Change;
+use st_index::{Entry, RowsView};
+use st_key::Point;
+use st_label::Label;
+use std::alloc::Allocator;
+
+/// The number of an entry of several rows.
+pub const MANY: u8 = u8::MAX;
+
+/// For each entry of a page that has one row, the number of its label and its point, side by side with those of the others.
+/// Where the page has changed since, they are not known.
+#[derive(Clone, Copy)]
+pub struct PageMarks {
+    pub known: bool,
+    pub numbers: [u8; 32],
+    pub points: [Point; 32],
+}
+
+// Some point, where none is known yet.
+fn origin() -> Point {
+    let Ok(point) = Point::new(0, 0, 0) else {
+        unreachable!()
+    };
+    point
+}
+
+// What the numbers of the upper half of a page may be, once it is a page of its own.
+fn upper_half(numbers: &[u8; 32]) -> [u8; 32] {
+    let mut upper = [NO_NUMBER; 32];
+    upper[..16].copy_from_slice(&numbers[16..]);
+    upper
+}
+
+impl PageMarks {
+    /// None that are known.
+    pub fn none() -> PageMarks
+        ensures { HasNone result }
+    {
+        PageMarks {
+            known: false,
+            numbers: [NO_NUMBER; 32],
+            points: [origin(); 32],
+        }
+    }
+
+    /// None that are known yet of a page that was the upper half of this one. Its numbers are likely to be those of that half.
+    pub fn of_upper_half(&self) -> PageMarks
+        ensures { HasNone result }
+    {
+        PageMarks {
+            known: false,
+            numbers: upper_half(&self.numbers),
+            points: self.points,
+        }
+    }
+
+    // The number after that of an entry.
+    fn after(&self, at: usize) -> u8 {
+        match self.numbers.get(at.saturating_add(1)) {
+            Some(number) => *number,
+            None => NO_NUMBER,
+        }
+    }
+}
+
+// Marks an entry at its place. The number of its label is likely to be one of these.
+fn mark_entry<A: Allocator + Copy>(
+    labels: &mut Vec<Label<A>, A>,
+    page: &mut PageMarks,
+    at: usize,
+    entry: &Entry<A>,
+    likely: &[u8; 3],
+)
+    requires { at < 32 }
+    ensures keeps { Keeps labels.old.items labels.new.items }
+    ensures mark { IsMarkedAt labels.new.items page.new at entry.now }
+    ensures others { DifferInMarks at page.old page.new }
+{
+    match entry.rows() {
+        RowsView::One(row) => {
+            page.numbers[at] = number_of(labels, &row.label, likely);
+            page.points[at] = row.point;
+        }
+        RowsView::Many(_) => page.numbers[at] = MANY,
+    }
+}
+
+/// Marks a page's entries anew. They are likely to be marked as before, each at its place or at one beside it.
+pub fn mark_page<A: Allocator + Copy>(
+    labels: &mut Vec<Label<A>, A>,
+    page: &mut PageMarks,
+    entries: &[Entry<A>],
+)
+    requires { length entries.now ≤ 32 }
+    ensures keeps { Keeps labels.old.items labels.new.items }
+    ensures marks { AreMarks labels.new.items entries.now page.new }
+{
+    let mut before = NO_NUMBER;
+    for (at, entry) in entries.iter().enumerate() {
+        let had = page.numbers[at];
+        let likely = [had, before, page.after(at)];
+        mark_entry(labels, page, at, entry, &likely);
+        before = had;
+    }
+    page.known = true;
+}
+
+// Makes room for an entry that came in, and marks it. Whether there is such an entry.
+fn open_entry<A: Allocator + Copy>(
+    labels: &mut Vec<Label<A>, A>,
+    page: &mut PageMarks,
+    at: usize,
+    entries: &[Entry<A>],
+) -> bool
+    requires { length entries.now ≤ 32 }
+    ensures keeps { Keeps labels.old.items labels.new.items }
+    ensures marks { (old : List (EntryValue A)) → OpensAt at old entries.now → AreMarks labels.old.items old page.old → IsTrue result
+        → AreMarks labels.new.items entries.now page.new }
+{
+    let count = entries.len();
+    if at >= count {
+        return false;
+    }
+    page.numbers.copy_within(at..count - 1, at + 1);
+    page.points.copy_within(at..count - 1, at + 1);
+    mark_entry(labels, page, at, &entries[at], &[NO_NUMBER; 3]);
+    true
+}
+
+// Marks an entry that changed. Whether there is such an entry.
+fn alter_entry<A: Allocator + Copy>(
+    labels: &mut Vec<Label<A>, A>,
+    page: &mut PageMarks,
+    at: usize,
+    entries: &[Entry<A>],
+) -> bool
+    requires { length entries.now ≤ 32 }
+    ensures keeps { Keeps labels.old.items labels.new.items }
+    ensures marks { (old : List (EntryValue A)) → DifferAt at old entries.now → AreMarks labels.old.items old page.old → IsTrue result
+        → AreMarks labels.new.items entries.now page.new }
+{
+    if at >= entries.len() {
+        return false;
+    }
+    mark_entry(labels, page, at, &entries[at], &[NO_NUMBER; 3]);
+    true
+}
+
+// Lets go of the mark of an entry that went. Whether there was such a place.
+fn close_entry<A: Allocator + Copy>(
+    labels: &[Label<A>],
+    page: &mut PageMarks,
+    at: usize,
+    entries: &[Entry<A>],
+) -> bool
+    ensures { (old : List (EntryValue A)) → ClosesAt at old entries.now → AreMarks labels.now old page.old → IsTrue result
+        → AreMarks labels.now entries.now page.new }
+{
+    let count = entries.len();
+    if at > count || count >= 32 {
+        return false;
+    }
+    page.numbers.copy_within(at + 1..count + 1, at);
+    page.points.copy_within(at + 1..count + 1, at);
+    true
+}
+
+/// Follows a change of a page's entries. Whether it could.
+pub fn follow<A: Allocator + Copy>(
+    labels: &mut Vec<Label<A>, A>,
+    page: &mut PageMarks,
+    change: Change,
+    entries: &[Entry<A>],
+) -> bool
+    requires { length entries.now ≤ 32 }
+    ensures keeps { Keeps labels.old.items labels.new.items }
+    ensures marks { (old : List (EntryValue A)) → IsChange change old entries.now → AreMarks labels.old.items old page.old → IsTrue result
+        → AreMarks labels.new.items entries.now page.new }
+{
+    match change {
+        Change::Opened(at) => open_entry(labels, page, at, entries),
+        Change::Altered(at) => alter_entry(labels, page, at, entries),
+        Change::Closed(at) => close_entry(labels.as_slice(), page, at, entries),
+    }
+}
