@@ -1,12 +1,13 @@
 #!/usr/bin/env python3
-"""Changes a second that are kept on a disk: by the built `st_served --store`, by SQLite itself and by PostgreSQL, in turns on one disk;
-by the server on a disk whose syncs take 4 ms longer; and the time of a count alone and beside a connection that puts without pause.
+"""Changes a second that are kept on a disk: by the built `st_served --store`, by the journal below it alone (`bench_journal`), by SQLite
+itself and by PostgreSQL, in turns on one disk; by the server on a disk whose syncs take 4 ms longer; and the time of a count alone and
+beside a connection that puts without pause.
 Beside the changes that one connection sends at once stands how often nginx answers the same requests of the same client with a constant.
 
     durable.py [SECONDS [FOLDER]]
 
-3 seconds for each figure, in a folder of /var/tmp, where they are left out. It needs the built st_served, wrk, nginx, and what
-tools/packages names. A change is a put of a row with a label and a note; SQLite's (Python's sqlite3, journal_mode=WAL, synchronous=FULL)
+3 seconds for each figure, in a folder of /var/tmp, where they are left out. It needs the built st_served and bench_journal, wrk,
+nginx, and what tools/packages names. A change is a put of a row; SQLite's (Python's sqlite3, journal_mode=WAL, synchronous=FULL)
 and PostgreSQL's (pgbench, as it is installed) is a row of the same texts. Run it with /usr/bin/python3.
 """
 from __future__ import annotations
@@ -36,6 +37,8 @@ BODY = json.dumps({"id": "w1100000", "label": "", "note": "", "point": [100000, 
 INSERT = f"""INSERT INTO changes (time, "user", request, name, body, result)
 VALUES (1700000000000, 'root', 'put', 'points', '{BODY}', '{{"ok":true}}');\n"""
 CONNECTIONS = (1, 8, 64)
+# How many rows or records go into a transaction of SQLite and of the journal.
+BATCHES = (1, 64, 256)
 # How many requests a connection sends at once, where it does not wait for each answer.
 MANY = 64
 # A disk whose syncs take 4 ms longer, as a library that is loaded before the C library.
@@ -159,6 +162,23 @@ def by_sqlite(folder: Path, batch: int, seconds: float) -> float:
         return done / took
 
 
+def by_journal(folder: Path, batch: int, rounds: int) -> float:
+    with tempfile.TemporaryDirectory(dir=folder) as name:
+        words = [str(TOP / "crates/bench_journal/out/bench_journal"), f"{name}/journal.db", str(batch), str(rounds)]
+        ran = subprocess.run(words, check=True, capture_output=True, text=True)
+        return batch * rounds / int(ran.stderr) * 1e6
+
+
+def without_a_server(folder: Path, seconds: float) -> str:
+    """What the journal and SQLite keep in a process of their own, by the same batches."""
+    told = []
+    for batch in BATCHES:
+        theirs = by_sqlite(folder, batch, seconds)
+        ours = by_journal(folder, batch, max(1, round(theirs * seconds / batch)))
+        told.append(f"by {batch} {ours:,.0f} and {theirs:,.0f} ({ours / theirs:.2f})")
+    return ", ".join(told)
+
+
 def by_postgres(socket: Path, script: Path, connections: int, seconds: float) -> float:
     threads = min(connections, os.cpu_count() or 1)
     words = ["-h", str(socket), "-U", SUPERUSER, "-n", "-f", str(script), "-c", str(connections), "-j", str(threads)]
@@ -217,10 +237,9 @@ def main() -> None:
                 here, there = by_server(folder, connections, seconds), by_postgres(socket, script, connections, seconds)
                 print(f"  {connections} connections: st_served {here:,.0f}, PostgreSQL {there:,.0f}", flush=True)
             many = by_server(folder, 1, seconds, str(MANY))
-            singles, batches = by_sqlite(folder, 1, seconds), by_sqlite(folder, 256, seconds)
             constants = by_nginx(folder, MANY, seconds)
             print(f"  {MANY} at once on one connection: {many:,.0f}; a constant of nginx {constants:,.0f}", flush=True)
-            print(f"  sqlite3: {singles:,.0f} by one, {batches:,.0f} by 256", flush=True)
+            print(f"  the journal alone and sqlite3: {without_a_server(folder, seconds)}", flush=True)
         print(on_a_slow_disk(folder, seconds), flush=True)
         print(counts_beside_puts(folder, seconds))
 
