@@ -1,3 +1,4 @@
 pub mod Same
+pub mod Packed
 pub mod Sorted
 pub mod Resorting

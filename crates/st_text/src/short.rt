@@ -1,6 +1,7 @@
 //! Texts of at most 14 bytes.
-ghost use Rattle.std.specs.Prelude.{◌≡◌, ◌≤◌, IsSome, IfSome, IsTrue, ◌↔◌, length};
+ghost use Rattle.std.specs.Prelude.{ℕ, ◌≡◌, ◌≤◌, ◌<◌, ◌++◌, ◌∷◌, [], IsSome, IfSome, IsTrue, ◌↔◌, length, take, drop, slice_index};
 ghost use Rattle.st_text.specs.Texts.{same};
+ghost use Rattle.st_text.specs.inner.Packed.{word};
 
 use std::marker::Model;
 use std::str;
@@ -72,14 +73,14 @@ impl ShortText {
     pub fn is_same(&self, other: &ShortText) -> bool
         ensures { IsTrue result ↔ (self.now ≡ other.now) }
     {
-        self.len == other.len && self.bytes == other.bytes
+        let mine = words(self.len, self.bytes);
+        let others = words(other.len, other.bytes);
+        mine.0 == others.0 && mine.1 == others.1
     }
 
     /// A number of 64 bits that depends on the length and on all bytes of the text. Equal texts have equal numbers.
     pub fn mixed(&self) -> u64 {
-        let [a, b, c, d, e, f, g, h, i, j, k, l, m, n] = self.bytes;
-        let low = u64::from_le_bytes([a, b, c, d, e, f, g, h]);
-        let high = u64::from_le_bytes([i, j, k, l, m, n, self.len, 0]);
+        let (low, high) = words(self.len, self.bytes);
         (low ^ high.rotate_left(29)).wrapping_mul(FACTOR)
     }
 
@@ -89,4 +90,16 @@ impl ShortText {
     {
         self.as_str() == text
     }
+}
+
+// The bytes and the length as two numbers, which no other bytes and length have.
+fn words(len: u8, bytes: [u8; MAX_SHORT]) -> (u64, u64)
+    ensures low { result.0 ≡ word (take 8 bytes) }
+    ensures high { result.1 ≡ word (drop 8 bytes ++ len ∷ 0 ∷ []) }
+    ensures bytes { (i : ℕ) → slice_index bytes i < 256 }
+{
+    let [a, b, c, d, e, f, g, h, i, j, k, l, m, n] = bytes;
+    let low = u64::from_le_bytes([a, b, c, d, e, f, g, h]);
+    let high = u64::from_le_bytes([i, j, k, l, m, n, len, 0]);
+    (low, high)
 }
