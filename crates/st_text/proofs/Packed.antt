@@ -3,7 +3,7 @@ use Rattle.std.proofs.Common.{◌≡◌, ◌<◌, ◌≤◌, ◌+◌, ◌-◌, �
 use Rattle.std.specs.Int.{w64, to_le_bytes}
 use Rattle.std.proofs.lemmas.Nat.{le_bytes_8}
 use Rattle.std.proofs.lemmas.List.{get_or-drop, take-append-drop, length-drop, length-take, length-take-le, length-append}
-use Rattle.std.proofs.Math.Seq.{drop-append_seam, take-append_seam}
+use Rattle.std.proofs.Math.Seq.{take-append_seam}
 use Rattle.st_text.specs.inner.Packed.{word}
 
 pub word-eq : (a b : List ℕ) → length a ≡ 8 → length b ≡ 8 → ((i : ℕ) → get_or a i 0 < 256) → ((i : ℕ) → get_or b i 0 < 256) → word a ≡ word b → a ≡ b
@@ -42,39 +42,32 @@ bytes-append (x ∷ xs) ys h g (suc i) = bytes-append xs ys (λ j. h (suc j)) g 
 bytes-drop : (n : ℕ) (xs : List ℕ) → AreBytes xs → AreBytes (drop n xs)
 bytes-drop n xs h i = rw (get_or-drop n xs i 0) (h (n + i))
 
-bytes-last : (n : ℕ) → n < 256 → AreBytes (n ∷ 0 ∷ [])
-bytes-last n h zero = h
-bytes-last n h (suc zero) = omega arith
-bytes-last n h (suc (suc i)) = omega arith
+bytes-last : AreBytes (0 ∷ 0 ∷ [])
+bytes-last zero = omega arith
+bytes-last (suc zero) = omega arith
+bytes-last (suc (suc i)) = omega arith
 
-front-is : (a : List ℕ) (m : ℕ) → length a ≡ 6 → take 6 (a ++ m ∷ 0 ∷ []) ≡ a
-front-is a m l = let seam : take (length a) (a ++ m ∷ 0 ∷ []) ≡ a = take-append_seam a (m ∷ 0 ∷ []) in rw l at seam
+front-is : (a : List ℕ) → length a ≡ 6 → take 6 (a ++ 0 ∷ 0 ∷ []) ≡ a
+front-is a l = let seam : take (length a) (a ++ 0 ∷ 0 ∷ []) ≡ a = take-append_seam a (0 ∷ 0 ∷ []) in rw l at seam
 
-back-is : (a : List ℕ) (m : ℕ) → length a ≡ 6 → drop 6 (a ++ m ∷ 0 ∷ []) ≡ m ∷ 0 ∷ []
-back-is a m l = let seam : drop (length a) (a ++ m ∷ 0 ∷ []) ≡ m ∷ 0 ∷ [] = drop-append_seam a (m ∷ 0 ∷ []) in rw l at seam
+last-eq : (a b : List ℕ) → length a ≡ 6 → length b ≡ 6 → a ++ 0 ∷ 0 ∷ [] ≡ b ++ 0 ∷ 0 ∷ [] → a ≡ b
+last-eq a b la lb e = sym (front-is a la) ∙ ap (take 6) e ∙ front-is b lb
 
-last-eq : (a b : List ℕ) (m n : ℕ) → length a ≡ 6 → length b ≡ 6 → a ++ m ∷ 0 ∷ [] ≡ b ++ n ∷ 0 ∷ [] → (a ≡ b) × (m ≡ n)
-last-eq a b m n la lb e =
-    let back : m ∷ 0 ∷ [] ≡ n ∷ 0 ∷ [] = sym (back-is a m la) ∙ ap (drop 6) e ∙ back-is b n lb in
-    (sym (front-is a m la) ∙ ap (take 6) e ∙ front-is b n lb, ap (λ (l : List ℕ). get_or l 0 0) back)
-
--- stored texts of the same two numbers are the same
-pub packed-eq : (a b : List ℕ) (m n : ℕ) → length a ≡ 14 → length b ≡ 14 → AreBytes a → AreBytes b → m < 256 → n < 256
-    → word (take 8 a) ≡ word (take 8 b) → word (drop 8 a ++ m ∷ 0 ∷ []) ≡ word (drop 8 b ++ n ∷ 0 ∷ []) → take m a ≡ take n b
-packed-eq a b m n la lb ba bb hm hn low high =
+-- stored texts of as many bytes and of the same two numbers are the same
+pub packed-eq : (a b : List ℕ) (m n : ℕ) → length a ≡ 14 → length b ≡ 14 → AreBytes a → AreBytes b → m ≡ n
+    → word (take 8 a) ≡ word (take 8 b) → word (drop 8 a ++ 0 ∷ 0 ∷ []) ≡ word (drop 8 b ++ 0 ∷ 0 ∷ []) → take m a ≡ take n b
+packed-eq a b m n la lb ba bb count low high =
     let front : take 8 a ≡ take 8 b = word-eq (take 8 a) (take 8 b) (omega (arith, length-take 8 a)) (omega (arith, length-take 8 b)) (bytes-take 8 a ba) (bytes-take 8 b bb) low in
     let da : length (drop 8 a) ≡ 6 = omega (arith, length-drop 8 a) in
     let db : length (drop 8 b) ≡ 6 = omega (arith, length-drop 8 b) in
-    let ends = word-eq (drop 8 a ++ m ∷ 0 ∷ []) (drop 8 b ++ n ∷ 0 ∷ []) (omega (arith, length-append (drop 8 a) (m ∷ 0 ∷ []))) (omega (arith, length-append (drop 8 b) (n ∷ 0 ∷ [])))
-    (bytes-append (drop 8 a) (m ∷ 0 ∷ []) (bytes-drop 8 a ba) (bytes-last m hm)) (bytes-append (drop 8 b) (n ∷ 0 ∷ []) (bytes-drop 8 b bb) (bytes-last n hn)) high in
-    let parts = last-eq (drop 8 a) (drop 8 b) m n da db ends in
-    let whole : a ≡ b = sym (take-append-drop 8 a) ∙ ap₂ (λ (x y : List ℕ). x ++ y) front parts.0 ∙ take-append-drop 8 b in
-    ap₂ take parts.1 whole
+    let ends = word-eq (drop 8 a ++ 0 ∷ 0 ∷ []) (drop 8 b ++ 0 ∷ 0 ∷ []) (omega (arith, length-append (drop 8 a) (0 ∷ 0 ∷ []))) (omega (arith, length-append (drop 8 b) (0 ∷ 0 ∷ [])))
+    (bytes-append (drop 8 a) (0 ∷ 0 ∷ []) (bytes-drop 8 a ba) bytes-last) (bytes-append (drop 8 b) (0 ∷ 0 ∷ []) (bytes-drop 8 b bb) bytes-last) high in
+    let whole : a ≡ b = sym (take-append-drop 8 a) ∙ ap₂ (λ (x y : List ℕ). x ++ y) front (last-eq (drop 8 a) (drop 8 b) da db ends) ∙ take-append-drop 8 b in
+    ap₂ take count whole
 
--- equal texts are stored as the same two numbers
+-- equal texts are stored in equal bytes, and are as long
 pub packed-same : (a b : List ℕ) (m n : ℕ) → length a ≡ 14 → length b ≡ 14 → m ≤ 14 → n ≤ 14 → a ≡ take m a ++ replicate (14 - m) 0 → b ≡ take n b ++ replicate (14 - n) 0
-    → take m a ≡ take n b → word (drop 8 a ++ m ∷ 0 ∷ []) ≡ word (drop 8 b ++ n ∷ 0 ∷ [])
+    → take m a ≡ take n b → (m ≡ n) × (a ≡ b)
 packed-same a b m n la lb hm hn ra rb e =
     let count : m ≡ n = sym (length-take-le m a (omega (arith, la))) ∙ ap length e ∙ length-take-le n b (omega (arith, lb)) in
-    let whole : a ≡ b = ra ∙ ap₂ (λ (t : List ℕ) (k : ℕ). t ++ replicate (14 - k) 0) e count ∙ sym rb in
-    ap₂ (λ (l : List ℕ) (k : ℕ). word (drop 8 l ++ k ∷ 0 ∷ [])) whole count
+    (count, ra ∙ ap₂ (λ (t : List ℕ) (k : ℕ). t ++ replicate (14 - k) 0) e count ∙ sym rb)

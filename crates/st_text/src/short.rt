@@ -73,15 +73,20 @@ impl ShortText {
     pub fn is_same(&self, other: &ShortText) -> bool
         ensures { IsTrue result ↔ (self.now ≡ other.now) }
     {
-        let mine = words(self.len, self.bytes);
-        let others = words(other.len, other.bytes);
+        if self.len != other.len {
+            return false;
+        }
+        let mine = words(self.bytes);
+        let others = words(other.bytes);
         mine.0 == others.0 && mine.1 == others.1
     }
 
     /// A number of 64 bits that depends on the length and on all bytes of the text. Equal texts have equal numbers.
     pub fn mixed(&self) -> u64 {
-        let (low, high) = words(self.len, self.bytes);
-        (low ^ high.rotate_left(29)).wrapping_mul(FACTOR)
+        let (low, high) = words(self.bytes);
+        (low ^ high.rotate_left(29))
+            .wrapping_add(self.len as u64)
+            .wrapping_mul(FACTOR)
     }
 
     /// Whether this is the text, byte by byte.
@@ -92,14 +97,14 @@ impl ShortText {
     }
 }
 
-// The bytes and the length as two numbers, which no other bytes and length have.
-fn words(len: u8, bytes: [u8; MAX_SHORT]) -> (u64, u64)
+// The bytes as two numbers, which no other bytes have.
+fn words(bytes: [u8; MAX_SHORT]) -> (u64, u64)
     ensures low { result.0 ≡ word (take 8 bytes) }
-    ensures high { result.1 ≡ word (drop 8 bytes ++ len ∷ 0 ∷ []) }
+    ensures high { result.1 ≡ word (drop 8 bytes ++ 0 ∷ 0 ∷ []) }
     ensures bytes { (i : ℕ) → slice_index bytes i < 256 }
 {
     let [a, b, c, d, e, f, g, h, i, j, k, l, m, n] = bytes;
     let low = u64::from_le_bytes([a, b, c, d, e, f, g, h]);
-    let high = u64::from_le_bytes([i, j, k, l, m, n, len, 0]);
+    let high = u64::from_le_bytes([i, j, k, l, m, n, 0, 0]);
     (low, high)
 }
