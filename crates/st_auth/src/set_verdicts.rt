@@ -6,16 +6,23 @@ ghost use Rattle.st_text.specs.Texts.{is_among};
 use crate::auths::Auths;
 use crate::long_labels::LongLabels;
 use crate::short_labels::ShortLabels;
+use crate::truth::satisfies;
 use st_label::Label;
 use std::alloc::{Allocator, Global};
 use std::marker::Model;
 use std::num::NonZeroUsize;
 
+// So many labels are judged before any is remembered.
+const FEW: u8 = 8;
+
 /// A cache of the verdicts on labels for one set of authorizations. Unlike [`crate::Verdicts`] it
-/// borrows the set, and never compares it.
+/// borrows the set, and never compares it. It remembers nothing of the first 8 labels, so that few labels
+/// take no memory.
 #[derive(Drop)]
 pub struct SetVerdicts<'s, A: Allocator = Global, B: Allocator = Global> {
     auths: &'s Auths<B>,
+    // How many labels were judged and not remembered.
+    judged: u8,
     short: ShortLabels<A>,
     long: LongLabels<A>,
 }
@@ -33,12 +40,13 @@ impl<'s, A: Allocator, B: Allocator> Model for SetVerdicts<'s, A, B> {
 }
 
 impl<'s, A: Allocator + Copy, B: Allocator> SetVerdicts<'s, A, B> {
-    /// An empty cache with room for `capacity` long labels. It allocates with the first label.
+    /// An empty cache with room for `capacity` long labels. It allocates with the ninth label that is asked for, or later.
     pub fn new(alloc: A, capacity: NonZeroUsize, auths: &'s Auths<B>) -> SetVerdicts<'s, A, B>
         ensures { result ≡ auths.now }
     {
         SetVerdicts {
             auths,
+            judged: 0,
             short: ShortLabels::new(alloc),
             long: LongLabels::new(alloc, capacity),
         }
@@ -50,6 +58,10 @@ impl<'s, A: Allocator + Copy, B: Allocator> SetVerdicts<'s, A, B> {
         ensures value { result ≡ is_true (is_among self.old) label.now }
         ensures set { self.new ≡ self.old }
     {
+        if self.judged < FEW {
+            self.judged += 1;
+            return satisfies(label, self.auths);
+        }
         match self.short.ask(label, self.auths) {
             Some(verdict) => verdict,
             None => self.long.ask(label, self.auths),

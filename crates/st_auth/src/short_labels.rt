@@ -166,5 +166,5 @@ fn slot_at(slots: &[u16], hash: usize, step: usize) -> usize {
 
 // A hash of a label's text.
 fn hash_of(text: &ShortText) -> usize {
-    (text.mixed() >> 40) as usize
+    (text.mixed() >> 49) as usize
 }
