@@ -5,6 +5,7 @@ mod auths;
 mod long_labels;
 mod set_verdicts;
 mod short_labels;
+mod table;
 mod truth;
 mod verdicts;
 

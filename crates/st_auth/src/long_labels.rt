@@ -3,36 +3,47 @@ ghost use Rattle.std.specs.Prelude.{◌≡◌, List};
 ghost use Rattle.std.specs.Map.{lookup};
 ghost use Rattle.st_label.specs.Reading.{is_true};
 ghost use Rattle.st_text.specs.Texts.{Text, is_among};
-ghost use Rattle.st_auth.specs.inner.Remembered.{AreOf, AreHeld, has_text};
+ghost use Rattle.st_auth.specs.inner.Remembered.{AreOf, AreHeld, AreKnown, has_text, itself};
 ghost use Rattle.lru.specs.LruCache.{lru_cache, promoted};
 
 use crate::auths::Auths;
+use crate::table::{Kept, Table};
 use crate::truth::satisfies;
 use lru::{DefaultHasher, LruCache};
 use st_label::Label;
+use st_text::Words;
 use std::alloc::Allocator;
 use std::num::NonZeroUsize;
 
+// How many labels the table knows at most.
+const MOST: usize = 4_096;
+
+// The factor of a hash, whose highest bits depend on all bits that are multiplied.
+const FACTOR: u64 = 0x9e37_79b9_7f4a_7c15;
+
 type Cache<A> = LruCache<String<A>, bool, DefaultHasher, A>;
 
-/// A cache of the verdicts on labels. When it is full, it forgets the label that was asked for longest
-/// ago. It allocates with the first label.
+/// A cache of the verdicts on labels. The first 4,096 stand in a table. The others stand in a cache that forgets, when it is
+/// full, the label that was asked for longest ago. Both allocate with their first label.
 #[derive(Drop)]
 pub struct LongLabels<A: Allocator> {
     alloc: A,
     pub capacity: NonZeroUsize,
+    table: Table<Words<A>, A>,
     cache: Option<Cache<A>>,
 }
 
 impl<A: Allocator + Copy> LongLabels<A> {
-    /// An empty cache with room for `capacity` labels.
+    /// An empty cache with room for `capacity` labels that the table has no place for.
     pub fn new(alloc: A, capacity: NonZeroUsize) -> LongLabels<A>
         ensures capacity { result.capacity ≡ capacity }
+        ensures known { (names : List Text) → AreKnown itself names result.table.known.items }
         ensures held { (names : List Text) → AreHeld names result.cache }
     {
         LongLabels {
             alloc,
             capacity,
+            table: Table::new(alloc, MOST),
             cache: None,
         }
     }
@@ -40,16 +51,41 @@ impl<A: Allocator + Copy> LongLabels<A> {
     /// Forgets all labels.
     pub fn forget(&mut self)
         ensures capacity { self.new.capacity ≡ self.old.capacity }
+        ensures known { (names : List Text) → AreKnown itself names self.new.table.known.items }
         ensures held { (names : List Text) → AreHeld names self.new.cache }
     {
+        self.table.forget();
         self.cache = None;
     }
 
     /// Whether the label is true for the set. When out of memory it remembers nothing.
     pub fn ask<B: Allocator, C: Allocator>(&mut self, label: &Label<B>, auths: &Auths<C>) -> bool
+        requires known { AreKnown itself auths.now self.old.table.known.items }
+        requires held { AreHeld auths.now self.old.cache }
+        ensures value { result ≡ is_true (is_among auths.now) label.now }
+        ensures known { AreKnown itself auths.now self.new.table.known.items }
+        ensures held { AreHeld auths.now self.new.cache }
+        ensures capacity { self.new.capacity ≡ self.old.capacity }
+    {
+        if let Some(verdict) = self.table.verdict(hash_of(label.text()), label) {
+            return verdict;
+        }
+        if self.table.is_full() {
+            return self.ask_cache(label, auths);
+        }
+        let verdict = satisfies(label, auths);
+        if let Ok(text) = Words::new(self.alloc, label.text()) {
+            self.table.keep(text, verdict);
+        }
+        verdict
+    }
+
+    // Whether the label, for which the table has no place, is true for the set.
+    fn ask_cache<B: Allocator, C: Allocator>(&mut self, label: &Label<B>, auths: &Auths<C>) -> bool
         requires held { AreHeld auths.now self.old.cache }
         ensures value { result ≡ is_true (is_among auths.now) label.now }
         ensures held { AreHeld auths.now self.new.cache }
+        ensures table { self.new.table ≡ self.old.table }
         ensures capacity { self.new.capacity ≡ self.old.capacity }
     {
         let Some(mut cache) = cache_of(self.alloc, self.capacity, self.cache.take()) else {
@@ -58,6 +94,39 @@ impl<A: Allocator + Copy> LongLabels<A> {
         let verdict = ask_in(self.alloc, &mut cache, label, auths);
         self.cache = Some(cache);
         verdict
+    }
+}
+
+impl<A: Allocator> Kept for Words<A> {
+    ghost text = { λ t. t };
+
+    fn hash(&self) -> usize {
+        hash_of(self.as_str())
+    }
+
+    fn is<B: Allocator>(&self, label: &Label<B>) -> bool {
+        self.as_str() == label.text()
+    }
+}
+
+// A hash of a text, which depends on its length and all its bytes.
+fn hash_of(text: &str) -> usize {
+    let bytes = text.as_bytes();
+    let mut mixed = bytes.len() as u64;
+    for number in 0..bytes.len() / 8 {
+        mixed = (mixed.rotate_left(29) ^ word_at(bytes, number * 8)).wrapping_mul(FACTOR);
+    }
+    let last = word_at(bytes, bytes.len().saturating_sub(8));
+    ((mixed.rotate_left(29) ^ last).wrapping_mul(FACTOR) >> 49) as usize
+}
+
+// The eight bytes from a place on as one number, or 0 where there are fewer.
+fn word_at(bytes: &[u8], place: usize) -> u64 {
+    match bytes.get(place..) {
+        Some([a, b, c, d, e, f, g, h, ..]) => {
+            u64::from_le_bytes([*a, *b, *c, *d, *e, *f, *g, *h])
+        }
+        _ => 0,
     }
 }
 

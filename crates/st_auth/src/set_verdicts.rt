@@ -32,11 +32,12 @@ impl<'s, A: Allocator, B: Allocator> Model for SetVerdicts<'s, A, B> {
 
     ghost Value = { List (List ℕ) };
 
-    ghost use Rattle.st_auth.specs.inner.Remembered.{AreHeld, AreKnown};
+    ghost use Rattle.st_auth.specs.inner.Remembered.{AreHeld, AreKnown, itself};
 
     ghost view = { λ v. v.auths.now };
 
-    ghost invariant = { λ v. AreHeld v.auths.now v.long.cache × AreKnown v.auths.now v.short.known.items };
+    ghost invariant = { λ v. AreHeld v.auths.now v.long.cache × AreKnown itself v.auths.now v.short.table.known.items
+        × AreKnown itself v.auths.now v.long.table.known.items };
 }
 
 impl<'s, A: Allocator + Copy, B: Allocator> SetVerdicts<'s, A, B> {

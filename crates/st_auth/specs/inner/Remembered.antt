@@ -3,7 +3,7 @@ use Rattle.std.specs.Prelude.{◌≡◌, ℕ, List, Bool, Contains, String, stri
 use Rattle.std.specs.List.{All}
 use Rattle.st_label.specs.Reading.{is_true}
 use Rattle.st_text.specs.Texts.{Text, is_among}
-use Rattle.st_auth.specs.declared.short_labels.Known.{Known}
+use Rattle.st_auth.specs.declared.table.Known.{Known}
 use Rattle.lru.specs.LruCache.{LruCache}
 
 -- each verdict is whether the label is true for the set
@@ -20,6 +20,10 @@ abbrev pub AreHeld : {A : Type 0} → List Text → Option (LruCache (String A) 
 AreHeld names None = Unit {0}
 AreHeld names (Some cache) = AreOf names cache.entries
 
--- each known label's verdict is whether it is true for the set
-abbrev pub AreKnown : List Text → List Known → Type 0
-AreKnown names known = All (λ (k : Known). k.verdict ≡ is_true (is_among names) k.text) known
+-- each known label's verdict is whether it is true for the set, where `text` reads what is kept of it
+abbrev pub AreKnown : {T : Type 0} → (T → Text) → List Text → List (Known T) → Type 0
+AreKnown {T} text names known = All (λ (k : Known T). k.verdict ≡ is_true (is_among names) (text k.text)) known
+
+-- what is kept of a label is its text itself
+abbrev pub itself : Text → Text
+itself text = text

@@ -1,5 +1,5 @@
 use Rattle.std.proofs.Common.{rules}
-use Rattle.st_auth.specs.inner.Remembered.{AreHeld}
+use Rattle.st_auth.specs.inner.Remembered.{AreHeld, AreKnown, itself}
 use Rattle.st_auth.proofs.verdicts.Verdicts.ask.Goals as goal
 use Rattle.st_auth.proofs.verdicts.Verdicts.ask.Goals.{then-not-is_same+in-Ok, else-not-is_same}
 
@@ -9,7 +9,11 @@ invariant_of-self g c =
       | then-not-is_same+in-Ok w ↦ rw w.self-inside-is (w.forget-then-not-is_same.ensures.held w.in-Ok.copy)
       | else-not-is_same w ↦ rw w.self-inside-is c.self.invariant.0
     ] in
-    (held, c.in-Some.ensures.known)
+    let known : AreKnown itself c.if-not-is_same.self-inside.auths c.if-not-is_same.self-inside.long.table.known.items = elim c.if-not-is_same.branch [
+      | then-not-is_same+in-Ok w ↦ rw w.self-inside-is (w.forget-then-not-is_same.ensures.known w.in-Ok.copy)
+      | else-not-is_same w ↦ rw w.self-inside-is c.self.invariant.2
+    ] in
+    (held, c.in-Some.ensures.known, known)
 
 pub ask-requires-in-None : goal.ask-requires-in-None
 ask-requires-in-None g c =
@@ -17,7 +21,11 @@ ask-requires-in-None g c =
       | then-not-is_same+in-Ok w ↦ rw w.self-inside-is (w.forget-then-not-is_same.ensures.held w.in-Ok.copy)
       | else-not-is_same w ↦ rw w.self-inside-is c.self.invariant.0
     ] in
-    record { held = held }
+    let known : AreKnown itself c.if-not-is_same.self-inside.auths c.if-not-is_same.self-inside.long.table.known.items = elim c.if-not-is_same.branch [
+      | then-not-is_same+in-Ok w ↦ rw w.self-inside-is (w.forget-then-not-is_same.ensures.known w.in-Ok.copy)
+      | else-not-is_same w ↦ rw w.self-inside-is c.self.invariant.2
+    ] in
+    record { known = known; held = held }
 
 pub returns-in-Some-clause-value : goal.returns-in-Some-clause-value
 returns-in-Some-clause-value g c = search rules
