@@ -11,7 +11,7 @@ use Rattle.st_key.proofs.PeriodLemmas.{period}
 use Rattle.st_box.specs.declared.query.Query.{Query}
 use Rattle.st_box.specs.declared.zbox.ZBox.{ZBox}
 use Rattle.st_box.specs.inner.KeyTest.{IsPlaceIn, IsTimeIn}
-use Rattle.st_box.specs.Query.{HasKey, first_offset_of, last_offset_of}
+use Rattle.st_box.specs.Query.{HasKey, IsBoxIn, first_offset_of, last_offset_of}
 use Rattle.st_box.specs.inner.Edges.{IsFirstOffset, IsLastOffset}
 use Rattle.st_box.specs.ZBox.{IsInside}
 use Rattle.st_box.proofs.Spans.{box_in, bins_of_key, offsets_ordered, starts_in, starts_before, ends_in, ends_after}
@@ -39,7 +39,7 @@ between f l v first last n ef el ev first_fits last_fits fits = (
 
 -- ---- offsets of a bin
 
-starts_at : (w : Period) (t bin : ℕ) → t / seconds_of w ≤ bin → IsFirstOffset w bin t (first_offset_of w t bin)
+pub starts_at : (w : Period) (t bin : ℕ) → t / seconds_of w ≤ bin → IsFirstOffset w bin t (first_offset_of w t bin)
 starts_at w t bin from = at (nat_eq bin (t / seconds_of w)) refl
   where
     at : (b : Bool) → nat_eq bin (t / seconds_of w) ≡ b → IsFirstOffset w bin t (first_offset_of w t bin)
@@ -50,7 +50,7 @@ starts_at w t bin from = at (nat_eq bin (t / seconds_of w)) refl
         let other = eqb-false bin (t / seconds_of w) e in
         rw e (starts_before w bin t (elim (cases_lt (t / seconds_of w) bin) [ inl less ↦ less | inr more ↦ absurd (other (omega arith)) ]))
 
-ends_at : (w : Period) (t bin : ℕ) → bin ≤ t / seconds_of w → IsLastOffset w bin t (last_offset_of w t bin)
+pub ends_at : (w : Period) (t bin : ℕ) → bin ≤ t / seconds_of w → IsLastOffset w bin t (last_offset_of w t bin)
 ends_at w t bin to = at (nat_eq bin (t / seconds_of w)) refl
   where
     at : (b : Bool) → nat_eq bin (t / seconds_of w) ≡ b → IsLastOffset w bin t (last_offset_of w t bin)
@@ -78,7 +78,7 @@ last_below w t bin = at (nat_eq bin (t / seconds_of w)) refl
 -- ---- keys
 
 -- what the query is in a bin of its span
-abbrev cut : (q : Query) (w : Period) (bin : ℕ) → q.t0 / seconds_of w ≤ bin → bin ≤ q.t1 / seconds_of w → ZBox
+abbrev pub cut : (q : Query) (w : Period) (bin : ℕ) → q.t0 / seconds_of w ≤ bin → bin ≤ q.t1 / seconds_of w → ZBox
 cut q w bin from to = record {
   x_first = q.x0;
   x_last = q.x1;
@@ -94,31 +94,31 @@ cut q w bin from to = record {
   offset_in_range = omega (arith, last_below w q.t1 bin, (period w).levels);
 }
 
+pub cut_keys : (q : Query) (w : Period) (bin : ℕ) (from : q.t0 / seconds_of w ≤ bin) (to : bin ≤ q.t1 / seconds_of w) → IsBoxIn q w bin (cut q w bin from to)
+cut_keys q w bin from to = box_in q w bin (cut q w bin from to) (record {
+  x_first = refl;
+  x_last = refl;
+  y_first = refl;
+  y_last = refl;
+  starts = starts_at w q.t0 bin from;
+  ends = ends_at w q.t1 bin to;
+  offset_below = last_below w q.t1 bin;
+})
+
 pub keyed : (q : Query) (w : Period) (k : Key) → IsPlaceIn q k.address × IsTimeIn q w k.bin k.address ↔ HasKey q w k
 keyed q w k = (
   λ h.
       let place = h.0 in
       let time = h.1 in
-      (same time.from_first_bin time.to_last_bin).0 (record {
+      (cut_keys q w k.bin time.from_first_bin time.to_last_bin k refl).0 (record {
         is_address = k.address_in_range;
         from_first = record { x_within = place.x_from; y_within = place.y_from; offset_within = time.from_first };
         to_last = record { x_within = place.x_to; y_within = place.y_to; offset_within = time.to_last };
       }),
   λ there.
       let bins = bins_of_key q w k there in
-      let inside = (same bins.0 bins.1).1 there in (
+      let inside = (cut_keys q w k.bin bins.0 bins.1 k refl).1 there in (
         record { x_from = inside.from_first.x_within; x_to = inside.to_last.x_within; y_from = inside.from_first.y_within; y_to = inside.to_last.y_within },
         record { from_first_bin = bins.0; to_last_bin = bins.1; from_first = inside.from_first.offset_within; to_last = inside.to_last.offset_within },
       ),
 )
-  where
-    same : (from : q.t0 / seconds_of w ≤ k.bin) (to : k.bin ≤ q.t1 / seconds_of w) → IsInside (cut q w k.bin from to) k.address ↔ HasKey q w k
-    same from to = box_in q w k.bin (cut q w k.bin from to) (record {
-      x_first = refl;
-      x_last = refl;
-      y_first = refl;
-      y_last = refl;
-      starts = starts_at w q.t0 k.bin from;
-      ends = ends_at w q.t1 k.bin to;
-      offset_below = last_below w q.t1 k.bin;
-    }) k refl

@@ -91,5 +91,9 @@ lane_is a = and_lane a ∙ ap (spread 21) (sym (gather-lane a))
 pub spread_is : (c n : ℕ) → n < 2 ^ 21 → c ≡ spread 21 n → gather 21 c ≡ n
 spread_is c n fits e = ap (gather 21) e ∙ gather-spread 21 n fits
 
+-- a part that is moved apart is so when its bits are moved back
+pub apart : (c n : ℕ) → n < 2 ^ 21 → c ≡ spread 21 n → c ≡ spread 21 (gather 21 c)
+apart c n fits e = e ∙ ap (spread 21) (sym (spread_is c n fits e))
+
 pub same_spot : (x y o a b d : ℕ) → x ≡ a → y ≡ b → o ≡ d → spot x y o ≡ spot a b d
 same_spot x y o a b d ex ey eo = ap (λ v. spot v y o) ex ∙ ap (λ v. spot a v o) ey ∙ ap (λ v. spot a b v) eo

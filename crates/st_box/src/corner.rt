@@ -43,6 +43,16 @@ impl Corner {
         }
     }
 
+    // The place whose parts these are, each already moved apart.
+    pub(crate) fn of_parts(x: u64, y: u64, offset: u64) -> Corner
+        requires x_apart { x ≡ spread 21 (gather 21 x) }
+        requires y_apart { y ≡ spread 21 (gather 21 y) }
+        requires offset_apart { offset ≡ spread 21 (gather 21 offset) }
+        ensures { result ≡ record { x = gather 21 x; y = gather 21 y; offset = gather 21 offset } }
+    {
+        Corner { x, y, offset }
+    }
+
     /// The place of an address.
     pub fn at(address: u64) -> Corner
         ensures { result ≡ spot_at address }
@@ -52,6 +62,13 @@ impl Corner {
             y: address >> 1 & LANE,
             offset: address >> 2 & LANE,
         }
+    }
+
+    /// The address of the place.
+    pub fn address(&self) -> u64
+        ensures { result ≡ address_at self.now }
+    {
+        self.x | self.y << 1 | self.offset << 2
     }
 
     /// Whether no part is above that of the other.

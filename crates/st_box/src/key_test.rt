@@ -3,6 +3,7 @@ ghost use Rattle.std.specs.Prelude.{◌≡◌, ◌↔◌, ◌-◌, ◌/◌, ◌%
 ghost use Rattle.st_key.specs.Morton.{spread as spread_of};
 ghost use Rattle.st_key.specs.Period.{seconds_of};
 
+use crate::corner::Corner;
 use crate::query::Query;
 use st_key::{Key, Period, spread, spread_in};
 
@@ -62,6 +63,33 @@ impl KeyTest {
         ensures { IsTrue result ↔ HasKey self.now.query self.now.period key }
     {
         self.has_place(key.address()) && self.has_time(key.bin(), key.address())
+    }
+
+    /// The corners of the query's box in a bin of its span: those of `query.box_in(bin, period)`.
+    pub fn corners_in(&self, bin: u32) -> (Corner, Corner)
+        ensures first { result.0 ≡ record { x = self.now.query.x0; y = self.now.query.y0;
+            offset = first_offset_of self.now.period self.now.query.t0 bin } }
+        ensures last { result.1 ≡ record { x = self.now.query.x1; y = self.now.query.y1;
+            offset = last_offset_of self.now.period self.now.query.t1 bin } }
+    {
+        (
+            Corner::of_parts(self.x_first, self.y_first, self.first_in(bin)),
+            Corner::of_parts(self.x_last, self.y_last, self.last_in(bin)),
+        )
+    }
+
+    /// The first bin of the query's span.
+    pub fn first_bin(&self) -> u32
+        ensures { result ≡ self.now.query.t0 / seconds_of self.now.period }
+    {
+        self.first_bin
+    }
+
+    /// The last bin of the query's span.
+    pub fn last_bin(&self) -> u32
+        ensures { result ≡ self.now.query.t1 / seconds_of self.now.period }
+    {
+        self.last_bin
     }
 
     // Whether the place of an address is in the query's box.
