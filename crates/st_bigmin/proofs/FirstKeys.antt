@@ -31,14 +31,14 @@ first_of_next q w bin from k f after none = record {
   ];
 }
 
-pub itself : (q : Query) (w : Period) (b : ZBox) (from : Key) → IsBoxIn q w from.bin b → IsInside b from.address → IsFirstFrom q w from from
-itself q w b from box inside = record {
+pub itself : (q : Query) (w : Period) (from : Key) → HasKey q w from → IsFirstFrom q w from from
+itself q w from inside = record {
   from_there = inr (refl, omega arith);
-  inside = (box from refl).0 inside;
+  inside = inside;
   first = λ l has later. later;
 }
 
-pub next_in_bin : (q : Query) (w : Period) (b : ZBox) (from k : Key) → IsBoxIn q w from.bin b → ¬ IsInside b from.address → k.bin ≡ from.bin
+pub next_in_bin : (q : Query) (w : Period) (b : ZBox) (from k : Key) → IsBoxIn q w from.bin b → ¬ HasKey q w from → k.bin ≡ from.bin
     → IsLeastAbove b from.address k.address → IsFirstFrom q w from k
 next_in_bin q w b from k box out here next = record {
   from_there = inr (sym here, omega (arith, next.above));
@@ -51,13 +51,13 @@ next_in_bin q w b from k box out here next = record {
           | inl above ↦ inr (here ∙ at.0, next.least l.address in_box above)
           | inr not_above ↦
               let same : l.address ≡ from.address = omega (arith, at.1) in
-              absurd (out (subst (IsInside b) same in_box))
+              absurd (out ((box from refl).0 (subst (IsInside b) same in_box)))
         ]
   ];
 }
 
 -- where the bin has no later key
-pub past_bin : (q : Query) (w : Period) (b : ZBox) (from : Key) → IsBoxIn q w from.bin b → ¬ IsInside b from.address
+pub past_bin : (q : Query) (w : Period) (b : ZBox) (from : Key) → IsBoxIn q w from.bin b → ¬ HasKey q w from
     → ((a : ℕ) → IsInside b a → a ≤ from.address) → (l : Key) → HasKey q w l → IsBefore l from ⊎ (from.bin < l.bin)
 past_bin q w b from box out none l has =
     elim (cases_lt from.bin l.bin) [
@@ -71,7 +71,7 @@ past_bin q w b from box out none l has =
               | inl below ↦ inl (inr (here, below))
               | inr not_below ↦
                   let same : l.address ≡ from.address = omega (arith, none l.address in_box) in
-                  absurd (out (subst (IsInside b) same in_box))
+                  absurd (out ((box from refl).0 (subst (IsInside b) same in_box)))
             ]
       ]
     ]

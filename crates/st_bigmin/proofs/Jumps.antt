@@ -1,5 +1,5 @@
 -- One level of a jump: what the cell beside z at this level holds of the box.
-use Rattle.std.proofs.Common.{◌≡◌, ℕ, suc, ◌+◌, ◌-◌, ◌*◌, ◌/◌, ◌%◌, ◌^◌, ◌<◌, ◌≤◌, min, inl, inr, sym, ap, ◌∙◌, subst, arith}
+use Rattle.std.proofs.Common.{◌≡◌, ℕ, Option, Some, None, IfSome, IfNone, suc, ◌+◌, ◌-◌, ◌*◌, ◌/◌, ◌%◌, ◌^◌, ◌<◌, ◌≤◌, min, inl, inr, sym, ap, ◌∙◌, subst, arith}
 use Rattle.std.proofs.Math.Pow.{pow_mono}
 use Rattle.std.proofs.lemmas.Bool.{cases_lt}
 use Rattle.std.proofs.Math.Nat.{pow-suc, div-mul-le_self, div-eq_of_lt}
@@ -143,6 +143,16 @@ none_below b z k none past fits a inside =
     ]
 
 -- ---- what the code knows
+
+pub some_of : (b : ZBox) (z : ℕ) (s t : Spot) (r : Option ℕ) → first_of b ≡ s → last_of b ≡ t
+    → IfSome r (λ m. (d : ZBox) → first_of d ≡ s → last_of d ≡ t → IsLeastAbove d z m) → IfSome r (IsLeastAbove b z)
+some_of b z s t (Some m) first_is last_is h = h b first_is last_is
+some_of b z s t None first_is last_is h = tt
+
+pub none_of : (b : ZBox) (z : ℕ) (s t : Spot) (r : Option ℕ) → first_of b ≡ s → last_of b ≡ t
+    → IfNone r ((d : ZBox) → first_of d ≡ s → last_of d ≡ t → (a : ℕ) → IsInside d a → a ≤ z) → IfNone r ((a : ℕ) → IsInside b a → a ≤ z)
+none_of b z s t (Some m) first_is last_is h = tt
+none_of b z s t None first_is last_is h = h b first_is last_is
 
 pub meets_from : (b : ZBox) (k p : ℕ) (s t u v : Spot) → s ≡ spot_at (cell_first k p) → t ≡ last_of b → u ≡ first_of b → v ≡ spot_at (cell_last k p)
     → IsWithin s t → IsWithin u v → Meets b k p

@@ -3,7 +3,8 @@ ghost use Rattle.std.specs.Prelude.{◌≡◌, ℕ, ◌^◌, ◌<◌, ◌≤◌,
 ghost use Rattle.st_box.specs.Corner.{spot_at};
 ghost use Rattle.st_bigmin.specs.Jump.{IsLeastAbove, IsGreatestBelow};
 ghost use Rattle.st_bigmin.specs.inner.Cells.{IsBetween};
-ghost use Rattle.st_box.specs.ZBox.{IsInside};
+ghost use Rattle.st_box.specs.ZBox.{IsInside, first_of, last_of};
+ghost use Rattle.st_box.specs.declared.zbox.ZBox.{ZBox};
 
 use st_box::{Corner, ZBox};
 
@@ -32,6 +33,25 @@ fn first_level(z: u64, first: &Corner, last: &Corner) -> u32
     63u32.saturating_sub((z ^ nearest).leading_zeros())
 }
 
+// The least address that is greater than `z`, of the box with these corners.
+pub(crate) fn next_between(z: u64, first: &Corner, last: &Corner) -> Option<u64>
+    requires { z < 2 ^ 63 }
+    ensures some { IfSome result (λ m. (b : ZBox) → first_of b ≡ first.now → last_of b ≡ last.now → IsLeastAbove b z m) }
+    ensures none { IfNone result ((b : ZBox) → first_of b ≡ first.now → last_of b ≡ last.now
+        → (a : ℕ) → IsInside b a → a ≤ z) }
+{
+    for level in first_level(z, first, last)..63 {
+        let prefix = z >> level;
+        if prefix % 2 == 0 {
+            let (cell_first, cell_last) = cell(prefix + 1, level);
+            if cell_first.is_within(last) && first.is_within(&cell_last) {
+                return Some(first.later_address(&cell_first));
+            }
+        }
+    }
+    None
+}
+
 /// The least address of the box that is greater than `z`.
 pub fn bigmin(z: u64, zbox: &ZBox) -> Option<u64>
     ensures some { IfSome result (IsLeastAbove zbox.now z) }
@@ -40,18 +60,7 @@ pub fn bigmin(z: u64, zbox: &ZBox) -> Option<u64>
     if z >= 1 << 63 {
         return None;
     }
-    let first = zbox.first();
-    let last = zbox.last();
-    for level in first_level(z, &first, &last)..63 {
-        let prefix = z >> level;
-        if prefix % 2 == 0 {
-            let (cell_first, cell_last) = cell(prefix + 1, level);
-            if cell_first.is_within(&last) && first.is_within(&cell_last) {
-                return Some(first.later_address(&cell_first));
-            }
-        }
-    }
-    None
+    next_between(z, &zbox.first(), &zbox.last())
 }
 
 /// The greatest address of the box that is less than `z`.

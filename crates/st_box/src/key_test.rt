@@ -67,10 +67,16 @@ impl KeyTest {
 
     /// The corners of the query's box in a bin of its span: those of `query.box_in(bin, period)`.
     pub fn corners_in(&self, bin: u32) -> (Corner, Corner)
-        ensures first { result.0 ≡ record { x = self.now.query.x0; y = self.now.query.y0;
-            offset = first_offset_of self.now.period self.now.query.t0 bin } }
-        ensures last { result.1 ≡ record { x = self.now.query.x1; y = self.now.query.y1;
-            offset = last_offset_of self.now.period self.now.query.t1 bin } }
+        ensures first { result.0 ≡ record {
+          x = self.now.query.x0;
+          y = self.now.query.y0;
+          offset = first_offset_of self.now.period self.now.query.t0 bin;
+        } }
+        ensures last { result.1 ≡ record {
+          x = self.now.query.x1;
+          y = self.now.query.y1;
+          offset = last_offset_of self.now.period self.now.query.t1 bin;
+        } }
     {
         (
             Corner::of_parts(self.x_first, self.y_first, self.first_in(bin)),
