@@ -6,7 +6,7 @@ ghost use Rattle.st_scan.specs.Visible.{visible_rows};
 use crate::sight::Sight;
 use crate::step::{FEW, open_next};
 use st_auth::Auths;
-use st_box::Query;
+use st_box::{KeyTest, Query};
 use st_index::{Judge, RowIndex, counting};
 use st_key::Key;
 use std::alloc::Allocator;
@@ -24,19 +24,19 @@ fn count_few<I: RowIndex, J: Judge<I::Alloc>>(
     ensures count { IfSome result (λ count. count ≡ count_of query.now (J.judges judge.old) (I.content index.now)) }
     ensures same { J.judges judge.new ≡ J.judges judge.old }
 {
-    let period = index.period();
+    let test = KeyTest::new(query, index.period());
     let mut from = Some(Key::FIRST);
     let mut opened = 0;
     let mut count = 0;
     'regions: while let Some(key) = from {
-        let Some((entries, next)) = open_next(index, query, period, key) else {
+        let Some((entries, next)) = open_next(index, &test, key) else {
             return Some(count);
         };
         if opened >= FEW || count > FEW_ROWS {
             return None;
         }
         opened += 1;
-        count += counting::count(entries, query, judge);
+        count += counting::count(entries, &test.query, judge);
         from = next;
     }
     Some(count)

@@ -10,7 +10,7 @@ use crate::fault::ScanFault;
 use crate::sight::Sight;
 use crate::step::{FEW, open_next};
 use st_auth::Auths;
-use st_box::Query;
+use st_box::{KeyTest, Query};
 use st_index::{Fields, Judge, RowIndex, field_counting};
 use st_key::{Key, Point};
 use std::alloc::Allocator;
@@ -104,12 +104,11 @@ fn count_few<I: RowIndex, J: Judge<I::Alloc>, F: Fields>(
         counts.old counts.new }
     ensures same { J.judges judge.new ≡ J.judges judge.old }
 {
-    let query = fields.query();
-    let period = index.period();
+    let test = KeyTest::new(fields.query(), index.period());
     let mut from = Some(Key::FIRST);
     let mut opened = 0;
     'regions: while let Some(key) = from {
-        let Some((entries, next)) = open_next(index, query, period, key) else {
+        let Some((entries, next)) = open_next(index, &test, key) else {
             return true;
         };
         if opened >= FEW {

@@ -16,10 +16,10 @@ use crate::exact::is_exact;
 use crate::own_plan::OwnPlan;
 use crate::part_ranges::PartRanges;
 use crate::position::Position;
-use st_bigmin::first_from;
-use st_box::{KeyTest, Query};
+use st_bigmin::first_by;
+use st_box::KeyTest;
 use st_index::{Entry, RowIndex, RowsView, order};
-use st_key::{Key, Period};
+use st_key::Key;
 use std::alloc::Allocator;
 
 // In how many regions rows are counted one by one.
@@ -102,43 +102,41 @@ fn entries_from<A: Allocator + Copy>(entries: &[Entry<A>], first: Key, from: Key
 // The entries of the first region from a key on that meets the query, and the first key after it.
 pub(crate) fn open_next<'a, I: RowIndex>(
     index: &'a I,
-    query: &Query,
-    period: Period,
+    test: &KeyTest,
     from: Key,
 ) -> Option<(&'a [Entry<I::Alloc>], Option<Key>)>
-    requires { period ≡ I.period_of index.now }
-    ensures some { IfSome result (λ opened. Opens period query.now (I.content index.now) (I.regions index.now) (rank from) opened.0.now
-        (rank_or_end period opened.1)) }
-    ensures none { IfNone result ((k : Key) → HasKey query.now period k → rank k < rank from) }
+    requires { test.now.period ≡ I.period_of index.now }
+    ensures some { IfSome result (λ opened. Opens test.now.period test.now.query (I.content index.now) (I.regions index.now) (rank from)
+        opened.0.now (rank_or_end test.now.period opened.1)) }
+    ensures none { IfNone result ((k : Key) → HasKey test.now.query test.now.period k → rank k < rank from) }
 {
-    let Some(key) = first_from(query, from, period) else {
+    let Some(key) = first_by(test, from) else {
         return None;
     };
     let leaf = index.leaf_at(key);
     let entries = entries_from(leaf.entries, leaf.first, key);
-    Some((entries, leaf.last.after(period)))
+    Some((entries, leaf.last.after(test.period)))
 }
 
 // The position in the next region that meets the query.
 pub(crate) fn enter_region<'a, I: RowIndex>(
     index: &'a I,
-    query: &Query,
-    period: Period,
+    test: &KeyTest,
     at: Position<'a, I::Alloc>,
 ) -> Option<Position<'a, I::Alloc>>
-    requires period { period ≡ I.period_of index.now }
-    requires at { IsPosition period query.now (I.regions index.now) at }
+    requires period { test.now.period ≡ I.period_of index.now }
+    requires at { IsPosition test.now.period test.now.query (I.regions index.now) at }
     requires rows { viewed at.rows ≡ [] }
-    requires entries { filter (has_row query.now) (rows_of at.entries.now) ≡ [] }
+    requires entries { filter (has_row test.now.query) (rows_of at.entries.now) ≡ [] }
     requires few { length (I.regions index.now) < 2 ^ 64 }
-    requires follow { Follow 0 (key_end period) (I.regions index.now) }
-    ensures some { IfSome result (Steps period query.now (I.content index.now) (I.regions index.now) at.entry) }
-    ensures none { IfNone result (IsOver period query.now (I.content index.now) (I.regions index.now) at.entry) }
+    requires follow { Follow 0 (key_end test.now.period) (I.regions index.now) }
+    ensures some { IfSome result (Steps test.now.period test.now.query (I.content index.now) (I.regions index.now) at.entry) }
+    ensures none { IfNone result (IsOver test.now.period test.now.query (I.content index.now) (I.regions index.now) at.entry) }
 {
     let Some(from) = at.next else {
         return None;
     };
-    let Some((entries, next)) = open_next(index, query, period, from) else {
+    let Some((entries, next)) = open_next(index, test, from) else {
         return None;
     };
     Some(Position {
@@ -175,7 +173,7 @@ pub(crate) fn forward<'a, I: RowIndex>(
             at.entries = entries;
             return;
         }
-        let Some(next) = enter_region(index, &test.query, test.period, *at) else {
+        let Some(next) = enter_region(index, test, *at) else {
             return;
         };
         *at = next;

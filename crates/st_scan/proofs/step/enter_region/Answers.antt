@@ -9,29 +9,29 @@ use Rattle.st_scan.proofs.step.enter_region.Goals as goal
 
 pub returns-in_default-clause-none : goal.returns-in_default-clause-none
 returns-in_default-clause-none g c =
-    let w = c.args.period in
-    let q = c.args.query.now in
+    let w = c.args.test.now.period in
+    let q = c.args.test.now.query in
     let none : (k : Key) → HasKey q w k → rank k < rank_or_end w c.args.at.next = λ k has. subst (λ n. rank k < rank_or_end w n) (sym c.in_default.is) (has_below q w k has) in
     over w q (g.I.RowIndex.content c.args.index.now) (g.I.RowIndex.regions c.args.index.now) c.args.at c.requires.at c.requires.rows c.requires.entries none
 
 pub returns-in_default-open_next-clause-none : goal.returns-in_default-open_next-clause-none
 returns-in_default-open_next-clause-none g c =
-    let w = c.args.period in
-    let q = c.args.query.now in
+    let w = c.args.test.now.period in
+    let q = c.args.test.now.query in
     let none : (k : Key) → HasKey q w k → rank k < rank_or_end w c.args.at.next =
     λ k has. subst (λ n. rank k < rank_or_end w n) (sym c.in-Some.is) (c.in_default-open_next.ensures.none k has) in
     over w q (g.I.RowIndex.content c.args.index.now) (g.I.RowIndex.regions c.args.index.now) c.args.at c.requires.at c.requires.rows c.requires.entries none
 
 pub overflow_add-result : goal.overflow_add-result
 overflow_add-result g c =
-    let fits = step_fits c.args.period c.args.query.now (g.I.RowIndex.content c.args.index.now) (g.I.RowIndex.regions c.args.index.now) c.args.at c.in-Some.from c.in-Some-open_next.entries.now _ c.in-Some.is
+    let fits = step_fits c.args.test.now.period c.args.test.now.query (g.I.RowIndex.content c.args.index.now) (g.I.RowIndex.regions c.args.index.now) c.args.at c.in-Some.from c.in-Some-open_next.entries.now _ c.in-Some.is
     c.in-Some-open_next.ensures.some c.requires.follow c.requires.at c.requires.rows c.requires.few in
     omega (arith, fits)
 
 pub returns-clause-some : goal.returns-clause-some
 returns-clause-some g c =
-    let w = c.args.period in
-    let q = c.args.query.now in
+    let w = c.args.test.now.period in
+    let q = c.args.test.now.query in
     let content = g.I.RowIndex.content c.args.index.now in
     let regions = g.I.RowIndex.regions c.args.index.now in
     let p = c.args.at in

@@ -10,7 +10,7 @@ returns-in_default-clause-none g c k has = rank_before k c.args.from (c.in_defau
 
 pub returns-clause-some : goal.returns-clause-some
 returns-clause-some g c =
-    let w = c.args.period in
+    let w = c.args.test.now.period in
     let content = g.I.RowIndex.content c.args.index.now in
     let key = c.in-Some.key in
     let ff = c.in-Some.ensures.some in
