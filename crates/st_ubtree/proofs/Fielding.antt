@@ -44,7 +44,7 @@ module _ {A : Type 0} (q : Query) (field_of : Point → ℕ) (rows : List (Row A
 
 -- what was counted of an entry of one row by its mark
 pub marked_counts : {A : Type 0} (q : Query) (judges : Text → Bool) (field_of : Point → ℕ) (labels : List Text) (e : EntryValue A) (number : ℕ) (point : Point) (old new : List ℕ)
-    → IsMark labels e number point → number < 16
+    → IsMark labels e number point → number < 512
     → ((at : ℕ) → get_or new at 0 ≡ get_or old at 0 + cond (is_inside q point && verdict_on judges labels number && nat_eq (field_of point) at) 1 0)
     → Counts q judges field_of e.rows old new
 marked_counts {A = A} q judges field_of labels e number point old new mark low added =
@@ -61,13 +61,13 @@ marked_counts {A = A} q judges field_of labels e number point old new mark low a
 
 -- as many can be added
 pub marked_fits : {A : Type 0} (labels : List Text) (e : EntryValue A) (number : ℕ) (point : Point) (counts : List ℕ)
-    → IsMark labels e number point → number < 255 → CanAdd (length e.rows) counts → CanAdd 1 counts
+    → IsMark labels e number point → number < 65535 → CanAdd (length e.rows) counts → CanAdd 1 counts
 marked_fits {A = A} labels e number point counts mark few can =
     let is = mark few in subst (λ (rows : List (Row A)). CanAdd (length rows) counts) is.1 can
 
 -- and where its point is outside
 pub outside_counts : {A : Type 0} (q : Query) (judges : Text → Bool) (field_of : Point → ℕ) (labels : List Text) (e : EntryValue A) (number : ℕ) (point : Point) (counts : List ℕ)
-    → IsMark labels e number point → number < 255 → is_inside q point ≡ false → Counts q judges field_of e.rows counts counts
+    → IsMark labels e number point → number < 65535 → is_inside q point ≡ false → Counts q judges field_of e.rows counts counts
 outside_counts q judges field_of labels e number point counts mark few outside =
     let is = mark few in
     subst (λ rows. Counts q judges field_of rows counts counts) (sym is.1)

@@ -111,3 +111,9 @@ closes_copied old new at count here fits same copied below = λ i x l h.
           let place : at + 1 + (i - at) ≡ i + 1 = omega (arith, over) in
           (omega (arith, l, fits), h.1 ∙ copied i x over (omega (arith, over, l, here)) ∙ ap (λ j. get_or old j x) place),
     )
+
+-- what is put in its own place changes nothing
+pub set_again : {X : Type 0} (xs : List X) (i : ℕ) (x y : X) → x ≡ get_or xs i x → y ≡ x → i < length xs → set xs i y ≡ xs
+set_again [] i x y read same l = refl
+set_again (z ∷ zs) zero x y read same l = ap (λ w. w ∷ zs) (same ∙ read)
+set_again (z ∷ zs) (suc i) x y read same l = ap (λ ws. z ∷ ws) (set_again zs i x y read same (omega (arith, l)))

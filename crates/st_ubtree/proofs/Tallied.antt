@@ -1,5 +1,5 @@
 -- Rows tallied by the numbers of their labels, and the verdicts on these.
-use Rattle.std.proofs.Common.{◌≡◌, ℕ, ◌+◌, ◌<◌, ◌≤◌, List, [], ◌∷◌, Bool, true, false, ◌&&◌, cond, length, get_or, replicate, take, suc, zero, refl, sym, ap, subst, ◌∙◌, arith, Bor, Option}
+use Rattle.std.proofs.Common.{◌≡◌, ℕ, ◌+◌, ◌<◌, ◌≤◌, List, [], ◌∷◌, Bool, true, false, ◌&&◌, cond, length, min, get_or, replicate, take, suc, zero, refl, sym, ap, subst, ◌∙◌, arith, Bor, Option}
 use Rattle.std.proofs.Math.ListN.{set}
 use Rattle.std.proofs.lemmas.List.{get_or-map}
 use Rattle.std.proofs.lemmas.List.Concat.{length-flat_map}
@@ -97,19 +97,33 @@ module _ (judges : Text → Bool) where
   tallied_within (l ∷ ls) [] (suc n) = omega arith
   tallied_within (l ∷ ls) (m ∷ ms) (suc n) = let h = tallied_within ls ms n in omega (arith, h)
 
-  none_tallied : (ls : List Text) → tallied judges ls (replicate 16 0) ≡ 0
-  none_tallied ls = let h = tallied_below ls (replicate 16 0) in omega (arith, h)
+  -- what is tallied by numbers of which there is no label is not found
+  pub tallied_all : (ls : List Text) (ns : List ℕ) (n : ℕ) → min (length ls) (length ns) ≤ n → tallied judges ls (take n ns) ≡ tallied judges ls ns
+  unfolding tallied
+  tallied_all [] ns n all = refl
+  tallied_all (l ∷ ls) [] zero all = refl
+  tallied_all (l ∷ ls) [] (suc n) all = refl
+  tallied_all (l ∷ ls) (m ∷ ms) zero all = absurd (omega (arith, all))
+  tallied_all (l ∷ ls) (m ∷ ms) (suc n) all = let h = tallied_all ls ms n (omega (arith, all)) in omega (arith, h)
 
   -- what was found besides the tally and what is found by it
-  pub whole : (after : Text → Bool) (ls : List Text) (rest count : ℕ) (new : List ℕ) → after ≡ judges → MakeUp judges ls rest count (replicate 16 0) new
+  pub whole : (after : Text → Bool) (ls : List Text) (rest count : ℕ) (old new : List ℕ) → sum old ≡ 0 → after ≡ judges → MakeUp judges ls rest count old new
       → rest + tallied after ls new ≡ count
-  whole after ls rest count new same made =
-      let none = none_tallied ls in
+  whole after ls rest count old new none same made =
+      let below = tallied_below ls old in
       let is = ap (λ j. tallied j ls new) same in
-      omega (arith, none, is, made)
+      omega (arith, none, below, is, made)
 
-pub fits_none : (n m : ℕ) → n < m → sum (replicate 16 0) + n < m
-fits_none n m less = omega (arith, less)
+-- no verdict is known at first
+pub none_read : (absent : Option Bool) (n i : ℕ) → get_or (replicate n absent) i absent ≡ absent
+none_read absent zero i = refl
+none_read absent (suc n) zero = refl
+none_read absent (suc n) (suc i) = none_read absent n i
+
+-- nothing is tallied at first
+pub no_sum : (n : ℕ) → sum (replicate n 0) ≡ 0
+no_sum zero = refl
+no_sum (suc n) = let is = sum_more 0 (replicate n 0) in let h = no_sum n in omega (arith, is, h)
 
 one_of_both : (a b : Bool) → cond b (cond {A = ℕ} a 1 0) 0 ≡ cond {A = ℕ} (a && b) 1 0
 one_of_both true true = refl
@@ -124,11 +138,11 @@ module _ {A : Type 0} (labels : List Text) where
   mark_at es p i e number point are h n m number_is point_is = are i e h number point (read_at p.numbers i 0 number n number_is) (m, point_is)
 
   -- its entry has one row
-  pub one_in : (e : EntryValue A) (number : ℕ) (point : Point) → IsMark labels e number point → number < 255 → length e.rows ≡ 1
+  pub one_in : (e : EntryValue A) (number : ℕ) (point : Point) → IsMark labels e number point → number < 65535 → length e.rows ≡ 1
   one_in e number point is few = ap length (is few).1
 
 module _ {A : Type 0} (q : Query) (labels : List Text) (e : EntryValue A) (number : ℕ) (point : Point) (is : IsMark labels e number point) where
-  counted_at : (judges : Text → Bool) → number < 16 → count_of q judges e.rows ≡ cond (is_inside q point && verdict_on judges labels number) 1 0
+  counted_at : (judges : Text → Bool) → number < 512 → count_of q judges e.rows ≡ cond (is_inside q point && verdict_on judges labels number) 1 0
   counted_at judges low =
       let one = is (omega (arith, low)) in
       ap (count_of q judges) one.1
@@ -137,7 +151,7 @@ module _ {A : Type 0} (q : Query) (labels : List Text) (e : EntryValue A) (numbe
       ∙ ap {B = ℕ} (λ b. cond (is_inside q point && b) 1 0) (sym (verdict_here judges labels number one.0.label (one.3 low)))
 
   -- the row of an entry is tallied by its mark
-  pub tallied_at : (judges : Text → Bool) (tally : List ℕ) (more : ℕ) → number < 16 → number < length tally → more ≡ cond (is_inside q point) 1 0
+  pub tallied_at : (judges : Text → Bool) (tally : List ℕ) (more : ℕ) → number < 512 → number < length tally → more ≡ cond (is_inside q point) 1 0
       → MakeUp judges labels 0 (count_of q judges e.rows) tally (set tally number (get_or tally number 0 + more))
   tallied_at judges tally more low fits one =
       let counted = counted_at judges low in
@@ -147,7 +161,7 @@ module _ {A : Type 0} (q : Query) (labels : List Text) (e : EntryValue A) (numbe
       omega (arith, counted, added, here)
 
   -- and where its point is outside
-  pub outside_at : (judges : Text → Bool) → number < 255 → is_inside q point ≡ false → count_of q judges e.rows ≡ 0
+  pub outside_at : (judges : Text → Bool) → number < 65535 → is_inside q point ≡ false → count_of q judges e.rows ≡ 0
   outside_at judges few outside =
       let one = is few in
       ap (count_of q judges) one.1
@@ -155,7 +169,7 @@ module _ {A : Type 0} (q : Query) (labels : List Text) (e : EntryValue A) (numbe
       ∙ ap {B = ℕ} (λ b. cond (b && judges one.0.label) 1 0) (ap (is_inside q) one.2 ∙ outside)
 
   -- and where all its rows are inside
-  pub point_inside : number < 255 → AreInside q e.rows → is_inside q point ≡ true
+  pub point_inside : number < 65535 → AreInside q e.rows → is_inside q point ≡ true
   point_inside few inside =
       let one = is few in
       let P = λ (r : Row A). is_inside q r.point ≡ true in

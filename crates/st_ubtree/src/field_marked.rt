@@ -22,7 +22,7 @@ fn count_numbered<A: Allocator + Copy, J: Judge<A>, F: Fields>(
     fields: &F,
     counts: &mut [u64],
 )
-    requires low { number < 16 }
+    requires low { number < 512 }
     requires long { length counts.old ≡ F.count fields.now }
     requires fits { CanAdd 1 counts.old }
     requires known { AreKnown (J.judges judge.old) verdicts.old.marks.now.labels.items verdicts.old.found }

@@ -7,7 +7,6 @@ ghost use Rattle.st_index.specs.Rows.{EntryValue, rows_of};
 ghost use Rattle.st_ubtree.specs.inner.Marks.{AreMarks, HasAt, MakeUp};
 ghost use Rattle.st_ubtree.specs.inner.Sums.{AreInside};
 
-use crate::numbering::MAX_NUMBERS;
 use crate::page_marks::{MANY, PageMarks};
 use st_box::Query;
 use st_index::{Entry, Judge, counting};
@@ -50,11 +49,12 @@ fn tally_at<A: Allocator + Copy, J: Judge<A>>(
     marks: &PageMarks,
     query: &Query,
     judge: &mut J,
-    tally: &mut [u64; MAX_NUMBERS],
+    tally: &mut [u64],
 ) -> u64
     requires within { at < length entries.now }
     requires not_more { length entries.now ≤ 32 }
     requires marked { (labels : List Text) × AreMarks labels entries.now marks.now }
+    requires few { length tally.old ≤ 512 }
     requires fits { (e : EntryValue A) → HasAt entries.now at e → sum tally.old + length e.rows < 2 ^ 64 }
     ensures count { (labels : List Text) (e : EntryValue A) → AreMarks labels entries.now marks.now → HasAt entries.now at e
         → MakeUp (J.judges judge.old) labels result (count_of query.now (J.judges judge.old) e.rows) tally.old tally.new }
@@ -64,7 +64,7 @@ fn tally_at<A: Allocator + Copy, J: Judge<A>>(
     let number = marks.numbers[at];
     let inside = is_in(query, &marks.points[at]);
     let index = usize::from(number);
-    if index < MAX_NUMBERS {
+    if index < tally.len() {
         tally[index] += u64::from(inside);
         return 0;
     }
@@ -81,12 +81,13 @@ fn tally_inside_at<A: Allocator + Copy, J: Judge<A>>(
     marks: &PageMarks,
     query: &Query,
     judge: &mut J,
-    tally: &mut [u64; MAX_NUMBERS],
+    tally: &mut [u64],
 ) -> u64
     requires within { at < length entries.now }
     requires not_more { length entries.now ≤ 32 }
     requires inside { AreInside query.now (rows_of entries.now) }
     requires marked { (labels : List Text) × AreMarks labels entries.now marks.now }
+    requires few { length tally.old ≤ 512 }
     requires fits { (e : EntryValue A) → HasAt entries.now at e → sum tally.old + length e.rows < 2 ^ 64 }
     ensures count { (labels : List Text) (e : EntryValue A) → AreMarks labels entries.now marks.now → HasAt entries.now at e
         → MakeUp (J.judges judge.old) labels result (count_of query.now (J.judges judge.old) e.rows) tally.old tally.new }
@@ -94,7 +95,7 @@ fn tally_inside_at<A: Allocator + Copy, J: Judge<A>>(
     ensures same { J.judges judge.new ≡ J.judges judge.old }
 {
     let index = usize::from(marks.numbers[at]);
-    if index < MAX_NUMBERS {
+    if index < tally.len() {
         tally[index] += 1;
         return 0;
     }
@@ -108,10 +109,11 @@ pub fn count_marked<A: Allocator + Copy, J: Judge<A>>(
     marks: &PageMarks,
     query: &Query,
     judge: &mut J,
-    tally: &mut [u64; MAX_NUMBERS],
+    tally: &mut [u64],
 ) -> u64
     requires not_more { length entries.now ≤ 32 }
     requires marked { (labels : List Text) × AreMarks labels entries.now marks.now }
+    requires few { length tally.old ≤ 512 }
     requires fits { sum tally.old + length (rows_of entries.now) < 2 ^ 64 }
     ensures count { (labels : List Text) → AreMarks labels entries.now marks.now
         → MakeUp (J.judges judge.old) labels result (count_of query.now (J.judges judge.old) (rows_of entries.now)) tally.old tally.new }
@@ -131,11 +133,12 @@ pub fn count_inside<A: Allocator + Copy, J: Judge<A>>(
     marks: &PageMarks,
     query: &Query,
     judge: &mut J,
-    tally: &mut [u64; MAX_NUMBERS],
+    tally: &mut [u64],
 ) -> u64
     requires not_more { length entries.now ≤ 32 }
     requires inside { AreInside query.now (rows_of entries.now) }
     requires marked { (labels : List Text) × AreMarks labels entries.now marks.now }
+    requires few { length tally.old ≤ 512 }
     requires fits { sum tally.old + length (rows_of entries.now) < 2 ^ 64 }
     ensures count { (labels : List Text) → AreMarks labels entries.now marks.now
         → MakeUp (J.judges judge.old) labels result (count_of query.now (J.judges judge.old) (rows_of entries.now)) tally.old tally.new }

@@ -1,21 +1,46 @@
 //! The marks of pages, and the labels that have numbers in them.
-ghost use Rattle.std.specs.Prelude.{◌≡◌, ◌≤◌, IfSome, List, length};
+ghost use Rattle.std.specs.Prelude.{◌≡◌, ◌≤◌, ◌<◌, ◌^◌, cond, IfSome, List, length};
 ghost use Rattle.st_index.specs.inner.Changes.{IsChange};
 ghost use Rattle.st_ubtree.specs.Pages.{NodeValue, entries_of_pages};
-ghost use Rattle.st_ubtree.specs.inner.Marks.{AreMarked, AreMarks, ClosesAt, DifferAt, HasAt, HasNone, OpensAt, verdict_on};
+ghost use Rattle.st_ubtree.specs.inner.Marks.{AreMarked, AreMarks, ClosesAt, DifferAt, HasAt, HasNone, OpensAt, tallied, verdict_on};
 
+use crate::numbering::{FEW_NUMBERS, MAX_NUMBERS, NO_NUMBER, SLOTS};
 use crate::page_marks::{PageMarks, follow, mark_page};
 use st_index::entries::Change;
 use st_index::{Entry, Judge};
 use st_label::Label;
-use std::alloc::{Allocator, Global};
+use std::alloc::{AllocError, Allocator, Global};
+
+// How many times as many labels a longer list has room for.
+const GROWTH: usize = 4;
 
 /// The labels below a node whose children are pages, in the order of their numbers, and the marks of the pages. Pages
 /// may be without marks.
 #[derive(Drop)]
 pub struct Marks<A: Allocator = Global> {
     labels: Vec<Label<A>, A>,
+    slots: Vec<u16, A>,
     pages: Vec<PageMarks, A>,
+}
+
+/// A longer list for labels, and slots for their numbers.
+#[derive(Drop)]
+pub struct Room<A: Allocator = Global> {
+    labels: Vec<Label<A>, A>,
+    slots: Vec<u16, A>,
+}
+
+impl<A: Allocator + Copy> Room<A> {
+    /// Room for so many labels.
+    pub fn new(alloc: A, count: usize) -> Result<Room<A>, AllocError> {
+        let labels = Vec::with_capacity(alloc, count)?;
+        let slots = if count < MAX_NUMBERS {
+            Vec::new(alloc)
+        } else {
+            vec![in alloc; NO_NUMBER; SLOTS]?
+        };
+        Ok(Room { labels, slots })
+    }
 }
 
 // What may be the marks of a page that comes in at a place, as the upper half of the one before it.
@@ -35,7 +60,12 @@ impl<A: Allocator + Copy> Marks<A> {
     {
         labels.clear();
         pages.clear();
-        Marks { labels, pages }
+        let slots = Vec::new(*labels.allocator());
+        Marks {
+            labels,
+            slots,
+            pages,
+        }
     }
 
     /// Takes away all marks.
@@ -43,6 +73,7 @@ impl<A: Allocator + Copy> Marks<A> {
         ensures { (kids : List (NodeValue A)) → AreMarked self.new kids }
     {
         self.labels.clear();
+        self.slots.fill(NO_NUMBER);
         self.pages.clear();
     }
 
@@ -71,7 +102,7 @@ impl<A: Allocator + Copy> Marks<A> {
         if !page.known {
             return;
         }
-        page.known = follow(&mut self.labels, page, change, entries);
+        page.known = follow(&mut self.labels, &mut self.slots, page, change, entries);
     }
 
     /// Makes room for the marks of a page that comes before those from a place on.
@@ -99,6 +130,31 @@ impl<A: Allocator + Copy> Marks<A> {
             return;
         }
         let _marks = self.pages.remove(at);
+    }
+
+    /// Whether there are only as few numbers as there is room for at first.
+    pub fn has_few(&self) -> bool {
+        self.labels.len() <= FEW_NUMBERS
+    }
+
+    /// For how many labels there is to be room, where there is none for more: 0 where there is.
+    pub fn wanted(&self) -> usize {
+        let room = self.labels.capacity();
+        if self.labels.len() < room || room >= MAX_NUMBERS {
+            return 0;
+        }
+        room.saturating_mul(GROWTH).min(MAX_NUMBERS)
+    }
+
+    /// Takes away all marks, and makes room for more labels.
+    pub fn make_room(&mut self, room: Room<A>)
+        ensures { (kids : List (NodeValue A)) → AreMarked self.new kids }
+    {
+        let Room { labels, slots } = room;
+        self.labels = labels;
+        self.slots = slots;
+        let pages = &mut self.pages;
+        pages.clear();
     }
 
     // Puts in a page without marks at a place, if it comes right behind the others there, and takes no memory.
@@ -131,7 +187,7 @@ impl<A: Allocator + Copy> Marks<A> {
         if page.known {
             return;
         }
-        mark_page(&mut self.labels, page, entries);
+        mark_page(&mut self.labels, &mut self.slots, page, entries);
     }
 
     /// The marks of a page, if it has some.
@@ -147,6 +203,31 @@ impl<A: Allocator + Copy> Marks<A> {
             return None;
         }
         Some(marks)
+    }
+
+    // How many of the rows tallied by a number have a label that is found true. Without rows it is not judged.
+    fn share<J: Judge<A>>(&self, number: usize, rows: u64, judge: &mut J) -> u64
+        ensures share { result ≡ cond (verdict_on (J.judges judge.old) self.now.labels.items number) rows 0 }
+        ensures same { J.judges judge.new ≡ J.judges judge.old }
+    {
+        if rows == 0 {
+            return 0;
+        }
+        if self.verdict(number, judge) { rows } else { 0 }
+    }
+
+    /// How many of the tallied rows have a label that is found true.
+    pub fn total<J: Judge<A>>(&self, tally: &[u64], judge: &mut J) -> u64
+        requires fits { tallied (J.judges judge.old) self.now.labels.items tally.now < 2 ^ 64 }
+        ensures total { result ≡ tallied (J.judges judge.old) self.now.labels.items tally.now }
+        ensures same { J.judges judge.new ≡ J.judges judge.old }
+    {
+        let most = self.labels.len().min(tally.len());
+        let mut sum = 0;
+        for number in 0..most {
+            sum += self.share(number, tally[number], judge);
+        }
+        sum
     }
 
     /// Whether the label of a number is found true. Without a label it is not.

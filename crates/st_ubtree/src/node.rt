@@ -20,10 +20,11 @@ mod needs;
 mod pages;
 mod root;
 mod sums;
+mod widening;
 
 use crate::label_counts::LabelCount;
 use crate::marks::Marks;
-use crate::numbering::MAX_NUMBERS;
+use crate::numbering::FEW_NUMBERS;
 use crate::page_marks::PageMarks;
 use crate::summary::{MAX_LABELS, Summary};
 use child::{child_for, count_up_to};
@@ -95,7 +96,7 @@ impl<A: Allocator + Copy> Blank<A> {
         Ok(Blank {
             kids: Vec::with_capacity(alloc, 33)?,
             counts: Vec::with_capacity(alloc, MAX_LABELS)?,
-            labels: Vec::with_capacity(alloc, MAX_NUMBERS)?,
+            labels: Vec::with_capacity(alloc, FEW_NUMBERS)?,
             pages: Vec::with_capacity(alloc, 33)?,
         })
     }

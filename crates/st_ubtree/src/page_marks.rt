@@ -12,14 +12,14 @@ use st_label::Label;
 use std::alloc::Allocator;
 
 /// The number of an entry of several rows.
-pub const MANY: u8 = u8::MAX;
+pub const MANY: u16 = u16::MAX;
 
 /// For each entry of a page that has one row, the number of its label and its point, side by side with those of the others.
 /// Where the page has changed since, they are not known.
 #[derive(Clone, Copy)]
 pub struct PageMarks {
     pub known: bool,
-    pub numbers: [u8; 32],
+    pub numbers: [u16; 32],
     pub points: [Point; 32],
 }
 
@@ -32,7 +32,7 @@ fn origin() -> Point {
 }
 
 // What the numbers of the upper half of a page may be, once it is a page of its own.
-fn upper_half(numbers: &[u8; 32]) -> [u8; 32] {
+fn upper_half(numbers: &[u16; 32]) -> [u16; 32] {
     let mut upper = [NO_NUMBER; 32];
     upper[..16].copy_from_slice(&numbers[16..]);
     upper
@@ -62,7 +62,7 @@ impl PageMarks {
     }
 
     // The number after that of an entry.
-    fn after(&self, at: usize) -> u8 {
+    fn after(&self, at: usize) -> u16 {
         match self.numbers.get(at.saturating_add(1)) {
             Some(number) => *number,
             None => NO_NUMBER,
@@ -73,10 +73,11 @@ impl PageMarks {
 // Marks an entry at its place. The number of its label is likely to be one of these.
 fn mark_entry<A: Allocator + Copy>(
     labels: &mut Vec<Label<A>, A>,
+    slots: &mut [u16],
     page: &mut PageMarks,
     at: usize,
     entry: &Entry<A>,
-    likely: &[u8; 3],
+    likely: &[u16; 3],
 )
     requires { at < 32 }
     ensures keeps { Keeps labels.old.items labels.new.items }
@@ -85,7 +86,7 @@ fn mark_entry<A: Allocator + Copy>(
 {
     match entry.rows() {
         RowsView::One(row) => {
-            page.numbers[at] = number_of(labels, &row.label, likely);
+            page.numbers[at] = number_of(labels, slots, &row.label, likely);
             page.points[at] = row.point;
         }
         RowsView::Many(_) => page.numbers[at] = MANY,
@@ -95,6 +96,7 @@ fn mark_entry<A: Allocator + Copy>(
 /// Marks a page's entries anew. They are likely to be marked as before, each at its place or at one beside it.
 pub fn mark_page<A: Allocator + Copy>(
     labels: &mut Vec<Label<A>, A>,
+    slots: &mut [u16],
     page: &mut PageMarks,
     entries: &[Entry<A>],
 )
@@ -106,7 +108,7 @@ pub fn mark_page<A: Allocator + Copy>(
     for (at, entry) in entries.iter().enumerate() {
         let had = page.numbers[at];
         let likely = [had, before, page.after(at)];
-        mark_entry(labels, page, at, entry, &likely);
+        mark_entry(labels, slots, page, at, entry, &likely);
         before = had;
     }
     page.known = true;
@@ -115,6 +117,7 @@ pub fn mark_page<A: Allocator + Copy>(
 // Makes room for an entry that came in, and marks it. Whether there is such an entry.
 fn open_entry<A: Allocator + Copy>(
     labels: &mut Vec<Label<A>, A>,
+    slots: &mut [u16],
     page: &mut PageMarks,
     at: usize,
     entries: &[Entry<A>],
@@ -130,13 +133,14 @@ fn open_entry<A: Allocator + Copy>(
     }
     page.numbers.copy_within(at..count - 1, at + 1);
     page.points.copy_within(at..count - 1, at + 1);
-    mark_entry(labels, page, at, &entries[at], &[NO_NUMBER; 3]);
+    mark_entry(labels, slots, page, at, &entries[at], &[NO_NUMBER; 3]);
     true
 }
 
 // Marks an entry that changed. Whether there is such an entry.
 fn alter_entry<A: Allocator + Copy>(
     labels: &mut Vec<Label<A>, A>,
+    slots: &mut [u16],
     page: &mut PageMarks,
     at: usize,
     entries: &[Entry<A>],
@@ -149,7 +153,7 @@ fn alter_entry<A: Allocator + Copy>(
     if at >= entries.len() {
         return false;
     }
-    mark_entry(labels, page, at, &entries[at], &[NO_NUMBER; 3]);
+    mark_entry(labels, slots, page, at, &entries[at], &[NO_NUMBER; 3]);
     true
 }
 
@@ -175,6 +179,7 @@ fn close_entry<A: Allocator + Copy>(
 /// Follows a change of a page's entries. Whether it could.
 pub fn follow<A: Allocator + Copy>(
     labels: &mut Vec<Label<A>, A>,
+    slots: &mut [u16],
     page: &mut PageMarks,
     change: Change,
     entries: &[Entry<A>],
@@ -185,8 +190,8 @@ pub fn follow<A: Allocator + Copy>(
         → AreMarks labels.new.items entries.now page.new }
 {
     match change {
-        Change::Opened(at) => open_entry(labels, page, at, entries),
-        Change::Altered(at) => alter_entry(labels, page, at, entries),
+        Change::Opened(at) => open_entry(labels, slots, page, at, entries),
+        Change::Altered(at) => alter_entry(labels, slots, page, at, entries),
         Change::Closed(at) => close_entry(labels.as_slice(), page, at, entries),
     }
 }

@@ -9,6 +9,7 @@ ghost use Rattle.st_ubtree.specs.Trees.{regions_of};
 ghost use Rattle.st_ubtree.specs.inner.Tree.{HasTreeRoom};
 ghost use Rattle.st_ubtree.specs.Ranges.{region_in};
 
+use crate::marks::Room;
 use crate::node::{Blank, Node};
 use st_box::Query;
 use st_index::entries::{self, Change};
@@ -50,6 +51,7 @@ pub struct UbSpare<A: Allocator = Global> {
     rows: Vec<Row<A>, A>,
     page: Option<Vec<Entry<A>, A>>,
     inners: Vec<Blank<A>, A>,
+    room: Option<Room<A>>,
 }
 
 // A page, where one is split.
@@ -63,6 +65,17 @@ fn blank_page<A: Allocator + Copy>(
     match inners {
         Some(_) => Ok(Some(Vec::with_capacity(alloc, 33)?)),
         None => Ok(None),
+    }
+}
+
+// Room for so many labels of a node, where it needs more.
+fn blank_room<A: Allocator + Copy>(
+    alloc: A,
+    count: usize,
+) -> Result<Option<Room<A>>, AllocError> {
+    match count {
+        0 => Ok(None),
+        count => Ok(Some(Room::new(alloc, count)?)),
     }
 }
 
@@ -177,13 +190,25 @@ impl<A: Allocator + Copy> RowIndex for UbTree<A> {
         let page = blank_page(alloc, needs.inners)?;
         let made = count_made(needs.inners, self.root.height())?;
         let inners = blank_nodes(alloc, made)?;
-        Ok(UbSpare { rows, page, inners })
+        let room = blank_room(alloc, needs.labels)?;
+        Ok(UbSpare {
+            rows,
+            page,
+            inners,
+            room,
+        })
     }
 
     fn insert(&mut self, row: Row<A>, spare: UbSpare<A>) {
-        let UbSpare { rows, page, inners } = spare;
+        let UbSpare {
+            rows,
+            page,
+            inners,
+            room,
+        } = spare;
         let key = row.key(self.period);
         self.root.put(key, row, rows, page, inners);
+        self.root.widen_if(key, room);
         self.root.count_keys();
         self.len += 1;
     }

@@ -4,7 +4,7 @@ ghost use Rattle.st_text.specs.Texts.{Text};
 ghost use Rattle.st_ubtree.specs.inner.Marks.{AreKnown, tallied, verdict_on};
 
 use crate::marks::Marks;
-use crate::numbering::MAX_NUMBERS;
+use crate::numbering::{FEW_NUMBERS, MAX_NUMBERS};
 use st_index::Judge;
 use std::alloc::Allocator;
 
@@ -29,7 +29,7 @@ impl<'m, A: Allocator + Copy> Verdicts<'m, A> {
 
     /// Whether the label of a number is found true. Without a label it is not.
     pub fn of<J: Judge<A>>(&mut self, number: usize, judge: &mut J) -> bool
-        requires low { number < 16 }
+        requires low { number < 512 }
         requires known { AreKnown (J.judges judge.old) self.old.marks.now.labels.items self.old.found }
         ensures marks { self.new.marks ≡ self.old.marks }
         ensures known { AreKnown (J.judges judge.old) self.old.marks.now.labels.items self.new.found }
@@ -46,7 +46,7 @@ impl<'m, A: Allocator + Copy> Verdicts<'m, A> {
 
     // How many of the rows tallied by a number have a label that is found true. Without rows it is not judged.
     fn share<J: Judge<A>>(&mut self, number: usize, rows: u64, judge: &mut J) -> u64
-        requires low { number < 16 }
+        requires low { number < 512 }
         requires known { AreKnown (J.judges judge.old) self.old.marks.now.labels.items self.old.found }
         ensures marks { self.new.marks ≡ self.old.marks }
         ensures known { AreKnown (J.judges judge.old) self.old.marks.now.labels.items self.new.found }
@@ -60,7 +60,7 @@ impl<'m, A: Allocator + Copy> Verdicts<'m, A> {
     }
 
     /// How many of the tallied rows have a label that is found true.
-    pub fn total<J: Judge<A>>(&mut self, tally: &[u64; MAX_NUMBERS], judge: &mut J) -> u64
+    pub fn total<J: Judge<A>>(&mut self, tally: &[u64; FEW_NUMBERS], judge: &mut J) -> u64
         requires known { AreKnown (J.judges judge.old) self.old.marks.now.labels.items self.old.found }
         requires fits { tallied (J.judges judge.old) self.old.marks.now.labels.items tally.now < 2 ^ 64 }
         ensures marks { self.new.marks ≡ self.old.marks }
@@ -69,7 +69,7 @@ impl<'m, A: Allocator + Copy> Verdicts<'m, A> {
         ensures same { J.judges judge.new ≡ J.judges judge.old }
     {
         let mut sum = 0;
-        for number in 0..MAX_NUMBERS {
+        for number in 0..FEW_NUMBERS {
             sum += self.share(number, tally[number], judge);
         }
         sum

@@ -16,10 +16,10 @@ HasAt xs i x = (i < length xs) × (x ≡ get_or xs i x)
 abbrev pub Keeps : (old new : List Text) → Type 0
 Keeps old new = (i : ℕ) (l : Text) → HasAt old i l → HasAt new i l
 
--- a number below 255 says that the entry has one row, at this point, and one below 16 is the number of the row's label
+-- a number below 65,535 says that the entry has one row, at this point, and one below 512 is the number of the row's label
 abbrev pub IsMark : {A : Type 0} → List Text → EntryValue A → ℕ → Point → Type 0
-IsMark {A} labels e number point = number < 255
-    → (row : Row A) × (e.rows ≡ row ∷ []) × (row.point ≡ point) × (number < 16 → HasAt labels number row.label)
+IsMark {A} labels e number point = number < 65535
+    → (row : Row A) × (e.rows ≡ row ∷ []) × (row.point ≡ point) × (number < 512 → HasAt labels number row.label)
 
 -- what stands at this place is such a mark of the entry
 abbrev pub IsMarkedAt : {A : Type 0} → List Text → PageMarks → ℕ → EntryValue A → Type 0

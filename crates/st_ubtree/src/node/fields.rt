@@ -77,7 +77,9 @@ impl<A: Allocator + Copy> Node<A> {
         if !self.sum.meets(query) {
             return;
         }
-        if let Some(field) = self.sum.one_field(fields) {
+        if verdicts.marks.has_few()
+            && let Some(field) = self.sum.one_field(fields)
+        {
             let rows = self.count_page(at, verdicts, query, judge);
             field_counting::add(counts, field, rows);
             return;

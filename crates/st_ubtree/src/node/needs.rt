@@ -19,6 +19,7 @@ use std::alloc::Allocator;
 pub struct Needs {
     pub rows: usize,
     pub inners: Option<u64>,
+    pub labels: usize,
 }
 
 impl<A: Allocator + Copy> Node<A> {
@@ -39,6 +40,7 @@ impl<A: Allocator + Copy> Node<A> {
                 Needs {
                     rows: needs.rows,
                     inners: count_node(needs.inners, self.height, kids.len()),
+                    labels: needs.labels.max(self.marks.wanted()),
                 }
             }
         }
@@ -59,11 +61,13 @@ pub(super) fn page_needs<A: Allocator + Copy>(entries: &[Entry<A>], key: Key) ->
             Needs {
                 rows: entry.len(),
                 inners: None,
+                labels: 0,
             }
         }
         Err(_) => Needs {
             rows: 0,
             inners: if entries.len() < 32 { None } else { Some(0) },
+            labels: 0,
         },
     }
 }

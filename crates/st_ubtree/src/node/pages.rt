@@ -9,7 +9,7 @@ ghost use Rattle.st_ubtree.specs.inner.Marks.{AreKnown, AreMarked, HasAt, MakeUp
 use super::{Kids, Node};
 use crate::marked::{count_inside, count_marked};
 use crate::marks::Marks;
-use crate::numbering::MAX_NUMBERS;
+use crate::numbering::{FEW_NUMBERS, MAX_NUMBERS};
 use crate::verdicts::Verdicts;
 use st_box::Query;
 use st_index::{Judge, counting};
@@ -24,10 +24,11 @@ impl<A: Allocator + Copy> Node<A> {
         marks: &Marks<A>,
         query: &Query,
         judge: &mut J,
-        tally: &mut [u64; MAX_NUMBERS],
+        tally: &mut [u64],
     ) -> u64
         requires lowest { self.now.height ≡ 0 }
         requires marked { (kids : List (NodeValue A)) × AreMarked marks.now kids × HasAt kids at self.now }
+        requires few { length tally.old ≤ 512 }
         requires fits { sum tally.old + length (rows_of_pages self.now.pages) < 2 ^ 64 }
         ensures count { MakeUp (J.judges judge.old) marks.now.labels.items result
             (count_of query.now (J.judges judge.old) (rows_of_pages self.now.pages)) tally.old tally.new }
@@ -67,7 +68,7 @@ impl<A: Allocator + Copy> Node<A> {
         ensures count { result ≡ count_of query.now (J.judges judge.old) (rows_of_pages self.now.pages) }
         ensures same { J.judges judge.new ≡ J.judges judge.old }
     {
-        let mut tally = [0; MAX_NUMBERS];
+        let mut tally = [0; FEW_NUMBERS];
         let rest = self.tally_page(at, verdicts.marks, query, judge, &mut tally);
         rest + verdicts.total(&tally, judge)
     }
@@ -86,12 +87,34 @@ pub(super) fn count_pages<A: Allocator + Copy, J: Judge<A>>(
     ensures count { result ≡ count_of query.now (J.judges judge.old) (rows_of_pages (pages_of kids.now)) }
     ensures same { J.judges judge.new ≡ J.judges judge.old }
 {
+    if marks.has_few() {
+        let mut tally = [0; FEW_NUMBERS];
+        return tally_pages(marks, kids, query, judge, &mut tally);
+    }
     let mut tally = [0; MAX_NUMBERS];
+    tally_pages(marks, kids, query, judge, &mut tally)
+}
+
+// The same, with room for tallies by numbers, none of which is more than 0 yet.
+fn tally_pages<A: Allocator + Copy, J: Judge<A>>(
+    marks: &Marks<A>,
+    kids: &[Node<A>],
+    query: &Query,
+    judge: &mut J,
+    tally: &mut [u64],
+) -> u64
+    requires lowest { All (λ (v : NodeValue A). v.height ≡ 0) kids.now }
+    requires fits { length (rows_of_pages (pages_of kids.now)) < 2 ^ 64 }
+    requires marked { AreMarked marks.now kids.now }
+    requires few { length tally.old ≤ 512 }
+    requires none { sum tally.old ≡ 0 }
+    ensures count { result ≡ count_of query.now (J.judges judge.old) (rows_of_pages (pages_of kids.now)) }
+    ensures same { J.judges judge.new ≡ J.judges judge.old }
+{
     let mut rest = 0;
     for at in 0..kids.len() {
         let kid = &kids[at];
-        rest += kid.tally_page(at, marks, query, judge, &mut tally);
+        rest += kid.tally_page(at, marks, query, judge, tally);
     }
-    let mut verdicts = Verdicts::none(marks);
-    rest + verdicts.total(&tally, judge)
+    rest + marks.total(tally, judge)
 }

@@ -16,19 +16,19 @@ overflow_add-tally g c =
     let point = c.index-marks-at.result in
     let numbers : length marks.numbers ≡ 32 = search rules in
     let points : length marks.points ≡ 32 = search rules in
-    let long : length tally ≡ 16 = search rules in
-    let low = c.if-index-lt-MAX_NUMBERS.true in
+    let most_numbers = c.requires.few in
+    let low = c.if-index-tally.true in
     let some = there_is c.args.entries.now c.args.at w in
     let mark = mark_at given.0 c.args.entries.now marks c.args.at some.0 number point given.1 some.1 (omega (arith, w, m, numbers)) (omega (arith, w, m, points)) c.from-index.ensures c.index-marks-at.is in
-    let one = one_in given.0 some.0 number point mark (omega (arith, low)) in
-    let most = below_sum tally number (omega (arith, low, long)) in
+    let one = one_in given.0 some.0 number point mark (omega (arith, low, most_numbers)) in
+    let most = below_sum tally number low in
     let fits = c.requires.fits some.0 some.1 in
     let byte : c.from.result ≡ cond c.is_in-inside.result 1 0 = c.from.ensures ∙ byte_is _ in
     let few = at_most c.is_in-inside.result 1 in
     omega (arith, one, most, fits, byte, few)
 
-pub returns-then-index-lt-MAX_NUMBERS-clause-count : goal.returns-then-index-lt-MAX_NUMBERS-clause-count
-returns-then-index-lt-MAX_NUMBERS-clause-count g c = λ labels e are h.
+pub returns-then-index-tally-clause-count : goal.returns-then-index-tally-clause-count
+returns-then-index-tally-clause-count g c = λ labels e are h.
     let marks = c.args.marks.now in
     let tally = c.args.tally.now in
     let q = c.args.query.now in
@@ -38,14 +38,14 @@ returns-then-index-lt-MAX_NUMBERS-clause-count g c = λ labels e are h.
     let point = c.index-marks-at.result in
     let numbers : length marks.numbers ≡ 32 = search rules in
     let points : length marks.points ≡ 32 = search rules in
-    let long : length tally ≡ 16 = search rules in
-    let low = c.if-index-lt-MAX_NUMBERS.true in
+    let most_numbers = c.requires.few in
+    let low = c.if-index-tally.true in
     let mark = mark_at labels c.args.entries.now marks c.args.at e number point are h (omega (arith, w, m, numbers)) (omega (arith, w, m, points)) c.from-index.ensures c.index-marks-at.is in
-    tallied_at q labels e number point mark (g.J.Judge.judges c.args.judge.now) tally c.from.result low (omega (arith, low, long))
+    tallied_at q labels e number point mark (g.J.Judge.judges c.args.judge.now) tally c.from.result (omega (arith, low, most_numbers)) low
     (c.from.ensures ∙ byte_is _ ∙ ap {B = ℕ} (λ b. cond b 1 0) (c.is_in-inside.ensures ∙ ap (is_inside q) (sym c.index-marks-at.is)))
 
-pub returns-then-index-lt-MAX_NUMBERS-clause-most : goal.returns-then-index-lt-MAX_NUMBERS-clause-most
-returns-then-index-lt-MAX_NUMBERS-clause-most g c = λ e h.
+pub returns-then-index-tally-clause-most : goal.returns-then-index-tally-clause-most
+returns-then-index-tally-clause-most g c = λ e h.
     let marks = c.args.marks.now in
     let tally = c.args.tally.now in
     let w = c.requires.within in
@@ -55,11 +55,11 @@ returns-then-index-lt-MAX_NUMBERS-clause-most g c = λ e h.
     let point = c.index-marks-at.result in
     let numbers : length marks.numbers ≡ 32 = search rules in
     let points : length marks.points ≡ 32 = search rules in
-    let long : length tally ≡ 16 = search rules in
-    let low = c.if-index-lt-MAX_NUMBERS.true in
+    let most_numbers = c.requires.few in
+    let low = c.if-index-tally.true in
     let mark = mark_at given.0 c.args.entries.now marks c.args.at e number point given.1 h (omega (arith, w, m, numbers)) (omega (arith, w, m, points)) c.from-index.ensures c.index-marks-at.is in
-    let one = one_in given.0 e number point mark (omega (arith, low)) in
-    let more = sum_set tally number c.from.result (omega (arith, low, long)) in
+    let one = one_in given.0 e number point mark (omega (arith, low, most_numbers)) in
+    let more = sum_set tally number c.from.result low in
     let byte : c.from.result ≡ cond c.is_in-inside.result 1 0 = c.from.ensures ∙ byte_is _ in
     let few = at_most c.is_in-inside.result 1 in
     omega (arith, one, more, byte, few)

@@ -14,18 +14,18 @@ overflow_add-tally g c =
     let number = c.from-index.result in
     let numbers : length marks.numbers ≡ 32 = search rules in
     let points : length marks.points ≡ 32 = search rules in
-    let long : length tally ≡ 16 = search rules in
-    let low = c.if-index-lt-MAX_NUMBERS.true in
+    let most_numbers = c.requires.few in
+    let low = c.if-index-tally.true in
     let some = there_is c.args.entries.now c.args.at w in
     let point = there_is marks.points c.args.at (omega (arith, w, m, points)) in
     let mark = mark_at given.0 c.args.entries.now marks c.args.at some.0 number point.0 given.1 some.1 (omega (arith, w, m, numbers)) point.1.0 c.from-index.ensures point.1.1 in
-    let one = one_in given.0 some.0 number point.0 mark (omega (arith, low)) in
-    let most = below_sum tally number (omega (arith, low, long)) in
+    let one = one_in given.0 some.0 number point.0 mark (omega (arith, low, most_numbers)) in
+    let most = below_sum tally number low in
     let fits = c.requires.fits some.0 some.1 in
     omega (arith, one, most, fits)
 
-pub returns-then-index-lt-MAX_NUMBERS-clause-count : goal.returns-then-index-lt-MAX_NUMBERS-clause-count
-returns-then-index-lt-MAX_NUMBERS-clause-count g c = λ labels e are h.
+pub returns-then-index-tally-clause-count : goal.returns-then-index-tally-clause-count
+returns-then-index-tally-clause-count g c = λ labels e are h.
     let marks = c.args.marks.now in
     let tally = c.args.tally.now in
     let q = c.args.query.now in
@@ -34,15 +34,15 @@ returns-then-index-lt-MAX_NUMBERS-clause-count g c = λ labels e are h.
     let number = c.from-index.result in
     let numbers : length marks.numbers ≡ 32 = search rules in
     let points : length marks.points ≡ 32 = search rules in
-    let long : length tally ≡ 16 = search rules in
-    let low = c.if-index-lt-MAX_NUMBERS.true in
+    let most_numbers = c.requires.few in
+    let low = c.if-index-tally.true in
     let point = there_is marks.points c.args.at (omega (arith, w, m, points)) in
     let mark = mark_at labels c.args.entries.now marks c.args.at e number point.0 are h (omega (arith, w, m, numbers)) point.1.0 c.from-index.ensures point.1.1 in
-    let inside = point_inside q labels e number point.0 mark (omega (arith, low)) (inside_at q c.args.entries.now c.args.at e h c.requires.inside) in
-    tallied_at q labels e number point.0 mark (g.J.Judge.judges c.args.judge.now) tally 1 low (omega (arith, low, long)) (sym (ap {B = ℕ} (λ b. cond b 1 0) inside))
+    let inside = point_inside q labels e number point.0 mark (omega (arith, low, most_numbers)) (inside_at q c.args.entries.now c.args.at e h c.requires.inside) in
+    tallied_at q labels e number point.0 mark (g.J.Judge.judges c.args.judge.now) tally 1 (omega (arith, low, most_numbers)) low (sym (ap {B = ℕ} (λ b. cond b 1 0) inside))
 
-pub returns-then-index-lt-MAX_NUMBERS-clause-most : goal.returns-then-index-lt-MAX_NUMBERS-clause-most
-returns-then-index-lt-MAX_NUMBERS-clause-most g c = λ e h.
+pub returns-then-index-tally-clause-most : goal.returns-then-index-tally-clause-most
+returns-then-index-tally-clause-most g c = λ e h.
     let marks = c.args.marks.now in
     let tally = c.args.tally.now in
     let w = c.requires.within in
@@ -51,12 +51,12 @@ returns-then-index-lt-MAX_NUMBERS-clause-most g c = λ e h.
     let number = c.from-index.result in
     let numbers : length marks.numbers ≡ 32 = search rules in
     let points : length marks.points ≡ 32 = search rules in
-    let long : length tally ≡ 16 = search rules in
-    let low = c.if-index-lt-MAX_NUMBERS.true in
+    let most_numbers = c.requires.few in
+    let low = c.if-index-tally.true in
     let point = there_is marks.points c.args.at (omega (arith, w, m, points)) in
     let mark = mark_at given.0 c.args.entries.now marks c.args.at e number point.0 given.1 h (omega (arith, w, m, numbers)) point.1.0 c.from-index.ensures point.1.1 in
-    let one = one_in given.0 e number point.0 mark (omega (arith, low)) in
-    let more = sum_set tally number 1 (omega (arith, low, long)) in
+    let one = one_in given.0 e number point.0 mark (omega (arith, low, most_numbers)) in
+    let more = sum_set tally number 1 low in
     omega (arith, one, more)
 
 pub count_at-requires-clause-fits : goal.count_at-requires-clause-fits

@@ -15,5 +15,5 @@ returns-in-One-clause-mark g c = λ number point a b few.
       row,
       sym c.rows.ensures ∙ ap viewed c.in-One.is,
       sym (at_changed page.points at row.point point (omega (arith, c.requires, points)) b),
-      λ low. subst (λ m. HasAt c.number_of.new.labels.items m row.label) (sym same) (c.number_of.ensures.number (subst (λ m. m < 16) same low)),
+      λ low. subst (λ m. HasAt c.number_of.new.labels.items m row.label) (sym same) (c.number_of.ensures.number (subst (λ m. m < 512) same low)),
     )

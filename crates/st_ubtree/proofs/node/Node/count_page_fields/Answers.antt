@@ -27,8 +27,8 @@ pub count_page-rows-requires-clause-fits : goal.count_page-rows-requires-clause-
 count_page-rows-requires-clause-fits g c =
     let can = c.requires.fits 0 in omega (arith, can)
 
-pub returns-in-Some-clause-counts : goal.returns-in-Some-clause-counts
-returns-in-Some-clause-counts g c =
+pub returns-clause-counts : goal.returns-clause-counts
+returns-clause-counts g c =
     let rows : rows_of_pages c.args.self.now.pages ≡ rows_under c.self.inside.kids = ap (λ (v : NodeValue g.row.A.Denot). rows_of_pages v.pages) (sym c.self.view_is) ∙ sym (rows_are (rank c.self.inside.first) c.self.inside.kids) in
     let q = g.F.Fields.query c.args.fields.now in
     let judges = g.J.Judge.judges c.args.judge.now in
@@ -70,8 +70,8 @@ count_marked-requires-clause-marked g c =
     let given = c.requires.marked in
     subst (λ es. AreMarks c.args.verdicts.now.marks.now.labels.items es c.in-Some-page.page.now) entries (c.in-Some-page.ensures given.0 c.args.self.now given.2 given.1)
 
-pub returns-clause-counts : goal.returns-clause-counts
-returns-clause-counts g c =
+pub returns-2-clause-counts : goal.returns-2-clause-counts
+returns-2-clause-counts g c =
     let rows : rows_of_pages c.args.self.now.pages ≡ rows_under c.self.inside.kids = ap (λ (v : NodeValue g.row.A.Denot). rows_of_pages v.pages) (sym c.self.view_is) ∙ sym (rows_are (rank c.self.inside.first) c.self.inside.kids) in
     let q = g.F.Fields.query c.args.fields.now in
     let judges = g.J.Judge.judges c.args.judge.now in

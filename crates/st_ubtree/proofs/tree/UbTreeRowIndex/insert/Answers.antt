@@ -14,10 +14,10 @@ pub invariant_of-self : goal.invariant_of-self
 invariant_of-self g c =
     let key = c.key-key.ensures.value in
     let absent : IsAbsent c.self.inside.period (rank c.key-key.result) (name_of c.args.row) (rows_of_pages c.self.inside.root.pages) = rw key (rw (← c.self.view_is) at c.requires.absent) in
-    tree_grows c.self.inside.period (rank c.key-key.result) c.args.row c.self.inside.root c.put.new.self c.self.inside.len c.self.invariant c.put.ensures.wide c.count_keys.ensures.keys c.put.ensures.grows key c.key-key.ensures.in_period absent (rw (← c.self.view_is) at c.requires.room.count)
+    tree_grows c.self.inside.period (rank c.key-key.result) c.args.row c.self.inside.root c.widen_if.new.self c.self.inside.len c.self.invariant (rw (← c.widen_if.ensures) at c.put.ensures.wide) c.count_keys.ensures.keys (rw (← c.widen_if.ensures) at c.put.ensures.grows) key c.key-key.ensures.in_period absent (rw (← c.self.view_is) at c.requires.room.count)
 
 pub returns-clause-lawful : goal.returns-clause-lawful
-returns-clause-lawful g c = lawful_tree c.self.inside.period c.put.new.self (c.self.inside.len + 1) (invariant_of-self g c)
+returns-clause-lawful g c = lawful_tree c.self.inside.period c.widen_if.new.self (c.self.inside.len + 1) (invariant_of-self g c)
 
 pub put-requires-clause-enough : goal.put-requires-clause-enough
 put-requires-clause-enough g c = rw c.key-key.ensures.value (held_made c.args.spare.inners _ (rw (← c.self.view_is) at c.requires.room.inners))

@@ -18,7 +18,7 @@ overflow_add-sum g c =
     let labels = c.args.self.now.marks.now.labels.items in
     let tally = c.args.tally.now in
     let n = c.loop-number.number in
-    let long : length tally ≡ 16 = search rules in
+    let long : length tally ≡ 20 = search rules in
     let was = c.loop-number.invariant.sum in
     let share : c.share-sum.result ≡ cond (verdict_on judges labels n) (get_or tally n 0) 0 =
     c.share-sum.ensures.share
@@ -35,7 +35,7 @@ loop-number-preserved g c =
     let labels = c.args.self.now.marks.now.labels.items in
     let tally = c.args.tally.now in
     let n = c.loop-number.number in
-    let long : length tally ≡ 16 = search rules in
+    let long : length tally ≡ 20 = search rules in
     let was = c.loop-number.invariant.sum in
     let share : c.share-sum.result ≡ cond (verdict_on judges labels n) (get_or tally n 0) 0 =
     c.share-sum.ensures.share

@@ -1,13 +1,13 @@
 use Rattle.std.proofs.Common.{◌+◌, ◌<◌, ◌≤◌, length, ap, subst, ◌∙◌, arith}
 use Rattle.std.proofs.lemmas.List.Sums.{count_by-le-length}
-use Rattle.std.specs.List.{flat_map}
+use Rattle.std.specs.List.{flat_map, sum}
 use Rattle.st_index.specs.Counting.{count_of, is_counted}
 use Rattle.st_ubtree.specs.declared.marks.Marks.{Marks}
 use Rattle.st_ubtree.specs.Pages.{NodeValue, rows_of_pages}
-use Rattle.st_ubtree.specs.inner.Marks.{MakeUp, tallied}
+use Rattle.st_ubtree.specs.inner.Marks.{MakeUp, }
 use Rattle.st_ubtree.proofs.Keeping.{rows_of_kids}
-use Rattle.st_ubtree.proofs.Tallied.{counted_all, counted_fits, counted_next, fits_none, most_fits, most_next, whole}
-use Rattle.st_ubtree.proofs.node.pages.count_pages.Goals as goal
+use Rattle.st_ubtree.proofs.Tallied.{counted_all, counted_fits, counted_next, most_fits, most_next, whole}
+use Rattle.st_ubtree.proofs.node.pages.tally_pages.Goals as goal
 
 pub tally_page-rest-requires-clause-lowest : goal.tally_page-rest-requires-clause-lowest
 tally_page-rest-requires-clause-lowest g c =
@@ -19,7 +19,7 @@ tally_page-rest-requires-clause-marked g c = (c.args.kids.now, c.requires.marked
 pub tally_page-rest-requires-clause-fits : goal.tally_page-rest-requires-clause-fits
 tally_page-rest-requires-clause-fits g c =
     let kids = c.args.kids.now in
-    let fits = fits_none _ 18446744073709551616 (subst (λ rs. length rs < 18446744073709551616) (rows_of_kids kids) c.requires.fits) in
+    let less = subst (λ rs. length rs < 18446744073709551616) (rows_of_kids kids) c.requires.fits in let none = c.requires.none in let fits : sum c.args.tally.now + length (flat_map (λ (v : NodeValue g.row.A.Denot). rows_of_pages v.pages) kids) < 18446744073709551616 = omega (arith, less, none) in
     most_fits (λ (v : NodeValue g.row.A.Denot). rows_of_pages v.pages) kids c.loop-at.at c.index-kids-at.result _ _ 18446744073709551616 c.loop-at-test.true c.index-kids-at.is
     c.loop-at.invariant.most fits
 
@@ -31,7 +31,7 @@ overflow_add-rest g c =
     let labels = c.args.marks.now.labels.items in
     let at = c.loop-at.at in
     let kid = c.index-kids-at.result in
-    let fits = fits_none _ 18446744073709551616 (subst (λ rs. length rs < 18446744073709551616) (rows_of_kids kids) c.requires.fits) in
+    let less = subst (λ rs. length rs < 18446744073709551616) (rows_of_kids kids) c.requires.fits in let none = c.requires.none in let fits : sum c.args.tally.now + length (flat_map (λ (v : NodeValue g.row.A.Denot). rows_of_pages v.pages) kids) < 18446744073709551616 = omega (arith, less, none) in
     let now = subst (λ j. MakeUp j labels c.tally_page-rest.result (count_of q j (rows_of_pages kid.pages)) c.loop-at.tally c.tally_page-rest.new.tally) c.loop-at.invariant.same c.tally_page-rest.ensures.count in
     let next = counted_next (λ (v : NodeValue g.row.A.Denot). rows_of_pages v.pages) kids at q judges labels kid c.loop-at.rest c.tally_page-rest.result _ c.loop-at.tally c.tally_page-rest.new.tally
     c.loop-at-test.true c.index-kids-at.is c.loop-at.invariant.count now in
@@ -54,11 +54,8 @@ loop-at-preserved g c =
       same = c.tally_page-rest.ensures.same ∙ c.loop-at.invariant.same;
     }
 
-pub total-requires-clause-known : goal.total-requires-clause-known
-total-requires-clause-known g c = c.none-verdicts.ensures.known (g.J.Judge.judges c.loop-at.judge)
-
-pub total-requires-clause-fits : goal.total-requires-clause-fits
-total-requires-clause-fits g c =
+pub total-requires : goal.total-requires
+total-requires g c =
     let kids = c.args.kids.now in
     let q = c.args.query.now in
     let judges = g.J.Judge.judges c.args.judge.now in
@@ -67,11 +64,10 @@ total-requires-clause-fits g c =
     let rows = flat_map (λ (v : NodeValue g.row.A.Denot). rows_of_pages v.pages) kids in
     let over : length kids ≤ c.loop-at.at = omega (arith, c.loop-at-test.false, c.loop-at.auto.at-end) in
     let made = counted_all (λ (v : NodeValue g.row.A.Denot). rows_of_pages v.pages) kids c.loop-at.at q judges labels c.loop-at.rest _ c.loop-at.tally over c.loop-at.invariant.count in
-    let all = whole judges after labels c.loop-at.rest (count_of q judges rows) c.loop-at.tally c.loop-at.invariant.same made in
-    let here = ap (λ (m : Marks g.row.A.Denot). tallied after m.labels.items c.loop-at.tally) c.none-verdicts.ensures.marks in
+    let all = whole judges after labels c.loop-at.rest (count_of q judges rows) _ c.loop-at.tally c.requires.none c.loop-at.invariant.same made in
     let few = count_by-le-length (is_counted q judges) rows in
     let fits = subst (λ rs. length rs < 18446744073709551616) (rows_of_kids kids) c.requires.fits in
-    omega (arith, all, here, few, fits)
+    omega (arith, all, few, fits)
 
 pub overflow_add-result : goal.overflow_add-result
 overflow_add-result g c =
@@ -83,12 +79,11 @@ overflow_add-result g c =
     let rows = flat_map (λ (v : NodeValue g.row.A.Denot). rows_of_pages v.pages) kids in
     let over : length kids ≤ c.loop-at.at = omega (arith, c.loop-at-test.false, c.loop-at.auto.at-end) in
     let made = counted_all (λ (v : NodeValue g.row.A.Denot). rows_of_pages v.pages) kids c.loop-at.at q judges labels c.loop-at.rest _ c.loop-at.tally over c.loop-at.invariant.count in
-    let all = whole judges after labels c.loop-at.rest (count_of q judges rows) c.loop-at.tally c.loop-at.invariant.same made in
-    let here = ap (λ (m : Marks g.row.A.Denot). tallied after m.labels.items c.loop-at.tally) c.none-verdicts.ensures.marks in
+    let all = whole judges after labels c.loop-at.rest (count_of q judges rows) _ c.loop-at.tally c.requires.none c.loop-at.invariant.same made in
     let total = c.total.ensures.total in
     let few = count_by-le-length (is_counted q judges) rows in
     let fits = subst (λ rs. length rs < 18446744073709551616) (rows_of_kids kids) c.requires.fits in
-    omega (arith, all, here, total, few, fits)
+    omega (arith, all, total, few, fits)
 
 pub returns-clause-count : goal.returns-clause-count
 returns-clause-count g c =
@@ -100,8 +95,7 @@ returns-clause-count g c =
     let rows = flat_map (λ (v : NodeValue g.row.A.Denot). rows_of_pages v.pages) kids in
     let over : length kids ≤ c.loop-at.at = omega (arith, c.loop-at-test.false, c.loop-at.auto.at-end) in
     let made = counted_all (λ (v : NodeValue g.row.A.Denot). rows_of_pages v.pages) kids c.loop-at.at q judges labels c.loop-at.rest _ c.loop-at.tally over c.loop-at.invariant.count in
-    let all = whole judges after labels c.loop-at.rest (count_of q judges rows) c.loop-at.tally c.loop-at.invariant.same made in
-    let here = ap (λ (m : Marks g.row.A.Denot). tallied after m.labels.items c.loop-at.tally) c.none-verdicts.ensures.marks in
+    let all = whole judges after labels c.loop-at.rest (count_of q judges rows) _ c.loop-at.tally c.requires.none c.loop-at.invariant.same made in
     let total = c.total.ensures.total in
     let same = ap (count_of q judges) (rows_of_kids kids) in
-    omega (arith, all, here, total, same)
+    omega (arith, all, total, same)

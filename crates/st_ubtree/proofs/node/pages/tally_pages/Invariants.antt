@@ -3,7 +3,7 @@ use Rattle.std.specs.List.{sum, sum_by}
 use Rattle.st_index.specs.Counting.{count_of}
 use Rattle.st_ubtree.specs.Pages.{NodeValue, rows_of_pages}
 use Rattle.st_ubtree.specs.inner.Marks.{MakeUp}
-use Rattle.st_ubtree.proofs.node.pages.count_pages.Given as goal
+use Rattle.st_ubtree.proofs.node.pages.tally_pages.Given as goal
 
 abbrev pub invariant-loop-at : goal.invariant-loop-at
 invariant-loop-at g l = record {

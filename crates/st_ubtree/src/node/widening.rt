@@ -1,0 +1,38 @@
+//! Room for more labels.
+ghost use Rattle.std.specs.Prelude.{◌≡◌};
+
+use super::child::child_for;
+use super::marking::mark_all;
+use super::{Kids, Node};
+use crate::marks::Room;
+use st_key::Key;
+use std::alloc::Allocator;
+
+impl<A: Allocator + Copy> Node<A> {
+    /// Gives the lowest node over the page of a key room for more labels, and marks its pages anew.
+    pub fn widen(&mut self, key: Key, room: Room<A>)
+        ensures { self.new ≡ self.old }
+    {
+        if self.height == 1 {
+            self.marks.make_room(room);
+            mark_all(&mut self.marks, &self.kids);
+            return;
+        }
+        let Kids::Inner(kids) = &mut self.kids else {
+            return;
+        };
+        let at = child_for(kids, key);
+        let kid = &mut kids[at];
+        kid.widen(key, room);
+    }
+
+    /// The same, if there is such room.
+    pub fn widen_if(&mut self, key: Key, room: Option<Room<A>>)
+        ensures { self.new ≡ self.old }
+    {
+        match room {
+            Some(room) => self.widen(key, room),
+            None => {}
+        }
+    }
+}
