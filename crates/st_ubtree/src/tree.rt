@@ -69,10 +69,7 @@ fn blank_page<A: Allocator + Copy>(
 }
 
 // Room for so many labels of a node, where it needs more.
-fn blank_room<A: Allocator + Copy>(
-    alloc: A,
-    count: usize,
-) -> Result<Option<Room<A>>, AllocError> {
+fn blank_room<A: Allocator + Copy>(alloc: A, count: usize) -> Result<Option<Room<A>>, AllocError> {
     match count {
         0 => Ok(None),
         count => Ok(Some(Room::new(alloc, count)?)),

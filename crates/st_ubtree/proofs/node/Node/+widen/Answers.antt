@@ -31,7 +31,7 @@ invariant_of-self-2 g t c =
     let chosen : IsChosen (rank c.args.key) kids i = rw c.deref.ensures.value at c.child_for-at.ensures in
     let same = set_again kids i c.index_mut-kid.result.now c.widen.new.self c.index_mut-kid.ensures.value c.widen.ensures chosen.within in
     let P = λ (ks : List (NodeValue g.row.A.Denot)). IsInnerNode (rank c.self.inside.first) c.self.inside.height ks (vec_capacity c.in-Inner.kids)
-        × Sums c.self.inside.sum (rows_of_pages (pages_of ks)) × AreMarked c.self.inside.marks ks in
+    × Sums c.self.inside.sum (rows_of_pages (pages_of ks)) × AreMarked c.self.inside.marks ks in
     let was : P kids = subst (λ k. IsNode (rank c.self.inside.first) c.self.inside.height k × Sums c.self.inside.sum (rows_under k) × AreMarkedUnder c.self.inside.marks k) c.in-Inner.is c.self.invariant in
     subst P (sym same) was
 

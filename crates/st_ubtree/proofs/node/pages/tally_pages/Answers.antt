@@ -4,7 +4,7 @@ use Rattle.std.specs.List.{flat_map, sum}
 use Rattle.st_index.specs.Counting.{count_of, is_counted}
 use Rattle.st_ubtree.specs.declared.marks.Marks.{Marks}
 use Rattle.st_ubtree.specs.Pages.{NodeValue, rows_of_pages}
-use Rattle.st_ubtree.specs.inner.Marks.{MakeUp, }
+use Rattle.st_ubtree.specs.inner.Marks.{MakeUp}
 use Rattle.st_ubtree.proofs.Keeping.{rows_of_kids}
 use Rattle.st_ubtree.proofs.Tallied.{counted_all, counted_fits, counted_next, most_fits, most_next, whole}
 use Rattle.st_ubtree.proofs.node.pages.tally_pages.Goals as goal
