@@ -267,6 +267,8 @@ def kinds() -> Iterator[tuple[str, list[bytes], bool]]:
     yield "scan of 10,000 labels of a point", [ask(f"{line}/scan", f'{{"auths":["C"],"box":{box},"limit":1}}')], False
     gone = ask(f"{line}/delete", '{"id":"r05000","label":"B|x"}')
     yield "put and delete among 10,000 labels of a point", [put("motley", "r05000", "B|x", "7,7,7"), gone], False
+    gone = ask("POST /tables/same/delete", '{"id":"p","label":"A|new"}')
+    yield "put and delete among 2,000 labels of an id", [put("same", "p", "A|new", "7,7,7"), gone], False
     yield "labels that come and go", comings(), False
     near = box_of(1048576 - 50_000, 1048576 + 50_000, 1048576 - 50_000, 1048576 + 50_000, 0, 99)
     yield "count where labels came and went", [ask("POST /tables/weeks/count", f'{{"auths":["A","B","C"],"box":{near}}}')], False
