@@ -3,7 +3,8 @@
 
     postgis.py [ROWS]
 
-1,000,000 rows where it is left out. It needs the built bench_scan, postgresql-15 and its PostGIS; run it with /usr/bin/python3.
+100,000 rows where it is left out, which take 3 minutes. It needs the built bench_scan and st_served, postgresql-15 and its PostGIS; run
+it with /usr/bin/python3.
 
 PostGIS has a three-dimensional GiST index, and a policy that shows a row where one of the alternatives of its label (in disjunctive
 normal form) is among the asker's authorizations. As PostGIS is installed, a policy is judged before an operator that may tell of hidden
@@ -191,7 +192,7 @@ def served_counts(points: Path, boxes: Boxes) -> Found:
 
 
 def main() -> None:
-    count = int(sys.argv[1]) if len(sys.argv) > 1 else 1_000_000
+    count = int(sys.argv[1]) if len(sys.argv) > 1 else 100_000
     boxes = {name: of_class[:BOXES] for name, of_class in scan_data.classes(count)}
     with tempfile.TemporaryDirectory(dir="/dev/shm") as name:
         folder = Path(name)
