@@ -1,15 +1,25 @@
 //! Texts of any length. Short ones allocate nothing.
 ghost use Rattle.std.specs.Prelude.{◌≡◌, IfOk, IfSome};
 ghost use Rattle.st_text.specs.Texts.{same};
+ghost use Rattle.st_text.specs.inner.Compact.{stored_bytes};
 
 use crate::short::{MAX_SHORT, ShortText};
+use crate::text::Text;
 use std::alloc::{AllocError, Allocator, Global};
 use std::marker::Model;
 
-// Where the bytes of a text are stored.
+// The greatest length of a text that lies in one block of the heap, in bytes.
+const MAX_MEDIUM: usize = 56;
+
+type MediumText = Text<MAX_MEDIUM>;
+
+const _: () = prove!(size_of::<MediumText>() == 64);
+
+// Where the bytes of a text are stored: in the value itself, in one block, or in a block behind another.
 #[derive(Drop)]
 enum Storage<A: Allocator> {
     Inline(ShortText),
+    Boxed(Box<MediumText, A>),
     Heap(Box<String<A>, A>),
 }
 
@@ -44,7 +54,7 @@ impl<A: Allocator + Copy> CompactText<A> {
             }),
             None => Ok(CompactText {
                 alloc,
-                storage: Storage::Heap(Box::new(alloc, String::from_str(alloc, text)?)?),
+                storage: on_heap(alloc, text)?,
             }),
         }
     }
@@ -58,6 +68,7 @@ impl<A: Allocator + Copy> CompactText<A> {
                 alloc: self.alloc,
                 storage: Storage::Inline(short.copy()),
             }),
+            Storage::Boxed(text) => CompactText::new(self.alloc, text.as_str()),
             Storage::Heap(text) => CompactText::new(self.alloc, text.as_str()),
         }
     }
@@ -70,6 +81,7 @@ impl<A: Allocator> CompactText<A> {
     {
         match &self.storage {
             Storage::Inline(short) => short.as_str(),
+            Storage::Boxed(text) => text.as_str(),
             Storage::Heap(text) => text.as_str(),
         }
     }
@@ -80,7 +92,7 @@ impl<A: Allocator> CompactText<A> {
     {
         match &self.storage {
             Storage::Inline(short) => Some(short),
-            Storage::Heap(_) => None,
+            Storage::Boxed(_) | Storage::Heap(_) => None,
         }
     }
 
@@ -89,5 +101,15 @@ impl<A: Allocator> CompactText<A> {
         ensures { result ≡ same self.now text.now }
     {
         self.as_str() == text
+    }
+}
+
+// A text on the heap: in one block where it fits, else in two.
+fn on_heap<A: Allocator + Copy>(alloc: A, text: &str) -> Result<Storage<A>, AllocError>
+    ensures { IfOk result (λ storage. stored_bytes storage ≡ text.now) }
+{
+    match MediumText::new(text) {
+        Some(medium) => Ok(Storage::Boxed(Box::new(alloc, medium)?)),
+        None => Ok(Storage::Heap(Box::new(alloc, String::from_str(alloc, text)?)?)),
     }
 }

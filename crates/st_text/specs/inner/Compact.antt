@@ -3,7 +3,8 @@ use Rattle.std.specs.Prelude.{string_bytes}
 use Rattle.st_text.specs.Texts.{Text}
 use Rattle.st_text.specs.declared.compact.Storage.{Storage}
 
--- the bytes, inline or on the heap
+-- the bytes, inline, in one box or on the heap
 abbrev pub stored_bytes : {A : Type 0} → Storage A → Text
 stored_bytes (Storage.Inline short) = short
+stored_bytes (Storage.Boxed text) = text.value
 stored_bytes (Storage.Heap text) = string_bytes text.value
