@@ -17,6 +17,9 @@ use thiserror::Error;
 /// The greatest length of an authorization's name, in bytes.
 pub const MAX_NAME: usize = 256;
 
+// Of at most so many names a term's is looked for one by one, of more by a search in their order.
+const FEW: usize = 16;
+
 /// Why a list of texts is refused as a set of authorizations.
 #[derive(Clone, Copy, PartialEq, Eq, Debug, Error)]
 pub enum AuthsFault {
@@ -219,10 +222,20 @@ impl<A: Allocator> Names for Auths<A> {
     ghost among = { λ auths name. is_among auths name };
 
     fn has_term(&self, term: &Term<'_>) -> bool {
+        if self.names.len() <= FEW {
+            return is_one_of(term, &self.names);
+        }
         self.order
             .binary_search_by(|place| term.compare(name_or_empty(&self.names, *place)))
             .is_ok()
     }
+}
+
+// Whether the term's name is one of these. It looks at each in turn.
+fn is_one_of<A: Allocator>(term: &Term<'_>, names: &[Words<A>]) -> bool
+    ensures { result ≡ is_among names.now term.now }
+{
+    names.iter().any(|name| term.is(name.as_str()))
 }
 
 // The index of the first of the names that is not in the set.

@@ -3,6 +3,7 @@ ghost use Rattle.std.specs.Prelude.{◌≡◌, List, ℕ, Bool, false};
 ghost use Rattle.std.specs.Cmp.Lexicographic.{slice_cmp};
 ghost use Rattle.std.specs.Ordering.{nat_cmp};
 ghost use Rattle.st_label.specs.inner.Terms.{unescaped_from};
+ghost use Rattle.st_text.specs.Texts.{same};
 
 use std::cmp::Ordering;
 use std::marker::Model;
@@ -52,6 +53,17 @@ impl<'a> Term<'a> {
             compare_unescaped(name.as_bytes(), self.bytes)
         } else {
             name.as_bytes().cmp(self.bytes)
+        }
+    }
+
+    /// Whether the term stands for this name. It allocates nothing.
+    pub fn is(&self, name: &str) -> bool
+        ensures { result ≡ same self.now name.now }
+    {
+        if self.quoted {
+            compare_unescaped(name.as_bytes(), self.bytes).is_eq()
+        } else {
+            self.bytes == name.as_bytes()
         }
     }
 }
