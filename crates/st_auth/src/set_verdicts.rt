@@ -41,7 +41,8 @@ impl<'s, A: Allocator, B: Allocator> Model for SetVerdicts<'s, A, B> {
 }
 
 impl<'s, A: Allocator + Copy, B: Allocator> SetVerdicts<'s, A, B> {
-    /// An empty cache with room for `capacity` long labels. It allocates with the ninth label that is asked for, or later.
+    /// An empty cache with room for 4,096 labels longer than [`st_text::MAX_SHORT`] bytes in its table, and for `capacity` more
+    /// beside it. It allocates with the ninth label that is asked for, or later.
     pub fn new(alloc: A, capacity: NonZeroUsize, auths: &'s Auths<B>) -> SetVerdicts<'s, A, B>
         ensures { result ≡ auths.now }
     {

@@ -39,7 +39,7 @@ impl<A: Allocator> Model for Verdicts<A> {
 }
 
 impl<A: Allocator + Copy> Verdicts<A> {
-    /// An empty cache with room for `capacity` long labels. `AllocError` when out of memory.
+    /// An empty cache with room for 4,096 long labels in its table, and for `capacity` more beside it. `AllocError` when out of memory.
     pub fn new(alloc: A, capacity: NonZeroUsize) -> Result<Verdicts<A>, AllocError>
         ensures { IfOk result (λ verdicts. verdicts ≡ non_zero_usize_get capacity) }
     {
