@@ -4,12 +4,13 @@ ghost use Rattle.std.specs.List.{All, Contains};
 ghost use Rattle.st_key.specs.declared.period.Period.{Period};
 ghost use Rattle.st_index.specs.declared.row.Row.{Row};
 ghost use Rattle.st_key.specs.Key.{rank};
-ghost use Rattle.st_index.specs.RowViews.{viewed};
+ghost use Rattle.st_index.specs.RowViews.{row_of_view, viewed};
 ghost use Rattle.st_index.specs.Rows.{name_of, NamesRise, rank_of};
 ghost use Rattle.st_index.specs.Index.{Adds, Swaps, IsAbsent};
 
 use crate::row::Row;
 use crate::row_list::RowList;
+use crate::row_view::RowView;
 use crate::rows_view::RowsView;
 use st_key::Key;
 use std::alloc::{Allocator, Global};
@@ -85,9 +86,9 @@ impl<A: Allocator + Copy> Entry<A> {
     }
 
     /// The row of this name.
-    pub fn get(&self, id: &str, label: &str) -> Option<&Row<A>>
-        ensures some { IfSome result (λ row. Contains self.now.rows row.now
-            × ((name_of row.now) ≡ record { id = id.now; label = label.now })) }
+    pub fn get(&self, id: &str, label: &str) -> Option<RowView<'_, A>>
+        ensures some { IfSome result (λ row. Contains self.now.rows (row_of_view row)
+            × ((name_of (row_of_view row)) ≡ record { id = id.now; label = label.now })) }
         ensures absent { IfNone result (NamesRise self.now.rows
             → All (λ (r : Row A). (name_of r) ≡ record { id = id.now; label = label.now } → ⊥) self.now.rows) }
     {

@@ -6,6 +6,7 @@ ghost use Rattle.st_index.specs.RowViews.{viewed};
 
 use crate::room::{overwrite, put, with_room};
 use crate::row::Row;
+use crate::row_view::RowView;
 use crate::rows_view::RowsView;
 use std::alloc::{Allocator, Global};
 use std::marker::Model;
@@ -51,7 +52,7 @@ impl<A: Allocator + Copy> RowList<A> {
     {
         match &self.place {
             Storage::Nowhere => RowsView::Many(&[]),
-            Storage::Inline(row) => RowsView::One(row),
+            Storage::Inline(row) => RowsView::One(RowView::of(row)),
             Storage::Heap(rows) => RowsView::Many(rows.as_slice()),
         }
     }
