@@ -15,9 +15,9 @@ mod note;
 pub mod order;
 mod room;
 mod row;
-mod row_list;
 mod row_view;
 mod rows_view;
+mod storage;
 
 pub use entry::Entry;
 pub use fields::Fields;
