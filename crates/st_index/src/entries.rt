@@ -76,7 +76,8 @@ pub fn put<A: Allocator + Copy>(
         → All (λ (e : EntryValue A). e.at ≡ rank_of period row → ⊥) entries.old.items }
     ensures capacity { vec_capacity entries.old ≤ vec_capacity entries.new }
 {
-    match find(entries, row.key(period)) {
+    let key = row.key(period);
+    match find(entries, key) {
         Ok(i) => {
             let entry = &mut entries[i];
             entry.put(period, row, rows);
@@ -143,7 +144,8 @@ pub fn swap<A: Allocator + Copy>(
     ensures len { vec_len entries.new ≡ vec_len entries.old }
     ensures capacity { vec_capacity entries.new ≡ vec_capacity entries.old }
 {
-    match find(entries, row.key(period)) {
+    let key = row.key(period);
+    match find(entries, key) {
         Ok(i) => {
             let entry = &mut entries[i];
             match entry.swap(period, row) {

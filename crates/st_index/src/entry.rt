@@ -102,10 +102,7 @@ impl<A: Allocator + Copy> Entry<A> {
         ensures rows { self.new.rows ≡ insert self.old.rows index row }
     {
         let place = mem::replace(&mut self.place, storage::nothing());
-        overwrite(
-            &mut self.place,
-            storage::with_row(place, index, row, list),
-        );
+        overwrite(&mut self.place, storage::with_row(place, index, row, list));
     }
 
     // Takes out the row at an index.

@@ -62,7 +62,10 @@ pub(crate) fn alone<A: Allocator>(period: Period, key: Key, row: Row<A>) -> Stor
     ensures rows { stored_rows result ≡ row ∷ [] }
 {
     let Row {
-        id, label, note, ..
+        id,
+        label,
+        note,
+        ..
     } = row;
     Storage::Inline {
         period,
@@ -112,12 +115,7 @@ pub(crate) fn rows_in<A: Allocator>(place: &Storage<A>) -> RowsView<'_, A>
             id,
             label,
             note,
-        } => RowsView::One(RowView::new(
-            point_of(*period, *bin, *address),
-            id,
-            label,
-            note,
-        )),
+        } => RowsView::One(RowView::new(point_of(*period, *bin, *address), id, label, note)),
         Storage::Heap { rows, .. } => RowsView::Many(rows.as_slice()),
     }
 }
@@ -272,11 +270,7 @@ pub(crate) fn without_row<A: Allocator + Copy>(
 }
 
 // The place of rows that lie in a list: a single one that belongs to the key lies there no more.
-fn settled<A: Allocator + Copy>(
-    period: Period,
-    key: Key,
-    mut rows: Vec<Row<A>, A>,
-) -> Storage<A>
+fn settled<A: Allocator + Copy>(period: Period, key: Key, mut rows: Vec<Row<A>, A>) -> Storage<A>
     ensures stored { IsStored result }
     ensures at { stored_at result ≡ rank key }
     ensures rows { stored_rows result ≡ rows.items }

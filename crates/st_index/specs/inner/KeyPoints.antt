@@ -27,4 +27,4 @@ point_of_key period bin address = record {
 abbrev pub IsPointKey : Period → (bin address : ℕ) → Type 0
 IsPointKey period bin address = (bin ≡ (point_of_key period bin address).t / seconds_of period)
     × (address ≡ address_of (point_of_key period bin address).x (point_of_key period bin address).y
-      ((point_of_key period bin address).t % seconds_of period))
+    ((point_of_key period bin address).t % seconds_of period))

@@ -1,15 +1,15 @@
 use Rattle.std.proofs.Common.{◌≡◌, arith, refl, rules}
-use Rattle.st_index.proofs.row_list.without_row.Goals as goal
+use Rattle.st_index.proofs.storage.without_row.Goals as goal
 
 pub returns-in-Inline-clause-value : goal.returns-in-Inline-clause-value
 returns-in-Inline-clause-value g c =
-    let within = rw c.in-Inline.is at c.requires in
+    let within = rw c.in-Inline.is at c.requires.index in
     let first : c.args.index ≡ 0 = omega (arith, within) in
-    rw (c.in-Inline.is, first) refl
+    rw (c.in-Inline.is, first, c.point_of-point.ensures) refl
 
 pub returns-in-Inline-clause-left : goal.returns-in-Inline-clause-left
 returns-in-Inline-clause-left g c =
-    let within = rw c.in-Inline.is at c.requires in
+    let within = rw c.in-Inline.is at c.requires.index in
     let first : c.args.index ≡ 0 = omega (arith, within) in
     rw (c.in-Inline.is, first) refl
 
