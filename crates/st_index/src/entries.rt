@@ -33,7 +33,7 @@ pub fn find<A: Allocator + Copy>(entries: &[Entry<A>], key: Key) -> Result<usize
     entries.binary_search_by(
         |entry: &Entry<A>| -> Ordering
             ensures { result ≡ nat_cmp entry.now.at (rank key) }
-        { order::compare(entry.key, key) },
+        { order::compare(entry.key(), key) },
     )
 }
 

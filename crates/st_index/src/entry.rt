@@ -20,7 +20,7 @@ use std::marker::Model;
 /// which takes 88 bytes where its allocator takes none.
 #[derive(Drop)]
 pub struct Entry<A: Allocator = Global> {
-    pub key: Key,
+    key: Key,
     rows: RowList<A>,
 }
 
@@ -61,6 +61,13 @@ impl<A: Allocator + Copy> Entry<A> {
             Err(place) => place,
         };
         self.rows.insert(place, row, rows);
+    }
+
+    /// The key.
+    pub fn key(&self) -> Key
+        ensures { rank result ≡ self.now.at }
+    {
+        self.key
     }
 
     /// The rows.

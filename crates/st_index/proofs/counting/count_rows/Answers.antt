@@ -13,7 +13,8 @@ overflow_add-count g c =
     let row = c.row-item.result in
     let f = λ (r : Row g.row.A.Denot). cond (is_counted q judges r) 1 0 in
     let below : c.loop-row.row-index < length rows = omega arith in
-    let here : c.count_row-count.result ≡ count_of q judges (row ∷ []) = c.count_row-count.ensures.count ∙ ap (λ j. count_of q j (row ∷ [])) c.loop-row.invariant.same in
+    let here : c.count_row-count.result ≡ count_of q judges (row ∷ []) =
+    c.count_row-count.ensures.count ∙ ap (λ (r : Row g.row.A.Denot). count_of q (g.J.Judge.judges c.loop-row.judge) (r ∷ [])) c.of.ensures ∙ ap (λ j. count_of q j (row ∷ [])) c.loop-row.invariant.same in
     let more = sum_one_more f rows c.loop-row.row-index row below c.row-item.is in
     let most = sum_by-take-le f rows (c.loop-row.row-index + 1) in
     let fits = count_by-le-length (is_counted q judges) rows in
@@ -27,7 +28,8 @@ loop-row-preserved g c =
     let row = c.row-item.result in
     let f = λ (r : Row g.row.A.Denot). cond (is_counted q judges r) 1 0 in
     let below : c.loop-row.row-index < length rows = omega arith in
-    let here : c.count_row-count.result ≡ count_of q judges (row ∷ []) = c.count_row-count.ensures.count ∙ ap (λ j. count_of q j (row ∷ [])) c.loop-row.invariant.same in
+    let here : c.count_row-count.result ≡ count_of q judges (row ∷ []) =
+    c.count_row-count.ensures.count ∙ ap (λ (r : Row g.row.A.Denot). count_of q (g.J.Judge.judges c.loop-row.judge) (r ∷ [])) c.of.ensures ∙ ap (λ j. count_of q j (row ∷ [])) c.loop-row.invariant.same in
     let more = sum_one_more f rows c.loop-row.row-index row below c.row-item.is in
     record {
       count = omega (arith, here, more, c.loop-row.invariant.count);
