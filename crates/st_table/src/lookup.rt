@@ -5,7 +5,7 @@ ghost use Rattle.st_key.specs.declared.period.Period.{Period};
 ghost use Rattle.st_key.specs.Key.{rank};
 ghost use Rattle.st_text.specs.Texts.{in_order};
 ghost use Rattle.st_index.specs.Index.{IsAbsent};
-ghost use Rattle.st_index.specs.RowViews.{viewed};
+ghost use Rattle.st_index.specs.RowViews.{row_of_view, viewed};
 ghost use Rattle.st_index.specs.Rows.{Rises, key_end, name_of, rank_of, rows_of};
 ghost use Rattle.st_scan.specs.Visible.{is_visible};
 ghost use Rattle.st_table.specs.Table.{HasEachOnce};
@@ -14,7 +14,7 @@ ghost use Rattle.st_table.specs.inner.Places.{IsTied, name_hash, number_at, plac
 
 use crate::places::Places;
 use st_auth::{Auths, satisfies};
-use st_index::{Entry, Row, RowIndex, RowsView, entries};
+use st_index::{Entry, RowIndex, RowView, RowsView, entries};
 use st_key::Key;
 use std::alloc::{AllocError, Allocator};
 
@@ -24,11 +24,11 @@ fn find_row<'a, A: Allocator + Copy>(
     key: Key,
     id: &str,
     label: &str,
-) -> Option<&'a Row<A>>
-    ensures held { IfSome result (λ row. Contains (rows_of held.now) row.now) }
+) -> Option<RowView<'a, A>>
+    ensures held { IfSome result (λ row. Contains (rows_of held.now) (row_of_view row)) }
     ensures placed { IfSome result (λ row. (period : Period) (lo hi : _) → Rises period lo hi held.now
-        → rank_of period row.now ≡ rank key) }
-    ensures named { IfSome result (λ row. name_of row.now ≡ record { id = id.now; label = label.now }) }
+        → rank_of period (row_of_view row) ≡ rank key) }
+    ensures named { IfSome result (λ row. name_of (row_of_view row) ≡ record { id = id.now; label = label.now }) }
     ensures absent { IfNone result
         ((period : Period) (lo hi : _) → Rises period lo hi held.now
         → IsAbsent period (rank key) (record { id = id.now; label = label.now }) (rows_of held.now)) }
@@ -103,25 +103,25 @@ fn rows_at<'a, I: RowIndex>(index: &'a I, key: Key) -> RowsView<'a, I::Alloc>
 }
 
 // Whether a row has a label that the authorizations satisfy.
-fn is_shown<A: Allocator + Copy, B: Allocator>(row: &Row<A>, auths: &Auths<B>) -> bool
-    ensures { result ≡ is_visible auths.now row.now }
+fn is_shown<A: Allocator + Copy, B: Allocator>(row: RowView<'_, A>, auths: &Auths<B>) -> bool
+    ensures { result ≡ is_visible auths.now (row_of_view row.entry) }
 {
-    satisfies(&row.label, auths)
+    satisfies(row.label(), auths)
 }
 
 // Appends the rows of an id that the authorizations satisfy.
 fn push_shown<'a, A: Allocator + Copy, B: Allocator>(
-    rows: &mut Vec<&'a Row<A>, A>,
+    rows: &mut Vec<RowView<'a, A>, A>,
     more: RowsView<'a, A>,
     id: &str,
     auths: &Auths<B>,
 ) -> Result<(), AllocError>
-    ensures { OnOk result (map (λ row. row.now) rows.new.items
-        ≡ map (λ row. row.now) rows.old.items ++ filter (is_shown_of id.now auths.now) (viewed more.entry)) }
+    ensures { OnOk result (map row_of_view rows.new.items
+        ≡ map row_of_view rows.old.items ++ filter (is_shown_of id.now auths.now) (viewed more.entry)) }
 {
     let mut left = more;
     'rows: while let Some((row, rest)) = left.split_first() {
-        if row.id.is(id) && is_shown(row, auths) {
+        if row.id().is(id) && is_shown(row, auths) {
             rows.push(row)?;
         }
         left = rest;
@@ -135,9 +135,9 @@ fn shown<'a, I: RowIndex, B: Allocator>(
     places: &Places<I::Alloc>,
     id: &str,
     auths: &Auths<B>,
-) -> Result<Vec<&'a Row<I::Alloc>, I::Alloc>, AllocError>
+) -> Result<Vec<RowView<'a, I::Alloc>, I::Alloc>, AllocError>
     requires { IsTied places.now.seed (I.period_of index.now) places.now.numbers (I.content index.now) }
-    ensures { IfOk result (λ rows. map (λ row. row.now) rows.items
+    ensures { IfOk result (λ rows. map row_of_view rows.items
         ≡ filter (is_shown_of id.now auths.now) (I.content index.now)) }
 {
     let _ = index.period();
@@ -153,11 +153,11 @@ fn shown<'a, I: RowIndex, B: Allocator>(
 }
 
 // Sorts rows by the bytes of their labels.
-fn sort_by_label<A: Allocator + Copy>(rows: &mut Vec<&Row<A>, A>) -> Result<(), AllocError>
-    ensures { OnOk result (map (λ row. row.now) rows.new.items
-        ≡ in_order (λ row. row.label ∷ []) (map (λ row. row.now) rows.old.items)) }
+fn sort_by_label<A: Allocator + Copy>(rows: &mut Vec<RowView<'_, A>, A>) -> Result<(), AllocError>
+    ensures { OnOk result (map row_of_view rows.new.items
+        ≡ in_order (λ row. row.label ∷ []) (map row_of_view rows.old.items)) }
 {
-    rows.sort_by(|one, other| one.label.text().cmp(other.label.text()))?;
+    rows.sort_by(|one, other| one.label().text().cmp(other.label().text()))?;
     Ok(())
 }
 
@@ -167,9 +167,9 @@ pub(crate) fn rows_by_label<'a, I: RowIndex, B: Allocator>(
     places: &Places<I::Alloc>,
     id: &str,
     auths: &Auths<B>,
-) -> Result<Vec<&'a Row<I::Alloc>, I::Alloc>, AllocError>
+) -> Result<Vec<RowView<'a, I::Alloc>, I::Alloc>, AllocError>
     requires { IsTied places.now.seed (I.period_of index.now) places.now.numbers (I.content index.now) }
-    ensures { IfOk result (λ rows. map (λ row. row.now) rows.items
+    ensures { IfOk result (λ rows. map row_of_view rows.items
         ≡ in_order (λ row. row.label ∷ []) (filter (is_shown_of id.now auths.now) (I.content index.now))) }
 {
     let mut rows = shown(index, places, id, auths)?;

@@ -4,6 +4,7 @@ ghost use Rattle.st_key.specs.declared.period.Period.{Period};
 ghost use Rattle.st_key.specs.Key.{rank};
 ghost use Rattle.st_text.specs.Texts.{in_order};
 ghost use Rattle.st_index.specs.Order.{InScanOrder, scan_key};
+ghost use Rattle.st_index.specs.RowViews.{row_of_view};
 ghost use Rattle.st_index.specs.Rows.{name_of};
 ghost use Rattle.st_scan.specs.Grids.{grid_of};
 ghost use Rattle.st_scan.specs.Pages.{visible_after};
@@ -20,7 +21,7 @@ use crate::places::Places;
 use crate::seed::Seed;
 use st_auth::Auths;
 use st_box::Query;
-use st_index::{AsRow, Row, RowIndex, order};
+use st_index::{AsRow, RowIndex, RowView, order};
 use st_key::{Key, Period, Place};
 use st_scan::{Page, ScanFault};
 use std::alloc::{AllocError, Allocator};
@@ -167,8 +168,8 @@ impl<I: RowIndex> Table<I> {
         &self,
         id: &str,
         auths: &Auths<B>,
-    ) -> Result<Vec<&Row<I::Alloc>, I::Alloc>, AllocError>
-        ensures { IfOk result (λ rows. map (λ row. row.now) rows.items ≡ rows_by_label id.now (is_visible auths.now) self.now.rows) }
+    ) -> Result<Vec<RowView<'_, I::Alloc>, I::Alloc>, AllocError>
+        ensures { IfOk result (λ rows. map row_of_view rows.items ≡ rows_by_label id.now (is_visible auths.now) self.now.rows) }
     {
         lookup::rows_by_label(&self.index, &self.places, id, auths)
     }
@@ -190,7 +191,7 @@ impl<I: RowIndex> Table<I> {
         after: Option<&Place<C>>,
         limit: usize,
     ) -> Result<Page<'_, I::Alloc>, ScanFault>
-        ensures rows { IfOk result (λ page. map (λ row. row.now) page.rows.items
+        ensures rows { IfOk result (λ page. map row_of_view page.rows.items
             ≡ take limit (visible_after self.now.period query.now auths.now (option_copied after.entry) self.now.rows)) }
         ensures more { IfOk result (λ page. page.more
             ≡ nat_lt limit (length (visible_after self.now.period query.now auths.now (option_copied after.entry) self.now.rows))) }

@@ -1,7 +1,8 @@
-use Rattle.std.proofs.Common.{◌≡◌, ℕ, ◌<◌, ◌^◌, ◌++◌, ◌∙◌, Bool, true, false, ◌&&◌, Bor, filter, get_or, map, nat_eq, refl, sym, ap, subst, arith}
+use Rattle.std.proofs.Common.{◌≡◌, ℕ, ◌<◌, ◌^◌, ◌++◌, ◌∙◌, Bool, true, false, ◌&&◌, filter, get_or, map, nat_eq, refl, sym, ap, subst, arith}
 use Rattle.st_text.specs.Texts.{Text, same}
 use Rattle.st_text.proofs.Same.{same-eq}
 use Rattle.st_index.specs.declared.row.Row.{Row}
+use Rattle.st_index.specs.RowViews.{row_of_view}
 use Rattle.st_index.specs.Rows.{key_end, rank_of}
 use Rattle.st_table.specs.inner.Found.{is_shown_of}
 use Rattle.st_table.specs.inner.Places.{hash_of}
@@ -19,7 +20,7 @@ of_id id auths r h = same-eq r.id id (first (same r.id id) _ h)
 pub ranks-init : goal.ranks-init
 ranks-init g c = (
   omega arith,
-  ap (map (λ (row : Bor (Row g.row.I-Alloc.Denot)). row.now)) c.new-rows.ensures.items
+  ap (map row_of_view) c.new-rows.ensures.items
       ∙ no_keys (g.I.RowIndex.period_of c.args.index.now) (is_shown_of c.args.id.now c.args.auths.now) (g.I.RowIndex.content c.args.index.now),
 )
 
@@ -48,7 +49,7 @@ ranks-preserved g c =
     let own : c.hash-hash.result ≡ hash_of seed id = c.hash-hash.ensures.value ∙ ap (λ s. hash_of s id) c.seed.ensures in
     let view = c.rows_at.ensures ∙ ap (λ n. filter (stands n) rows) c.key_at.ensures in (
       omega (arith, below),
-      c.in_ok-push_shown.ensures ∙ ap (λ xs. map (λ (row : Bor R). row.now) c.ranks.rows.items ++ filter p xs) view
+      c.in_ok-push_shown.ensures ∙ ap (λ xs. map row_of_view c.ranks.rows.items ++ filter p xs) view
           ∙ ap (λ xs. xs ++ filter p (filter (stands found) rows)) c.ranks.invariant.1
           ∙ next_key period p c.ranks.low found rows c.period.ensures.lawful.in_order c.in-Some.ensures.later
           (λ i d l e. none_of_id seed period c.args.places.now.numbers rows c.requires c.in_ok-keys.keys.numbers c.hash-hash.result c.in_ok-keys.ensures.all
