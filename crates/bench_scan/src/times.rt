@@ -4,7 +4,7 @@ use st_auth::Auths;
 use st_box::Query;
 use st_index::Row;
 use st_key::{Period, Place};
-use st_table::Table;
+use st_table::{Seed, Table};
 use st_ubtree::UbTree;
 use std::alloc::{AllocError, Global};
 use std::io;
@@ -15,6 +15,12 @@ const LIMIT: usize = 100;
 
 // How many columns a grid has, and how many lines.
 const SHARES: usize = 32;
+
+// What the hashes of ids begin with.
+const SEED: Seed = Seed {
+    first: 0x243f_6a88_85a3_08d3,
+    second: 0x1319_8a2e_0370_7344,
+};
 
 /// How long a call took, in nanoseconds, and how many rows it showed.
 #[derive(Clone, Copy)]
@@ -45,7 +51,7 @@ impl Bench {
             Err(_) => Auths::none(alloc),
         };
         let tree = UbTree::new(alloc, Period::Week)?;
-        let table = Table::new(alloc, tree)?;
+        let table = Table::new(alloc, SEED, tree)?;
         Ok(Bench {
             alloc,
             table,

@@ -11,7 +11,7 @@ ghost use Rattle.st_command_line.specs.declared.fault.Fault.TheVariants.{BadDige
 
 use st_auth::AuthsFault;
 use st_command_line::Fault;
-use st_core::Store;
+use st_core::{Seed, Store};
 use st_durable::ReplayedStore;
 use st_service::Service;
 use std::alloc::{AllocError, Global};
@@ -29,13 +29,13 @@ fn digest_of(text: &str) -> Result<[u8; 32], Fault>
 }
 
 // A store of the state that a digest and names open.
-fn store_for(alloc: Global, digest: [u8; 32], names: &[&str]) -> Result<Store, Fault>
+fn store_for(alloc: Global, seed: Seed, digest: [u8; 32], names: &[&str]) -> Result<Store, Fault>
     ensures ok { IfOk result (λ store. store ≡ first_state digest (map (λ name. name.now) names.now)) }
     ensures good { OnOk result (first_bad (map (λ name. name.now) names.now) ≡ None) }
     ensures err { IfErr result (λ fault. (fault ≡ NoMemory)
         ⊎ ((fault ≡ BadName) × (place : ℕ) × (first_bad (map (λ name. name.now) names.now) ≡ Some place))) }
 {
-    match Store::open(alloc, digest, names) {
+    match Store::open(alloc, seed, digest, names) {
         Ok(store) => Ok(store),
         Err(AuthsFault::BadName { .. }) => Err(Fault::BadName),
         Err(AuthsFault::NoMemory) => Err(Fault::NoMemory),
@@ -44,27 +44,37 @@ fn store_for(alloc: Global, digest: [u8; 32], names: &[&str]) -> Result<Store, F
 
 /// The service over a store of the state that 64 hexadecimal digits and names open. An invalid digest is
 /// reported before an invalid name.
-pub fn service_for(alloc: Global, digits: &str, names: &[&str]) -> Result<Service, Fault>
+pub fn service_for(
+    alloc: Global,
+    seed: Seed,
+    digits: &str,
+    names: &[&str],
+) -> Result<Service, Fault>
     ensures ok { IfOk result (Opens digits.now (map (λ name. name.now) names.now)) }
     ensures err { IfErr result (λ fault. (app : App) (words : List Text)
         → SaysRoot app words digits.now (map (λ name. name.now) names.now) → RefusesWords app words fault) }
 {
     let digest = digest_of(digits)?;
-    let store = store_for(alloc, digest, names)?;
+    let store = store_for(alloc, seed, digest, names)?;
     Ok(Service::new(alloc, alloc, store)?)
 }
 
 /// Two stores of the state that 64 hexadecimal digits and names open. An invalid digest is reported before an
 /// invalid name.
-pub fn stores_for(alloc: Global, digits: &str, names: &[&str]) -> Result<(Store, Store), Fault>
+pub fn stores_for(
+    alloc: Global,
+    seed: Seed,
+    digits: &str,
+    names: &[&str],
+) -> Result<(Store, Store), Fault>
     ensures alike { IfOk result (λ both. both.1 ≡ both.0) }
     ensures ok { IfOk result (λ both. Opens digits.now (map (λ name. name.now) names.now) both.0) }
     ensures err { IfErr result (λ fault. (app : App) (words : List Text)
         → SaysRoot app words digits.now (map (λ name. name.now) names.now) → RefusesWords app words fault) }
 {
     let digest = digest_of(digits)?;
-    let first = store_for(alloc, digest, names)?;
-    let second = store_for(alloc, digest, names)?;
+    let first = store_for(alloc, seed, digest, names)?;
+    let second = store_for(alloc, seed, digest, names)?;
     Ok((first, second))
 }
 
@@ -100,6 +110,7 @@ fn opening_for(alloc: Global, digest: [u8; 32], names: &[&str]) -> Result<String
 /// opened with. An invalid digest is reported before an invalid name.
 pub fn stores_and_opening_for(
     alloc: Global,
+    seed: Seed,
     digits: &str,
     names: &[&str],
 ) -> Result<(Store, Store, String), Fault>
@@ -109,8 +120,8 @@ pub fn stores_and_opening_for(
         → SaysRoot app words digits.now (map (λ name. name.now) names.now) → RefusesWords app words fault) }
 {
     let digest = digest_of(digits)?;
-    let opened = store_for(alloc, digest, names)?;
-    let copy = store_for(alloc, digest, names)?;
+    let opened = store_for(alloc, seed, digest, names)?;
+    let copy = store_for(alloc, seed, digest, names)?;
     let opening = opening_for(alloc, digest, names)?;
     Ok((opened, copy, opening))
 }
@@ -119,6 +130,7 @@ pub fn stores_and_opening_for(
 // that its store was opened with. An invalid digest is reported before an invalid name.
 pub(crate) fn replayed_for(
     alloc: Global,
+    seed: Seed,
     digits: &str,
     names: &[&str],
 ) -> Result<(ReplayedStore, String), Fault>
@@ -127,7 +139,7 @@ pub(crate) fn replayed_for(
         → SaysRoot app words digits.now (map (λ name. name.now) names.now) → RefusesWords app words fault) }
 {
     let digest = digest_of(digits)?;
-    let opened = store_for(alloc, digest, names)?;
+    let opened = store_for(alloc, seed, digest, names)?;
     let opening = opening_for(alloc, digest, names)?;
     Ok((ReplayedStore::new(alloc, opened), opening))
 }

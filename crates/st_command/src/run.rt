@@ -9,6 +9,7 @@ use crate::keeper::Keeper;
 use crate::kept::{Place, serve_kept};
 use crate::opening::{replayed_for, service_for};
 use st_command_line::{Fault, RunArguments, give_up};
+use st_core::Seed;
 use st_journal::Journal;
 use st_service::{Ended, IoFault, Service, Sink, Source};
 use std::alloc::Global;
@@ -38,6 +39,7 @@ fn converse<R: Source, W: Sink>(
 // Serves the connection from a store in memory.
 fn run_in_memory<R: Source, W: Sink>(
     alloc: Global,
+    seed: Seed,
     said: &RunArguments<'_>,
     reader: &mut R,
     writer: &mut W,
@@ -51,7 +53,7 @@ fn run_in_memory<R: Source, W: Sink>(
         ⊎ IsRefused words (R.left reader.old) (R.left reader.new) (W.held writer.old) (W.held writer.new)
         (R.has_failed reader.new) (exit_status_after result) }
 {
-    let mut service = service_for(alloc, said.digest, &said.names)?;
+    let mut service = service_for(alloc, seed, said.digest, &said.names)?;
     converse(&mut service, reader, writer)
 }
 
@@ -59,6 +61,7 @@ fn run_in_memory<R: Source, W: Sink>(
 fn run_kept<J: Journal + Drop, K: Keeper<J> + Drop, C: Clock, R: Source, W: Sink>(
     clock: &C,
     alloc: Global,
+    seed: Seed,
     keeper: K,
     said: &RunArguments<'_>,
     path: &str,
@@ -74,7 +77,7 @@ fn run_kept<J: Journal + Drop, K: Keeper<J> + Drop, C: Clock, R: Source, W: Sink
         ⊎ IsKept (K.holds keeper) J.list J.misreads J.may_leave words (R.left reader.old) (R.left reader.new)
         (W.held writer.old) (W.held writer.new) (R.has_failed reader.new) (exit_status_after result) }
 {
-    let (state, opening) = replayed_for(alloc, said.digest, &said.names)?;
+    let (state, opening) = replayed_for(alloc, seed, said.digest, &said.names)?;
     let place = Place { path, opening };
     serve_kept::<Brand, J, K, C, R, W>(clock, alloc, keeper, &place, state, reader, writer)
 }
@@ -83,6 +86,7 @@ fn run_kept<J: Journal + Drop, K: Keeper<J> + Drop, C: Clock, R: Source, W: Sink
 fn run<J: Journal + Drop, K: Keeper<J> + Drop, C: Clock, R: Source, W: Sink>(
     clock: &C,
     alloc: Global,
+    seed: Seed,
     keeper: K,
     words: &[String],
     reader: &mut R,
@@ -95,10 +99,10 @@ fn run<J: Journal + Drop, K: Keeper<J> + Drop, C: Clock, R: Source, W: Sink>(
 {
     let said = RunArguments::read(alloc, words)?;
     match said.store {
-        Some(path) => run_kept(clock, alloc, keeper, &said, path, reader, writer),
+        Some(path) => run_kept(clock, alloc, seed, keeper, &said, path, reader, writer),
         None => {
             drop(keeper);
-            run_in_memory(alloc, &said, reader, writer)
+            run_in_memory(alloc, seed, &said, reader, writer)
         }
     }
 }
@@ -115,6 +119,7 @@ fn run<J: Journal + Drop, K: Keeper<J> + Drop, C: Clock, R: Source, W: Sink>(
 pub fn run_words<J: Journal + Drop, K: Keeper<J> + Drop, C: Clock, R: Source, W: Sink, F: Write>(
     clock: &C,
     alloc: Global,
+    seed: Seed,
     keeper: K,
     words: &[String],
     reader: &mut R,
@@ -126,7 +131,7 @@ pub fn run_words<J: Journal + Drop, K: Keeper<J> + Drop, C: Clock, R: Source, W:
     ensures { Ran (K.holds keeper) J.list J.misreads J.may_leave (map string_bytes words.now) (R.left reader.old)
         (R.left reader.new) (W.held writer.old) (W.held writer.new) (R.has_failed reader.new) result }
 {
-    match run(clock, alloc, keeper, words, reader, writer) {
+    match run(clock, alloc, seed, keeper, words, reader, writer) {
         Ok(()) => 0,
         Err(fault) => give_up("st_run", fault, faults),
     }

@@ -13,6 +13,7 @@ use crate::file::shorten_file;
 use sqlite_std_file::{FileFrom, Start};
 use st_command::stores_and_opening_for;
 use st_command_line::Fault;
+use st_core::Seed;
 use st_journal::Journal;
 use st_journal_file::FileJournal;
 use std::io::Write;
@@ -55,7 +56,12 @@ pub(crate) fn shorten_asked<S: Start, F: Write>(
     if !asked.compacts {
         return Ok(None);
     }
-    let (store, copy, opening) = stores_and_opening_for(rt.alloc(), asked.digits, asked.names)?;
+    let (store, copy, opening) = stores_and_opening_for(
+        rt.alloc(),
+        Seed::random(rt),
+        asked.digits,
+        asked.names,
+    )?;
     drop(copy);
     let (journal, counts) = shorten_file(rt, start, path, opening.as_str(), store)?;
     tell(asked.program, &counts, faults);

@@ -14,4 +14,5 @@ pub use decision::Decision;
 pub use judged::{Judged, JudgedRef, judge};
 pub use runs::run;
 pub use st_policy::{Denial, Entry, Refusal, Reply, Request};
+pub use st_table::Seed;
 pub use store::Store;

@@ -22,6 +22,7 @@ use st_auth::{Auths, AuthsFault};
 use st_dir::{Directory, Name, TableName};
 use st_key::Period;
 use st_policy::{Entry, Reply, Request};
+use st_table::Seed;
 use std::alloc::{AllocError, Allocator, Global};
 use std::marker::Model;
 use tables::Tables;
@@ -48,10 +49,10 @@ impl<A: Allocator + Copy> Model for Store<A> {
 }
 
 // The table points, without rows, with weeks for bins.
-fn first_tables<A: Allocator + Copy>(alloc: A) -> Result<Tables<A>, AllocError>
+fn first_tables<A: Allocator + Copy>(alloc: A, seed: Seed) -> Result<Tables<A>, AllocError>
     ensures { IfOk result (λ tables. tables ≡ record { headings = record { table = codes "points"; period = Week } ∷ []; rows = [] }) }
 {
-    let mut tables = Tables::new(alloc);
+    let mut tables = Tables::new(alloc, seed);
     tables.add(alloc, &points(), Period::Week)?;
     Ok(tables)
 }
@@ -59,12 +60,13 @@ fn first_tables<A: Allocator + Copy>(alloc: A) -> Result<Tables<A>, AllocError>
 // The table points and the listing of no changes.
 fn first_parts<A: Allocator + Copy>(
     alloc: A,
+    seed: Seed,
 ) -> Result<(Tables<A>, HeapCircularBuffer<Entry, A>), AllocError>
     ensures tables { IfOk result (λ parts. parts.0
         ≡ record { headings = record { table = codes "points"; period = Week } ∷ []; rows = [] }) }
     ensures audit { IfOk result (λ parts. (parts.1.items ≡ []) × (parts.1.capacity ≡ 1024)) }
 {
-    let tables = first_tables(alloc)?;
+    let tables = first_tables(alloc, seed)?;
     match HeapCircularBuffer::with_capacity(alloc, AUDIT_LEN) {
         Ok(audit) => Ok((tables, audit)),
         Err(fault) => {
@@ -86,9 +88,14 @@ fn points() -> TableName
 
 impl<A: Allocator + Copy> Store<A> {
     /// The store that a server begins with: the user root, who has this digest of its secret, these
-    /// authorizations and each permission on the system, and the table points, made by root.
+    /// authorizations and each permission on the system, and the table points, made by root. No answer depends on the seed.
     /// `BadName` where a name is no authorization; it comes before `NoMemory`.
-    pub fn open(alloc: A, digest: [u8; 32], auths: &[&str]) -> Result<Store<A>, AuthsFault>
+    pub fn open(
+        alloc: A,
+        seed: Seed,
+        digest: [u8; 32],
+        auths: &[&str],
+    ) -> Result<Store<A>, AuthsFault>
         ensures ok { IfOk result (λ store. store ≡ first_state digest (map (λ name. name.now) auths.now)) }
         ensures good { OnOk result (first_bad (map (λ name. name.now) auths.now) ≡ None) }
         ensures fault { IfErr result (λ fault. RefusesNames (map (λ name. name.now) auths.now) fault) }
@@ -96,7 +103,7 @@ impl<A: Allocator + Copy> Store<A> {
     {
         let auths = Auths::from_list(alloc, auths)?;
         let directory = Directory::new(alloc, digest, auths)?;
-        match first_parts(alloc) {
+        match first_parts(alloc, seed) {
             Ok((tables, audit)) => Ok(Store {
                 alloc,
                 directory,

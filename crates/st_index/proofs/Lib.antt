@@ -1,6 +1,7 @@
 pub mod Sums
 pub mod Tallying
 pub mod Climbing
+pub mod KeyPoints
 pub mod Rising
 pub mod Names
 pub mod Putting

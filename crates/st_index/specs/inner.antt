@@ -1,4 +1,5 @@
 -- Representations and their invariants, which no reader has to believe.
 pub mod Changes
 pub mod Lists
-pub mod RowLists
+pub mod KeyPoints
+pub mod Storages

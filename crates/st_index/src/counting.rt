@@ -1,22 +1,27 @@
 //! How many rows of entries are inside a query and have a label that is found true.
 ghost use Rattle.std.specs.Prelude.{◌≡◌, ◌<◌, ◌^◌, [], ◌∷◌, length};
 ghost use Rattle.st_index.specs.Counting.{count_of};
-ghost use Rattle.st_index.specs.RowViews.{viewed};
+ghost use Rattle.st_index.specs.RowViews.{row_of_view, viewed};
 ghost use Rattle.st_index.specs.Rows.{rows_of};
 
 use crate::entry::Entry;
 use crate::judge::Judge;
 use crate::row::Row;
+use crate::row_view::RowView;
 use crate::rows_view::RowsView;
 use st_box::Query;
 use std::alloc::Allocator;
 
 // 1 where the row is counted, else 0.
-fn count_row<A: Allocator + Copy, J: Judge<A>>(row: &Row<A>, query: &Query, judge: &mut J) -> u64
-    ensures count { result ≡ count_of query.now (J.judges judge.old) (row.now ∷ []) }
+fn count_row<A: Allocator + Copy, J: Judge<A>>(
+    row: RowView<'_, A>,
+    query: &Query,
+    judge: &mut J,
+) -> u64
+    ensures count { result ≡ count_of query.now (J.judges judge.old) (row_of_view row.entry ∷ []) }
     ensures same { J.judges judge.new ≡ J.judges judge.old }
 {
-    if query.has(&row.point) && judge.finds_true(&row.label) {
+    if query.has(&row.point()) && judge.finds_true(row.label()) {
         1
     } else {
         0
@@ -34,7 +39,7 @@ fn count_rows<A: Allocator + Copy, J: Judge<A>>(
 {
     let mut count = 0;
     for row in rows {
-        count += count_row(row, query, judge);
+        count += count_row(RowView::of(row), query, judge);
     }
     count
 }

@@ -13,7 +13,7 @@ ghost use Rattle.st_index.specs.inner.Changes.{IsChange};
 use crate::entry::Entry;
 use crate::row::Row;
 use crate::{order, room};
-use st_key::Key;
+use st_key::{Key, Period};
 use std::alloc::{AllocError, Allocator};
 use std::cmp::Ordering;
 
@@ -33,7 +33,7 @@ pub fn find<A: Allocator + Copy>(entries: &[Entry<A>], key: Key) -> Result<usize
     entries.binary_search_by(
         |entry: &Entry<A>| -> Ordering
             ensures { result ≡ nat_cmp entry.now.at (rank key) }
-        { order::compare(entry.key, key) },
+        { order::compare(entry.key(), key) },
     )
 }
 
@@ -55,35 +55,36 @@ pub fn list_for_more<A: Allocator + Copy>(
     Vec::with_capacity(alloc, (held + 1).saturating_add(held / 2))
 }
 
-/// Puts a row into a list of entries, at its key, and says where. The lists take it without more memory.
+/// Puts a row into a list of entries, at its key in a period, and says where. The lists take it without more memory.
 pub fn put<A: Allocator + Copy>(
     entries: &mut Vec<Entry<A>, A>,
-    key: Key,
+    period: Period,
     row: Row<A>,
     rows: Vec<Row<A>, A>,
 ) -> Change
     requires empty { rows.items ≡ [] }
     requires room { vec_len entries.old < vec_capacity entries.old }
-    requires rows_room { All (λ (e : EntryValue A). e.at ≡ rank key → 0 < length e.rows
+    requires rows_room { All (λ (e : EntryValue A). e.at ≡ rank_of period row → 0 < length e.rows
         → length e.rows < vec_capacity rows) entries.old.items }
     ensures added { Adds row (rows_of entries.old.items) (rows_of entries.new.items) }
     ensures change { IsChange result entries.old.items entries.new.items }
-    ensures rising { (period : Period) (lo hi : _) → rank key ≡ rank_of period row → Rises period lo hi entries.old.items → lo ≤ rank key
-        → rank key < hi → IsAbsent period (rank key) (name_of row) (rows_of entries.old.items) → Rises period lo hi entries.new.items }
+    ensures rising { (lo hi : _) → Rises period lo hi entries.old.items → lo ≤ rank_of period row → rank_of period row < hi
+        → IsAbsent period (rank_of period row) (name_of row) (rows_of entries.old.items) → Rises period lo hi entries.new.items }
     ensures longer { vec_len entries.old ≤ vec_len entries.new }
     ensures at_most_one { vec_len entries.new ≤ vec_len entries.old + 1 }
-    ensures new_key { (period : Period) (lo hi : _) → Rises period lo hi entries.old.items → vec_len entries.old < vec_len entries.new
-        → All (λ (e : EntryValue A). e.at ≡ rank key → ⊥) entries.old.items }
+    ensures new_key { (lo hi : _) → Rises period lo hi entries.old.items → vec_len entries.old < vec_len entries.new
+        → All (λ (e : EntryValue A). e.at ≡ rank_of period row → ⊥) entries.old.items }
     ensures capacity { vec_capacity entries.old ≤ vec_capacity entries.new }
 {
+    let key = row.key(period);
     match find(entries, key) {
         Ok(i) => {
             let entry = &mut entries[i];
-            entry.put(row, rows);
+            entry.put(period, row, rows);
             Change::Altered(i)
         }
         Err(i) => {
-            room::put(entries, i, Entry::new(key, row));
+            room::put(entries, i, Entry::new(period, row));
             Change::Opened(i)
         }
     }
@@ -125,30 +126,29 @@ pub fn take<A: Allocator + Copy>(
     Some(row)
 }
 
-/// Puts a row in the place of the one of its key and name, and says where.
+/// Puts a row in the place of the one of its key in a period and of its name, and says where.
 pub fn swap<A: Allocator + Copy>(
     entries: &mut Vec<Entry<A>, A>,
-    key: Key,
+    period: Period,
     row: Row<A>,
     change: &mut Change,
 ) -> Result<Row<A>, Row<A>>
     ensures ok { IfOk result (λ out. Swaps out row (rows_of entries.old.items) (rows_of entries.new.items)
         × ((name_of out) ≡ (name_of row))) }
     ensures change { IfOk result (λ _. IsChange change.new entries.old.items entries.new.items) }
-    ensures placed { IfOk result (λ out. (period : Period) (lo hi : _) → Rises period lo hi entries.old.items
-        → rank_of period out ≡ rank key) }
-    ensures absent { OnErr result ((period : Period) (lo hi : _) → Rises period lo hi entries.old.items
-        → IsAbsent period (rank key) (name_of row) (rows_of entries.old.items)) }
-    ensures rising { (period : Period) (lo hi : _) → rank key ≡ rank_of period row → Rises period lo hi entries.old.items
-        → Rises period lo hi entries.new.items }
+    ensures placed { IfOk result (λ out. (lo hi : _) → Rises period lo hi entries.old.items → rank_of period out ≡ rank_of period row) }
+    ensures absent { OnErr result ((lo hi : _) → Rises period lo hi entries.old.items
+        → IsAbsent period (rank_of period row) (name_of row) (rows_of entries.old.items)) }
+    ensures rising { (lo hi : _) → Rises period lo hi entries.old.items → Rises period lo hi entries.new.items }
     ensures err { OnErr result (entries.new.items ≡ entries.old.items) }
     ensures len { vec_len entries.new ≡ vec_len entries.old }
     ensures capacity { vec_capacity entries.new ≡ vec_capacity entries.old }
 {
+    let key = row.key(period);
     match find(entries, key) {
         Ok(i) => {
             let entry = &mut entries[i];
-            match entry.swap(row) {
+            match entry.swap(period, row) {
                 Ok(out) => {
                     *change = Change::Altered(i);
                     Ok(out)

@@ -1,72 +1,66 @@
 //! The rows of one key.
-ghost use Rattle.std.specs.Prelude.{◌≡◌, ◌+◌, ◌<◌, ◌==◌, ◌^◌, [], ◌∷◌, length, vec_capacity, IfSome, IfNone, IfOk, OnErr};
-ghost use Rattle.std.specs.List.{All, Contains};
-ghost use Rattle.st_key.specs.declared.period.Period.{Period};
+ghost use Rattle.std.specs.Prelude.{◌≡◌, ◌+◌, ◌<◌, ◌≤◌, ◌==◌, ◌^◌, [], ◌∷◌, length, get_or, set, vec_capacity, IfSome, IfNone, IfOk, OnErr};
+ghost use Rattle.std.specs.List.{All, Contains, insert, remove};
 ghost use Rattle.st_index.specs.declared.row.Row.{Row};
 ghost use Rattle.st_key.specs.Key.{rank};
-ghost use Rattle.st_index.specs.RowViews.{viewed};
+ghost use Rattle.st_index.specs.RowViews.{row_of_view, viewed};
 ghost use Rattle.st_index.specs.Rows.{name_of, NamesRise, rank_of};
 ghost use Rattle.st_index.specs.Index.{Adds, Swaps, IsAbsent};
 
+use crate::room::overwrite;
 use crate::row::Row;
-use crate::row_list::RowList;
+use crate::row_view::RowView;
 use crate::rows_view::RowsView;
-use st_key::Key;
+use crate::storage::{self, Storage};
+use st_key::{Key, Period};
 use std::alloc::{Allocator, Global};
 use std::marker::Model;
+use std::mem;
 
-/// The rows of one key, by their names: by the id's bytes, then by the label's. A row alone lies in the entry,
-/// which takes 88 bytes where its allocator takes none.
+/// The rows of one key, by their names: by the id's bytes, then by the label's. A row alone lies in the entry, and takes no
+/// memory of its own. An entry takes 64 bytes where its allocator takes none.
 #[derive(Drop)]
 pub struct Entry<A: Allocator = Global> {
-    pub key: Key,
-    rows: RowList<A>,
+    place: Storage<A>,
 }
 
-const _: () = prove!(size_of::<Entry>() == 88);
+const _: () = prove!(size_of::<Entry>() == 64);
 
 impl<A: Allocator> Model for Entry<A> {
-    ghost use Rattle.st_key.specs.Key.{rank};
     ghost use Rattle.st_index.specs.Rows.{EntryValue};
 
     ghost Value = { EntryValue A };
 
-    ghost view = { λ e. record { at = rank e.key; rows = e.rows } };
+    ghost use Rattle.st_index.specs.inner.Storages.{IsStored, stored_at, stored_rows};
+
+    ghost view = { λ e. record { at = stored_at e.place; rows = stored_rows e.place } };
+
+    ghost invariant = { λ e. IsStored e.place };
 }
 
 impl<A: Allocator + Copy> Entry<A> {
-    /// An entry of one row, which takes no memory of its own.
-    pub fn new(key: Key, row: Row<A>) -> Self
-        ensures { result ≡ record { at = rank key; rows = row ∷ [] } }
+    /// An entry of one row at its key in a period, which takes no memory of its own.
+    pub fn new(period: Period, row: Row<A>) -> Self
+        ensures { result ≡ record { at = rank_of period row; rows = row ∷ [] } }
     {
+        let key = row.key(period);
         Entry {
-            key,
-            rows: RowList::one(row),
+            place: storage::alone(period, key, row),
         }
     }
 
-    /// Puts a row at its place. Where there are rows already and their list is full, the new list takes all of them without
-    /// more memory.
-    pub fn put(&mut self, row: Row<A>, rows: Vec<Row<A>, A>)
-        requires empty { rows.items ≡ [] }
-        requires room { 0 < length self.old.rows → length self.old.rows < vec_capacity rows }
-        ensures at { self.new.at ≡ self.old.at }
-        ensures added { Adds row self.old.rows self.new.rows }
-        ensures named { (period : Period) → NamesRise self.old.rows → IsAbsent period (rank_of period row) (name_of row) self.old.rows
-            → All (λ r. rank_of period r ≡ rank_of period row) self.old.rows → NamesRise self.new.rows }
+    /// The key.
+    pub fn key(&self) -> Key
+        ensures { rank result ≡ self.now.at }
     {
-        let place = match self.rows().find(row.id.as_str(), row.label.text()) {
-            Ok(place) => place,
-            Err(place) => place,
-        };
-        self.rows.insert(place, row, rows);
+        storage::key_of(&self.place)
     }
 
     /// The rows.
     pub fn rows(&self) -> RowsView<'_, A>
         ensures { viewed result ≡ self.now.rows }
     {
-        self.rows.rows()
+        storage::rows_in(&self.place)
     }
 
     /// How many rows the entry has.
@@ -74,20 +68,20 @@ impl<A: Allocator + Copy> Entry<A> {
         ensures value { result ≡ length self.now.rows }
         ensures in_range { result + 1 < 2 ^ 64 }
     {
-        self.rows.len()
+        storage::count(&self.place)
     }
 
     /// Whether the entry has no row left.
     pub fn is_empty(&self) -> bool
         ensures { result ≡ (length self.now.rows == 0) }
     {
-        self.rows().is_empty()
+        self.len() == 0
     }
 
     /// The row of this name.
-    pub fn get(&self, id: &str, label: &str) -> Option<&Row<A>>
-        ensures some { IfSome result (λ row. Contains self.now.rows row.now
-            × ((name_of row.now) ≡ record { id = id.now; label = label.now })) }
+    pub fn get(&self, id: &str, label: &str) -> Option<RowView<'_, A>>
+        ensures some { IfSome result (λ row. Contains self.now.rows (row_of_view row)
+            × ((name_of (row_of_view row)) ≡ record { id = id.now; label = label.now })) }
         ensures absent { IfNone result (NamesRise self.now.rows
             → All (λ (r : Row A). (name_of r) ≡ record { id = id.now; label = label.now } → ⊥) self.now.rows) }
     {
@@ -98,8 +92,67 @@ impl<A: Allocator + Copy> Entry<A> {
         }
     }
 
-    /// Takes out the row of this name.
-    pub fn take(&mut self, id: &str, label: &str) -> Option<Row<A>>
+    // Puts in a row at an index, beside others. Where their list is full, the new list takes all of them without more memory.
+    fn insert(&mut self, index: usize, row: Row<A>, list: Vec<Row<A>, A>)
+        requires some { 0 < length self.old.rows }
+        requires index { index ≤ length self.old.rows }
+        requires empty { list.items ≡ [] }
+        requires room { length self.old.rows < vec_capacity list }
+        ensures at { self.new.at ≡ self.old.at }
+        ensures rows { self.new.rows ≡ insert self.old.rows index row }
+    {
+        let place = mem::replace(&mut self.place, storage::nothing());
+        overwrite(&mut self.place, storage::with_row(place, index, row, list));
+    }
+
+    // Takes out the row at an index.
+    fn remove(&mut self, index: usize) -> Row<A>
+        requires { index < length self.old.rows }
+        ensures value { result ≡ get_or self.old.rows index result }
+        ensures at { self.new.at ≡ self.old.at }
+        ensures rows { self.new.rows ≡ remove self.old.rows index }
+    {
+        let place = mem::replace(&mut self.place, storage::nothing());
+        let (row, left) = storage::without_row(place, index);
+        overwrite(&mut self.place, left);
+        row
+    }
+
+    // Puts a row of the key in the place of the one at an index.
+    fn replace(&mut self, index: usize, period: Period, row: Row<A>) -> Row<A>
+        requires key { self.old.at ≡ rank_of period row }
+        requires index { index < length self.old.rows }
+        ensures value { result ≡ get_or self.old.rows index result }
+        ensures at { self.new.at ≡ self.old.at }
+        ensures rows { self.new.rows ≡ set self.old.rows index row }
+    {
+        storage::replace(&mut self.place, index, period, row)
+    }
+
+    // Puts a row of the key at its place. Where there are rows already and their list is full, the new list takes all of them
+    // without more memory.
+    pub(crate) fn put(&mut self, period: Period, row: Row<A>, rows: Vec<Row<A>, A>)
+        requires key { self.old.at ≡ rank_of period row }
+        requires empty { rows.items ≡ [] }
+        requires room { 0 < length self.old.rows → length self.old.rows < vec_capacity rows }
+        ensures at { self.new.at ≡ self.old.at }
+        ensures added { Adds row self.old.rows self.new.rows }
+        ensures named { NamesRise self.old.rows → IsAbsent period (rank_of period row) (name_of row) self.old.rows
+            → All (λ r. rank_of period r ≡ rank_of period row) self.old.rows → NamesRise self.new.rows }
+    {
+        if self.is_empty() {
+            overwrite(self, Entry::new(period, row));
+            return;
+        }
+        let place = match self.rows().find(row.id.as_str(), row.label.text()) {
+            Ok(place) => place,
+            Err(place) => place,
+        };
+        self.insert(place, row, rows);
+    }
+
+    // Takes out the row of this name.
+    pub(crate) fn take(&mut self, id: &str, label: &str) -> Option<Row<A>>
         ensures at { self.new.at ≡ self.old.at }
         ensures some { IfSome result (λ row. Adds row self.new.rows self.old.rows
             × ((name_of row) ≡ record { id = id.now; label = label.now })) }
@@ -109,13 +162,14 @@ impl<A: Allocator + Copy> Entry<A> {
         ensures named { NamesRise self.old.rows → NamesRise self.new.rows }
     {
         match self.rows().find(id, label) {
-            Ok(i) => Some(self.rows.remove(i)),
+            Ok(i) => Some(self.remove(i)),
             Err(_) => None,
         }
     }
 
-    /// Puts a row in the place of the one of its name.
-    pub fn swap(&mut self, row: Row<A>) -> Result<Row<A>, Row<A>>
+    // Puts a row of the key in the place of the one of its name.
+    pub(crate) fn swap(&mut self, period: Period, row: Row<A>) -> Result<Row<A>, Row<A>>
+        requires { self.old.at ≡ rank_of period row }
         ensures at { self.new.at ≡ self.old.at }
         ensures ok { IfOk result (λ out. Swaps out row self.old.rows self.new.rows × ((name_of out) ≡ (name_of row))) }
         ensures err { OnErr result (self.new ≡ self.old) }
@@ -123,7 +177,7 @@ impl<A: Allocator + Copy> Entry<A> {
         ensures named { NamesRise self.old.rows → NamesRise self.new.rows }
     {
         match self.rows().find(row.id.as_str(), row.label.text()) {
-            Ok(i) => Ok(self.rows.replace(i, row)),
+            Ok(i) => Ok(self.replace(i, period, row)),
             Err(_) => Err(row),
         }
     }

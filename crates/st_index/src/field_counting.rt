@@ -1,13 +1,14 @@
 //! How many rows of entries are in each field, of those inside a query that have a label that is found true.
 ghost use Rattle.std.specs.Prelude.{◌≡◌, ℕ, ◌+◌, ◌<◌, ◌^◌, [], ◌∷◌, cond, get_or, length, nat_eq};
 ghost use Rattle.st_index.specs.Fields.{CanAdd, Counts};
-ghost use Rattle.st_index.specs.RowViews.{viewed};
+ghost use Rattle.st_index.specs.RowViews.{row_of_view, viewed};
 ghost use Rattle.st_index.specs.Rows.{rows_of};
 
 use crate::entry::Entry;
 use crate::fields::Fields;
 use crate::judge::Judge;
 use crate::row::Row;
+use crate::row_view::RowView;
 use crate::rows_view::RowsView;
 use std::alloc::Allocator;
 
@@ -22,18 +23,19 @@ pub fn add(counts: &mut [u64], field: usize, rows: u64)
 
 // Counts the row in its field, if it is counted.
 fn count_row<A: Allocator + Copy, J: Judge<A>, F: Fields>(
-    row: &Row<A>,
+    row: RowView<'_, A>,
     judge: &mut J,
     fields: &F,
     counts: &mut [u64],
 )
     requires long { length counts.old ≡ F.count fields.now }
     requires fits { CanAdd 1 counts.old }
-    ensures counts { Counts (F.query fields.now) (J.judges judge.old) (F.field_of fields.now) (row.now ∷ []) counts.old counts.new }
+    ensures counts { Counts (F.query fields.now) (J.judges judge.old) (F.field_of fields.now) (row_of_view row.entry ∷ []) counts.old counts.new }
     ensures same { J.judges judge.new ≡ J.judges judge.old }
 {
-    if fields.query().has(&row.point) && judge.finds_true(&row.label) {
-        let field = fields.field(&row.point);
+    let point = row.point();
+    if fields.query().has(&point) && judge.finds_true(row.label()) {
+        let field = fields.field(&point);
         add(counts, field, 1);
     }
 }
@@ -51,7 +53,7 @@ fn count_rows<A: Allocator + Copy, J: Judge<A>, F: Fields>(
     ensures same { J.judges judge.new ≡ J.judges judge.old }
 {
     for row in rows {
-        count_row(row, judge, fields, counts);
+        count_row(RowView::of(row), judge, fields, counts);
     }
 }
 

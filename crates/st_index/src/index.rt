@@ -7,12 +7,14 @@ ghost use Rattle.st_index.specs.Rows.{key_end, name_of, rank_of};
 ghost use Rattle.st_key.specs.Key.{rank};
 ghost use Rattle.st_index.specs.Counting.{count_of};
 ghost use Rattle.st_index.specs.Fields.{Counts};
+ghost use Rattle.st_index.specs.RowViews.{row_of_view};
 ghost use Rattle.st_index.specs.Index.{Adds, Swaps, IsAbsent, Holds, Region, region, IsLawful, IsLeafAt};
 
 use crate::entry::Entry;
 use crate::fields::Fields;
 use crate::judge::Judge;
 use crate::row::Row;
+use crate::row_view::RowView;
 use st_box::Query;
 use st_key::{Key, Period};
 use std::alloc::{AllocError, Allocator, Global};
@@ -34,8 +36,8 @@ pub trait AsRow<A: Allocator + Copy>: Drop {
         ensures { result.now ≡ value self.now };
 
     /// An equal row, or an error if memory runs out.
-    fn copy_of(row: &Row<A>) -> Result<Self, AllocError>
-        ensures { IfOk result (λ other. value other ≡ row.now) };
+    fn copy_of(row: &RowView<'_, A>) -> Result<Self, AllocError>
+        ensures { IfOk result (λ other. value other ≡ row_of_view row.now) };
 }
 
 impl<A: Allocator + Copy> AsRow<A> for Row<A> {
@@ -45,7 +47,7 @@ impl<A: Allocator + Copy> AsRow<A> for Row<A> {
         self
     }
 
-    fn copy_of(row: &Row<A>) -> Result<Row<A>, AllocError> {
+    fn copy_of(row: &RowView<'_, A>) -> Result<Row<A>, AllocError> {
         row.copy()
     }
 }

@@ -15,8 +15,9 @@ mod note;
 pub mod order;
 mod room;
 mod row;
-mod row_list;
+mod row_view;
 mod rows_view;
+mod storage;
 
 pub use entry::Entry;
 pub use fields::Fields;
@@ -26,4 +27,5 @@ pub use judge::Judge;
 pub use list_index::{ListIndex, ListSpare};
 pub use note::{MAX_NOTE, Note};
 pub use row::Row;
+pub use row_view::RowView;
 pub use rows_view::RowsView;

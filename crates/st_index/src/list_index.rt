@@ -107,8 +107,7 @@ impl<A: Allocator + Copy> RowIndex for ListIndex<A> {
     fn insert(&mut self, row: Row<A>, spare: ListSpare<A>) {
         let ListSpare { mut entries, rows } = spare;
         room::take_over(&mut entries, &mut self.entries);
-        let key = row.key(self.period);
-        entries::put(&mut entries, key, row, rows);
+        entries::put(&mut entries, self.period, row, rows);
         self.entries = entries;
         self.len += 1;
     }
@@ -121,9 +120,8 @@ impl<A: Allocator + Copy> RowIndex for ListIndex<A> {
     }
 
     fn replace(&mut self, row: Row<A>) -> Row<A> {
-        let key = row.key(self.period);
         let mut change = Change::Altered(0);
-        let Ok(out) = entries::swap(&mut self.entries, key, row, &mut change) else {
+        let Ok(out) = entries::swap(&mut self.entries, self.period, row, &mut change) else {
             unreachable!()
         };
         out

@@ -3,16 +3,17 @@ ghost use Rattle.std.specs.Prelude.{◌≡◌, ◌==◌, ◌<◌, [], ◌∷◌,
 ghost use Rattle.std.specs.List.Sorted.{IsSearchInRange, IsBinarySearchResult};
 ghost use Rattle.st_index.specs.declared.row.Row.{Row};
 ghost use Rattle.st_index.specs.Rows.{name_cmp, name_of};
-ghost use Rattle.st_index.specs.RowViews.{viewed};
+ghost use Rattle.st_index.specs.RowViews.{row_of_view, viewed};
 
 use crate::row::Row;
+use crate::row_view::RowView;
 use std::alloc::{Allocator, Global};
 use std::cmp::Ordering;
 
 /// Rows in an order, by reference: one row, wherever it lies, or rows that lie side by side.
 #[derive_where(Clone, Copy)]
 pub enum RowsView<'a, A: Allocator = Global> {
-    One(&'a Row<A>),
+    One(RowView<'a, A>),
     Many(&'a [Row<A>]),
 }
 
@@ -29,10 +30,14 @@ fn find_name<A: Allocator + Copy>(rows: &[Row<A>], id: &str, label: &str) -> Res
 }
 
 // The index of the row if it has this name, or the index beside it where a row of this name would stand.
-fn find_beside<A: Allocator + Copy>(row: &Row<A>, id: &str, label: &str) -> Result<usize, usize>
+fn find_beside<A: Allocator + Copy>(
+    row: RowView<'_, A>,
+    id: &str,
+    label: &str,
+) -> Result<usize, usize>
     ensures bound { IsSearchInRange result 1 }
     ensures place { IsBinarySearchResult (λ (r : Row A). name_cmp (name_of r) (record { id = id.now; label = label.now }))
-        (row.now ∷ []) result }
+        (row_of_view row.entry ∷ []) result }
 {
     match row.cmp_name(id, label) {
         Ordering::Less => Err(1),
@@ -53,27 +58,27 @@ impl<'a, A: Allocator + Copy> RowsView<'a, A> {
     }
 
     /// The first row, and the rows after it.
-    pub fn split_first(self) -> Option<(&'a Row<A>, RowsView<'a, A>)>
-        ensures some { IfSome result (λ found. viewed self.entry ≡ found.0.now ∷ viewed found.1) }
+    pub fn split_first(self) -> Option<(RowView<'a, A>, RowsView<'a, A>)>
+        ensures some { IfSome result (λ found. viewed self.entry ≡ row_of_view found.0 ∷ viewed found.1) }
         ensures none { IfNone result (viewed self.entry ≡ []) }
     {
         match self {
             RowsView::One(row) => Some((row, RowsView::Many(&[]))),
             RowsView::Many(rows) => {
                 let (row, rest) = rows.split_first()?;
-                Some((row, RowsView::Many(rest)))
+                Some((RowView::of(row), RowsView::Many(rest)))
             }
         }
     }
 
     /// The row at an index.
-    pub fn at(self, index: usize) -> &'a Row<A>
+    pub fn at(self, index: usize) -> RowView<'a, A>
         requires { index < length (viewed self) }
-        ensures { result.now ≡ get_or (viewed self.entry) index result.now }
+        ensures { row_of_view result ≡ get_or (viewed self.entry) index (row_of_view result) }
     {
         match self {
             RowsView::One(row) => row,
-            RowsView::Many(rows) => &rows[index],
+            RowsView::Many(rows) => RowView::of(&rows[index]),
         }
     }
 

@@ -14,7 +14,7 @@ use crate::listening::{begin, tell};
 use st_command::{Keeper, stores_and_opening_for};
 use st_command_line::{Fault, ServedArguments};
 use st_copy::Copier;
-use st_core::Store;
+use st_core::{Seed, Store};
 use st_durable::{Beginning, ReplayedCopies};
 use st_durable_hall::DurableHall;
 use st_durable_station::DurableStation;
@@ -213,6 +213,7 @@ pub(crate) fn run_kept<
 >(
     rt: &R,
     alloc: Global,
+    seed: Seed,
     keeper: K,
     copier: L,
     said: &ServedArguments<'_>,
@@ -224,7 +225,7 @@ pub(crate) fn run_kept<
         → IsRefused words (O.contents output.old) (O.contents output.new) (exit_status_after result)
         ⊎ IsKept (K.holds keeper) J.Journal.list J.Journal.misreads words (O.contents output.old) (O.contents output.new) (exit_status_after result) }
 {
-    let (first, second, opening) = stores_and_opening_for(alloc, said.digest, &said.names)?;
+    let (first, second, opening) = stores_and_opening_for(alloc, seed, said.digest, &said.names)?;
     let place = Place { path, opening };
     let copies = ReplayedCopies::new(alloc, first, second);
     serve_kept::<Brand, J, K, L, R, O>(rt, alloc, keeper, copier, &place, copies, said, output)

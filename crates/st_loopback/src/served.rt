@@ -14,7 +14,7 @@ use crate::listening::{attend, begin, tell};
 use st_command::{Keeper, stores_for};
 use st_command_line::{Fault, ServedArguments, give_up};
 use st_copy::Copier;
-use st_core::Store;
+use st_core::{Seed, Store};
 use st_hall::{Clerk, Desk, Hall, HallFault, HallName, UnnamedFor};
 use st_journal::ReadBack;
 use st_station::Station;
@@ -117,13 +117,19 @@ fn open_hall<
 fn run_in_memory<
     R: Net<Listener = TcpListener, Stream = TcpStream> + Threads + Wait + Clock + Eprint + Sync,
     O: Write,
->(rt: &R, alloc: Global, said: &ServedArguments<'_>, output: &mut O) -> Result<(), Fault>
+>(
+    rt: &R,
+    alloc: Global,
+    seed: Seed,
+    said: &ServedArguments<'_>,
+    output: &mut O,
+) -> Result<(), Fault>
     requires in_memory { store_of said.now ≡ None }
     ensures { (words : List Text) → SaysServed words said.now
         → IsServed words (O.contents output.old) (O.contents output.new) (exit_status_after result)
         ⊎ IsRefused words (O.contents output.old) (O.contents output.new) (exit_status_after result) }
 {
-    let both = stores_for(alloc, said.digest, &said.names)?;
+    let both = stores_for(alloc, seed, said.digest, &said.names)?;
     let workers = said.worker_count();
     let name = UnnamedFor::of(workers);
     open_hall::<Brand, _, _>(rt, alloc, name, both, said, workers, output)
@@ -139,6 +145,7 @@ fn run<
 >(
     rt: &R,
     alloc: Global,
+    seed: Seed,
     keeper: K,
     copier: L,
     words: &[String],
@@ -149,11 +156,13 @@ fn run<
 {
     let said = ServedArguments::read(alloc, words)?;
     match said.store {
-        Some(path) => run_kept::<J, K, L, R, O>(rt, alloc, keeper, copier, &said, path, output),
+        Some(path) => run_kept::<J, K, L, R, O>(
+            rt, alloc, seed, keeper, copier, &said, path, output,
+        ),
         None => {
             drop(keeper);
             drop(copier);
-            run_in_memory(rt, alloc, &said, output)
+            run_in_memory(rt, alloc, seed, &said, output)
         }
     }
 }
@@ -178,6 +187,7 @@ pub fn serve_words<
 >(
     rt: &R,
     alloc: Global,
+    seed: Seed,
     keeper: K,
     copier: L,
     words: &[String],
@@ -186,7 +196,7 @@ pub fn serve_words<
 ) -> u8
     ensures { Ran (K.holds keeper) J.Journal.list J.Journal.misreads (map string_bytes words.now) (O.contents output.old) (O.contents output.new) result }
 {
-    match run(rt, alloc, keeper, copier, words, output) {
+    match run(rt, alloc, seed, keeper, copier, words, output) {
         Ok(()) => 0,
         Err(fault) => give_up("st_served", fault, faults),
     }

@@ -7,6 +7,7 @@ ghost use Rattle.st_store_file.specs.Holding.{HoldStore};
 use sqlite_std_file::{FileFrom, Start};
 use st_command::run_words;
 use st_connection::{Sink, Source};
+use st_core::Seed;
 use st_journal::Journal;
 use st_journal_file::FileJournal;
 use st_store_file::SqliteKeeper;
@@ -30,5 +31,6 @@ pub fn run_files<S: Start, R: Source, W: Sink, F: Write>(
         (R.has_failed reader.new) result }
 {
     let keeper = SqliteKeeper::new(rt, start);
-    run_words(rt, rt.alloc(), keeper, words, reader, writer, faults)
+    let seed = Seed::random(rt);
+    run_words(rt, rt.alloc(), seed, keeper, words, reader, writer, faults)
 }

@@ -1,5 +1,6 @@
 //! Pages of a scan.
 ghost use Rattle.std.specs.Prelude.{◌≡◌, ◌↔◌, ◌<◌, ◌≤◌, ◌⊎◌, filter, length, map, nat_lt, option_copied, take, IsOk, IfOk, IfErr};
+ghost use Rattle.st_index.specs.RowViews.{row_of_view};
 ghost use Rattle.st_scan.specs.declared.fault.ScanFault.TheVariants.{BadGrid, BadLimit, NoMemory};
 ghost use Rattle.st_scan.specs.Pages.{visible_after};
 ghost use Rattle.st_scan.specs.inner.Starts.{is_shown};
@@ -27,7 +28,7 @@ fn fill<'a, I: RowIndex, B: Allocator, C: Allocator + Copy>(
     after: Option<&Place<C>>,
     limit: usize,
 ) -> Result<Page<'a, I::Alloc>, ScanFault>
-    ensures rows { IfOk result (λ page. map (λ row. row.now) page.rows.items
+    ensures rows { IfOk result (λ page. map row_of_view page.rows.items
         ≡ take limit (filter (is_shown period (option_copied after.entry) verdicts.old) walk.old.left)) }
     ensures more { IfOk result (λ page. page.more
         ≡ nat_lt limit (length (filter (is_shown period (option_copied after.entry) verdicts.old) walk.old.left))) }
@@ -35,7 +36,7 @@ fn fill<'a, I: RowIndex, B: Allocator, C: Allocator + Copy>(
 {
     let mut rows = Vec::new(alloc);
     'rows: while let Some(row) = walk.next() {
-        if is_past(after, row, period) && verdicts.ask(&row.label) {
+        if is_past(after, row, period) && verdicts.ask(row.label()) {
             if rows.len() == limit {
                 return Ok(Page { rows, more: true });
             }
@@ -56,7 +57,7 @@ pub fn page<'a, I: RowIndex, B: Allocator, C: Allocator + Copy>(
     after: Option<&Place<C>>,
     limit: usize,
 ) -> Result<Page<'a, I::Alloc>, ScanFault>
-    ensures rows { IfOk result (λ page. map (λ row. row.now) page.rows.items
+    ensures rows { IfOk result (λ page. map row_of_view page.rows.items
         ≡ take limit (visible_after (I.period_of index.now) query.now auths.now (option_copied after.entry) (I.content index.now))) }
     ensures more { IfOk result (λ page. page.more ≡ nat_lt limit (length
         (visible_after (I.period_of index.now) query.now auths.now (option_copied after.entry) (I.content index.now)))) }

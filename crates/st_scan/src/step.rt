@@ -36,7 +36,7 @@ pub(crate) fn rows_of_entry<A: Allocator + Copy>(entry: &Entry<A>) -> RowsView<'
 pub(crate) fn key_of<A: Allocator + Copy>(entry: &Entry<A>) -> Key
     ensures { rank result ≡ entry.now.at }
 {
-    entry.key
+    entry.key()
 }
 
 // Whether the key is that of a point inside the query. A key of an exact range is not tested.
@@ -83,7 +83,7 @@ fn skip_to<A: Allocator + Copy>(entries: &[Entry<A>], from: Key) -> &[Entry<A>]
     let before = entries.partition_point(
         |entry: &Entry<A>| -> bool
             ensures { result ≡ ltb entry.now.at (rank from) }
-        { order::is_before(entry.key, from) },
+        { order::is_before(entry.key(), from) },
     );
     &entries[before..]
 }

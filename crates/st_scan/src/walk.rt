@@ -1,6 +1,7 @@
 //! Walks over the rows of a query.
 ghost use Rattle.std.specs.Prelude.{◌≡◌, ◌<◌, ◌≤◌, ◌^◌, ◌∷◌, [], filter, length, IfSome, IfNone};
 ghost use Rattle.st_key.specs.Key.{rank};
+ghost use Rattle.st_index.specs.RowViews.{row_of_view};
 ghost use Rattle.st_index.specs.Rows.{key_end, rank_of};
 ghost use Rattle.st_scan.specs.Regions.{Count, Meets};
 ghost use Rattle.st_scan.specs.Rows.{has_row, has_row_from};
@@ -14,7 +15,7 @@ use crate::position::Position;
 use crate::step::forward;
 use arrayvec::ArrayVec;
 use st_box::{KeyTest, Query};
-use st_index::{Row, RowIndex, RowsView};
+use st_index::{RowIndex, RowView, RowsView};
 use st_key::Key;
 use st_plan::Plan;
 use std::alloc::Allocator;
@@ -111,13 +112,13 @@ impl<'a, 'p, I: RowIndex> Walk<'a, 'p, I> {
     }
 
     /// The next row that is inside the query, whatever its label.
-    pub fn next(&mut self) -> Option<&'a Row<I::Alloc>>
-        ensures some { IfSome result (λ row. self.old.left ≡ row.now ∷ self.new.left) }
+    pub fn next(&mut self) -> Option<RowView<'a, I::Alloc>>
+        ensures some { IfSome result (λ row. self.old.left ≡ row_of_view row ∷ self.new.left) }
         ensures none { IfNone result (self.old.left ≡ []) }
         ensures end { IfNone result (self.new.left ≡ []) }
         ensures opened { IfSome result
-            (λ row. Count (MeetsUpTo self.old.period self.old.query self.old.start (rank_of self.old.period row.now)) self.old.regions
-            self.new.opened) }
+            (λ row. Count (MeetsUpTo self.old.period self.old.query self.old.start (rank_of self.old.period (row_of_view row)))
+            self.old.regions self.new.opened) }
         ensures opened_all { IfNone result (Count (Meets self.old.period self.old.query self.old.start) self.old.regions self.new.opened) }
         ensures start { self.new.start ≡ self.old.start }
         ensures query { self.new.query ≡ self.old.query }

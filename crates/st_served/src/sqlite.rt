@@ -6,6 +6,7 @@ ghost use Rattle.st_store_file.specs.Holding.{HoldStore};
 
 use sqlite_std_file::{FileFrom, Start};
 use st_copy_file::SqliteCopier;
+use st_core::Seed;
 use st_journal::Journal;
 use st_journal_file::FileJournal;
 use st_loopback::serve_words;
@@ -30,5 +31,15 @@ pub fn serve_files<
 {
     let keeper = SqliteKeeper::new(files, start);
     let copier = SqliteCopier::new(files);
-    serve_words(rt, files.alloc(), keeper, copier, words, output, faults)
+    let seed = Seed::random(files);
+    serve_words(
+        rt,
+        files.alloc(),
+        seed,
+        keeper,
+        copier,
+        words,
+        output,
+        faults,
+    )
 }

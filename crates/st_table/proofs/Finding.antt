@@ -1,17 +1,15 @@
--- The one row of a name, where its key is known.
-use Rattle.std.proofs.Common.{◌≡◌, ℕ, ◌<◌, List, [], ◌∷◌, ◌++◌, filter, length, get_or, Bool, true, false, refl, sym, ap, ◌∙◌, subst, arith}
+-- The rows of a key, and the row of a name among them.
+use Rattle.std.proofs.Common.{◌≡◌, ℕ, suc, ◌+◌, ◌<◌, nat_eq, take, drop, List, [], ◌∷◌, ◌++◌, filter, length, get_or, Bool, true, refl, sym, ap, ◌∙◌, subst, arith}
 use Rattle.std.specs.List.{All, Contains}
-use Rattle.std.proofs.lemmas.List.Elements.{All-nil, All-cons, All-contains, All-contains_itself}
+use Rattle.std.proofs.lemmas.Bool.{eqb-true, eq-eqb}
+use Rattle.std.proofs.lemmas.List.Elements.{All-contains, All-contains_itself, All-head, All-tail, filter-append as filter_append}
 use Rattle.st_key.specs.declared.period.Period.{Period}
 use Rattle.st_index.specs.declared.row.Row.{Row}
 use Rattle.st_index.specs.Index.{IsAbsent, IsLeafAt, Region}
 use Rattle.st_index.specs.Rows.{EntryValue, Name, name_of, rank_of, rows_of}
 use Rattle.st_index.proofs.Climbing.{all_left, all_right}
-use Rattle.st_index.proofs.Sorting.{middle}
-use Rattle.st_index.proofs.Taking.{absent_high, absent_join, absent_low, rows_at}
-use Rattle.st_table.specs.Table.{is_named, rows_with_name}
-use Rattle.st_table.specs.inner.Found.{IsAt}
-use Rattle.st_table.proofs.Replacing.{bears, holds}
+use Rattle.st_index.proofs.Taking.{absent_entries, absent_high, absent_join, absent_low, around, rows_at, rows_below, rows_from}
+use Rattle.st_table.proofs.Standing.{filter_none}
 
 -- an element of an entry's rows is one of the entries'
 pub in_rows : {A : Type 0} (es : List (EntryValue A)) (i : ℕ) (e : EntryValue A) → i < length es → e ≡ get_or es i e → (row : Row A) → Contains e.rows row → Contains (rows_of es) row
@@ -20,57 +18,61 @@ in_rows es i e low read row held =
     let all = subst (All P) (rows_at es i e e low read) (All-contains_itself (rows_of es)) in
     All-contains P e.rows row (all_left P e.rows _ (all_right P _ _ all)) held
 
-module _ {X : Type 0} (f : X → Bool) where
-  none_pass : (P : X → Type 0) (xs : List X) → filter f xs ≡ [] → All (λ x. f x ≡ true → P x) xs
-  none_pass P [] h = All-nil (λ x. f x ≡ true → P x)
-  none_pass P (x ∷ xs) h = at (f x) refl (none_pass P xs)
-    where
-      cons_nil : (ys : List X) → x ∷ ys ≡ [] → ⊥
-      cons_nil ys p = cc
+nil_after : {X : Type 0} (xs : List X) → xs ++ [] ≡ xs
+nil_after [] = refl
+nil_after (x ∷ xs) = ap (λ ys. x ∷ ys) (nil_after xs)
 
-      clash : true ≡ false → ⊥
-      clash p = cc
-
-      at : (b : Bool) → f x ≡ b → (filter f xs ≡ [] → All (λ y. f y ≡ true → P y) xs) → All (λ y. f y ≡ true → P y) (x ∷ xs)
-      at true e ih = let t : x ∷ filter f xs ≡ [] = simp e at h in absurd (cons_nil (filter f xs) t)
-      at false e ih =
-          let t : filter f xs ≡ [] = simp e at h in
-          All-cons (λ y. f y ≡ true → P y) x xs (λ p. absurd (clash (sym p ∙ e))) (ih t)
-
-  only_one : (xs : List X) (r : X) → filter f xs ≡ r ∷ [] → All (λ x. f x ≡ true → x ≡ r) xs
-  only_one [] r h = All-nil (λ x. f x ≡ true → x ≡ r)
-  only_one (x ∷ xs) r h = at (f x) refl (only_one xs r)
-    where
-      clash : true ≡ false → ⊥
-      clash p = cc
-
-      parts : (ys : List X) → x ∷ ys ≡ r ∷ [] → (x ≡ r) × (ys ≡ [])
-      parts ys p = (cc, cc)
-
-      at : (b : Bool) → f x ≡ b → (filter f xs ≡ r ∷ [] → All (λ y. f y ≡ true → y ≡ r) xs) → All (λ y. f y ≡ true → y ≡ r) (x ∷ xs)
-      at true e ih =
-          let t : x ∷ filter f xs ≡ r ∷ [] = simp e at h in
-          let both = parts (filter f xs) t in
-          All-cons (λ y. f y ≡ true → y ≡ r) x xs (λ p. both.0) (none_pass (λ y. y ≡ r) xs both.1)
-      at false e ih =
-          let t : filter f xs ≡ r ∷ [] = simp e at h in
-          All-cons (λ y. f y ≡ true → y ≡ r) x xs (λ p. absurd (clash (sym p ∙ e))) (ih t)
-
-module _ {A : Type 0} (period : Period) (k : ℕ) (name : Name) (content : List (Row A)) (region : Region) (entries : List (EntryValue A)) (leaf : IsLeafAt period k content region entries) (at : IsAt period k name content) where
-  -- the row of a name at a key is among the entries of the key's region
-  pub never_absent : IsAbsent period k name (rows_of entries) → ⊥
-  never_absent absent =
-      let h = holds period k name content at in
-      let P : Row A → Type 0 = λ r. rank_of period r ≡ k → name_of r ≡ name → ⊥ in
+module _ {A : Type 0} (period : Period) (k : ℕ) (name : Name) (content : List (Row A)) (region : Region) (entries : List (EntryValue A)) (leaf : IsLeafAt period k content region entries) where
+  -- what is absent among the entries of the key's region is absent
+  pub absent_all : IsAbsent period k name (rows_of entries) → IsAbsent period k name content
+  absent_all absent =
       let early = absent_low period k name leaf.before (λ j d l. let p = leaf.earlier j d l in let f = leaf.from in omega (arith, p, f)) in
       let late = absent_high period k name leaf.after (λ j d l. let p = leaf.later j d l in let t = leaf.to in omega (arith, p, t)) in
-      let all = absent_join period k name leaf.before (rows_of entries ++ leaf.after) early (absent_join period k name (rows_of entries) leaf.after absent late) in
-      middle period h.front h.row h.back P (subst (All P) (sym leaf.parts ∙ h.is) all) h.placed h.named
+      subst (IsAbsent period k name) (sym leaf.parts)
+      (absent_join period k name leaf.before (rows_of entries ++ leaf.after) early (absent_join period k name (rows_of entries) leaf.after absent late))
 
-  -- and what bears the name there is that row
-  pub is_row : (row : Row A) → Contains (rows_of entries) row → name_of row ≡ name → rows_with_name name content ≡ row ∷ []
-  is_row row held named_so =
-      let P : Row A → Type 0 = λ r. is_named name.id name.label r ≡ true → r ≡ at.row in
-      let all = subst (All P) leaf.parts (only_one (is_named name.id name.label) content at.row at.only) in
+  -- what is absent is not among them
+  pub absent_here : IsAbsent period k name content → (row : Row A) → Contains (rows_of entries) row → rank_of period row ≡ k → name_of row ≡ name → ⊥
+  absent_here absent row held placed named_so =
+      let P : Row A → Type 0 = λ r. rank_of period r ≡ k → name_of r ≡ name → ⊥ in
+      let all = subst (All P) leaf.parts absent in
       let here = all_left P (rows_of entries) leaf.after (all_right P leaf.before (rows_of entries ++ leaf.after) all) in
-      at.only ∙ ap (λ (r : Row A). r ∷ []) (sym (All-contains P (rows_of entries) row here held (bears name row named_so)))
+      All-contains P (rows_of entries) row here held placed named_so
+
+  abbrev stands : Row A → Bool
+  stands r = nat_eq (rank_of period r) k
+
+  filter_all : (xs : List (Row A)) → All (λ r. rank_of period r ≡ k) xs → filter stands xs ≡ xs
+  filter_all [] h = refl
+  filter_all (x ∷ xs) h =
+      let P : Row A → Type 0 = λ r. rank_of period r ≡ k in
+      let e : stands x ≡ true = eq-eqb (rank_of period x) k (All-head P x xs h) in
+      let ih = filter_all xs (All-tail P x xs h) in
+      simp (e, ih)
+
+  apart : (xs : List (Row A)) → All (λ r. rank_of period r ≡ k → ⊥) xs → filter stands xs ≡ []
+  apart xs h = filter_none stands xs (λ i d l e. h i d l (eqb-true _ _ e))
+
+  -- the rows of the key are those among the entries
+  among : filter stands content ≡ filter stands (rows_of entries)
+  among =
+      let early = apart leaf.before (λ j d l e. let p = leaf.earlier j d l in let f = leaf.from in absurd (omega (arith, p, f, e))) in
+      let late = apart leaf.after (λ j d l e. let p = leaf.later j d l in let t = leaf.to in absurd (omega (arith, p, t, e))) in
+      ap (filter stands) leaf.parts ∙ filter_append stands leaf.before (rows_of entries ++ leaf.after)
+      ∙ ap (λ xs. xs ++ filter stands (rows_of entries ++ leaf.after)) early
+      ∙ filter_append stands (rows_of entries) leaf.after ∙ ap (λ xs. filter stands (rows_of entries) ++ xs) late ∙ nil_after (filter stands (rows_of entries))
+
+  pub entry_rows : (i : ℕ) (e : EntryValue A) → i < length entries → e ≡ get_or entries i e → e.at ≡ k → e.rows ≡ filter stands content
+  entry_rows i e low read at =
+      let a = around period entries i e e low read region.first (region.last + 1) leaf.rising in
+      let front = apart (rows_of (take i entries)) (λ j d l q. let p = rows_below period region.first e.at (take i entries) a.front j d l in absurd (omega (arith, p, q, at))) in
+      let back = apart (rows_of (drop (suc i) entries)) (λ j d l q. let p = rows_from period (e.at + 1) (region.last + 1) (drop (suc i) entries) a.back j d l in absurd (omega (arith, p, q, at))) in
+      let here = filter_all e.rows (λ j d l. a.entry.placed j d l ∙ at) in
+      sym (among ∙ ap (filter stands) (rows_at entries i e e low read)
+      ∙ filter_append stands (rows_of (take i entries)) (e.rows ++ rows_of (drop (suc i) entries))
+      ∙ ap (λ xs. xs ++ filter stands (e.rows ++ rows_of (drop (suc i) entries))) front
+      ∙ filter_append stands e.rows (rows_of (drop (suc i) entries)) ∙ ap (λ xs. filter stands e.rows ++ xs) back ∙ nil_after (filter stands e.rows) ∙ here)
+
+  pub no_entry : All (λ (e : EntryValue A). e.at ≡ k → ⊥) entries → [] ≡ filter stands content
+  no_entry none = sym (among ∙ apart (rows_of entries) (λ j d l e.
+      absent_entries period k (name_of (get_or (rows_of entries) j d)) entries region.first (region.last + 1) leaf.rising none j d l e refl))

@@ -1,11 +1,14 @@
 mod Naming
 mod Replacing
-mod Tying
 mod Resorting
 mod Rebuilding
 pub mod Reading
 pub mod Storing
 pub mod Getting
-mod Labelling
-mod ByLabel
 mod Finding
+mod Numbers
+mod Standing
+mod Sorting
+mod Ascending
+mod Tying
+mod Keys

@@ -1,5 +1,5 @@
 -- Rows put one after another into a table of no rows.
-use Rattle.std.proofs.Common.{◌≡◌, ◌≤◌, length, List, [], ◌∷◌, ◌++◌, filter, Bool, true, false, ◌&&◌, nat_le, Option, Some, None, refl, sym, ap, ◌∙◌, subst, arith}
+use Rattle.std.proofs.Common.{◌≡◌, ◌≤◌, length, List, [], ◌∷◌, ◌++◌, filter, Bool, true, false, ◌&&◌, nat_le, refl, sym, ap, ◌∙◌, subst, arith}
 use Rattle.std.proofs.lemmas.List.{append_assoc}
 use Rattle.std.proofs.lemmas.List.Elements.{filter-append as filter_append}
 use Rattle.std.proofs.lemmas.Bool.{le-leb}
@@ -8,7 +8,6 @@ use Rattle.std.specs.Cmp.Lexicographic.{slice_cmp}
 use Rattle.std.specs.Ordering.{nat_cmp, ordering_then}
 use Rattle.std.specs.declared.cmp.Ordering.{Ordering}
 use Rattle.std.specs.declared.cmp.Ordering.TheVariants.{Less, Equal, Greater}
-use Rattle.st_key.specs.declared.key.Key.{Key}
 use Rattle.st_key.specs.declared.period.Period.{Period}
 use Rattle.st_key.specs.declared.point.Point.{Point}
 use Rattle.st_key.specs.Order.{digits_of}
@@ -21,10 +20,7 @@ use Rattle.st_index.specs.declared.row.Row.{Row}
 use Rattle.st_index.specs.Order.{scan_key}
 use Rattle.st_index.specs.Rows.{name_of}
 use Rattle.st_scan.specs.Rows.{has_row}
-use Rattle.st_table.specs.inner.Names.{IsTied, key_at}
 use Rattle.st_table.specs.Table.{HasEachOnce, is_named, rows_with_name, with_row, without_named}
-use Rattle.st_table.specs.inner.Found.{IsFound}
-use Rattle.st_table.specs.declared.row_name.RowName.{RowName}
 use Rattle.st_table.proofs.Naming.{none_fails}
 use Rattle.st_table.proofs.Replacing.{bears}
 
@@ -49,14 +45,6 @@ module _ {A : Type 0} where
   pub filter_inside : (q : Query) (rows : List (Row A)) → ((p : Point) → is_inside q p ≡ true) → filter (has_row q) rows ≡ rows
   filter_inside q [] inside = refl
   filter_inside q (r ∷ rs) inside = let e = inside r.point in let ih = filter_inside q rs inside in simp (e, ih)
-
-  -- a tied map has each row once
-  pub tied_once : (period : Period) (entries : List (RowName A × Key)) (rows : List (Row A)) → IsTied period entries rows → HasEachOnce rows
-  tied_once period entries rows tied name = at (key_at entries name) (tied name)
-    where
-      at : (o : Option Key) → IsFound period o name rows → length (rows_with_name name rows) ≤ 1
-      at None h = subst (λ xs. length xs ≤ 1) (sym h) (omega arith)
-      at (Some key) h = subst (λ xs. length xs ≤ 1) (sym h.only) (omega arith)
 
 -- of some rows those that are done are in the table, and the others are left
 pub record Puts {A : Type 0} (period : Period) (all rows left : List (Row A)) : Type 0 where

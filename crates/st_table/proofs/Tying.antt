@@ -1,12 +1,6 @@
--- A map from names to keys that is tied to rows stays so.
-use Rattle.std.proofs.Common.{◌≡◌, ℕ, suc, length, List, [], ◌∷◌, ◌++◌, filter, Bool, true, false, not, cond, Option, Some, None, refl, sym, ap, ◌∙◌, subst}
-use Rattle.std.specs.Prelude.{IfSome, IfNone}
-use Rattle.std.proofs.lemmas.Map.Lookups.{exact_bytes}
-use Rattle.std.specs.Cmp.{tied_itself}
-use Rattle.std.specs.Cmp.Lexicographic.{slice_cmp, nat_list_cmp_total}
-use Rattle.std.specs.Ordering.{nat_cmp, is_eq}
-use Rattle.std.specs.declared.cmp.Ordering.{Ordering}
-use Rattle.std.specs.declared.cmp.Ordering.TheVariants.{Less, Equal, Greater}
+-- Numbers at places that are those of rows stay so.
+use Rattle.std.proofs.Common.{◌≡◌, ℕ, ◌+◌, ◌≤◌, length, List, [], ◌∷◌, filter, Bool, true, false, not, nat_eq, cond, Option, Some, None, refl, sym, ap, ◌∙◌, subst, arith}
+use Rattle.std.specs.Prelude.{IfSome, IfNone, is_some}
 use Rattle.st_key.specs.declared.key.Key.{Key}
 use Rattle.st_key.specs.declared.period.Period.{Period}
 use Rattle.st_key.specs.Key.{rank}
@@ -15,114 +9,125 @@ use Rattle.st_index.specs.declared.row.Row.{Row}
 use Rattle.st_index.specs.Index.{Adds, IsAbsent}
 use Rattle.st_index.specs.Order.{InScanOrder, scan_key}
 use Rattle.st_index.specs.Rows.{Name, name_of, rank_of}
-use Rattle.st_table.specs.inner.Names.{AreShort, IsTied, is_short, joined, key_at, same_text}
-use Rattle.st_table.specs.Table.{is_named, rows_with_name, with_row, without_named}
+use Rattle.st_table.specs.declared.seed.Seed.{Seed}
 use Rattle.st_table.specs.inner.Found.{IsAt, IsFound}
-use Rattle.st_table.specs.declared.row_name.RowName.{RowName}
+use Rattle.st_table.specs.inner.Places.{IsTied, name_hash, number_at, one_at, one_before, place_of, stands_at}
+use Rattle.st_table.specs.Table.{HasEachOnce, is_named, rows_with_name, with_row, without_named}
 use Rattle.st_table.proofs.Naming.{cut_fails}
 use Rattle.st_table.proofs.Replacing.{bears, holds, named}
 use Rattle.st_index.proofs.Sorting.{in_order_already, middle, scan_filter}
 
-split_at : (xs ys vs ws : Text) → length xs ≡ length ys → xs ++ vs ≡ ys ++ ws → (xs ≡ ys) × (vs ≡ ws)
-split_at [] [] vs ws e h = (refl, h)
-split_at [] (y ∷ ys) vs ws e h = absurd (zero_suc e)
-  where
-    zero_suc : 0 ≡ suc (length ys) → ⊥
-    zero_suc p = cc
-split_at (x ∷ xs) [] vs ws e h = absurd (suc_zero e)
-  where
-    suc_zero : suc (length xs) ≡ 0 → ⊥
-    suc_zero p = cc
-split_at (x ∷ xs) (y ∷ ys) vs ws e h = at (cons_parts h) (split_at xs ys vs ws (less e) (cons_parts h).1)
-  where
-    less : suc (length xs) ≡ suc (length ys) → length xs ≡ length ys
-    less p = cc
+module _ {X : Type 0} (f : X → Bool) where
+  abbrev count : List X → ℕ
+  count xs = length (filter f xs)
 
-    cons_parts : x ∷ (xs ++ vs) ≡ y ∷ (ys ++ ws) → (x ≡ y) × (xs ++ vs ≡ ys ++ ws)
-    cons_parts p = (cc, cc)
+  abbrev one : X → ℕ
+  one x = cond (f x) 1 0
 
-    at : (x ≡ y) × (xs ++ vs ≡ ys ++ ws) → (xs ≡ ys) × (vs ≡ ws) → (x ∷ xs ≡ y ∷ ys) × (vs ≡ ws)
-    at heads tails = (λ i. heads.0 i ∷ tails.0 i, tails.1)
-
-pub bytes_same : (xs ys : Text) → same_text xs ys ≡ true → xs ≡ ys
-bytes_same xs ys h = at (slice_cmp nat_cmp xs ys) refl h
-  where
-    at : (o : Ordering) → slice_cmp nat_cmp xs ys ≡ o → is_eq o ≡ true → xs ≡ ys
-    at Equal e f = exact_bytes xs ys e
-    at Less e f = cc
-    at Greater e f = cc
-
--- names are the same where their joined texts are
-pub name_same : (a b : Name) → same_text (joined a) (joined b) ≡ true → a ≡ b
-name_same a b h = at (cons_parts (length a.id) (length b.id) (a.id ++ a.label) (b.id ++ b.label) (bytes_same (joined a) (joined b) h))
-  where
-    cons_parts : (m n : ℕ) (xs ys : Text) → m ∷ xs ≡ n ∷ ys → (m ≡ n) × (xs ≡ ys)
-    cons_parts m n xs ys p = (cc, cc)
-
-    at : (length a.id ≡ length b.id) × (a.id ++ a.label ≡ b.id ++ b.label) → a ≡ b
-    at e = let parts = split_at a.id b.id a.label b.label e.0 e.1 in λ i. record { id = parts.0 i; label = parts.1 i }
-
-pub name_self : (a b : Name) → a ≡ b → same_text (joined a) (joined b) ≡ true
-name_self a b e =
-    let p = tied_itself nat_list_cmp_total (joined b) in
-    let same : same_text (joined b) (joined b) ≡ true = simp p in
-    subst (λ c. same_text (joined c) (joined b) ≡ true) (sym e) same
-
--- longer names stay out of the map
-module _ {A : Type 0} (entries : List (RowName A × Key)) where
-  pub short_put : (more : List (RowName A × Key)) (own : Name) (key : Key) → is_short own ≡ true
-      → ((name : Name) → key_at more name ≡ cond (same_text (joined own) (joined name)) (Some key) (key_at entries name))
-      → AreShort entries → AreShort more
-  short_put more own key short updates known name long = updates name ∙ at (same_text (joined own) (joined name)) refl
+  count_cons : (x : X) (xs : List X) → count (x ∷ xs) ≡ one x + count xs
+  count_cons x xs = at (f x) refl
     where
-      clash : true ≡ false → ⊥
-      clash p = cc
+      at : (b : Bool) → f x ≡ b → count (x ∷ xs) ≡ cond b 1 0 + count xs
+      at true e = let p : count (x ∷ xs) ≡ length (x ∷ filter f xs) = simp e in p ∙ omega arith
+      at false e = let p : count (x ∷ xs) ≡ count xs = simp e in p ∙ omega arith
 
-      at : (b : Bool) → same_text (joined own) (joined name) ≡ b → cond b (Some key) (key_at entries name) ≡ None
-      at true e = absurd (clash (sym short ∙ ap is_short (name_same own name e) ∙ long))
-      at false e = known name long
-
-  pub short_take : (fewer : List (RowName A × Key)) (own : Name)
-      → ((name : Name) → key_at fewer name ≡ cond (same_text (joined own) (joined name)) None (key_at entries name))
-      → AreShort entries → AreShort fewer
-  short_take fewer own updates known name long = updates name ∙ at (same_text (joined own) (joined name))
+  -- a put in order counts as one in front
+  count_put : (key : X → List Text) (x : X) (ys : List X) → count (put_in_order key x ys) ≡ one x + count ys
+  count_put key x [] = count_cons x []
+  count_put key x (y ∷ ys) = at (comes_before (key y) (key x)) refl (count_put key x ys)
     where
-      at : (b : Bool) → cond b None (key_at entries name) ≡ None
-      at true = refl
-      at false = known name long
+      at : (b : Bool) → comes_before (key y) (key x) ≡ b → count (put_in_order key x ys) ≡ one x + count ys → count (put_in_order key x (y ∷ ys)) ≡ one x + count (y ∷ ys)
+      at true e ih =
+          let p : count (put_in_order key x (y ∷ ys)) ≡ count (y ∷ put_in_order key x ys) = simp e in
+          let q = count_cons y (put_in_order key x ys) in
+          let r = count_cons y ys in
+          omega (arith, p, q, r, ih)
+      at false e ih =
+          let p : count (put_in_order key x (y ∷ ys)) ≡ count (x ∷ y ∷ ys) = simp e in
+          p ∙ count_cons x (y ∷ ys)
 
-  -- taking out a longer name changes nothing
-  pub long_take : (own : Name) → is_short own ≡ false → AreShort entries
-      → (name : Name) → key_at entries name ≡ cond (same_text (joined own) (joined name)) None (key_at entries name)
-  long_take own long known name = at (same_text (joined own) (joined name)) refl
+  -- what passes a second test counts apart from what does not
+  count_split : (g : X → Bool) (xs : List X) → count (filter (λ x. not (g x)) xs) + count (filter g xs) ≡ count xs
+  count_split g [] = refl
+  count_split g (x ∷ xs) = at (g x) refl (count_split g xs)
     where
-      at : (b : Bool) → same_text (joined own) (joined name) ≡ b → key_at entries name ≡ cond b None (key_at entries name)
-      at true e = known name (sym (ap is_short (name_same own name e)) ∙ long)
-      at false e = refl
+      at : (b : Bool) → g x ≡ b → count (filter (λ y. not (g y)) xs) + count (filter g xs) ≡ count xs
+          → count (filter (λ y. not (g y)) (x ∷ xs)) + count (filter g (x ∷ xs)) ≡ count (x ∷ xs)
+      at true e ih =
+          let p : filter (λ y. not (g y)) (x ∷ xs) ≡ filter (λ y. not (g y)) xs = simp e in
+          let q : filter g (x ∷ xs) ≡ x ∷ filter g xs = simp e in
+          let s = ap count p in
+          let t = ap count q ∙ count_cons x (filter g xs) in
+          let r = count_cons x xs in
+          omega (arith, s, t, r, ih)
+      at false e ih =
+          let p : filter (λ y. not (g y)) (x ∷ xs) ≡ x ∷ filter (λ y. not (g y)) xs = simp e in
+          let q : filter g (x ∷ xs) ≡ filter g xs = simp e in
+          let s = ap count p ∙ count_cons x (filter (λ y. not (g y)) xs) in
+          let t = ap count q in
+          let r = count_cons x xs in
+          omega (arith, s, t, r, ih)
 
-module _ {X : Type 0} (f : X → Bool) (key : X → List Text) where
-  put_passed : (x : X) (ys : List X) → f x ≡ false → filter f (put_in_order key x ys) ≡ filter f ys
-  put_passed x [] e = simp e
-  put_passed x (y ∷ ys) e = at (comes_before (key y) (key x)) refl (f y) refl (put_passed x ys e)
+module _ {A : Type 0} (seed : Seed) (period : Period) where
+  abbrev stands : ℕ → Row A → Bool
+  stands = stands_at seed period
+
+  -- how many rows stand at a place
+  abbrev standing : ℕ → List (Row A) → ℕ
+  standing place rows = length (filter (stands place) rows)
+
+  sorted_without : (name : Name) (old : List (Row A)) → InScanOrder period old → in_order (scan_key period) (without_named name.id name.label old) ≡ without_named name.id name.label old
+  sorted_without name old sorted = in_order_already period (without_named name.id name.label old) (scan_filter period (λ row. not (is_named name.id name.label row)) old sorted)
+
+  -- a row counts at its own place
+  own_place : (hash place : ℕ) (key : Key) (row : Row A) → hash ≡ name_hash seed row.id row.label → rank key ≡ rank_of period row → one (stands place) row ≡ one_at (place_of hash (rank key)) place
+  own_place hash place key row h k =
+      ap (λ n. cond (nat_eq n place) 1 0) (ap (λ m. place_of m (rank_of period row)) (sym h) ∙ ap (λ m. place_of hash m) (sym k))
+
+  -- the row of a name counts at the place where it was found
+  one_named : (hash place : ℕ) (before : Option Key) (name : Name) (rows : List (Row A)) → hash ≡ name_hash seed name.id name.label → IsFound period before name rows
+      → standing place (rows_with_name name rows) ≡ one_before hash before place
+  one_named hash place None name rows h none = ap (λ xs. standing place xs) none
+  one_named hash place (Some key) name rows h at =
+      let only : standing place (rows_with_name name rows) ≡ standing place (at.row ∷ []) = ap (λ xs. standing place xs) at.only in
+      let own : name_of at.row ≡ name = named name at.row (passes at.row at.only) in
+      only ∙ (count_cons (stands place) at.row [] ∙ omega arith)
+      ∙ own_place hash place key at.row (h ∙ ap (λ (n : Name). name_hash seed n.id n.label) (sym own)) (sym at.placed)
     where
-      at : (b : Bool) → comes_before (key y) (key x) ≡ b → (c : Bool) → f y ≡ c → filter f (put_in_order key x ys) ≡ filter f ys → filter f (put_in_order key x (y ∷ ys)) ≡ filter f (y ∷ ys)
-      at true g true h ih = simp (g, h, ih)
-      at true g false h ih = simp (g, h, ih)
-      at false g true h ih = simp (g, h, e)
-      at false g false h ih = simp (g, h, e)
+      passes : (row : Row A) → rows_with_name name rows ≡ row ∷ [] → is_named name.id name.label row ≡ true
+      passes row only = (Rattle.st_table.proofs.Naming.one (is_named name.id name.label) rows row only).passes
 
-  put_alone : (x : X) (ys : List X) → f x ≡ true → filter f ys ≡ [] → filter f (put_in_order key x ys) ≡ x ∷ []
-  put_alone x [] e n = simp e
-  put_alone x (y ∷ ys) e n = at (comes_before (key y) (key x)) refl (f y) refl (put_alone x ys e)
-    where
-      cons_nil : (zs : List X) → y ∷ zs ≡ [] → ⊥
-      cons_nil zs p = cc
+  module _ (hash : ℕ) (numbers more : List (ℕ × ℕ)) where
+    pub tied_put : (before : Option Key) (key : Key) (row : Row A) (old new : List (Row A)) → InScanOrder period old → hash ≡ name_hash seed row.id row.label
+        → rank key ≡ rank_of period row → new ≡ with_row period row old → IsFound period before (name_of row) old
+        → ((place : ℕ) → number_at more place + one_before hash before place ≡ number_at numbers place + one_at (place_of hash (rank key)) place)
+        → IsTied seed period numbers old → IsTied seed period more new
+    tied_put before key row old new sorted h at is found changes tied place =
+        let f : Row A → Bool = stands place in
+        let rest = without_named row.id row.label old in
+        let a : standing place new ≡ one f row + standing place rest =
+        ap (λ xs. standing place xs) is ∙ count_put f (scan_key period) row (in_order (scan_key period) rest)
+        ∙ ap (λ xs. one f row + standing place xs) (sorted_without (name_of row) old sorted) in
+        let b = own_place hash place key row h at in
+        let c = count_split f (is_named row.id row.label) old in
+        let d = one_named hash place before (name_of row) old h found in
+        let e = tied place in
+        let p = changes place in
+        omega (arith, a, b, c, d, e, p)
 
-      at : (b : Bool) → comes_before (key y) (key x) ≡ b → (c : Bool) → f y ≡ c → (filter f ys ≡ [] → filter f (put_in_order key x ys) ≡ x ∷ [])
-          → filter f (put_in_order key x (y ∷ ys)) ≡ x ∷ []
-      at b g true h ih = let t : y ∷ filter f ys ≡ [] = simp h at n in absurd (cons_nil (filter f ys) t)
-      at true g false h ih = let t : filter f ys ≡ [] = simp h at n in let r = ih t in simp (g, h, r)
-      at false g false h ih = let t : filter f ys ≡ [] = simp h at n in simp (g, h, e, t)
+    pub tied_delete : (key : Key) (name : Name) (old new : List (Row A)) → hash ≡ name_hash seed name.id name.label → new ≡ without_named name.id name.label old → IsAt period (rank key) name old
+        → ((place : ℕ) → number_at more place + one_at (place_of hash (rank key)) place ≡ number_at numbers place)
+        → IsTied seed period numbers old → IsTied seed period more new
+    tied_delete key name old new h is at changes tied place =
+        let f : Row A → Bool = stands place in
+        let a = ap (λ xs. standing place xs) is in
+        let c = count_split f (is_named name.id name.label) old in
+        let d = one_named hash place (Some key) name old h at in
+        let e = tied place in
+        let p = changes place in
+        omega (arith, a, c, d, e, p)
+
+-- ---- each name once
 
 module _ {X : Type 0} (f : X → Bool) where
   pub none_left : (xs : List X) → filter f (filter (λ x. not (f x)) xs) ≡ []
@@ -133,95 +138,54 @@ module _ {X : Type 0} (f : X → Bool) where
       at true e ih = simp (e, ih)
       at false e ih = simp (e, ih)
 
-  pub others_left : (g : X → Bool) → ((x : X) → g x ≡ true → f x ≡ false) → (xs : List X) → filter g (filter (λ x. not (f x)) xs) ≡ filter g xs
-  others_left g apart [] = refl
-  others_left g apart (x ∷ xs) = at (f x) refl (g x) refl (others_left g apart xs)
+  fewer : (g : X → Bool) (xs : List X) → length (filter f (filter g xs)) ≤ length (filter f xs)
+  fewer g [] = omega arith
+  fewer g (x ∷ xs) = at (g x) refl (fewer g xs)
     where
-      clash : false ≡ true → ⊥
-      clash p = cc
-
-      at : (b : Bool) → f x ≡ b → (c : Bool) → g x ≡ c → filter g (filter (λ x. not (f x)) xs) ≡ filter g xs → filter g (filter (λ x. not (f x)) (x ∷ xs)) ≡ filter g (x ∷ xs)
-      at true e true h ih = absurd (clash (sym (apart x h) ∙ e))
-      at true e false h ih = simp (e, h, ih)
-      at false e true h ih = simp (e, h, ih)
-      at false e false h ih = simp (e, h, ih)
+      at : (b : Bool) → g x ≡ b → length (filter f (filter g xs)) ≤ length (filter f xs) → length (filter f (filter g (x ∷ xs))) ≤ length (filter f (x ∷ xs))
+      at true e ih =
+          let p : filter g (x ∷ xs) ≡ x ∷ filter g xs = simp e in
+          let q = ap (λ ys. length (filter f ys)) p ∙ count_cons f x (filter g xs) in
+          let r = count_cons f x xs in
+          omega (arith, q, r, ih)
+      at false e ih =
+          let p : filter g (x ∷ xs) ≡ filter g xs = simp e in
+          let q = ap (λ ys. length (filter f ys)) p in
+          let r = count_cons f x xs in
+          omega (arith, q, r, ih)
 
 module _ {A : Type 0} (period : Period) where
-  -- a row of one name bears no other
-  apart : (one other : Name) → same_text (joined one) (joined other) ≡ false → (r : Row A) → is_named other.id other.label r ≡ true → is_named one.id one.label r ≡ false
-  apart one other ne r h = at (is_named one.id one.label r) refl
+  pub once_without : (id label : Text) (old : List (Row A)) → HasEachOnce old → HasEachOnce (without_named id label old)
+  once_without id label old once name =
+      let p = fewer (is_named name.id name.label) (λ row. not (is_named id label row)) old in
+      let q = once name in
+      omega (arith, p, q)
+
+  pub once_put : (row : Row A) (old : List (Row A)) → InScanOrder period old → HasEachOnce old → HasEachOnce (with_row period row old)
+  once_put row old sorted once name = at (f row) refl
     where
-      clash : false ≡ true → ⊥
-      clash p = cc
+      f : Row A → Bool
+      f = is_named name.id name.label
 
-      at : (b : Bool) → is_named one.id one.label r ≡ b → is_named one.id one.label r ≡ false
-      at true e = absurd (clash (sym ne ∙ name_self one other (sym (named one r e) ∙ named other r h)))
-      at false e = e
+      rest : List (Row A)
+      rest = without_named row.id row.label old
 
-  other_found : (o : Option Key) (name : Name) (old new : List (Row A)) → rows_with_name name new ≡ rows_with_name name old → IsFound period o name old → IsFound period o name new
-  other_found None name old new e h = e ∙ h
-  other_found (Some key) name old new e h = record { row = h.row; only = e ∙ h.only; placed = h.placed }
+      counted : length (filter f (with_row period row old)) ≡ cond (f row) 1 0 + length (filter f rest)
+      counted =
+          count_put f (scan_key period) row (in_order (scan_key period) rest)
+          ∙ ap (λ xs. cond (f row) 1 0 + length (filter f xs)) (in_order_already period rest (scan_filter period (λ r. not (is_named row.id row.label r)) old sorted))
 
-  sorted_without : (name : Name) (old : List (Row A)) → InScanOrder period old → in_order (scan_key period) (without_named name.id name.label old) ≡ without_named name.id name.label old
-  sorted_without name old sorted = in_order_already period (without_named name.id name.label old) (scan_filter period (λ row. not (is_named name.id name.label row)) old sorted)
-
-  with_itself : (row : Row A) (old : List (Row A)) → InScanOrder period old → rows_with_name (name_of row) (with_row period row old) ≡ row ∷ []
-  with_itself row old sorted =
-      let f : Row A → Bool = is_named row.id row.label in
-      ap (λ xs. filter f (put_in_order (scan_key period) row xs)) (sorted_without (name_of row) old sorted)
-      ∙ put_alone f (scan_key period) row (without_named row.id row.label old) (bears (name_of row) row refl) (none_left f old)
-
-  with_others : (name : Name) (row : Row A) (old : List (Row A)) → InScanOrder period old → same_text (joined (name_of row)) (joined name) ≡ false
-      → rows_with_name name (with_row period row old) ≡ rows_with_name name old
-  with_others name row old sorted ne =
-      let g : Row A → Bool = is_named name.id name.label in
-      ap (λ xs. filter g (put_in_order (scan_key period) row xs)) (sorted_without (name_of row) old sorted)
-      ∙ put_passed g (scan_key period) row (without_named row.id row.label old) (differs (g row) refl)
-      ∙ others_left (is_named row.id row.label) g (apart (name_of row) name ne) old
-    where
-      clash : false ≡ true → ⊥
-      clash p = cc
-
-      differs : (b : Bool) → is_named name.id name.label row ≡ b → is_named name.id name.label row ≡ false
-      differs true e = absurd (clash (sym ne ∙ name_self (name_of row) name (named name row e)))
-      differs false e = e
-
-  pub tied_put : (entries more : List (RowName A × Key)) (key : Key) (row : Row A) (old new : List (Row A)) → InScanOrder period old
-      → rank key ≡ rank_of period row → new ≡ with_row period row old
-      → ((name : Name) → key_at more name ≡ cond (same_text (joined (name_of row)) (joined name)) (Some key) (key_at entries name))
-      → IsTied period entries old → IsTied period more new
-  tied_put entries more key row old new sorted at_key is updates tied name = at (same_text (joined (name_of row)) (joined name)) refl
-    where
-      at : (b : Bool) → same_text (joined (name_of row)) (joined name) ≡ b → IsFound period (key_at more name) name new
+      at : (b : Bool) → f row ≡ b → length (filter f (with_row period row old)) ≤ 1
       at true e =
-          let own : name ≡ name_of row = sym (name_same (name_of row) name e) in
-          let found : key_at more name ≡ Some key = updates name ∙ ap (λ b. cond b (Some key) (key_at entries name)) e in
-          let whole : IsAt period (rank key) (name_of row) new =
-          record { row = row; only = ap (rows_with_name (name_of row)) is ∙ with_itself row old sorted; placed = sym at_key } in
-          subst (λ o. IsFound period o name new) (sym found) (subst (λ n. IsAt period (rank key) n new) (sym own) whole)
+          let own : name_of row ≡ name = named name row e in
+          let none : filter f rest ≡ [] = subst (λ (n : Name). filter (is_named n.id n.label) rest ≡ []) own (none_left (is_named row.id row.label) old) in
+          let p = ap {B = ℕ} (λ b. cond b 1 0) e in
+          let q = ap (λ xs. length xs) none in
+          omega (arith, counted, p, q)
       at false e =
-          let found : key_at more name ≡ key_at entries name = updates name ∙ ap (λ b. cond b (Some key) (key_at entries name)) e in
-          subst (λ o. IsFound period o name new) (sym found)
-          (other_found (key_at entries name) name old new (ap (rows_with_name name) is ∙ with_others name row old sorted e) (tied name))
-
-  pub tied_delete : (entries fewer : List (RowName A × Key)) (gone : Name) (old new : List (Row A))
-      → new ≡ without_named gone.id gone.label old
-      → ((name : Name) → key_at fewer name ≡ cond (same_text (joined gone) (joined name)) None (key_at entries name))
-      → IsTied period entries old → IsTied period fewer new
-  tied_delete entries fewer gone old new is updates tied name = at (same_text (joined gone) (joined name)) refl
-    where
-      at : (b : Bool) → same_text (joined gone) (joined name) ≡ b → IsFound period (key_at fewer name) name new
-      at true e =
-          let own : gone ≡ name = name_same gone name e in
-          let found : key_at fewer name ≡ None = updates name ∙ ap (λ b. cond b None (key_at entries name)) e in
-          let none : rows_with_name gone new ≡ [] = ap (rows_with_name gone) is ∙ none_left (is_named gone.id gone.label) old in
-          subst (λ o. IsFound period o name new) (sym found) (subst (λ n. rows_with_name n new ≡ []) own none)
-      at false e =
-          let found : key_at fewer name ≡ key_at entries name = updates name ∙ ap (λ b. cond b None (key_at entries name)) e in
-          let g : Row A → Bool = is_named name.id name.label in
-          subst (λ o. IsFound period o name new) (sym found)
-          (other_found (key_at entries name) name old new
-          (ap (filter g) is ∙ others_left (is_named gone.id gone.label) g (apart gone name e) old) (tied name))
+          let p = ap {B = ℕ} (λ b. cond b 1 0) e in
+          let q = once_without row.id row.label old once name in
+          omega (arith, counted, p, q)
 
   -- the row of a name is taken out
   pub taken : (k : ℕ) (name : Name) (old new : List (Row A)) (o : Option (Row A)) → IsAt period k name old → IfSome o (λ out. Adds out new old)
@@ -233,3 +197,21 @@ module _ {A : Type 0} (period : Period) where
       let h = holds period k name old at in
       let P : Row A → Type 0 = λ r. rank_of period r ≡ k → name_of r ≡ name → ⊥ in
       absurd (middle period h.front h.row h.back P (subst (IsAbsent period k name) h.is absent) h.placed h.named)
+
+  -- a row of a name that was taken out at a key stood there
+  pub was_there : (k : ℕ) (name : Name) (old new : List (Row A)) (o : Option (Row A)) → is_some o ≡ true → IfSome o (λ out. Adds out new old) → IfSome o (λ out. rank_of period out ≡ k)
+      → IfSome o (λ out. name_of out ≡ name) → IsAbsent period k name old → ⊥
+  was_there k name old new (Some out) some gone placed is_named_so absent =
+      let P : Row A → Type 0 = λ r. rank_of period r ≡ k → name_of r ≡ name → ⊥ in
+      middle period gone.front out gone.back P (subst (IsAbsent period k name) gone.new_is absent) placed is_named_so
+  was_there k name old new None some gone placed is_named_so absent = absurd (none_is some)
+    where
+      none_is : false ≡ true → ⊥
+      none_is p = cc
+
+  pub was_none : {P : Type 0} (o : Option (Row A)) → is_some o ≡ false → IfNone o P → P
+  was_none {P} (Some out) none h = absurd (some_is none)
+    where
+      some_is : true ≡ false → ⊥
+      some_is p = cc
+  was_none None none h = h

@@ -1,4 +1,3 @@
 -- Invariants of representations and stages of the code, which no reader has to believe.
 pub mod Found
-pub mod Names
-pub mod Labels
+pub mod Places

@@ -1,12 +1,13 @@
-//! Rows of one table: an index of them, and a map from their names to their keys.
+//! Rows of one table: an index of them, and for each hash of names and each key how many rows stand there.
 #![tactic(auto)]
 
 pub mod law;
 mod lookup;
 mod moving;
-mod names;
 mod own_name;
-mod row_name;
+mod places;
+mod seed;
 mod table;
 
+pub use seed::Seed;
 pub use table::Table;

@@ -32,7 +32,7 @@ fn put_all<I: RowIndex>(table: &mut Table<I>, walk: &mut Walk<'_, '_, I>) -> Res
     ensures { OnOk result (table.new ≡ record table.old { rows = in_order (scan_key table.old.period) walk.old.left }) }
 {
     'rows: while let Some(row) = walk.next() {
-        let copy = I::Row::copy_of(row)?;
+        let copy = I::Row::copy_of(&row)?;
         table.put(copy)?;
     }
     Ok(())

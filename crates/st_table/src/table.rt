@@ -1,8 +1,10 @@
 //! Tables.
-ghost use Rattle.std.specs.Prelude.{◌≡◌, ◌↔◌, ◌<◌, ◌≤◌, ◌⊎◌, [], length, map, nat_lt, option_copied, take, OnOk, OnErr, IsOk, IfOk, IfErr};
+ghost use Rattle.std.specs.Prelude.{◌≡◌, ◌↔◌, ◌^◌, ◌<◌, ◌≤◌, ◌⊎◌, [], length, map, nat_lt, option_copied, take, OnOk, OnErr, IsOk, IfOk, IfErr, IfSome};
 ghost use Rattle.st_key.specs.declared.period.Period.{Period};
+ghost use Rattle.st_key.specs.Key.{rank};
 ghost use Rattle.st_text.specs.Texts.{in_order};
 ghost use Rattle.st_index.specs.Order.{InScanOrder, scan_key};
+ghost use Rattle.st_index.specs.RowViews.{row_of_view};
 ghost use Rattle.st_index.specs.Rows.{name_of};
 ghost use Rattle.st_scan.specs.Grids.{grid_of};
 ghost use Rattle.st_scan.specs.Pages.{visible_after};
@@ -10,14 +12,16 @@ ghost use Rattle.st_scan.specs.Visible.{is_visible, visible_rows};
 ghost use Rattle.st_scan.specs.declared.fault.ScanFault.TheVariants.{BadGrid, BadLimit};
 ghost use Rattle.st_table.specs.Table.{HasEachOnce, rows_by_label, with_row, without_named};
 ghost use Rattle.st_table.specs.inner.Found.{IsFound};
+ghost use Rattle.st_table.specs.inner.Places.{IsTied, name_hash, number_at, place_of};
 
-use crate::lookup::rows_under;
+use crate::lookup::{self, find, key_at};
 use crate::moving::copy_rows;
-use crate::names::KeysByName;
 use crate::own_name::OwnName;
+use crate::places::Places;
+use crate::seed::Seed;
 use st_auth::Auths;
 use st_box::Query;
-use st_index::{AsRow, Row, RowIndex, order};
+use st_index::{AsRow, RowIndex, RowView, order};
 use st_key::{Key, Period, Place};
 use st_scan::{Page, ScanFault};
 use std::alloc::{AllocError, Allocator};
@@ -28,18 +32,18 @@ use std::marker::Model;
 #[derive(Drop)]
 pub struct Table<I: RowIndex> {
     index: I,
-    keys: KeysByName<I::Alloc>,
+    places: Places<I::Alloc>,
 }
 
 impl<I: RowIndex> Model for Table<I> {
-    ghost use Rattle.st_table.specs.Table.{TableValue};
-    ghost use Rattle.st_table.specs.inner.Names.{IsTied};
+    ghost use Rattle.st_table.specs.Table.{TableValue, HasEachOnce};
+    ghost use Rattle.st_table.specs.inner.Places.{IsTied};
 
     ghost Value = { TableValue I.Alloc };
 
     ghost view = { λ t. record { period = I.period_of t.index; rows = I.content t.index } };
 
-    ghost invariant = { λ t. IsTied (I.period_of t.index) t.keys (I.content t.index) };
+    ghost invariant = { λ t. IsTied t.places.seed (I.period_of t.index) t.places.numbers (I.content t.index) × HasEachOnce (I.content t.index) };
 }
 
 // Puts a row into an index in place of the one of its name, which stands at this key, if there is one.
@@ -66,15 +70,43 @@ fn put_at<I: RowIndex>(index: &mut I, before: Option<Key>, row: I::Row, spare: I
     }
 }
 
+// Takes the row of a name, which has this hash, out of an index, and gives the key where it stood. It takes no memory.
+fn take_out<I: RowIndex>(
+    index: &mut I,
+    places: &Places<I::Alloc>,
+    hash: u64,
+    id: &str,
+    label: &str,
+) -> Option<Key>
+    requires hash { hash ≡ name_hash places.now.seed id.now label.now }
+    requires hash_in_range { hash < 2 ^ 47 }
+    requires tied { IsTied places.now.seed (I.period_of index.old) places.now.numbers (I.content index.old) }
+    requires once { HasEachOnce (I.content index.old) }
+    ensures found { IsFound (I.period_of index.old) result (record { id = id.now; label = label.now }) (I.content index.old) }
+    ensures held { IfSome result (λ key. 0 < number_at places.now.numbers (place_of hash (rank key))) }
+    ensures rows { I.content index.new ≡ without_named id.now label.now (I.content index.old) }
+    ensures period { I.period_of index.new ≡ I.period_of index.old }
+{
+    let mut from = 0;
+    'keys: while let Some(found) = places.next(hash, from) {
+        let key = key_at(found);
+        if index.remove(key, id, label).is_some() {
+            return Some(key);
+        }
+        from = found + 1;
+    }
+    None
+}
+
 impl<I: RowIndex + Drop> Table<I> {
-    /// A table over an index of no rows, or an error if memory runs out.
-    pub fn new(alloc: I::Alloc, index: I) -> Result<Table<I>, AllocError>
+    /// A table over an index of no rows, or an error if memory runs out. The seed is that of the hashes of names.
+    pub fn new(alloc: I::Alloc, seed: Seed, index: I) -> Result<Table<I>, AllocError>
         requires { I.content index ≡ [] }
         ensures { IfOk result (λ table. table ≡ record { period = I.period_of index; rows = [] }) }
     {
         Ok(Table {
             index,
-            keys: KeysByName::new(alloc)?,
+            places: Places::new(alloc, seed),
         })
     }
 
@@ -85,8 +117,8 @@ impl<I: RowIndex + Drop> Table<I> {
             ≡ record { period = I.period_of index; rows = in_order (scan_key (I.period_of index)) self.old.rows }) }
         ensures err { OnErr result (self.new ≡ self.old) }
     {
-        let alloc = self.keys.alloc();
-        let mut table = Table::new(alloc, index)?;
+        let alloc = self.places.alloc();
+        let mut table = Table::new(alloc, self.places.seed(), index)?;
         copy_rows(alloc, &self.index, &mut table)?;
         *self = table;
         Ok(())
@@ -112,7 +144,10 @@ impl<I: RowIndex> Table<I> {
         let own = row.as_row();
         let key = own.key(self.index.period());
         let spare = self.index.prepare(own)?;
-        let before = self.keys.put(own.id.as_str(), own.label.text(), key)?;
+        let (id, label) = (own.id.as_str(), own.label.text());
+        let hash = self.places.seed().name_hash(id, label);
+        let before = find(&self.index, &self.places, hash, id, label);
+        self.places.put(hash, before, key)?;
         put_at(&mut self.index, before, row, spare);
         Ok(())
     }
@@ -121,10 +156,11 @@ impl<I: RowIndex> Table<I> {
     pub fn delete(&mut self, id: &str, label: &str)
         ensures { self.new ≡ record self.old { rows = without_named id.now label.now self.old.rows } }
     {
-        let Some(key) = self.keys.take(id, label) else {
+        let hash = self.places.seed().name_hash(id, label);
+        let Some(key) = take_out(&mut self.index, &self.places, hash, id, label) else {
             return;
         };
-        let _ = self.index.remove(key, id, label);
+        self.places.delete(hash, key);
     }
 
     /// The rows of an id whose labels the authorizations satisfy, by the bytes of their labels. An error if memory runs out.
@@ -132,22 +168,17 @@ impl<I: RowIndex> Table<I> {
         &self,
         id: &str,
         auths: &Auths<B>,
-    ) -> Result<Vec<&Row<I::Alloc>, I::Alloc>, AllocError>
-        ensures { IfOk result (λ rows. map (λ row. row.now) rows.items ≡ rows_by_label id.now (is_visible auths.now) self.now.rows) }
+    ) -> Result<Vec<RowView<'_, I::Alloc>, I::Alloc>, AllocError>
+        ensures { IfOk result (λ rows. map row_of_view rows.items ≡ rows_by_label id.now (is_visible auths.now) self.now.rows) }
     {
-        let alloc = self.keys.alloc();
-        let found = self.keys.labels_of(id)?;
-        let Some(mut labels) = found else {
-            return Ok(Vec::new(alloc));
-        };
-        rows_under(alloc, &self.index, id, &mut labels, auths)
+        lookup::rows_by_label(&self.index, &self.places, id, auths)
     }
 
     /// How many rows are inside the query and have a label that the authorizations satisfy.
     pub fn count<B: Allocator>(&self, query: &Query, auths: &Auths<B>) -> u64
         ensures { result ≡ length (visible_rows query.now auths.now self.now.rows) }
     {
-        st_scan::count(self.keys.alloc(), &self.index, query, auths)
+        st_scan::count(self.places.alloc(), &self.index, query, auths)
     }
 
     /// The first rows, at most `limit` of them, that are inside the query, have a label that the authorizations satisfy, and come
@@ -160,7 +191,7 @@ impl<I: RowIndex> Table<I> {
         after: Option<&Place<C>>,
         limit: usize,
     ) -> Result<Page<'_, I::Alloc>, ScanFault>
-        ensures rows { IfOk result (λ page. map (λ row. row.now) page.rows.items
+        ensures rows { IfOk result (λ page. map row_of_view page.rows.items
             ≡ take limit (visible_after self.now.period query.now auths.now (option_copied after.entry) self.now.rows)) }
         ensures more { IfOk result (λ page. page.more
             ≡ nat_lt limit (length (visible_after self.now.period query.now auths.now (option_copied after.entry) self.now.rows))) }
@@ -168,7 +199,7 @@ impl<I: RowIndex> Table<I> {
         ensures bad_limit { IfErr result (λ fault. fault ≡ BadLimit ↔ ((limit ≡ 0) ⊎ (1000 < limit))) }
         ensures no_grid { IfErr result (λ fault. fault ≡ BadGrid → ⊥) }
     {
-        st_scan::page(self.keys.alloc(), &self.index, query, auths, after, limit)
+        st_scan::page(self.places.alloc(), &self.index, query, auths, after, limit)
     }
 
     /// How many rows that are inside the query, and have a label that the authorizations satisfy, are in each field of a grid of so many
@@ -186,7 +217,7 @@ impl<I: RowIndex> Table<I> {
         ensures bad_grid { IfErr result (λ fault. fault ≡ BadGrid ↔ ((columns ≡ 0) ⊎ (32 < columns) ⊎ (lines ≡ 0) ⊎ (32 < lines))) }
         ensures no_limit { IfErr result (λ fault. fault ≡ BadLimit → ⊥) }
     {
-        let alloc = self.keys.alloc();
+        let alloc = self.places.alloc();
         st_scan::grid(alloc, &self.index, query, auths, columns, lines)
     }
 }

@@ -3,7 +3,7 @@ ghost use Rattle.std.specs.Prelude.{◌≡◌, ◌<◌, IfSome};
 
 use crate::journals::SlowJournal;
 use crate::puts::{id_of, put};
-use st_core::Store;
+use st_core::{Seed, Store};
 use st_durable::Beginning;
 use st_durable_hall::DurableHall;
 use st_hall::{Desk, Hall, HallName, UnnamedFor};
@@ -17,6 +17,12 @@ use std::thread::{Threads, for_each_mut};
 use std::time::Clock;
 
 const EACH: u8 = 50;
+
+// What the hashes of ids begin with. Any would do.
+const SEED: Seed = Seed {
+    first: 1,
+    second: 2,
+};
 
 const DIGEST: [u8; 32] = [
     0x66, 0x68, 0x7a, 0xad, 0xf8, 0x62, 0xbd, 0x77, 0x6c, 0x8f, 0xc1, 0x8b, 0x8e, 0x9f, 0x8e, 0x20,
@@ -136,8 +142,8 @@ fn put_by_all<
 pub fn stores(alloc: Global) -> Option<(Store, Store)>
     ensures { IfSome result (λ both. both.0 ≡ both.1) }
 {
-    let first = Store::open(alloc, DIGEST, &[]).ok()?;
-    match Store::open(alloc, DIGEST, &[]) {
+    let first = Store::open(alloc, SEED, DIGEST, &[]).ok()?;
+    match Store::open(alloc, SEED, DIGEST, &[]) {
         Ok(second) => Some((first, second)),
         Err(_) => {
             drop(first);

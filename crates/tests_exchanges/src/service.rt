@@ -2,9 +2,15 @@
 
 use crate::fault::Fault;
 use st_auth::AuthsFault;
-use st_core::Store;
+use st_core::{Seed, Store};
 use st_service::{Ended, FromRead, FromWrite, IoFault, Service};
 use std::alloc::Global;
+
+// What the hashes of ids begin with. Any would do.
+const SEED: Seed = Seed {
+    first: 1,
+    second: 2,
+};
 
 // The SHA-256 of 32 zero bytes, which are root's secret.
 const DIGEST: [u8; 32] = [
@@ -15,7 +21,7 @@ const DIGEST: [u8; 32] = [
 /// A fresh service, whose root has these authorizations, with a space between each and the next.
 pub fn opened(alloc: Global, names: &str) -> Result<Service, Fault> {
     let names: Vec<&str> = names.split_whitespace().collect(alloc)?;
-    match Store::open(alloc, DIGEST, names.as_slice()) {
+    match Store::open(alloc, SEED, DIGEST, names.as_slice()) {
         Ok(store) => Ok(Service::new(alloc, alloc, store)?),
         Err(AuthsFault::BadName { .. }) => Err(Fault::BadName),
         Err(AuthsFault::NoMemory) => Err(Fault::NoMemory),

@@ -1,6 +1,7 @@
 //! What the tests ask, and the halls in which they ask.
 ghost use Rattle.std.specs.Prelude.{◌≡◌, IfSome};
 
+use crate::words::SEED;
 use st_core::Store;
 use st_hall::Gate;
 use std::alloc::Global;
@@ -43,8 +44,8 @@ pub const ONE_ENTRY: &[u8] =
 pub fn stores(alloc: Global, auths: &[&str]) -> Option<(Store, Store)>
     ensures { IfSome result (λ both. both.0 ≡ both.1) }
 {
-    let first = Store::open(alloc, DIGEST, auths).ok()?;
-    match Store::open(alloc, DIGEST, auths) {
+    let first = Store::open(alloc, SEED, DIGEST, auths).ok()?;
+    match Store::open(alloc, SEED, DIGEST, auths) {
         Ok(second) => Some((first, second)),
         Err(_) => {
             drop(first);

@@ -1,7 +1,7 @@
 //! Runs of one connection over given bytes.
 
 use crate::halls::{INPUT, OUTPUT};
-use crate::words::{DIGEST, words_for};
+use crate::words::{DIGEST, SEED, words_for};
 use st_command::{Keeper, run_words};
 use st_command_line::Fault;
 use st_connection::{FromRead, FromWrite};
@@ -49,6 +49,7 @@ fn run<C: Clock>(
     let status = run_words(
         clock,
         alloc,
+        SEED,
         Unreadable,
         words,
         &mut reader,

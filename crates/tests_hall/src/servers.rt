@@ -1,7 +1,7 @@
 //! A server and its clients, over the loopback interface.
 ghost use Rattle.std.specs.Prelude.{◌≡◌, IfSome};
 
-use crate::words::{DIGEST, words_for};
+use crate::words::{DIGEST, SEED, words_for};
 use st_command::{Keeper, stores_for};
 use st_command_line::Fault;
 use st_copy::{Copier, CopyFault, Source};
@@ -156,6 +156,7 @@ fn served<
         || serve_words(
             rt,
             alloc,
+            SEED,
             Blank { alloc },
             Unwanted,
             &words,
@@ -179,6 +180,7 @@ fn refused<
     let status = serve_words(
         rt,
         alloc,
+        SEED,
         Blank { alloc },
         Unwanted,
         &words,
@@ -202,7 +204,7 @@ fn is_refused<
 fn stores(alloc: Global) -> Option<(Store, Store)>
     ensures { IfSome result (λ both. both.1 ≡ both.0) }
 {
-    match stores_for(alloc, DIGEST, &["A"]) {
+    match stores_for(alloc, SEED, DIGEST, &["A"]) {
         Ok(both) => Some(both),
         Err(_) => None,
     }

@@ -4,9 +4,15 @@ use st_box::Query;
 use st_index::{Id, Note, Row};
 use st_key::{Period, Point};
 use st_label::Label;
-use st_table::Table;
+use st_table::{Seed, Table};
 use st_ubtree::UbTree;
 use std::alloc::{Allocator, Global};
+
+// What the hashes of ids begin with. Any would do.
+const SEED: Seed = Seed {
+    first: 1,
+    second: 2,
+};
 
 /// What a test says of a row: its id, its label, and its point.
 pub type Said<'a> = (&'a str, &'a str, [u64; 3]);
@@ -43,7 +49,7 @@ pub fn row_of<A: Allocator + Copy>(alloc: A, (id, label, point): Said<'_>) -> Op
 // A table of no rows over a UB-tree.
 fn empty<A: Allocator + Copy>(alloc: A, period: Period) -> Option<Table<UbTree<A>>> {
     let tree = UbTree::new(alloc, period).ok()?;
-    Table::new(alloc, tree).ok()
+    Table::new(alloc, SEED, tree).ok()
 }
 
 // Puts a row without a note into a table.

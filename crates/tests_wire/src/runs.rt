@@ -1,6 +1,6 @@
 //! What the server's state answers to a list of requests.
 
-use crate::serving::DIGEST;
+use crate::serving::{DIGEST, SEED};
 use st_core::{Asked, Call, Denial, Refusal, Reply, Request, Store, Token, run};
 use st_dir::{Name, TableName};
 use std::alloc::Global;
@@ -71,7 +71,7 @@ fn all_told(replies: &[Reply]) -> Option<(Told, Told, Told, Told)> {
 
 // What a fresh store's state answers to these requests.
 fn told_to(alloc: Global, asked: &[Asked]) -> Option<(Told, Told, Told, Told)> {
-    let mut store = Store::open(alloc, DIGEST, &["A"]).ok()?;
+    let mut store = Store::open(alloc, SEED, DIGEST, &["A"]).ok()?;
     let replies = run(&mut store, asked);
     drop(store);
     let replies = replies.ok()?;

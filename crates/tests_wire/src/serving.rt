@@ -1,10 +1,16 @@
 //! A service of one connection, from the bytes that are read to the bytes that are written.
 
-use st_core::Store;
+use st_core::{Seed, Store};
 use st_http::message::{Message, Take};
 use st_http::routes::Routes;
 use st_service::{Ended, FromRead, FromWrite, IoFault, Service};
 use std::alloc::{Allocator, Global};
+
+/// What the hashes of ids begin with. Any would do.
+pub const SEED: Seed = Seed {
+    first: 1,
+    second: 2,
+};
 
 /// The SHA-256 of 32 zero bytes, which are root's secret.
 pub const DIGEST: [u8; 32] = [
@@ -37,7 +43,7 @@ pub const DONE: &str =
 
 /// A service whose root has the authorizations A, B and C, and a secret of zero bytes.
 pub fn opened<A: Allocator + Copy>(global: Global, alloc: A) -> Option<Service<A>> {
-    let store = Store::open(alloc, DIGEST, &["A", "B", "C"]).ok()?;
+    let store = Store::open(alloc, SEED, DIGEST, &["A", "B", "C"]).ok()?;
     Service::new(alloc, global, store).ok()
 }
 

@@ -15,7 +15,7 @@ ghost use Rattle.st_core.specs.declared.store.tables.Shelf.{Shelf as Kept};
 use st_dir::TableName;
 use st_index::{Row, RowIndex};
 use st_key::Period;
-use st_table::Table;
+use st_table::{Seed, Table};
 use st_ubtree::UbTree;
 use std::alloc::{AllocError, Allocator, Global};
 use std::marker::Model;
@@ -30,6 +30,7 @@ pub(crate) struct Shelf<A: Allocator + Copy = Global> {
 // The tables, by the bytes of their names: finding one costs the logarithm of their number.
 #[derive(Drop)]
 pub(crate) struct Tables<A: Allocator + Copy = Global> {
+    seed: Seed,
     shelves: Vec<Shelf<A>, A>,
 }
 
@@ -79,13 +80,13 @@ fn position<A: Allocator + Copy>(shelves: &[Shelf<A>], name: &str) -> usize
 
 impl<A: Allocator + Copy> Shelf<A> {
     // A table of no rows.
-    fn new(alloc: A, name: &TableName, period: Period) -> Result<Shelf<A>, AllocError>
+    fn new(alloc: A, seed: Seed, name: &TableName, period: Period) -> Result<Shelf<A>, AllocError>
         ensures { IfOk result (λ shelf. shelf ≡ record { name = name.now; table = record { period = period; rows = [] } }) }
     {
         let index = UbTree::new(alloc, period)?;
         Ok(Shelf {
             name: name.copy(),
-            table: Table::new(alloc, index)?,
+            table: Table::new(alloc, seed, index)?,
         })
     }
 
@@ -136,10 +137,11 @@ impl<A: Allocator + Copy> Shelf<A> {
 
 impl<A: Allocator + Copy> Tables<A> {
     // No tables.
-    pub(crate) fn new(alloc: A) -> Tables<A>
+    pub(crate) fn new(alloc: A, seed: Seed) -> Tables<A>
         ensures { result ≡ record { headings = []; rows = [] } }
     {
         Tables {
+            seed,
             shelves: Vec::new(alloc),
         }
     }
@@ -158,7 +160,7 @@ impl<A: Allocator + Copy> Tables<A> {
         ensures back { OnOk result (tables_without name.now self.new ≡ self.old) }
         ensures err { OnErr result (self.new ≡ self.old) }
     {
-        let shelf = Shelf::new(alloc, name, period)?;
+        let shelf = Shelf::new(alloc, self.seed, name, period)?;
         let place = place_of(&self.shelves, name.as_str());
         let Ok(()) = self.shelves.insert(place, shelf) else {
             return Err(AllocError);

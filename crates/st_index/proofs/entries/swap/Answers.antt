@@ -1,7 +1,6 @@
 use Rattle.std.proofs.Common.{◌≡◌, refl, set, subst, sym, ap, ◌∙◌}
 use Rattle.std.proofs.lemmas.List.{set-get_or}
-use Rattle.st_key.specs.Key.{rank}
-use Rattle.st_index.specs.Rows.{name_of, EntryValue, Rises, rows_of}
+use Rattle.st_index.specs.Rows.{name_of, rank_of, EntryValue, Rises, rows_of}
 use Rattle.st_index.specs.Index.{IsAbsent}
 use Rattle.st_index.proofs.Names.{nat_equal}
 use Rattle.st_index.proofs.Taking.{missing_absent, absent_around, swapped_inside, swapped_placed, swapped_entry, changed_rising, around}
@@ -14,46 +13,46 @@ returns-in-Ok-swap-clause-ok g c =
     (swapped_inside c.args.entries.now.items c.in-Ok.i e c.swap.new.self bound c.index_mut-entry.ensures.value c.in-Ok-swap.out c.args.row c.in-Ok-swap.ensures.ok.0, c.in-Ok-swap.ensures.ok.1)
 
 pub returns-in-Ok-swap-clause-placed : goal.returns-in-Ok-swap-clause-placed
-returns-in-Ok-swap-clause-placed g c = λ period lo hi h.
+returns-in-Ok-swap-clause-placed g c = λ lo hi h.
     let bound = rw c.deref.ensures.value at c.in-Ok.ensures.bound in
     let e = c.index_mut-entry.result.now in
     let same = rw c.deref.ensures.value at (c.in-Ok.ensures.place e) in
-    let at : e.at ≡ rank c.args.key = ap (λ (f : EntryValue g.row.A.Denot). f.at) c.index_mut-entry.ensures.value ∙ nat_equal _ _ same in
-    let a = around period c.args.entries.now.items c.in-Ok.i e e bound c.index_mut-entry.ensures.value lo hi h in
-    swapped_placed period e c.swap.new.self.rows c.in-Ok-swap.out c.args.row c.in-Ok-swap.ensures.ok.0 a.entry ∙ at
+    let at : e.at ≡ rank_of c.args.period c.args.row = ap (λ (f : EntryValue g.row.A.Denot). f.at) c.index_mut-entry.ensures.value ∙ nat_equal _ _ same ∙ c.key-key.ensures.value in
+    let a = around c.args.period c.args.entries.now.items c.in-Ok.i e e bound c.index_mut-entry.ensures.value lo hi h in
+    swapped_placed c.args.period e c.swap.new.self.rows c.in-Ok-swap.out c.args.row c.in-Ok-swap.ensures.ok.0 a.entry ∙ at
 
 pub returns-in-Ok-swap-clause-rising : goal.returns-in-Ok-swap-clause-rising
-returns-in-Ok-swap-clause-rising g c = λ period lo hi key h.
+returns-in-Ok-swap-clause-rising g c = λ lo hi h.
     let bound = rw c.deref.ensures.value at c.in-Ok.ensures.bound in
     let e = c.index_mut-entry.result.now in
     let same = rw c.deref.ensures.value at (c.in-Ok.ensures.place e) in
-    let at : e.at ≡ rank c.args.key = ap (λ (f : EntryValue g.row.A.Denot). f.at) c.index_mut-entry.ensures.value ∙ nat_equal _ _ same in
-    changed_rising period c.args.entries.now.items c.in-Ok.i e c.swap.new.self bound c.index_mut-entry.ensures.value lo hi c.in-Ok-swap.ensures.at
-    (swapped_entry period e c.swap.new.self c.in-Ok-swap.out c.args.row c.in-Ok-swap.ensures.ok.0 c.in-Ok-swap.ensures.at (sym (at ∙ key)) c.in-Ok-swap.ensures.named) h
+    let at : e.at ≡ rank_of c.args.period c.args.row = ap (λ (f : EntryValue g.row.A.Denot). f.at) c.index_mut-entry.ensures.value ∙ nat_equal _ _ same ∙ c.key-key.ensures.value in
+    changed_rising c.args.period c.args.entries.now.items c.in-Ok.i e c.swap.new.self bound c.index_mut-entry.ensures.value lo hi c.in-Ok-swap.ensures.at
+    (swapped_entry c.args.period e c.swap.new.self c.in-Ok-swap.out c.args.row c.in-Ok-swap.ensures.ok.0 c.in-Ok-swap.ensures.at (sym at) c.in-Ok-swap.ensures.named) h
 
 pub returns-in-Err-swap-clause-absent : goal.returns-in-Err-swap-clause-absent
-returns-in-Err-swap-clause-absent g c = λ period lo hi h.
+returns-in-Err-swap-clause-absent g c = λ lo hi h.
     let bound = rw c.deref.ensures.value at c.in-Ok.ensures.bound in
     let e = c.index_mut-entry.result.now in
     let same = rw c.deref.ensures.value at (c.in-Ok.ensures.place e) in
-    let at : e.at ≡ rank c.args.key = ap (λ (f : EntryValue g.row.A.Denot). f.at) c.index_mut-entry.ensures.value ∙ nat_equal _ _ same in
-    let a = around period c.args.entries.now.items c.in-Ok.i e e bound c.index_mut-entry.ensures.value lo hi h in
-    subst (λ n. IsAbsent period n (name_of c.args.row) (rows_of c.args.entries.now.items)) at
-    (absent_around period c.args.entries.now.items c.in-Ok.i e e bound c.index_mut-entry.ensures.value lo hi _ h (c.in-Err-swap.ensures.absent a.entry.named))
+    let at : e.at ≡ rank_of c.args.period c.args.row = ap (λ (f : EntryValue g.row.A.Denot). f.at) c.index_mut-entry.ensures.value ∙ nat_equal _ _ same ∙ c.key-key.ensures.value in
+    let a = around c.args.period c.args.entries.now.items c.in-Ok.i e e bound c.index_mut-entry.ensures.value lo hi h in
+    subst (λ n. IsAbsent c.args.period n (name_of c.args.row) (rows_of c.args.entries.now.items)) at
+    (absent_around c.args.period c.args.entries.now.items c.in-Ok.i e e bound c.index_mut-entry.ensures.value lo hi _ h (c.in-Err-swap.ensures.absent a.entry.named))
 
 pub returns-in-Err-clause-absent : goal.returns-in-Err-clause-absent
-returns-in-Err-clause-absent g c = λ period lo hi h.
-    missing_absent period _ _ c.args.entries.now.items c.in-Err.field-0 lo hi h (rw c.deref.ensures.value at c.in-Err.ensures.place)
+returns-in-Err-clause-absent g c = λ lo hi h.
+    missing_absent c.args.period _ _ c.args.entries.now.items c.in-Err.field-0 lo hi h (rw (c.deref.ensures.value, c.key-key.ensures.value) at c.in-Err.ensures.place)
 
 pub returns-in-Err-swap-clause-rising : goal.returns-in-Err-swap-clause-rising
-returns-in-Err-swap-clause-rising g c = λ period lo hi key h.
+returns-in-Err-swap-clause-rising g c = λ lo hi h.
     let es = c.args.entries.now.items in
     let same : set es c.in-Ok.i c.swap.new.self ≡ es =
     ap (λ e. set es c.in-Ok.i e) (c.in-Err-swap.ensures.err ∙ c.index_mut-entry.ensures.value) ∙ set-get_or es c.in-Ok.i c.index_mut-entry.result.now in
-    subst (λ es. Rises period lo hi es) (sym same) h
+    subst (λ es. Rises c.args.period lo hi es) (sym same) h
 
 pub returns-in-Err-clause-rising : goal.returns-in-Err-clause-rising
-returns-in-Err-clause-rising g c = λ period lo hi key h. h
+returns-in-Err-clause-rising g c = λ lo hi h. h
 
 pub returns-in-Err-swap-clause-err : goal.returns-in-Err-swap-clause-err
 returns-in-Err-swap-clause-err g c =
@@ -62,3 +61,8 @@ returns-in-Err-swap-clause-err g c =
 
 pub returns-in-Ok-swap-clause-change : goal.returns-in-Ok-swap-clause-change
 returns-in-Ok-swap-clause-change g c = (rw c.deref.ensures.value at c.in-Ok.ensures.bound, c.swap.new.self, refl)
+
+pub swap-requires : goal.swap-requires
+swap-requires g c =
+    let same = rw c.deref.ensures.value at (c.in-Ok.ensures.place c.index_mut-entry.result.now) in
+    ap (λ (f : EntryValue g.row.A.Denot). f.at) c.index_mut-entry.ensures.value ∙ nat_equal _ _ same ∙ c.key-key.ensures.value

@@ -20,7 +20,7 @@ loop-row-preserved g c =
     let below : c.loop-row.row-index < length rows = omega arith in
     record {
       far = far_next q (g.J.Judge.judges c.args.judge.now) field_of (λ (r : Row g.row.A.Denot). r ∷ []) rows c.loop-row.row-index row c.args.counts.now c.loop-row.counts c.count_row.new.counts
-          c.loop-row.invariant.far below c.row-item.is (subst (λ j. Counts q j field_of (row ∷ []) c.loop-row.counts c.count_row.new.counts) c.loop-row.invariant.same c.count_row.ensures.counts);
+          c.loop-row.invariant.far below c.row-item.is (subst (λ j. Counts q j field_of (row ∷ []) c.loop-row.counts c.count_row.new.counts) c.loop-row.invariant.same (subst (λ r. Counts q (g.J.Judge.judges c.loop-row.judge) field_of (r ∷ []) c.loop-row.counts c.count_row.new.counts) c.of.ensures c.count_row.ensures.counts));
       same = c.count_row.ensures.same ∙ c.loop-row.invariant.same;
     }
 

@@ -2,7 +2,9 @@ use Rattle.std.proofs.Common.{◌≡◌, ap, subst, ◌∙◌, Option, Some, Non
 use Rattle.std.specs.Prelude.{IfSome, IfNone}
 use Rattle.st_key.specs.Key.{rank}
 use Rattle.st_index.specs.Index.{IsAbsent}
-use Rattle.st_index.specs.Rows.{EntryValue, rows_of}
+use Rattle.std.proofs.lemmas.List.Elements.{All-contains}
+use Rattle.st_index.specs.RowViews.{row_of_view}
+use Rattle.st_index.specs.Rows.{EntryValue, rank_of, rows_of}
 use Rattle.st_index.proofs.Names.{nat_equal}
 use Rattle.st_index.proofs.Taking.{absent_around, around, missing_absent}
 use Rattle.st_table.proofs.Finding.{in_rows}
@@ -22,7 +24,7 @@ returns-in_default-clause-absent g c = λ period lo hi h.
 
 pub returns-clause-held : goal.returns-clause-held
 returns-clause-held g c =
-    some_more (λ row h. in_rows c.args.held.now c.in-Ok.at c.index-held-at.result c.in-Ok.ensures.bound c.index-held-at.is row.now h.0) c.get.result c.get.ensures.some
+    some_more (λ row h. in_rows c.args.held.now c.in-Ok.at c.index-held-at.result c.in-Ok.ensures.bound c.index-held-at.is (row_of_view row) h.0) c.get.result c.get.ensures.some
 
 pub returns-clause-absent : goal.returns-clause-absent
 returns-clause-absent g c =
@@ -36,3 +38,12 @@ returns-clause-absent g c =
 
 pub returns-clause-named : goal.returns-clause-named
 returns-clause-named g c = some_more (λ row h. h.1) c.get.result c.get.ensures.some
+
+pub returns-clause-placed : goal.returns-clause-placed
+returns-clause-placed g c =
+    let e = c.index-held-at.result in
+    let at : e.at ≡ rank c.args.key = ap (λ (f : EntryValue g.row.A.Denot). f.at) c.index-held-at.is ∙ nat_equal _ _ (c.in-Ok.ensures.place e) in
+    some_more (λ row h period lo hi rising.
+    let a = around period c.args.held.now c.in-Ok.at e e c.in-Ok.ensures.bound c.index-held-at.is lo hi rising in
+    All-contains (λ r. rank_of period r ≡ e.at) e.rows (row_of_view row) a.entry.placed h.0 ∙ at)
+    c.get.result c.get.ensures.some

@@ -1,4 +1,5 @@
 use Rattle.std.proofs.Common.{ap, sym, ◌∙◌}
+use Rattle.st_index.specs.RowViews.{row_of_view}
 use Rattle.st_index.specs.Rows.{name_of}
 use Rattle.st_index.proofs.Names.{name_equal}
 use Rattle.st_index.proofs.Taking.{names_missing}
@@ -8,7 +9,7 @@ pub returns-in-Ok-clause-some : goal.returns-in-Ok-clause-some
 returns-in-Ok-clause-some g c =
     let bound = rw c.rows-rows.ensures at c.in-Ok.ensures.bound in
     let read = rw c.rows-rows.ensures at c.at.ensures in
-    let same = rw c.rows-rows.ensures at (c.in-Ok.ensures.place c.at.result.now) in
+    let same = rw c.rows-rows.ensures at (c.in-Ok.ensures.place (row_of_view c.at.result)) in
     ((c.in-Ok.i, bound, sym read), ap name_of read ∙ name_equal _ _ same)
 
 pub returns-in-Err-clause-absent : goal.returns-in-Err-clause-absent

@@ -1,4 +1,6 @@
-use Rattle.std.proofs.Common.{arith, ◌≡◌, length, sym, ap, ◌∙◌}
+use Rattle.std.proofs.Common.{arith, ◌≡◌, [], length, sym, refl, ap, ◌∙◌}
+use Rattle.std.proofs.lemmas.Bool.{eqb-true, eqb-false}
+use Rattle.std.proofs.lemmas.List.{nil_from_length}
 use Rattle.std.specs.List.{insert}
 use Rattle.st_index.specs.RowViews.{viewed}
 use Rattle.st_index.specs.Rows.{EntryValue}
@@ -9,18 +11,18 @@ use Rattle.st_index.proofs.entry.Entry.put.Goals.{in-Ok, in-Err}
 
 pub returns-clause-added : goal.returns-clause-added
 returns-clause-added g c =
-    rw (c.insert.ensures, ← c.self.view_is) (adds_insert c.self.inside.rows c.args.row c.match-find.place)
+    rw c.insert.ensures.rows (adds_insert c.args.self.now.rows c.args.row c.match-find.place)
 
 pub returns-clause-named : goal.returns-clause-named
-returns-clause-named g c = λ period named absent placed.
+returns-clause-named g c = λ named absent placed.
     let was : viewed c.rows.result ≡ c.args.self.now.rows = c.rows.ensures in
-    let is : c.insert.new.self ≡ insert c.args.self.now.rows c.match-find.place c.args.row = c.insert.ensures ∙ ap (λ (e : EntryValue g.row.A.Denot). insert e.rows c.match-find.place c.args.row) c.self.view_is in
+    let is : c.insert.new.self.rows ≡ insert c.args.self.now.rows c.match-find.place c.args.row = c.insert.ensures.rows in
     let id : c.as_str.result.now ≡ c.args.row.id = c.as_str.ensures.value in
     let label : c.text.result.now ≡ c.args.row.label = c.text.ensures.value in
     elim c.match-find.branch [
       | in-Ok w ↦
           let same = λ (d : Row g.row.A.Denot). rw (was, id, label) at (w.in-Ok.ensures.place d) in
-          absurd (names_held period c.args.self.now.rows c.args.row w.in-Ok.place (rw was at w.in-Ok.ensures.bound) same absent placed)
+          absurd (names_held c.args.period c.args.self.now.rows c.args.row w.in-Ok.place (rw was at w.in-Ok.ensures.bound) same absent placed)
       | in-Err w ↦
           let found = rw (was, id, label) at w.in-Err.ensures.place in
           rw (is, w.place-is) (names_put c.args.self.now.rows c.args.row w.in-Err.place found named)
@@ -28,7 +30,7 @@ returns-clause-named g c = λ period named absent placed.
 
 pub insert-requires-clause-index : goal.insert-requires-clause-index
 insert-requires-clause-index g c =
-    let was : viewed c.rows.result ≡ c.self.inside.rows = c.rows.ensures ∙ sym (ap (λ (e : EntryValue g.row.A.Denot). e.rows) c.self.view_is) in
+    let was : viewed c.rows.result ≡ c.args.self.now.rows = c.rows.ensures in
     let len = ap length was in
     elim c.match-find.branch [
       | in-Ok w ↦
@@ -39,11 +41,18 @@ insert-requires-clause-index g c =
           omega (arith, w.place-is, bound, len)
     ]
 
-pub insert-requires-clause-room : goal.insert-requires-clause-room
-insert-requires-clause-room g c = rw (← c.self.view_is) at c.requires.room
+pub insert-requires-clause-some : goal.insert-requires-clause-some
+insert-requires-clause-some g c =
+    let some = eqb-false _ _ (sym c.is_empty.ensures ∙ c.if-is_empty.false) in
+    omega (arith, some)
 
-pub returns-clause-at : goal.returns-clause-at
-returns-clause-at g c = ap (λ (e : EntryValue g.row.A.Denot). e.at) c.self.view_is
+pub insert-requires-clause-room : goal.insert-requires-clause-room
+insert-requires-clause-room g c = c.requires.room (insert-requires-clause-some g c)
 
 pub insert-requires-clause-empty : goal.insert-requires-clause-empty
 insert-requires-clause-empty g c = c.requires.empty
+
+pub returns-then-is_empty-clause-added : goal.returns-then-is_empty-clause-added
+returns-then-is_empty-clause-added g c =
+    let none : c.args.self.now.rows ≡ [] = nil_from_length c.args.self.now.rows (eqb-true _ _ (sym c.is_empty.ensures ∙ c.if-is_empty.true)) in
+    rw (none, c.overwrite.ensures, c.new.ensures) (record { front = []; back = []; old_is = refl; new_is = refl })

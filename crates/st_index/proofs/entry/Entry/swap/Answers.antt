@@ -7,25 +7,25 @@ use Rattle.st_index.proofs.entry.Entry.swap.Goals as goal
 
 pub returns-in-Ok-clause-ok : goal.returns-in-Ok-clause-ok
 returns-in-Ok-clause-ok g c =
-    let was : viewed c.rows.result ≡ c.self.inside.rows = c.rows.ensures ∙ sym (ap (λ (e : EntryValue g.row.A.Denot). e.rows) c.self.view_is) in
+    let was : viewed c.rows.result ≡ c.args.self.now.rows = c.rows.ensures in
     let id : c.as_str.result.now ≡ c.args.row.id = c.as_str.ensures.value in
     let label : c.text.result.now ≡ c.args.row.label = c.text.ensures.value in
     let bound = rw was at c.in-Ok.ensures.bound in
     let same = rw (was, id, label) at (c.in-Ok.ensures.place c.replace.result) in
-    rw (c.replace.ensures.rows, ← c.self.view_is) (
-      swapped c.self.inside.rows c.in-Ok.i c.replace.result c.args.row bound c.replace.ensures.value,
+    rw c.replace.ensures.rows (
+      swapped c.args.self.now.rows c.in-Ok.i c.replace.result c.args.row bound c.replace.ensures.value,
       ap name_of c.replace.ensures.value ∙ name_equal _ _ same,
     )
 
 pub returns-in-Ok-clause-named : goal.returns-in-Ok-clause-named
 returns-in-Ok-clause-named g c =
-    let was : viewed c.rows.result ≡ c.self.inside.rows = c.rows.ensures ∙ sym (ap (λ (e : EntryValue g.row.A.Denot). e.rows) c.self.view_is) in
+    let was : viewed c.rows.result ≡ c.args.self.now.rows = c.rows.ensures in
     let id : c.as_str.result.now ≡ c.args.row.id = c.as_str.ensures.value in
     let label : c.text.result.now ≡ c.args.row.label = c.text.ensures.value in
     let bound = rw was at c.in-Ok.ensures.bound in
     let same = rw (was, id, label) at (c.in-Ok.ensures.place c.replace.result) in
-    rw (c.replace.ensures.rows, ← c.self.view_is)
-    (swapped_named c.self.inside.rows c.in-Ok.i c.replace.result c.args.row bound c.replace.ensures.value
+    rw c.replace.ensures.rows
+    (swapped_named c.args.self.now.rows c.in-Ok.i c.replace.result c.args.row bound c.replace.ensures.value
     (ap name_of c.replace.ensures.value ∙ name_equal _ _ same))
 
 pub returns-in-Err-clause-absent : goal.returns-in-Err-clause-absent

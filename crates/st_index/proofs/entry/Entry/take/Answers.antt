@@ -7,19 +7,19 @@ use Rattle.st_index.proofs.entry.Entry.take.Goals as goal
 
 pub returns-in-Ok-clause-some : goal.returns-in-Ok-clause-some
 returns-in-Ok-clause-some g c =
-    let was : viewed c.rows.result ≡ c.self.inside.rows = c.rows.ensures ∙ sym (ap (λ (e : EntryValue g.row.A.Denot). e.rows) c.self.view_is) in
+    let was : viewed c.rows.result ≡ c.args.self.now.rows = c.rows.ensures in
     let bound = rw was at c.in-Ok.ensures.bound in
     let same = rw was at (c.in-Ok.ensures.place c.remove.result) in
-    rw (c.remove.ensures.rows, ← c.self.view_is) (
-      removed_adds c.self.inside.rows c.in-Ok.i c.remove.result bound c.remove.ensures.value,
+    rw c.remove.ensures.rows (
+      removed_adds c.args.self.now.rows c.in-Ok.i c.remove.result bound c.remove.ensures.value,
       ap name_of c.remove.ensures.value ∙ name_equal _ _ same,
     )
 
 pub returns-in-Ok-clause-named : goal.returns-in-Ok-clause-named
 returns-in-Ok-clause-named g c =
-    let was : viewed c.rows.result ≡ c.self.inside.rows = c.rows.ensures ∙ sym (ap (λ (e : EntryValue g.row.A.Denot). e.rows) c.self.view_is) in
+    let was : viewed c.rows.result ≡ c.args.self.now.rows = c.rows.ensures in
     let bound = rw was at c.in-Ok.ensures.bound in
-    rw (c.remove.ensures.rows, ← c.self.view_is) (removed_named c.self.inside.rows c.in-Ok.i c.remove.result bound c.remove.ensures.value)
+    rw c.remove.ensures.rows (removed_named c.args.self.now.rows c.in-Ok.i c.remove.result bound c.remove.ensures.value)
 
 pub returns-in-Err-clause-absent : goal.returns-in-Err-clause-absent
 returns-in-Err-clause-absent g c =

@@ -1,5 +1,6 @@
 use Rattle.std.proofs.Common.{◌∙◌, sym, ap, subst}
 use Rattle.st_key.specs.Key.{rank}
+use Rattle.st_index.specs.RowViews.{row_of_view}
 use Rattle.st_index.specs.Rows.{rank_of}
 use Rattle.st_scan.specs.Regions.{Count, Meets}
 use Rattle.st_scan.specs.Walks.{MeetsUpTo}
@@ -41,5 +42,5 @@ returns-clause-opened g c =
     let q = c.self.inside.test.query in
     let regions = g.I.RowIndex.regions c.self.inside.index.now in
     let some = given_opened w q (g.I.RowIndex.content c.self.inside.index.now) regions c.forward.new.at _ _ c.forward.ensures.at c.in-Some.ensures.some in
-    subst (λ v. Count (MeetsUpTo v.period v.query v.start (rank_of v.period c.in-Some.row.now)) v.regions opened) c.self.view_is
-    (subst (λ k. Count (MeetsUpTo w q (rank k) (rank_of w c.in-Some.row.now)) regions opened) c.forward.ensures.start some)
+    subst (λ v. Count (MeetsUpTo v.period v.query v.start (rank_of v.period (row_of_view c.in-Some.row))) v.regions opened) c.self.view_is
+    (subst (λ k. Count (MeetsUpTo w q (rank k) (rank_of w (row_of_view c.in-Some.row))) regions opened) c.forward.ensures.start some)

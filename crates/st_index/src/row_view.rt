@@ -1,0 +1,103 @@
+//! Views of single rows.
+ghost use Rattle.std.specs.Prelude.{◌≡◌, ◌<◌, IfOk};
+ghost use Rattle.st_index.specs.RowViews.{row_of_view};
+ghost use Rattle.st_index.specs.Rows.{key_end, name_cmp, name_of, rank_of};
+ghost use Rattle.st_key.specs.Key.{rank};
+
+use crate::id::Id;
+use crate::note::Note;
+use crate::row::Row;
+use st_key::{Key, Period, Point};
+use st_label::Label;
+use std::alloc::{AllocError, Allocator, Global};
+use std::cmp::Ordering;
+
+/// A row by reference, wherever its parts lie.
+#[derive_where(Clone, Copy)]
+pub struct RowView<'a, A: Allocator = Global> {
+    point: Point,
+    id: &'a Id<A>,
+    label: &'a Label<A>,
+    note: &'a Note<A>,
+}
+
+impl<'a, A: Allocator> RowView<'a, A> {
+    /// The row of these parts.
+    pub fn new(point: Point, id: &'a Id<A>, label: &'a Label<A>, note: &'a Note<A>) -> Self
+        ensures { row_of_view result ≡ record { id = id.now; point = point; label = label.now; note = note.now } }
+    {
+        RowView {
+            point,
+            id,
+            label,
+            note,
+        }
+    }
+
+    /// A row in view.
+    pub fn of(row: &'a Row<A>) -> Self
+        ensures { row_of_view result ≡ row.now }
+    {
+        RowView::new(row.point, &row.id, &row.label, &row.note)
+    }
+
+    /// The row's id.
+    pub fn id(self) -> &'a Id<A>
+        ensures { result.now ≡ (row_of_view self.entry).id }
+    {
+        self.id
+    }
+
+    /// Where and when.
+    pub fn point(self) -> Point
+        ensures { result ≡ (row_of_view self.entry).point }
+    {
+        self.point
+    }
+
+    /// Who may see it.
+    pub fn label(self) -> &'a Label<A>
+        ensures { result.now ≡ (row_of_view self.entry).label }
+    {
+        self.label
+    }
+
+    /// What else is to be kept with the point.
+    pub fn note(self) -> &'a Note<A>
+        ensures { result.now ≡ (row_of_view self.entry).note }
+    {
+        self.note
+    }
+}
+
+impl<A: Allocator + Copy> RowView<'_, A> {
+    /// An equal row, or an error if memory runs out.
+    pub fn copy(self) -> Result<Row<A>, AllocError>
+        ensures { IfOk result (λ other. other ≡ row_of_view self.entry) }
+    {
+        Ok(Row {
+            id: self.id.copy()?,
+            point: self.point,
+            label: self.label.copy()?,
+            note: self.note.copy()?,
+        })
+    }
+
+    /// The key of the row's point.
+    pub fn key(self, period: Period) -> Key
+        ensures value { rank result ≡ rank_of period (row_of_view self.entry) }
+        ensures in_period { rank result < key_end period }
+    {
+        Key::of(&self.point, period)
+    }
+
+    /// The order of the row's name and that of an id and a label: by the id's bytes, then by the label's.
+    pub fn cmp_name(self, id: &str, label: &str) -> Ordering
+        ensures { result ≡ name_cmp (name_of (row_of_view self.entry)) (record { id = id.now; label = label.now }) }
+    {
+        match self.id.as_str().cmp(id) {
+            Ordering::Equal => self.label.text().cmp(label),
+            order => order,
+        }
+    }
+}
