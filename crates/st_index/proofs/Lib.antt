@@ -9,3 +9,4 @@ pub mod Taking
 pub mod Scanning
 pub mod Listing
 pub mod Sorting
+pub mod Searching

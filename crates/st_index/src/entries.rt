@@ -1,6 +1,6 @@
 //! Lists of entries, in the order of their keys.
-ghost use Rattle.std.specs.Prelude.{◌≡◌, ◌+◌, ◌<◌, ◌≤◌, ◌^◌, [], length, vec_len, vec_capacity, IfSome, IfNone, IfOk, IsOk, OnErr};
-ghost use Rattle.std.specs.List.{All};
+ghost use Rattle.std.specs.Prelude.{◌≡◌, ◌+◌, ◌<◌, ◌≤◌, ◌^◌, [], length, ltb, not, vec_len, vec_capacity, IfSome, IfNone, IfOk, IsOk, OnErr};
+ghost use Rattle.std.specs.List.{All, position};
 ghost use Rattle.std.specs.List.Sorted.{IsSearchInRange, IsBinarySearchResult};
 ghost use Rattle.std.specs.Ordering.{nat_cmp};
 ghost use Rattle.st_key.specs.declared.period.Period.{Period};
@@ -15,7 +15,6 @@ use crate::row::Row;
 use crate::{order, room};
 use st_key::{Key, Period};
 use std::alloc::{AllocError, Allocator};
-use std::cmp::Ordering;
 
 /// How a list of entries changed: at an index an entry came in, another one stands, or the one that stood there went.
 #[derive(Clone, Copy)]
@@ -25,16 +24,28 @@ pub enum Change {
     Closed(usize),
 }
 
+// The index of the first entry that does not come before the key. The entries are looked at one by one: a processor fetches the
+// keys of several at once, where a search by halves would wait for one after the other.
+fn first_from<A: Allocator + Copy>(entries: &[Entry<A>], key: Key) -> Option<usize>
+    ensures { result ≡ position (λ (e : EntryValue A). not (ltb e.at (rank key))) entries.now }
+{
+    entries.iter().position(|entry| !order::is_before(entry.key(), key))
+}
+
 /// The index of the key's entry, or the index where it would stand.
 pub fn find<A: Allocator + Copy>(entries: &[Entry<A>], key: Key) -> Result<usize, usize>
     ensures bound { IsSearchInRange result (length entries.now) }
     ensures place { IsBinarySearchResult (λ (e : EntryValue A). nat_cmp e.at (rank key)) entries.now result }
 {
-    entries.binary_search_by(
-        |entry: &Entry<A>| -> Ordering
-            ensures { result ≡ nat_cmp entry.now.at (rank key) }
-        { order::compare(entry.key(), key) },
-    )
+    let Some(place) = first_from(entries, key) else {
+        return Err(entries.len());
+    };
+    let entry = &entries[place];
+    if order::is_before(key, entry.key()) {
+        Err(place)
+    } else {
+        Ok(place)
+    }
 }
 
 /// An empty list for one row more than a key holds, and for half as many again, so that few puts at a key move its rows. It
