@@ -14,7 +14,7 @@ pub returns-then-is_before-clause-place : goal.returns-then-is_before-clause-pla
 returns-then-is_before-clause-place g c rises =
     let at = λ (e : EntryValue g.row.A.Denot). e.at in
     let found = sym c.first_from.ensures ∙ c.in-Some.is in
-    let after : true ≡ ltb (rank c.args.key) (at c.index-entries-place.result) = c.if-is_before.ensures ∙ ap (λ (e : EntryValue g.row.A.Denot). ltb (rank c.args.key) e.at) c.entry.view_is in
+    let after : true ≡ ltb (rank c.args.key) (at c.index-entries-place.result) = c.if-is_before.ensures ∙ ap (λ n. ltb (rank c.args.key) n) c.key.ensures in
     (λ k d _ lt. less_before at (rank c.args.key) c.args.entries.now c.in-Some.place found k d lt,
      λ k d le lt. greater_from at (rank c.args.key) c.args.entries.now c.in-Some.place found c.index-entries-place.result c.index-entries-place.is after rises k d le lt)
 
@@ -25,5 +25,5 @@ pub returns-else-is_before-clause-place : goal.returns-else-is_before-clause-pla
 returns-else-is_before-clause-place g c d =
     let at = λ (e : EntryValue g.row.A.Denot). e.at in
     let found = sym c.first_from.ensures ∙ c.in-Some.is in
-    let not_after : false ≡ ltb (rank c.args.key) (at c.index-entries-place.result) = c.if-is_before.ensures ∙ ap (λ (e : EntryValue g.row.A.Denot). ltb (rank c.args.key) e.at) c.entry.view_is in
+    let not_after : false ≡ ltb (rank c.args.key) (at c.index-entries-place.result) = c.if-is_before.ensures ∙ ap (λ n. ltb (rank c.args.key) n) c.key.ensures in
     equal_there at (rank c.args.key) c.args.entries.now c.in-Some.place found c.index-entries-place.result c.index-entries-place.is d not_after
