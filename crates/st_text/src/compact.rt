@@ -9,11 +9,11 @@ use std::alloc::{AllocError, Allocator, Global};
 use std::marker::Model;
 
 // The greatest length of a text that lies in one block of the heap, in bytes.
-const MAX_MEDIUM: usize = 56;
+const MAX_MEDIUM: usize = 48;
 
 type MediumText = Text<MAX_MEDIUM>;
 
-const _: () = prove!(size_of::<MediumText>() == 64);
+const _: () = prove!(size_of::<MediumText>() == 56);
 
 // Where the bytes of a text are stored: in the value itself, in one block, or in a block behind another.
 #[derive(Drop)]
