@@ -79,11 +79,12 @@ pub fn put<A: Allocator + Copy>(
         → length e.rows < vec_capacity rows) entries.old.items }
     ensures added { Adds row (rows_of entries.old.items) (rows_of entries.new.items) }
     ensures change { IsChange result entries.old.items entries.new.items }
-    ensures rising { (lo hi : _) → Rises period lo hi entries.old.items → lo ≤ rank_of period row → rank_of period row < hi
-        → IsAbsent period (rank_of period row) (name_of row) (rows_of entries.old.items) → Rises period lo hi entries.new.items }
+    ensures rising { (p : Period) (lo hi : _) → rank_of period row ≡ rank_of p row → Rises p lo hi entries.old.items
+        → lo ≤ rank_of period row → rank_of period row < hi
+        → IsAbsent p (rank_of period row) (name_of row) (rows_of entries.old.items) → Rises p lo hi entries.new.items }
     ensures longer { vec_len entries.old ≤ vec_len entries.new }
     ensures at_most_one { vec_len entries.new ≤ vec_len entries.old + 1 }
-    ensures new_key { (lo hi : _) → Rises period lo hi entries.old.items → vec_len entries.old < vec_len entries.new
+    ensures new_key { (p : Period) (lo hi : _) → Rises p lo hi entries.old.items → vec_len entries.old < vec_len entries.new
         → All (λ (e : EntryValue A). e.at ≡ rank_of period row → ⊥) entries.old.items }
     ensures capacity { vec_capacity entries.old ≤ vec_capacity entries.new }
 {
@@ -147,10 +148,12 @@ pub fn swap<A: Allocator + Copy>(
     ensures ok { IfOk result (λ out. Swaps out row (rows_of entries.old.items) (rows_of entries.new.items)
         × ((name_of out) ≡ (name_of row))) }
     ensures change { IfOk result (λ _. IsChange change.new entries.old.items entries.new.items) }
-    ensures placed { IfOk result (λ out. (lo hi : _) → Rises period lo hi entries.old.items → rank_of period out ≡ rank_of period row) }
-    ensures absent { OnErr result ((lo hi : _) → Rises period lo hi entries.old.items
-        → IsAbsent period (rank_of period row) (name_of row) (rows_of entries.old.items)) }
-    ensures rising { (lo hi : _) → Rises period lo hi entries.old.items → Rises period lo hi entries.new.items }
+    ensures placed { IfOk result (λ out. (p : Period) (lo hi : _) → Rises p lo hi entries.old.items
+        → rank_of p out ≡ rank_of period row) }
+    ensures absent { OnErr result ((p : Period) (lo hi : _) → Rises p lo hi entries.old.items
+        → IsAbsent p (rank_of period row) (name_of row) (rows_of entries.old.items)) }
+    ensures rising { (p : Period) (lo hi : _) → rank_of period row ≡ rank_of p row → Rises p lo hi entries.old.items
+        → Rises p lo hi entries.new.items }
     ensures err { OnErr result (entries.new.items ≡ entries.old.items) }
     ensures len { vec_len entries.new ≡ vec_len entries.old }
     ensures capacity { vec_capacity entries.new ≡ vec_capacity entries.old }

@@ -1,6 +1,7 @@
 //! The rows of one key.
 ghost use Rattle.std.specs.Prelude.{◌≡◌, ◌+◌, ◌<◌, ◌≤◌, ◌==◌, ◌^◌, [], ◌∷◌, length, get_or, set, vec_capacity, IfSome, IfNone, IfOk, OnErr};
 ghost use Rattle.std.specs.List.{All, Contains, insert, remove};
+ghost use Rattle.st_key.specs.declared.period.Period.{Period};
 ghost use Rattle.st_index.specs.declared.row.Row.{Row};
 ghost use Rattle.st_key.specs.Key.{rank};
 ghost use Rattle.st_index.specs.RowViews.{row_of_view, viewed};
@@ -137,8 +138,8 @@ impl<A: Allocator + Copy> Entry<A> {
         requires room { 0 < length self.old.rows → length self.old.rows < vec_capacity rows }
         ensures at { self.new.at ≡ self.old.at }
         ensures added { Adds row self.old.rows self.new.rows }
-        ensures named { NamesRise self.old.rows → IsAbsent period (rank_of period row) (name_of row) self.old.rows
-            → All (λ r. rank_of period r ≡ rank_of period row) self.old.rows → NamesRise self.new.rows }
+        ensures named { (p : Period) → NamesRise self.old.rows → IsAbsent p (rank_of p row) (name_of row) self.old.rows
+            → All (λ r. rank_of p r ≡ rank_of p row) self.old.rows → NamesRise self.new.rows }
     {
         if self.is_empty() {
             overwrite(self, Entry::new(period, row));

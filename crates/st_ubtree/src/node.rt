@@ -2,7 +2,7 @@
 ghost use Rattle.std.specs.Prelude.{◌≡◌, ◌+◌, ◌≤◌, IfSome, IfNone, IfOk, OnErr, length, vec_len, vec_capacity};
 ghost use Rattle.std.specs.List.{All};
 ghost use Rattle.st_key.specs.Key.{rank};
-ghost use Rattle.st_index.specs.Rows.{name_of};
+ghost use Rattle.st_index.specs.Rows.{name_of, rank_of};
 ghost use Rattle.st_index.specs.inner.Changes.{IsChange};
 ghost use Rattle.st_ubtree.specs.Pages.{IsWide, NodeValue, entries_of_pages, AreFilled, page_node};
 ghost use Rattle.st_ubtree.specs.inner.Trading.{Keeps, TradesIn};
@@ -33,7 +33,7 @@ use join::{join_kids, join_pages, mend};
 use marking::{mark_changed, mark_due, mark_if, mark_swapped};
 use st_index::entries::{self, Change};
 use st_index::{Entry, Leaf, Row, order};
-use st_key::Key;
+use st_key::{Key, Period};
 use st_label::Label;
 use std::alloc::{AllocError, Allocator, Global};
 use std::marker::Model;
@@ -155,6 +155,7 @@ impl<A: Allocator + Copy> Node<A> {
     /// Puts in a row. Where the node is full, its upper half is handed back as a node of its own. A page says where.
     pub fn insert(
         &mut self,
+        period: Period,
         key: Key,
         row: Row<A>,
         rows: Vec<Row<A>, A>,
@@ -162,6 +163,7 @@ impl<A: Allocator + Copy> Node<A> {
         inners: &mut Vec<Blank<A>, A>,
         change: &mut Change,
     ) -> Option<Node<A>>
+        requires key { rank key ≡ rank_of period row }
         requires rows { IsRoomFor (rank key) rows.items (vec_capacity rows) (entries_of_pages self.old.pages) }
         requires around { AreAround (rank key) self.old.pages }
         requires page { 1 ≤ splits self.old (rank key) → IsBlankPage page }
@@ -177,14 +179,14 @@ impl<A: Allocator + Copy> Node<A> {
         self.sum.add(&row);
         match &mut self.kids {
             Kids::Page(entries) => {
-                let split = put_in_page(entries, key, row, rows, page, change);
+                let split = put_in_page(entries, period, key, row, rows, page, change);
                 renew_if(split.is_some(), &mut self.sum, &self.kids);
                 return split;
             }
             Kids::Inner(kids) => {
                 let at = child_for(kids, key);
                 let kid = &mut kids[at];
-                let Some(right) = kid.insert(key, row, rows, page, inners, change) else {
+                let Some(right) = kid.insert(period, key, row, rows, page, inners, change) else {
                     mark_changed(&mut self.marks, &self.kids, at, *change);
                     return None;
                 };
@@ -264,7 +266,14 @@ impl<A: Allocator + Copy> Node<A> {
     }
 
     /// Puts a row in the place of the one of its key and name. Hands the row itself back where there is none. A page says where.
-    pub fn replace(&mut self, key: Key, row: Row<A>, change: &mut Change) -> Result<Row<A>, Row<A>>
+    pub fn replace(
+        &mut self,
+        period: Period,
+        key: Key,
+        row: Row<A>,
+        change: &mut Change,
+    ) -> Result<Row<A>, Row<A>>
+        requires { rank key ≡ rank_of period row }
         ensures ok { IfOk result (λ out. TradesIn (rank key) out row self.old.pages self.new.pages) }
         ensures named { IfOk result (λ out. name_of out ≡ name_of row) }
         ensures keeps { Keeps self.old self.new }
@@ -275,11 +284,11 @@ impl<A: Allocator + Copy> Node<A> {
     {
         self.sum.widen(&row.point);
         match &mut self.kids {
-            Kids::Page(entries) => entries::swap(entries, key, row, change),
+            Kids::Page(entries) => entries::swap(entries, period, row, change),
             Kids::Inner(kids) => {
                 let at = child_for(kids, key);
                 let kid = &mut kids[at];
-                let out = kid.replace(key, row, change);
+                let out = kid.replace(period, key, row, change);
                 mark_swapped(&out, at, *change, &mut self.marks, &self.kids);
                 out
             }

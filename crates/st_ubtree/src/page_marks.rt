@@ -86,8 +86,8 @@ fn mark_entry<A: Allocator + Copy>(
 {
     match entry.rows() {
         RowsView::One(row) => {
-            page.numbers[at] = number_of(labels, slots, &row.label, likely);
-            page.points[at] = row.point;
+            page.numbers[at] = number_of(labels, slots, row.label(), likely);
+            page.points[at] = row.point();
         }
         RowsView::Many(_) => page.numbers[at] = MANY,
     }

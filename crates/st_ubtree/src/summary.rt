@@ -3,6 +3,7 @@ ghost use Rattle.std.specs.Prelude.{◌≡◌, ◌++◌, [], ◌∷◌, Bool, Li
 ghost use Rattle.std.specs.List.{All};
 ghost use Rattle.st_box.specs.Query.{is_inside};
 ghost use Rattle.st_index.specs.declared.row.Row.{Row as RowValue};
+ghost use Rattle.st_index.specs.RowViews.{row_of_view};
 ghost use Rattle.st_index.specs.Rows.{rows_of};
 ghost use Rattle.st_index.specs.Counting.{count_of};
 ghost use Rattle.st_text.specs.Texts.{Text};
@@ -11,7 +12,7 @@ ghost use Rattle.st_ubtree.specs.inner.Sums.{AreInside, IsWithin, Sums};
 use crate::bounds::Bounds;
 use crate::label_counts::{LabelCount, LabelCounts};
 use st_box::Query;
-use st_index::{Entry, Fields, Judge, Row, RowsView};
+use st_index::{Entry, Fields, Judge, Row, RowView, RowsView};
 use st_key::Point;
 use std::alloc::{Allocator, Global};
 
@@ -55,8 +56,15 @@ impl<A: Allocator + Copy> Summary<A> {
     pub fn add(&mut self, row: &Row<A>)
         ensures { (rows : List (RowValue A)) → Sums self.old rows → Sums self.new (rows ++ row.now ∷ []) }
     {
-        self.bounds = self.bounds.with(&row.point);
-        self.labels.put(&row.label, 1);
+        self.add_view(RowView::of(row));
+    }
+
+    // Sums up one row in view more.
+    fn add_view(&mut self, row: RowView<'_, A>)
+        ensures { (rows : List (RowValue A)) → Sums self.old rows → Sums self.new (rows ++ row_of_view row.entry ∷ []) }
+    {
+        self.bounds = self.bounds.with(&row.point());
+        self.labels.put(row.label(), 1);
     }
 
     /// Sums up the rows of another summary too.
@@ -81,7 +89,7 @@ impl<A: Allocator + Copy> Summary<A> {
         ensures { (rows : List (RowValue A)) → Sums self.old rows → Sums self.new (rows ++ entry.now.rows) }
     {
         match entry.rows() {
-            RowsView::One(row) => self.add(row),
+            RowsView::One(row) => self.add_view(row),
             RowsView::Many(more) => self.add_rows(more),
         }
     }

@@ -204,7 +204,7 @@ impl<A: Allocator + Copy> RowIndex for UbTree<A> {
             room,
         } = spare;
         let key = row.key(self.period);
-        self.root.put(key, row, rows, page, inners);
+        self.root.put(self.period, key, row, rows, page, inners);
         self.root.widen_if(key, room);
         self.root.count_keys();
         self.len += 1;
@@ -222,7 +222,7 @@ impl<A: Allocator + Copy> RowIndex for UbTree<A> {
     fn replace(&mut self, row: Row<A>) -> Row<A> {
         let key = row.key(self.period);
         let mut change = Change::Altered(0);
-        let Ok(out) = self.root.replace(key, row, &mut change) else {
+        let Ok(out) = self.root.replace(self.period, key, row, &mut change) else {
             unreachable!()
         };
         self.root.count_keys();

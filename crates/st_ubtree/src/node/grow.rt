@@ -1,6 +1,7 @@
 //! Pages and nodes that a new row makes too full.
 ghost use Rattle.std.specs.Prelude.{◌≡◌, ◌+◌, ◌<◌, ◌≤◌, IfNone, IfSome, length, vec_len, vec_capacity};
 ghost use Rattle.st_key.specs.Key.{rank};
+ghost use Rattle.st_index.specs.Rows.{rank_of};
 ghost use Rattle.st_index.specs.inner.Changes.{IsChange};
 ghost use Rattle.st_ubtree.specs.inner.Growing.{AreBlank, AreKids, DoRise, IsBlankPage, IsRoomFor, PageGrows, Settles};
 ghost use Rattle.st_ubtree.specs.inner.Splits.{splits_page};
@@ -13,18 +14,20 @@ use crate::split::split_at;
 use crate::summary::Summary;
 use st_index::entries::{self, Change};
 use st_index::{Entry, Row};
-use st_key::Key;
+use st_key::{Key, Period};
 use std::alloc::Allocator;
 
 // Puts a row into a page's entries, and says where. Of 33 entries the upper 17 are handed back as a page of their own.
 pub(super) fn put_in_page<A: Allocator + Copy>(
     entries: &mut Vec<Entry<A>, A>,
+    period: Period,
     key: Key,
     row: Row<A>,
     rows: Vec<Row<A>, A>,
     page: Option<Vec<Entry<A>, A>>,
     change: &mut Change,
 ) -> Option<Node<A>>
+    requires key { rank key ≡ rank_of period row }
     requires rows { IsRoomFor (rank key) rows.items (vec_capacity rows) entries.old.items }
     requires rising { DoRise entries.old.items }
     requires not_more { length entries.old.items ≤ 32 }
@@ -35,13 +38,13 @@ pub(super) fn put_in_page<A: Allocator + Copy>(
     ensures room { 33 ≤ vec_capacity entries.new }
     ensures change { IfNone result (IsChange change.new entries.old.items entries.new.items) }
 {
-    *change = entries::put(entries, key, row, rows);
+    *change = entries::put(entries, period, row, rows);
     if entries.len() <= 32 {
         return None;
     }
     let Some(page) = page else { unreachable!() };
     let least = &entries[16];
-    let first = least.key;
+    let first = least.key();
     let upper = split_at(entries, 16, page);
     Some(Node::page(first, upper))
 }

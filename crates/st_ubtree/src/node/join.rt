@@ -29,7 +29,7 @@ pub(super) fn join_pages<A: Allocator + Copy>(
         return None;
     }
     let least = &right[0];
-    let first = least.key;
+    let first = least.key();
     Some(Node::page(first, right))
 }
 

@@ -1,6 +1,7 @@
 //! The root, as it comes to stand over its halves, or goes.
 ghost use Rattle.std.specs.Prelude.{◌≡◌, ◌+◌, ◌<◌, ◌≤◌, ◌++◌, [], ◌^◌, vec_len, vec_capacity};
 ghost use Rattle.st_key.specs.Key.{rank};
+ghost use Rattle.st_index.specs.Rows.{rank_of};
 ghost use Rattle.st_ubtree.specs.Pages.{entries_of_pages};
 ghost use Rattle.st_ubtree.specs.inner.Kids.{GrowsBy, IsKid};
 ghost use Rattle.st_ubtree.specs.inner.Growing.{AreAround, AreBlank, IsBlankPage, IsRoomFor};
@@ -13,7 +14,7 @@ use crate::marks::Marks;
 use crate::summary::Summary;
 use st_index::entries::Change;
 use st_index::{Entry, Row};
-use st_key::Key;
+use st_key::{Key, Period};
 use std::alloc::Allocator;
 use std::mem;
 
@@ -21,12 +22,14 @@ impl<A: Allocator + Copy> Node<A> {
     /// Puts in a row. Where the node is split, it comes to stand over its halves.
     pub fn put(
         &mut self,
+        period: Period,
         key: Key,
         row: Row<A>,
         rows: Vec<Row<A>, A>,
         page: Option<Vec<Entry<A>, A>>,
         mut inners: Vec<Blank<A>, A>,
     )
+        requires key { rank key ≡ rank_of period row }
         requires rows { IsRoomFor (rank key) rows.items (vec_capacity rows) (entries_of_pages self.old.pages) }
         requires around { AreAround (rank key) self.old.pages }
         requires page { 1 ≤ splits self.old (rank key) → IsBlankPage page }
@@ -37,7 +40,7 @@ impl<A: Allocator + Copy> Node<A> {
         ensures wide { 1 ≤ self.new.height → 2 ≤ self.new.width }
     {
         let mut change = Change::Altered(0);
-        let Some(right) = self.insert(key, row, rows, page, &mut inners, &mut change) else {
+        let Some(right) = self.insert(period, key, row, rows, page, &mut inners, &mut change) else {
             return;
         };
         let Some(blank) = inners.pop() else {

@@ -22,12 +22,12 @@ returns-in-Ok-clause-added g c =
     (rw c.deref.ensures.value at c.in-Ok.ensures.bound) c.index_mut-entry.ensures.value c.put.ensures.added
 
 pub returns-in-Ok-clause-rising : goal.returns-in-Ok-clause-rising
-returns-in-Ok-clause-rising g c = λ lo hi h a b absent.
+returns-in-Ok-clause-rising g c = λ p lo hi key h a b absent.
     let same = rw c.deref.ensures.value at (c.in-Ok.ensures.place c.index_mut-entry.result.now) in
-    let at : c.index_mut-entry.result.now.at ≡ rank_of c.args.period c.args.row = ap (λ (e : EntryValue g.row.A.Denot). e.at) c.index_mut-entry.ensures.value ∙ nat_equal _ _ same ∙ c.key-key.ensures.value in
-    held_rising c.args.period c.args.row c.args.entries.now.items c.in-Ok.i c.index_mut-entry.result.now c.put.new.self
+    let at : c.index_mut-entry.result.now.at ≡ rank_of p c.args.row = ap (λ (e : EntryValue g.row.A.Denot). e.at) c.index_mut-entry.ensures.value ∙ nat_equal _ _ same ∙ c.key-key.ensures.value ∙ key in
+    held_rising p c.args.row c.args.entries.now.items c.in-Ok.i c.index_mut-entry.result.now c.put.new.self
     (rw c.deref.ensures.value at c.in-Ok.ensures.bound) c.index_mut-entry.ensures.value c.put.ensures.added
-    c.put.ensures.at at c.put.ensures.named lo hi h absent
+    c.put.ensures.at at (c.put.ensures.named p) lo hi h (subst (λ n. IsAbsent p n (name_of c.args.row) (rows_of c.args.entries.now.items)) key absent)
 
 pub returns-in-Err-clause-added : goal.returns-in-Err-clause-added
 returns-in-Err-clause-added g c =
@@ -39,9 +39,9 @@ put-requires-clause-key g c =
     ap (λ (e : EntryValue g.row.A.Denot). e.at) c.index_mut-entry.ensures.value ∙ nat_equal _ _ same ∙ c.key-key.ensures.value
 
 pub returns-in-Err-clause-rising : goal.returns-in-Err-clause-rising
-returns-in-Err-clause-rising g c = λ lo hi h a b absent.
-    let found = rw (c.deref.ensures.value, c.key-key.ensures.value) at c.in-Err.ensures.place in
-    rw (c.put-in-Err.ensures.items, c.new.ensures) (missing_rising c.args.period c.args.row c.args.entries.now.items c.in-Err.i lo hi found h a b)
+returns-in-Err-clause-rising g c = λ p lo hi key h a b absent.
+    let found = rw (c.deref.ensures.value, c.key-key.ensures.value, key) at c.in-Err.ensures.place in
+    rw (c.put-in-Err.ensures.items, c.new.ensures, key) (missing_rising p c.args.row c.args.entries.now.items c.in-Err.i lo hi found h (rw key at a) (rw key at b))
 
 pub returns-in-Err-clause-new_key : goal.returns-in-Err-clause-new_key
-returns-in-Err-clause-new_key g c = λ lo hi h longer. missing_key c.args.period (rank_of c.args.period c.args.row) c.args.entries.now.items c.in-Err.i lo hi h (rw (c.deref.ensures.value, c.key-key.ensures.value) at c.in-Err.ensures.place)
+returns-in-Err-clause-new_key g c = λ p lo hi h longer. missing_key p (rank_of c.args.period c.args.row) c.args.entries.now.items c.in-Err.i lo hi h (rw (c.deref.ensures.value, c.key-key.ensures.value) at c.in-Err.ensures.place)

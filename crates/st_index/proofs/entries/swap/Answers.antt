@@ -13,46 +13,46 @@ returns-in-Ok-swap-clause-ok g c =
     (swapped_inside c.args.entries.now.items c.in-Ok.i e c.swap.new.self bound c.index_mut-entry.ensures.value c.in-Ok-swap.out c.args.row c.in-Ok-swap.ensures.ok.0, c.in-Ok-swap.ensures.ok.1)
 
 pub returns-in-Ok-swap-clause-placed : goal.returns-in-Ok-swap-clause-placed
-returns-in-Ok-swap-clause-placed g c = λ lo hi h.
+returns-in-Ok-swap-clause-placed g c = λ p lo hi h.
     let bound = rw c.deref.ensures.value at c.in-Ok.ensures.bound in
     let e = c.index_mut-entry.result.now in
     let same = rw c.deref.ensures.value at (c.in-Ok.ensures.place e) in
     let at : e.at ≡ rank_of c.args.period c.args.row = ap (λ (f : EntryValue g.row.A.Denot). f.at) c.index_mut-entry.ensures.value ∙ nat_equal _ _ same ∙ c.key-key.ensures.value in
-    let a = around c.args.period c.args.entries.now.items c.in-Ok.i e e bound c.index_mut-entry.ensures.value lo hi h in
-    swapped_placed c.args.period e c.swap.new.self.rows c.in-Ok-swap.out c.args.row c.in-Ok-swap.ensures.ok.0 a.entry ∙ at
+    let a = around p c.args.entries.now.items c.in-Ok.i e e bound c.index_mut-entry.ensures.value lo hi h in
+    swapped_placed p e c.swap.new.self.rows c.in-Ok-swap.out c.args.row c.in-Ok-swap.ensures.ok.0 a.entry ∙ at
 
 pub returns-in-Ok-swap-clause-rising : goal.returns-in-Ok-swap-clause-rising
-returns-in-Ok-swap-clause-rising g c = λ lo hi h.
+returns-in-Ok-swap-clause-rising g c = λ p lo hi key h.
     let bound = rw c.deref.ensures.value at c.in-Ok.ensures.bound in
     let e = c.index_mut-entry.result.now in
     let same = rw c.deref.ensures.value at (c.in-Ok.ensures.place e) in
     let at : e.at ≡ rank_of c.args.period c.args.row = ap (λ (f : EntryValue g.row.A.Denot). f.at) c.index_mut-entry.ensures.value ∙ nat_equal _ _ same ∙ c.key-key.ensures.value in
-    changed_rising c.args.period c.args.entries.now.items c.in-Ok.i e c.swap.new.self bound c.index_mut-entry.ensures.value lo hi c.in-Ok-swap.ensures.at
-    (swapped_entry c.args.period e c.swap.new.self c.in-Ok-swap.out c.args.row c.in-Ok-swap.ensures.ok.0 c.in-Ok-swap.ensures.at (sym at) c.in-Ok-swap.ensures.named) h
+    changed_rising p c.args.entries.now.items c.in-Ok.i e c.swap.new.self bound c.index_mut-entry.ensures.value lo hi c.in-Ok-swap.ensures.at
+    (swapped_entry p e c.swap.new.self c.in-Ok-swap.out c.args.row c.in-Ok-swap.ensures.ok.0 c.in-Ok-swap.ensures.at (sym (at ∙ key)) c.in-Ok-swap.ensures.named) h
 
 pub returns-in-Err-swap-clause-absent : goal.returns-in-Err-swap-clause-absent
-returns-in-Err-swap-clause-absent g c = λ lo hi h.
+returns-in-Err-swap-clause-absent g c = λ p lo hi h.
     let bound = rw c.deref.ensures.value at c.in-Ok.ensures.bound in
     let e = c.index_mut-entry.result.now in
     let same = rw c.deref.ensures.value at (c.in-Ok.ensures.place e) in
     let at : e.at ≡ rank_of c.args.period c.args.row = ap (λ (f : EntryValue g.row.A.Denot). f.at) c.index_mut-entry.ensures.value ∙ nat_equal _ _ same ∙ c.key-key.ensures.value in
-    let a = around c.args.period c.args.entries.now.items c.in-Ok.i e e bound c.index_mut-entry.ensures.value lo hi h in
-    subst (λ n. IsAbsent c.args.period n (name_of c.args.row) (rows_of c.args.entries.now.items)) at
-    (absent_around c.args.period c.args.entries.now.items c.in-Ok.i e e bound c.index_mut-entry.ensures.value lo hi _ h (c.in-Err-swap.ensures.absent a.entry.named))
+    let a = around p c.args.entries.now.items c.in-Ok.i e e bound c.index_mut-entry.ensures.value lo hi h in
+    subst (λ n. IsAbsent p n (name_of c.args.row) (rows_of c.args.entries.now.items)) at
+    (absent_around p c.args.entries.now.items c.in-Ok.i e e bound c.index_mut-entry.ensures.value lo hi _ h (c.in-Err-swap.ensures.absent a.entry.named))
 
 pub returns-in-Err-clause-absent : goal.returns-in-Err-clause-absent
-returns-in-Err-clause-absent g c = λ lo hi h.
-    missing_absent c.args.period _ _ c.args.entries.now.items c.in-Err.field-0 lo hi h (rw (c.deref.ensures.value, c.key-key.ensures.value) at c.in-Err.ensures.place)
+returns-in-Err-clause-absent g c = λ p lo hi h.
+    missing_absent p _ _ c.args.entries.now.items c.in-Err.field-0 lo hi h (rw (c.deref.ensures.value, c.key-key.ensures.value) at c.in-Err.ensures.place)
 
 pub returns-in-Err-swap-clause-rising : goal.returns-in-Err-swap-clause-rising
-returns-in-Err-swap-clause-rising g c = λ lo hi h.
+returns-in-Err-swap-clause-rising g c = λ p lo hi key h.
     let es = c.args.entries.now.items in
     let same : set es c.in-Ok.i c.swap.new.self ≡ es =
     ap (λ e. set es c.in-Ok.i e) (c.in-Err-swap.ensures.err ∙ c.index_mut-entry.ensures.value) ∙ set-get_or es c.in-Ok.i c.index_mut-entry.result.now in
-    subst (λ es. Rises c.args.period lo hi es) (sym same) h
+    subst (λ es. Rises p lo hi es) (sym same) h
 
 pub returns-in-Err-clause-rising : goal.returns-in-Err-clause-rising
-returns-in-Err-clause-rising g c = λ lo hi h. h
+returns-in-Err-clause-rising g c = λ p lo hi key h. h
 
 pub returns-in-Err-swap-clause-err : goal.returns-in-Err-swap-clause-err
 returns-in-Err-swap-clause-err g c =

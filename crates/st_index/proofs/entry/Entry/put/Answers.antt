@@ -14,7 +14,7 @@ returns-clause-added g c =
     rw c.insert.ensures.rows (adds_insert c.args.self.now.rows c.args.row c.match-find.place)
 
 pub returns-clause-named : goal.returns-clause-named
-returns-clause-named g c = λ named absent placed.
+returns-clause-named g c = λ p named absent placed.
     let was : viewed c.rows.result ≡ c.args.self.now.rows = c.rows.ensures in
     let is : c.insert.new.self.rows ≡ insert c.args.self.now.rows c.match-find.place c.args.row = c.insert.ensures.rows in
     let id : c.as_str.result.now ≡ c.args.row.id = c.as_str.ensures.value in
@@ -22,7 +22,7 @@ returns-clause-named g c = λ named absent placed.
     elim c.match-find.branch [
       | in-Ok w ↦
           let same = λ (d : Row g.row.A.Denot). rw (was, id, label) at (w.in-Ok.ensures.place d) in
-          absurd (names_held c.args.period c.args.self.now.rows c.args.row w.in-Ok.place (rw was at w.in-Ok.ensures.bound) same absent placed)
+          absurd (names_held p c.args.self.now.rows c.args.row w.in-Ok.place (rw was at w.in-Ok.ensures.bound) same absent placed)
       | in-Err w ↦
           let found = rw (was, id, label) at w.in-Err.ensures.place in
           rw (is, w.place-is) (names_put c.args.self.now.rows c.args.row w.in-Err.place found named)

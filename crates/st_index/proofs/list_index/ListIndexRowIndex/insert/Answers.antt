@@ -1,4 +1,4 @@
-use Rattle.std.proofs.Common.{◌≡◌, ◌+◌, ◌<◌, ◌^◌, length, subst, sym, ap, ◌∙◌, vec_len, arith, rules}
+use Rattle.std.proofs.Common.{◌≡◌, ◌+◌, ◌<◌, ◌^◌, length, refl, subst, sym, ap, ◌∙◌, vec_len, arith, rules}
 use Rattle.st_index.specs.Rows.{key_end, name_of, rank_of, rows_of}
 use Rattle.st_index.specs.Index.{Adds, IsAbsent}
 use Rattle.st_index.proofs.Listing.{adds_length, lawful}
@@ -16,7 +16,7 @@ invariant_of-self g c =
     let is = c.take_over.ensures.items in
     let absent : IsAbsent p (rank_of p c.args.row) (name_of c.args.row) (rows_of c.take_over.new.list.items) =
     rw is (rw (← c.self.view_is) at c.requires.absent) in
-    let rising = c.put.ensures.rising 0 (key_end p) (rw is c.self.invariant.0) (omega arith) (rank_below p c.args.row) absent in
+    let rising = c.put.ensures.rising p 0 (key_end p) refl (rw is c.self.invariant.0) (omega arith) (rank_below p c.args.row) absent in
     let longer = adds_length c.args.row _ _ c.put.ensures.added in
     let n : c.self.inside.len + 1 < 2 ^ 64 = omega (arith, c.self.invariant.1, (rw (← c.self.view_is) at c.requires.room.count)) in
     (rising, ap (λ n. n + 1) (c.self.invariant.1 ∙ ap (λ es. length (rows_of es)) (sym is)) ∙ sym longer, n)

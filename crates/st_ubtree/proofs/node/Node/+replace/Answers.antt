@@ -38,7 +38,7 @@ invariant_of-self g t c = (
       let height = c.self.inside.height in
       let es = c.in-Page.entries.items in
       let new = c.swap.new.entries.items in
-      let trades = page_trades (rank c.args.key) c.args.row first es new c.swap.result c.swap.ensures.ok c.swap.ensures.placed c.swap.ensures.rising in
+      let trades = page_trades (rank c.args.key) c.args.row first es new c.swap.result c.swap.ensures.ok (rw (← c.requires) at c.swap.ensures.placed) (rw (← c.requires) at c.swap.ensures.rising) in
       let named = page_named c.args.row (rows_of es) (rows_of new) c.swap.result c.swap.ensures.ok in
       let stays = page_stays first es new c.swap.result c.swap.ensures.err in
       let sums = c.widen.ensures.rows (rows_of es) (subst (λ k. Sums c.self.inside.sum (rows_under k)) c.in-Page.is c.self.invariant.1) in
@@ -89,7 +89,7 @@ pub returns-in-Page-clause-ok : goal.returns-in-Page-clause-ok
 returns-in-Page-clause-ok g t c =
     let es = c.in-Page.entries.items in
     let pages : c.args.self.now.pages ≡ page (rank c.self.inside.first) es ∷ [] = ap (λ (v : NodeValue g.row.A.Denot). v.pages) (sym c.self.view_is) ∙ ap (pages_under (rank c.self.inside.first)) c.in-Page.is in
-    rw pages (page_trades (rank c.args.key) c.args.row (rank c.self.inside.first) es c.swap.new.entries.items c.swap.result c.swap.ensures.ok c.swap.ensures.placed c.swap.ensures.rising)
+    rw pages (page_trades (rank c.args.key) c.args.row (rank c.self.inside.first) es c.swap.new.entries.items c.swap.result c.swap.ensures.ok (rw (← c.requires) at c.swap.ensures.placed) (rw (← c.requires) at c.swap.ensures.rising))
 
 pub returns-in-Inner-clause-ok : goal.returns-in-Inner-clause-ok
 returns-in-Inner-clause-ok g t c =
@@ -138,7 +138,7 @@ pub returns-in-Page-clause-absent : goal.returns-in-Page-clause-absent
 returns-in-Page-clause-absent g t c =
     let es = c.in-Page.entries.items in
     let pages : c.args.self.now.pages ≡ page (rank c.self.inside.first) es ∷ [] = ap (λ (v : NodeValue g.row.A.Denot). v.pages) (sym c.self.view_is) ∙ ap (pages_under (rank c.self.inside.first)) c.in-Page.is in
-    rw pages (page_lacks (rank c.args.key) (name_of c.args.row) (rank c.self.inside.first) es c.swap.result c.swap.ensures.absent)
+    rw pages (page_lacks (rank c.args.key) (name_of c.args.row) (rank c.self.inside.first) es c.swap.result (rw (← c.requires) at c.swap.ensures.absent))
 
 pub returns-in-Inner-clause-absent : goal.returns-in-Inner-clause-absent
 returns-in-Inner-clause-absent g t c =

@@ -14,7 +14,7 @@ returns-then-len-le32-clause-grows g c =
     let new = c.put.new.entries.ok.0 in (
       let a = c.put.ensures.longer in omega (arith, old, new, a),
       omega (arith, new, c.len.ensures, c.if-len-le32.true),
-      page_grows (rank c.args.key) c.args.row c.args.entries.now.items c.put.new.entries.items c.put.ensures.added c.put.ensures.rising,
+      page_grows (rank c.args.key) c.args.row c.args.entries.now.items c.put.new.entries.items c.put.ensures.added (rw (← c.requires.key) at c.put.ensures.rising),
     )
 
 pub page-requires-clause-not_more : goal.page-requires-clause-not_more
@@ -28,7 +28,7 @@ page-requires-clause-not_more g c =
     omega (arith, old, new, a, b, d, f)
 
 pub put-requires-clause-rows_room : goal.put-requires-clause-rows_room
-put-requires-clause-rows_room g c = c.requires.rows.enough
+put-requires-clause-rows_room g c = rw c.requires.key at c.requires.rows.enough
 
 pub returns-clause-grows : goal.returns-clause-grows
 returns-clause-grows g c =
@@ -37,9 +37,9 @@ returns-clause-grows g c =
     let new = c.put.new.entries.items in
     let e = c.index-least.result.now in
     let full = held_full c.args.entries.now c.put.new.entries c.requires.not_more c.put.ensures.at_most_one more in
-    let at : rank c.least.inside.key ≡ e.at = ap (λ (x : EntryValue g.row.A.Denot). x.at) c.least.view_is in
+    let at : rank c.key-first.result ≡ e.at = c.key-first.ensures in
     let is : c.page.result ≡ page_node e.at 0 (drop 16 new) = c.page.ensures ∙ ap (λ n. page_node n 0 c.split_at-upper.result.items) at ∙ ap (page_node e.at 0) c.split_at-upper.ensures.moved in
-    let cut = page_cut (rank c.args.key) c.args.row old new c.put.ensures.added c.put.ensures.rising e full c.index-least.ensures in
+    let cut = page_cut (rank c.args.key) c.args.row old new c.put.ensures.added (rw (← c.requires.key) at c.put.ensures.rising) e full c.index-least.ensures in
     subst (λ es. PageGrows (rank c.args.key) c.args.row old es (Some c.page.result)) (sym c.split_at-upper.ensures.kept)
     (subst (λ v. PageGrows (rank c.args.key) c.args.row old (take 16 new) (Some v)) (sym is) cut)
 
@@ -47,21 +47,21 @@ pub unreachable-requires : goal.unreachable-requires
 unreachable-requires g c =
     let o = c.requires.rising in
     let more : 32 < vec_len c.put.new.entries = subst (λ n. 32 < n) c.len.ensures c.if-len-le32.false in
-    let blank = subst (λ p. IsBlankPage p) c.in_default.is (c.requires.page (page_filled (rank c.args.key) c.args.entries.now c.put.new.entries c.requires.not_more c.put.ensures.at_most_one more (c.put.ensures.new_key o.0 o.1 o.2 o.3))) in
+    let blank = subst (λ p. IsBlankPage p) c.in_default.is (c.requires.page (page_filled (rank c.args.key) c.args.entries.now c.put.new.entries c.requires.not_more c.put.ensures.at_most_one more ((rw (← c.requires.key) at c.put.ensures.new_key) o.0 o.1 o.2 o.3))) in
     blank
 
 pub split_at-upper-requires-clause-empty : goal.split_at-upper-requires-clause-empty
 split_at-upper-requires-clause-empty g c =
     let o = c.requires.rising in
     let more : 32 < vec_len c.put.new.entries = subst (λ n. 32 < n) c.len.ensures c.if-len-le32.false in
-    let blank = subst (λ p. IsBlankPage p) c.in-Some.is (c.requires.page (page_filled (rank c.args.key) c.args.entries.now c.put.new.entries c.requires.not_more c.put.ensures.at_most_one more (c.put.ensures.new_key o.0 o.1 o.2 o.3))) in
+    let blank = subst (λ p. IsBlankPage p) c.in-Some.is (c.requires.page (page_filled (rank c.args.key) c.args.entries.now c.put.new.entries c.requires.not_more c.put.ensures.at_most_one more ((rw (← c.requires.key) at c.put.ensures.new_key) o.0 o.1 o.2 o.3))) in
     blank.0
 
 pub split_at-upper-requires-clause-room : goal.split_at-upper-requires-clause-room
 split_at-upper-requires-clause-room g c =
     let o = c.requires.rising in
     let more : 32 < vec_len c.put.new.entries = subst (λ n. 32 < n) c.len.ensures c.if-len-le32.false in
-    let blank = subst (λ p. IsBlankPage p) c.in-Some.is (c.requires.page (page_filled (rank c.args.key) c.args.entries.now c.put.new.entries c.requires.not_more c.put.ensures.at_most_one more (c.put.ensures.new_key o.0 o.1 o.2 o.3))) in
+    let blank = subst (λ p. IsBlankPage p) c.in-Some.is (c.requires.page (page_filled (rank c.args.key) c.args.entries.now c.put.new.entries c.requires.not_more c.put.ensures.at_most_one more ((rw (← c.requires.key) at c.put.ensures.new_key) o.0 o.1 o.2 o.3))) in
     let full = held_full c.args.entries.now c.put.new.entries c.requires.not_more c.put.ensures.at_most_one more in
     let room = blank.1 in
     omega (arith, c.put.new.entries.ok.0, full, room)
@@ -70,7 +70,7 @@ pub page-requires-clause-room : goal.page-requires-clause-room
 page-requires-clause-room g c =
     let o = c.requires.rising in
     let more : 32 < vec_len c.put.new.entries = subst (λ n. 32 < n) c.len.ensures c.if-len-le32.false in
-    let blank = subst (λ p. IsBlankPage p) c.in-Some.is (c.requires.page (page_filled (rank c.args.key) c.args.entries.now c.put.new.entries c.requires.not_more c.put.ensures.at_most_one more (c.put.ensures.new_key o.0 o.1 o.2 o.3))) in
+    let blank = subst (λ p. IsBlankPage p) c.in-Some.is (c.requires.page (page_filled (rank c.args.key) c.args.entries.now c.put.new.entries c.requires.not_more c.put.ensures.at_most_one more ((rw (← c.requires.key) at c.put.ensures.new_key) o.0 o.1 o.2 o.3))) in
     let room = blank.1 in
     let kept = c.split_at-upper.ensures.to_capacity in
     omega (arith, room, kept)
@@ -79,4 +79,4 @@ pub returns-clause-split : goal.returns-clause-split
 returns-clause-split g c =
     let o = c.requires.rising in
     let more : 32 < vec_len c.put.new.entries = subst (λ n. 32 < n) c.len.ensures c.if-len-le32.false in
-    page_overfull (rank c.args.key) c.args.entries.now c.put.new.entries c.requires.not_more c.put.ensures.at_most_one more (c.put.ensures.new_key o.0 o.1 o.2 o.3)
+    page_overfull (rank c.args.key) c.args.entries.now c.put.new.entries c.requires.not_more c.put.ensures.at_most_one more ((rw (← c.requires.key) at c.put.ensures.new_key) o.0 o.1 o.2 o.3)

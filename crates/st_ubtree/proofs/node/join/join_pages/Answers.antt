@@ -1,6 +1,5 @@
 use Rattle.std.proofs.Common.{◌≡◌, ◌≤◌, ◌∷◌, [], length, drop, refl, ap, ◌∙◌, arith}
 use Rattle.st_key.specs.Key.{rank}
-use Rattle.st_index.specs.Rows.{EntryValue}
 use Rattle.st_index.proofs.Putting.{split_read}
 use Rattle.st_ubtree.specs.Pages.{NodeValue}
 use Rattle.st_ubtree.specs.inner.Kids.{IsKid}
@@ -12,9 +11,9 @@ pub returns-clause-joins : goal.returns-clause-joins
 returns-clause-joins g c =
     let rest = c.share.new.right.items in
     let wide : (16 ≤ length rest) × (length rest ≤ 32) = c.share.ensures.some c.if-not-share.false in
-    let first = rank c.least.inside.key in
+    let first = rank c.key-first.result in
     let e = c.index-least.result.now in
-    let at : first ≡ e.at = ap (λ (x : EntryValue g.row.A.Denot). x.at) c.least.view_is in
+    let at : first ≡ e.at = c.key-first.ensures in
     let width : c.page.result.width ≡ length rest = ap (λ (v : NodeValue g.row.A.Denot). v.width) c.page.ensures in
     let kid : IsKid 0 c.page.result = record {
       same_height = ap (λ (v : NodeValue g.row.A.Denot). v.height) c.page.ensures;

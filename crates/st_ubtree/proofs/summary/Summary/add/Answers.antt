@@ -1,5 +1,6 @@
-use Rattle.st_ubtree.proofs.Summing.{sums_one}
+use Rattle.std.proofs.Common.{[], ◌∷◌, ◌++◌, subst}
+use Rattle.st_ubtree.specs.inner.Sums.{Sums}
 use Rattle.st_ubtree.proofs.summary.Summary.add.Goals as goal
 
 pub returns : goal.returns
-returns g c = λ rows sums. sums_one c.args.self.now _ rows c.args.row.now sums c.with-self.ensures.others c.with-self.ensures.one c.put.ensures
+returns g c = λ rows sums. subst (λ r. Sums c.add_view.new.self (rows ++ r ∷ [])) c.of.ensures (c.add_view.ensures rows sums)
