@@ -10,9 +10,9 @@ ghost use Rattle.st_ubtree.specs.inner.Shrinking.{HasNone, IsWorn, Joins, Shrink
 ghost use Rattle.st_ubtree.specs.inner.Growing.{AreAround, AreBlank, Grows, IsBlank, IsBlankPage, IsLeafIn, IsRoomFor};
 ghost use Rattle.st_ubtree.specs.inner.Splits.{splits};
 
-mod child;
 mod count;
 mod fields;
+mod firsts;
 mod grow;
 mod join;
 mod marking;
@@ -27,7 +27,7 @@ use crate::marks::Marks;
 use crate::numbering::FEW_NUMBERS;
 use crate::page_marks::PageMarks;
 use crate::summary::{MAX_LABELS, Summary};
-use child::{child_for, count_up_to};
+use firsts::{Firsts, renew_firsts};
 use grow::{put_in_page, settle};
 use join::{join_kids, join_pages, mend};
 use marking::{mark_changed, mark_due, mark_if, mark_swapped};
@@ -47,6 +47,7 @@ pub struct Node<A: Allocator = Global> {
     height: u64,
     sum: Summary<A>,
     marks: Marks<A>,
+    firsts: Firsts<A>,
     kids: Kids<A>,
 }
 
@@ -66,11 +67,13 @@ impl<A: Allocator> Model for Node<A> {
 
     ghost use Rattle.st_ubtree.specs.inner.Nodes.{node_value, IsNode, rows_under};
     ghost use Rattle.st_ubtree.specs.inner.Sums.{Sums};
+    ghost use Rattle.st_ubtree.specs.inner.Firsts.{AreFirstsUnder};
     ghost use Rattle.st_ubtree.specs.inner.Nodes.{AreMarkedUnder};
 
     ghost view = { λ n. node_value (rank n.first) n.height n.kids };
 
-    ghost invariant = { λ n. IsNode (rank n.first) n.height n.kids × Sums n.sum (rows_under n.kids) × AreMarkedUnder n.marks n.kids };
+    ghost invariant = { λ n. IsNode (rank n.first) n.height n.kids × Sums n.sum (rows_under n.kids) × AreMarkedUnder n.marks n.kids
+        × AreFirstsUnder n.firsts n.kids };
 
     ghost size = { λ v. v.height };
 
@@ -79,10 +82,11 @@ impl<A: Allocator> Model for Node<A> {
     ghost size_decreases = { λ a h. node-falls A.Allocator (rank a.first) a.height a.kids h.0 };
 }
 
-/// Lists for the children of a new node, for their labels, and for the marks of its pages.
+/// Lists for the children of a new node, for their first keys and their labels, and for the marks of its pages.
 #[derive(Drop)]
 pub struct Blank<A: Allocator = Global> {
     kids: Vec<Node<A>, A>,
+    firsts: Vec<Key, A>,
     counts: Vec<LabelCount<A>, A>,
     labels: Vec<Label<A>, A>,
     pages: Vec<PageMarks, A>,
@@ -95,6 +99,7 @@ impl<A: Allocator + Copy> Blank<A> {
     {
         Ok(Blank {
             kids: Vec::with_capacity(alloc, 33)?,
+            firsts: Vec::with_capacity(alloc, 33)?,
             counts: Vec::with_capacity(alloc, MAX_LABELS)?,
             labels: Vec::with_capacity(alloc, FEW_NUMBERS)?,
             pages: Vec::with_capacity(alloc, 33)?,
@@ -117,6 +122,7 @@ impl<A: Allocator + Copy> Node<A> {
             height: 0,
             sum,
             marks: Marks::new(Vec::new(alloc), Vec::new(alloc)),
+            firsts: Firsts::new(Vec::new(alloc)),
             kids: Kids::Page(entries),
         }
     }
@@ -139,11 +145,10 @@ impl<A: Allocator + Copy> Node<A> {
                 last,
             },
             Kids::Inner(kids) => {
-                let after = count_up_to(kids, key).max(1);
+                let after = self.firsts.count_up_to(key).max(1);
                 let kid = &kids[after - 1];
                 let kid_last = if after < kids.len() {
-                    let next = &kids[after];
-                    order::before(next.first)
+                    order::before(self.firsts.at(after))
                 } else {
                     last
                 };
@@ -182,18 +187,20 @@ impl<A: Allocator + Copy> Node<A> {
                 return split;
             }
             Kids::Inner(kids) => {
-                let at = child_for(kids, key);
+                let at = self.firsts.child_for(key);
                 let kid = &mut kids[at];
                 let Some(right) = kid.insert(key, row, rows, page, inners, change) else {
                     mark_changed(&mut self.marks, &self.kids, at, *change);
                     return None;
                 };
                 self.marks.clear_page(at);
+                self.firsts.insert_at(at + 1, &right);
                 let Ok(()) = kids.insert(at + 1, right) else {
                     unreachable!()
                 };
                 self.marks.open(at + 1);
                 let split = settle(kids, self.height, inners);
+                self.firsts.keep(kids.len());
                 let parted = split.is_some();
                 renew_if(parted, &mut self.sum, &self.kids);
                 mark_due(parted, at, &mut self.marks, &self.kids);
@@ -223,16 +230,20 @@ impl<A: Allocator + Copy> Node<A> {
             height,
             sum,
             marks,
+            firsts,
             kids,
             ..
         } = right;
         let rest = match (&mut self.kids, kids) {
             (Kids::Page(left), Kids::Page(right)) => join_pages(left, right),
-            (Kids::Inner(left), Kids::Inner(right)) => join_kids(left, right, height, sum, marks),
+            (Kids::Inner(left), Kids::Inner(right)) => {
+                join_kids(left, right, height, sum, marks, firsts)
+            }
             _ => unreachable!(),
         };
         renew(&mut self.sum, &self.kids);
         self.marks.clear();
+        renew_firsts(&mut self.firsts, &self.kids);
         rest
     }
 
@@ -249,11 +260,11 @@ impl<A: Allocator + Copy> Node<A> {
         let taken = match &mut self.kids {
             Kids::Page(entries) => entries::take(entries, key, id, label, change),
             Kids::Inner(kids) => {
-                let at = child_for(kids, key);
+                let at = self.firsts.child_for(key);
                 let kid = &mut kids[at];
                 let row = kid.remove(key, id, label, change)?;
                 kids[at].mark_change(at, *change, &mut self.marks);
-                mend(kids, at, &mut self.marks);
+                mend(kids, at, &mut self.marks, &mut self.firsts);
                 mark_if(self.sum.is_time(), &mut self.marks, &self.kids);
                 Some(row)
             }
@@ -277,7 +288,7 @@ impl<A: Allocator + Copy> Node<A> {
         match &mut self.kids {
             Kids::Page(entries) => entries::swap(entries, key, row, change),
             Kids::Inner(kids) => {
-                let at = child_for(kids, key);
+                let at = self.firsts.child_for(key);
                 let kid = &mut kids[at];
                 let out = kid.replace(key, row, change);
                 mark_swapped(&out, at, *change, &mut self.marks, &self.kids);

@@ -5,6 +5,7 @@ ghost use Rattle.st_index.specs.inner.Changes.{IsChange};
 ghost use Rattle.st_ubtree.specs.inner.Growing.{AreBlank, AreKids, DoRise, IsBlankPage, IsRoomFor, PageGrows, Settles};
 ghost use Rattle.st_ubtree.specs.inner.Splits.{splits_page};
 
+use super::firsts::Firsts;
 use super::marking::mark_kids;
 use super::sums::add_kids;
 use super::{Blank, Kids, Node};
@@ -69,6 +70,7 @@ pub(super) fn settle<A: Allocator + Copy>(
     };
     let Blank {
         kids: blank,
+        firsts,
         counts,
         labels,
         pages,
@@ -80,11 +82,14 @@ pub(super) fn settle<A: Allocator + Copy>(
     add_kids(&mut sum, upper.as_slice());
     let mut marks = Marks::new(labels, pages);
     mark_kids(&mut marks, upper.as_slice());
+    let mut firsts = Firsts::new(firsts);
+    firsts.renew(upper.as_slice());
     Some(Node {
         first,
         height,
         sum,
         marks,
+        firsts,
         kids: Kids::Inner(upper),
     })
 }

@@ -7,7 +7,6 @@ ghost use Rattle.st_ubtree.specs.Pages.{entries_of_pages};
 ghost use Rattle.st_ubtree.specs.inner.Growing.{AreAround, DoRise};
 ghost use Rattle.st_ubtree.specs.inner.Splits.{split_nodes, splits, splits_page, splits_with};
 
-use super::child::child_for;
 use super::{Kids, Node};
 use st_index::{Entry, entries};
 use st_key::Key;
@@ -34,7 +33,7 @@ impl<A: Allocator + Copy> Node<A> {
         match &self.kids {
             Kids::Page(entries) => page_needs(entries, key),
             Kids::Inner(kids) => {
-                let at = child_for(kids, key);
+                let at = self.firsts.child_for(key);
                 let kid = &kids[at];
                 let needs = kid.needs(key);
                 Needs {

@@ -6,6 +6,7 @@ ghost use Rattle.st_ubtree.specs.inner.Kids.{GrowsBy, IsKid};
 ghost use Rattle.st_ubtree.specs.inner.Growing.{AreAround, AreBlank, IsBlankPage, IsRoomFor};
 ghost use Rattle.st_ubtree.specs.inner.Splits.{made_nodes, splits};
 
+use super::firsts::Firsts;
 use super::marking::mark_all;
 use super::sums::add_kids;
 use super::{Blank, Kids, Node};
@@ -51,6 +52,7 @@ impl<A: Allocator + Copy> Node<A> {
         requires kids { IsKid self.old.height self.old × IsKid self.old.height right }
         requires empty { blank.kids.items ≡ [] }
         requires room { 33 ≤ vec_capacity blank.kids }
+        requires firsts_room { 33 ≤ vec_capacity blank.firsts }
         requires height { self.old.height + 1 < 2 ^ 64 }
         ensures first { self.new.first ≡ self.old.first }
         ensures height { self.new.height ≡ self.old.height + 1 }
@@ -59,6 +61,7 @@ impl<A: Allocator + Copy> Node<A> {
     {
         let Blank {
             kids: mut blank,
+            firsts,
             counts,
             labels,
             pages,
@@ -68,11 +71,14 @@ impl<A: Allocator + Copy> Node<A> {
         let sum = mem::replace(&mut self.sum, none);
         let unknown = Marks::new(labels, pages);
         let marks = mem::replace(&mut self.marks, unknown);
+        let unread = Firsts::new(firsts);
+        let firsts = mem::replace(&mut self.firsts, unread);
         let left = Node {
             first: self.first,
             height: self.height,
             sum,
             marks,
+            firsts,
             kids,
         };
         let Ok(()) = blank.push(left) else {
@@ -82,6 +88,7 @@ impl<A: Allocator + Copy> Node<A> {
             unreachable!()
         };
         add_kids(&mut self.sum, blank.as_slice());
+        self.firsts.renew(blank.as_slice());
         self.kids = Kids::Inner(blank);
         self.height += 1;
         mark_all(&mut self.marks, &self.kids);
@@ -105,12 +112,14 @@ impl<A: Allocator + Copy> Node<A> {
                 height,
                 sum,
                 marks,
+                firsts,
                 kids,
             } = only;
             self.first = first;
             self.height = height;
             self.sum = sum;
             self.marks = marks;
+            self.firsts = firsts;
             self.kids = kids;
         }
     }

@@ -1,7 +1,6 @@
 //! Room for more labels.
 ghost use Rattle.std.specs.Prelude.{◌≡◌};
 
-use super::child::child_for;
 use super::marking::mark_all;
 use super::{Kids, Node};
 use crate::marks::Room;
@@ -21,7 +20,7 @@ impl<A: Allocator + Copy> Node<A> {
         let Kids::Inner(kids) = &mut self.kids else {
             return;
         };
-        let at = child_for(kids, key);
+        let at = self.firsts.child_for(key);
         let kid = &mut kids[at];
         kid.widen(key, room);
     }

@@ -22,6 +22,8 @@ use Rattle.st_ubtree.proofs.Keeping.{kept_traded, kid_stays_so, page_stays}
 use Rattle.st_ubtree.proofs.Marking.{ok_so, ok_then}
 use Rattle.st_ubtree.proofs.Placing.{differ_set}
 use Rattle.st_ubtree.proofs.Splitting.{one_rows}
+use Rattle.st_ubtree.proofs.Firsts.{chosen_in, firsts_set}
+use Rattle.st_ubtree.specs.inner.Firsts.{AreFirstsUnder}
 use Rattle.st_ubtree.proofs.node.Node.+replace.Goals as goal
 
 pub invariant_of-self : goal.invariant_of-self
@@ -45,6 +47,7 @@ invariant_of-self g t c = (
       (subst (Sums c.widen.new.self) (one_rows first new)
       (kept_traded c.widen.new.self (rank c.args.key) c.args.row (page_node first height es) (page_node first height new) c.swap.result trades named stays c.widen.ensures.point (subst (Sums c.widen.new.self) (sym (one_rows first es)) sums)))),
   tt,
+  tt,
 )
 
 pub invariant_of-self-in-Inner : goal.invariant_of-self-in-Inner
@@ -52,7 +55,7 @@ invariant_of-self-in-Inner g t c = (
   (let kids = c.in-Inner.kids.items in
       let good : IsInnerNode (rank c.self.inside.first) c.self.inside.height kids (vec_capacity c.in-Inner.kids) = subst (IsNode (rank c.self.inside.first) c.self.inside.height) c.in-Inner.is c.self.invariant.0 in
       let i = c.child_for-at.result in
-      let chosen : IsChosen (rank c.args.key) kids i = rw c.deref.ensures.value at c.child_for-at.ensures in
+      let chosen : IsChosen (rank c.args.key) kids i = chosen_in (rank c.args.key) (rank c.self.inside.first) c.self.inside.height c.self.inside.firsts c.self.inside.kids c.in-Inner.kids c.child_for-at.result c.in-Inner.is c.self.invariant.0 c.self.invariant.3 c.child_for-at.ensures in
       let l = chosen.within in
       let kid = c.index_mut-kid.result.now in
       let read = c.index_mut-kid.ensures.value in
@@ -62,7 +65,7 @@ invariant_of-self-in-Inner g t c = (
       let kids = c.in-Inner.kids.items in
       let good : IsInnerNode (rank c.self.inside.first) c.self.inside.height kids (vec_capacity c.in-Inner.kids) = subst (IsNode (rank c.self.inside.first) c.self.inside.height) c.in-Inner.is c.self.invariant.0 in
       let i = c.child_for-at.result in
-      let chosen : IsChosen (rank c.args.key) kids i = rw c.deref.ensures.value at c.child_for-at.ensures in
+      let chosen : IsChosen (rank c.args.key) kids i = chosen_in (rank c.args.key) (rank c.self.inside.first) c.self.inside.height c.self.inside.firsts c.self.inside.kids c.in-Inner.kids c.child_for-at.result c.in-Inner.is c.self.invariant.0 c.self.invariant.3 c.child_for-at.ensures in
       let l = chosen.within in
       let kid = c.index_mut-kid.result.now in
       let read = c.index_mut-kid.ensures.value in
@@ -72,7 +75,7 @@ invariant_of-self-in-Inner g t c = (
       (kept_traded c.widen.new.self (rank c.args.key) c.args.row (inner_node first height kids) (inner_node first height (set kids i c.replace-out.new.self)) c.replace-out.result trades c.replace-out.ensures.named stays c.widen.ensures.point sums)),
   (let kids = c.in-Inner.kids.items in
       let i = c.child_for-at.result in
-      let chosen : IsChosen (rank c.args.key) kids i = rw c.deref.ensures.value at c.child_for-at.ensures in
+      let chosen : IsChosen (rank c.args.key) kids i = chosen_in (rank c.args.key) (rank c.self.inside.first) c.self.inside.height c.self.inside.firsts c.self.inside.kids c.in-Inner.kids c.child_for-at.result c.in-Inner.is c.self.invariant.0 c.self.invariant.3 c.child_for-at.ensures in
       let l = chosen.within in
       let kid = c.index_mut-kid.result.now in
       let read = c.index_mut-kid.ensures.value in
@@ -83,6 +86,7 @@ invariant_of-self-in-Inner g t c = (
       → IsChange c.replace-out.new.change (entries_of_pages kid.pages) (entries_of_pages v.pages) = λ h none. h (sym same ∙ none) in
       let change = ok_then c.replace-out.result next c.replace-out.ensures.change in
       c.mark_swapped.ensures kids kid v (l, read) there (differ_set kids i v) change (subst (AreMarkedUnder c.self.inside.marks) c.in-Inner.is c.self.invariant.2)),
+  firsts_set c.self.inside.firsts c.in-Inner.kids.items c.child_for-at.result c.index_mut-kid.result.now c.replace-out.new.self c.index_mut-kid.ensures.value c.replace-out.ensures.keeps.first (subst (AreFirstsUnder c.self.inside.firsts) c.in-Inner.is c.self.invariant.3),
 )
 
 pub returns-in-Page-clause-ok : goal.returns-in-Page-clause-ok
@@ -96,7 +100,7 @@ returns-in-Inner-clause-ok g t c =
     let kids = c.in-Inner.kids.items in
     let good : IsInnerNode (rank c.self.inside.first) c.self.inside.height kids (vec_capacity c.in-Inner.kids) = subst (IsNode (rank c.self.inside.first) c.self.inside.height) c.in-Inner.is c.self.invariant.0 in
     let i = c.child_for-at.result in
-    let chosen : IsChosen (rank c.args.key) kids i = rw c.deref.ensures.value at c.child_for-at.ensures in
+    let chosen : IsChosen (rank c.args.key) kids i = chosen_in (rank c.args.key) (rank c.self.inside.first) c.self.inside.height c.self.inside.firsts c.self.inside.kids c.in-Inner.kids c.child_for-at.result c.in-Inner.is c.self.invariant.0 c.self.invariant.3 c.child_for-at.ensures in
     let l = chosen.within in
     let kid = c.index_mut-kid.result.now in
     let read = c.index_mut-kid.ensures.value in
@@ -126,7 +130,7 @@ returns-in-Inner-clause-keeps g t c =
     let kids = c.in-Inner.kids.items in
     let good : IsInnerNode (rank c.self.inside.first) c.self.inside.height kids (vec_capacity c.in-Inner.kids) = subst (IsNode (rank c.self.inside.first) c.self.inside.height) c.in-Inner.is c.self.invariant.0 in
     let i = c.child_for-at.result in
-    let chosen : IsChosen (rank c.args.key) kids i = rw c.deref.ensures.value at c.child_for-at.ensures in
+    let chosen : IsChosen (rank c.args.key) kids i = chosen_in (rank c.args.key) (rank c.self.inside.first) c.self.inside.height c.self.inside.firsts c.self.inside.kids c.in-Inner.kids c.child_for-at.result c.in-Inner.is c.self.invariant.0 c.self.invariant.3 c.child_for-at.ensures in
     let l = chosen.within in
     let kid = c.index_mut-kid.result.now in
     let read = c.index_mut-kid.ensures.value in
@@ -145,24 +149,18 @@ returns-in-Inner-clause-absent g t c =
     let kids = c.in-Inner.kids.items in
     let good : IsInnerNode (rank c.self.inside.first) c.self.inside.height kids (vec_capacity c.in-Inner.kids) = subst (IsNode (rank c.self.inside.first) c.self.inside.height) c.in-Inner.is c.self.invariant.0 in
     let i = c.child_for-at.result in
-    let chosen : IsChosen (rank c.args.key) kids i = rw c.deref.ensures.value at c.child_for-at.ensures in
+    let chosen : IsChosen (rank c.args.key) kids i = chosen_in (rank c.args.key) (rank c.self.inside.first) c.self.inside.height c.self.inside.firsts c.self.inside.kids c.in-Inner.kids c.child_for-at.result c.in-Inner.is c.self.invariant.0 c.self.invariant.3 c.child_for-at.ensures in
     let l = chosen.within in
     let kid = c.index_mut-kid.result.now in
     let read = c.index_mut-kid.ensures.value in
     let pages : c.args.self.now.pages ≡ pages_of kids = ap (λ (v : NodeValue g.row.A.Denot). v.pages) (sym c.self.view_is) ∙ ap (pages_under (rank c.self.inside.first)) c.in-Inner.is in
     rw pages (kids_lack (rank c.args.key) good.below kids i kid c.replace-out.new.self l read good.each chosen.upto (name_of c.args.row) c.replace-out.result chosen.found chosen.is c.replace-out.ensures.absent)
 
-pub child_for-at-requires : goal.child_for-at-requires
-child_for-at-requires g t c =
-    let kids = c.in-Inner.kids.items in
-    let good : IsInnerNode (rank c.self.inside.first) c.self.inside.height kids (vec_capacity c.in-Inner.kids) = subst (IsNode (rank c.self.inside.first) c.self.inside.height) c.in-Inner.is c.self.invariant.0 in
-    subst (λ ks. 1 ≤ length ks) (sym c.deref.ensures.value) good.not_less
-
 pub index_mut-kid-requires : goal.index_mut-kid-requires
 index_mut-kid-requires g t c =
     let kids = c.in-Inner.kids.items in
     let i = c.child_for-at.result in
-    let chosen : IsChosen (rank c.args.key) kids i = rw c.deref.ensures.value at c.child_for-at.ensures in
+    let chosen : IsChosen (rank c.args.key) kids i = chosen_in (rank c.args.key) (rank c.self.inside.first) c.self.inside.height c.self.inside.firsts c.self.inside.kids c.in-Inner.kids c.child_for-at.result c.in-Inner.is c.self.invariant.0 c.self.invariant.3 c.child_for-at.ensures in
     held_at c.in-Inner.kids i chosen.within
 
 pub returns-in-Page-clause-err : goal.returns-in-Page-clause-err
@@ -175,7 +173,7 @@ pub returns-in-Inner-clause-err : goal.returns-in-Inner-clause-err
 returns-in-Inner-clause-err g t c =
     let kids = c.in-Inner.kids.items in
     let i = c.child_for-at.result in
-    let chosen : IsChosen (rank c.args.key) kids i = rw c.deref.ensures.value at c.child_for-at.ensures in
+    let chosen : IsChosen (rank c.args.key) kids i = chosen_in (rank c.args.key) (rank c.self.inside.first) c.self.inside.height c.self.inside.firsts c.self.inside.kids c.in-Inner.kids c.child_for-at.result c.in-Inner.is c.self.invariant.0 c.self.invariant.3 c.child_for-at.ensures in
     let kid = c.index_mut-kid.result.now in
     let pages : c.args.self.now.pages ≡ pages_of kids = ap (λ (v : NodeValue g.row.A.Denot). v.pages) (sym c.self.view_is) ∙ ap (pages_under (rank c.self.inside.first)) c.in-Inner.is in
     rw pages (kid_stays_so kids i kid c.replace-out.new.self chosen.within c.index_mut-kid.ensures.value c.replace-out.result c.replace-out.ensures.err)
@@ -185,7 +183,7 @@ replace-out-requires g t c κs within =
     let kids = c.in-Inner.kids.items in
     let good : IsInnerNode (rank c.self.inside.first) c.self.inside.height kids (vec_capacity c.in-Inner.kids) = subst (IsNode (rank c.self.inside.first) c.self.inside.height) c.in-Inner.is c.self.invariant.0 in
     let i = c.child_for-at.result in
-    let chosen : IsChosen (rank c.args.key) kids i = rw c.deref.ensures.value at c.child_for-at.ensures in
+    let chosen : IsChosen (rank c.args.key) kids i = chosen_in (rank c.args.key) (rank c.self.inside.first) c.self.inside.height c.self.inside.firsts c.self.inside.kids c.in-Inner.kids c.child_for-at.result c.in-Inner.is c.self.invariant.0 c.self.invariant.3 c.child_for-at.ensures in
     let l = chosen.within in
     let kid = c.index_mut-kid.result.now in
     let is = that_kid good.below kids i kid l c.index_mut-kid.ensures.value good.each in

@@ -8,6 +8,7 @@ use Rattle.st_ubtree.specs.inner.Shrinking.{KidsJoin}
 use Rattle.st_ubtree.proofs.Joining.{both_kids, join_of_kids, join_of_pages, joined_each, joined_head, held_both, held_worn}
 use Rattle.st_ubtree.proofs.Keeping.{marked_under}
 use Rattle.st_ubtree.proofs.Splitting.{page}
+use Rattle.st_ubtree.specs.inner.Firsts.{AreFirsts, AreFirstsUnder}
 use Rattle.st_ubtree.proofs.node.Node.join.Goals as goal
 use Rattle.st_ubtree.proofs.node.Node.join.Goals.{in-Page-Page, in-Inner-Inner}
 
@@ -47,7 +48,23 @@ invariant_of-self g c =
       ],
       c.renew.ensures,
       marked_under c.clear.new.self _ c.clear.ensures,
+      c.renew_firsts.ensures,
     )
+
+pub renew_firsts-requires : goal.renew_firsts-requires
+renew_firsts-requires g c =
+    elim c.match-self.branch [
+      | in-Page-Page w ↦ rw w.self-inside-is tt
+      | in-Inner-Inner w ↦
+          let firsts : AreFirsts c.self.inside.firsts w.in-Inner-Inner.left.items = subst (AreFirstsUnder c.self.inside.firsts) w.in-Inner-Inner.is-0 c.self.invariant.3 in
+          let fits = w.join_kids-rest.ensures.joins.not_more in
+          rw w.self-inside-is (omega (arith, fits), firsts.room)
+    ]
+
+pub join_kids-rest-requires-clause-firsts_room : goal.join_kids-rest-requires-clause-firsts_room
+join_kids-rest-requires-clause-firsts_room g c =
+    let firsts : AreFirsts c.right.inside.firsts c.in-Inner-Inner.right.items = subst (AreFirstsUnder c.right.inside.firsts) c.in-Inner-Inner.is-1 c.right.invariant.3 in
+    firsts.room
 
 pub returns : goal.returns
 returns g c =

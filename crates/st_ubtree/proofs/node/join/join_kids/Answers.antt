@@ -6,6 +6,7 @@ use Rattle.st_ubtree.specs.Pages.{NodeValue, rows_of_pages}
 use Rattle.st_ubtree.specs.inner.Sums.{Sums}
 use Rattle.st_ubtree.specs.inner.Kids.{HeadAt, IsKid, pages_of}
 use Rattle.st_ubtree.proofs.Settling.{head_there, held_at, kids_start, kids_wide}
+use Rattle.st_ubtree.specs.inner.Firsts.{AreFirsts}
 use Rattle.st_ubtree.proofs.node.join.join_kids.Goals as goal
 
 pub invariant_of-result : goal.invariant_of-result
@@ -27,7 +28,14 @@ invariant_of-result g c =
       },
       subst (λ ks. Sums c.add_kids.new.sum (rows_of_pages (pages_of ks))) c.as_slice.ensures.value (c.add_kids.ensures [] c.clear.ensures),
       c.clear-2.ensures rest,
+      subst (AreFirsts c.renew.new.self) c.as_slice-2.ensures.value c.renew.ensures,
     )
+
+pub renew-requires-clause-few : goal.renew-requires-clause-few
+renew-requires-clause-few g c =
+    let wide = (c.share.ensures.some c.if-not-share.false).1 in
+    let same = ap length c.as_slice-2.ensures.value in
+    omega (arith, wide, same)
 
 pub returns-clause-joins : goal.returns-clause-joins
 returns-clause-joins g c =
