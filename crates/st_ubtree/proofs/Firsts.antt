@@ -1,5 +1,5 @@
 -- The first keys of children, as these change.
-use Rattle.std.proofs.Common.{◌≡◌, ℕ, ◌+◌, ◌<◌, ◌≤◌, List, [], ◌∷◌, ◌++◌, length, get_or, map, take, drop, refl, sym, ap, subst, ◌∙◌, suc, zero, arith, true, false, not, ltb, Vec, vec_len, vec_capacity, Option, Some, None}
+use Rattle.std.proofs.Common.{◌≡◌, ℕ, ◌<◌, ◌≤◌, List, ◌∷◌, ◌++◌, length, get_or, map, take, drop, sym, ap, subst, ◌∙◌, suc, arith, true, false, not, ltb, Vec, vec_capacity, Option, Some, None, Box}
 use Rattle.std.proofs.Math.ListN.{set}
 use Rattle.std.proofs.Math.Seq.{map-set_same}
 use Rattle.std.proofs.lemmas.List.{get_or-map, length-map, map-append, take-map, take_all}
@@ -8,13 +8,14 @@ use Rattle.std.specs.List.Sorted.{IsPartitionedBy, IsPartitionPoint}
 use Rattle.st_key.specs.Key.{rank}
 use Rattle.st_key.specs.declared.key.Key.{Key}
 use Rattle.st_ubtree.specs.declared.node.Kids.{Kids}
-use Rattle.st_ubtree.specs.declared.node.Kids.TheVariants.{Page, Inner}
+use Rattle.st_ubtree.specs.declared.node.Kids.TheVariants.{Inner}
+use Rattle.st_ubtree.specs.declared.node.aside.Aside.{Aside}
 use Rattle.st_ubtree.specs.declared.node.firsts.Firsts.{Firsts}
 use Rattle.st_ubtree.specs.Pages.{NodeValue}
 use Rattle.st_ubtree.specs.inner.Firsts.{AreFirsts, AreFirstsUnder}
 use Rattle.st_ubtree.specs.inner.Growing.{IsChosen, Settles}
-use Rattle.st_ubtree.specs.inner.Marks.{HasAt}
-use Rattle.st_ubtree.specs.inner.Nodes.{IsNode}
+use Rattle.st_ubtree.specs.inner.Marks.{AreMarked}
+use Rattle.st_ubtree.specs.inner.Nodes.{AreMarkedUnder, IsNode}
 use Rattle.st_ubtree.proofs.Placing.{there_is}
 
 map_insert : {X : Type 0} (n : X → ℕ) (xs : List X) (i : ℕ) (x : X) → map n (insert xs i x) ≡ insert (map n xs) i (n x)
@@ -67,10 +68,18 @@ module _ {A : Type 0} where
     room = h.room;
   }
 
-  pub chosen_in : (key first height : ℕ) (f : Firsts A) (k : Kids A) (kids : Vec (NodeValue A) A) (at : ℕ) → k ≡ Inner kids → IsNode first height k → AreFirstsUnder f k → ((ks : List (NodeValue A)) → 1 ≤ length ks → AreFirsts f ks → IsChosen key ks at) → IsChosen key kids.items at
-  chosen_in key first height f k kids at is node firsts chosen =
-      let good = subst (IsNode first height) is node in
-      chosen kids.items good.not_less (subst (AreFirstsUnder f) is firsts)
+  -- those of a node's children, by its block
+  module _ (k : Kids A) (kids : Vec (NodeValue A) A) (aside : Box (Aside A) A) (a : Aside A) (is : k ≡ Inner kids aside) (same : a ≡ aside.value) where
+    pub firsts_in : AreFirstsUnder k → AreFirsts a.firsts kids.items
+    firsts_in h = subst (λ (b : Aside A). AreFirsts b.firsts kids.items) (sym same) (subst AreFirstsUnder is h)
+
+    pub marks_in : AreMarkedUnder k → AreMarked a.marks kids.items
+    marks_in h = subst (λ (b : Aside A). AreMarked b.marks kids.items) (sym same) (subst AreMarkedUnder is h)
+
+    pub chosen_in : (key first height at : ℕ) → IsNode first height k → AreFirstsUnder k → ((ks : List (NodeValue A)) → 1 ≤ length ks → AreFirsts a.firsts ks → IsChosen key ks at) → IsChosen key kids.items at
+    chosen_in key first height at node firsts chosen =
+        let good = subst (IsNode first height) is node in
+        chosen kids.items good.not_less (firsts_in firsts)
 
   -- of children that were settled, as many stay as there are then
   pub settled_take : (height count : ℕ) (old new : List (NodeValue A)) (split : Option (NodeValue A)) → Settles height old new split → count ≡ length new → take count old ≡ new

@@ -1,5 +1,5 @@
 -- An invariant of a representation, which no reader has to believe: the first keys of a node's children, side by side.
-use Rattle.std.specs.Prelude.{◌≡◌, ◌≤◌, List, length, map, vec_capacity}
+use Rattle.std.specs.Prelude.{◌≡◌, ◌≤◌, List, map, vec_capacity}
 use Rattle.st_key.specs.Key.{rank}
 use Rattle.st_ubtree.specs.declared.node.Kids.{Kids}
 use Rattle.st_ubtree.specs.declared.node.Kids.TheVariants.{Page, Inner}
@@ -12,11 +12,6 @@ pub record AreFirsts {A : Type 0} (f : Firsts A) (kids : List (NodeValue A)) : T
   pub room : 33 ≤ vec_capacity f.keys
 
 -- those of the children, if there are some
-abbrev pub AreFirstsUnder : {A : Type 0} → Firsts A → Kids A → Type 0
-AreFirstsUnder f (Page entries) = Unit {0}
-AreFirstsUnder f (Inner kids) = AreFirsts f kids.items
-
--- the list has room for them
-abbrev pub HasRoomUnder : {A : Type 0} → Firsts A → Kids A → Type 0
-HasRoomUnder f (Page entries) = Unit {0}
-HasRoomUnder f (Inner kids) = (length kids.items ≤ 33) × (33 ≤ vec_capacity f.keys)
+abbrev pub AreFirstsUnder : {A : Type 0} → Kids A → Type 0
+AreFirstsUnder (Page entries) = Unit {0}
+AreFirstsUnder (Inner kids aside) = AreFirsts aside.value.firsts kids.items

@@ -4,11 +4,11 @@ ghost use Rattle.std.specs.List.{insert, remove};
 ghost use Rattle.std.specs.List.Sorted.{IsPartitionPoint, IsPartitionedBy};
 ghost use Rattle.st_key.specs.Key.{rank};
 ghost use Rattle.st_ubtree.specs.Pages.{NodeValue};
-ghost use Rattle.st_ubtree.specs.inner.Firsts.{AreFirsts, AreFirstsUnder, HasRoomUnder};
+ghost use Rattle.st_ubtree.specs.inner.Firsts.{AreFirsts};
 ghost use Rattle.st_ubtree.specs.inner.Growing.{IsChosen};
 ghost use Rattle.st_ubtree.specs.inner.Marks.{HasAt};
 
-use super::{Kids, Node};
+use super::Node;
 use st_index::order;
 use st_key::Key;
 use std::alloc::{Allocator, Global};
@@ -104,15 +104,5 @@ impl<A: Allocator + Copy> Firsts<A> {
                 unreachable!()
             };
         }
-    }
-}
-
-// Takes the first keys of the children below a node in their place.
-pub(super) fn renew_firsts<A: Allocator + Copy>(firsts: &mut Firsts<A>, kids: &Kids<A>)
-    requires { HasRoomUnder firsts.old kids.now }
-    ensures { AreFirstsUnder firsts.new kids.now }
-{
-    if let Kids::Inner(kids) = kids {
-        firsts.renew(kids.as_slice());
     }
 }

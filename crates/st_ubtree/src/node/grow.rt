@@ -5,11 +5,8 @@ ghost use Rattle.st_index.specs.inner.Changes.{IsChange};
 ghost use Rattle.st_ubtree.specs.inner.Growing.{AreBlank, AreKids, DoRise, IsBlankPage, IsRoomFor, PageGrows, Settles};
 ghost use Rattle.st_ubtree.specs.inner.Splits.{splits_page};
 
-use super::firsts::Firsts;
-use super::marking::mark_kids;
 use super::sums::add_kids;
 use super::{Blank, Kids, Node};
-use crate::marks::Marks;
 use crate::split::split_at;
 use crate::summary::Summary;
 use st_index::entries::{self, Change};
@@ -70,26 +67,19 @@ pub(super) fn settle<A: Allocator + Copy>(
     };
     let Blank {
         kids: blank,
-        firsts,
         counts,
-        labels,
-        pages,
+        mut aside,
     } = blank;
     let least = &kids[16];
     let first = least.first;
     let upper = split_at(kids, 16, blank);
     let mut sum = Summary::new(counts);
     add_kids(&mut sum, upper.as_slice());
-    let mut marks = Marks::new(labels, pages);
-    mark_kids(&mut marks, upper.as_slice());
-    let mut firsts = Firsts::new(firsts);
-    firsts.renew(upper.as_slice());
+    aside.fill(upper.as_slice());
     Some(Node {
         first,
         height,
         sum,
-        marks,
-        firsts,
-        kids: Kids::Inner(upper),
+        kids: Kids::Inner(upper, aside),
     })
 }

@@ -13,7 +13,8 @@ use st_key::Key;
 use std::alloc::Allocator;
 
 /// What a new row of a key takes: how many rows the key has, and, where its page is to be split, how many
-/// nodes above the page are.
+/// nodes above the page are. Where the node over the page has no room for a further label, `labels` says for how many
+/// it is to get room; else it is 0.
 #[derive(Clone, Copy)]
 pub struct Needs {
     pub rows: usize,
@@ -32,14 +33,14 @@ impl<A: Allocator + Copy> Node<A> {
     {
         match &self.kids {
             Kids::Page(entries) => page_needs(entries, key),
-            Kids::Inner(kids) => {
-                let at = self.firsts.child_for(key);
+            Kids::Inner(kids, aside) => {
+                let at = aside.firsts.child_for(key);
                 let kid = &kids[at];
                 let needs = kid.needs(key);
                 Needs {
                     rows: needs.rows,
                     inners: count_node(needs.inners, self.height, kids.len()),
-                    labels: needs.labels.max(self.marks.wanted()),
+                    labels: needs.labels.max(aside.marks.wanted()),
                 }
             }
         }

@@ -6,11 +6,8 @@ ghost use Rattle.st_ubtree.specs.inner.Kids.{GrowsBy, IsKid};
 ghost use Rattle.st_ubtree.specs.inner.Growing.{AreAround, AreBlank, IsBlankPage, IsRoomFor};
 ghost use Rattle.st_ubtree.specs.inner.Splits.{made_nodes, splits};
 
-use super::firsts::Firsts;
-use super::marking::mark_all;
 use super::sums::add_kids;
 use super::{Blank, Kids, Node};
-use crate::marks::Marks;
 use crate::summary::Summary;
 use st_index::entries::Change;
 use st_index::{Entry, Row};
@@ -52,7 +49,7 @@ impl<A: Allocator + Copy> Node<A> {
         requires kids { IsKid self.old.height self.old × IsKid self.old.height right }
         requires empty { blank.kids.items ≡ [] }
         requires room { 33 ≤ vec_capacity blank.kids }
-        requires firsts_room { 33 ≤ vec_capacity blank.firsts }
+        requires firsts_room { 33 ≤ vec_capacity blank.aside.value.firsts.keys }
         requires height { self.old.height + 1 < 2 ^ 64 }
         ensures first { self.new.first ≡ self.old.first }
         ensures height { self.new.height ≡ self.old.height + 1 }
@@ -61,24 +58,16 @@ impl<A: Allocator + Copy> Node<A> {
     {
         let Blank {
             kids: mut blank,
-            firsts,
             counts,
-            labels,
-            pages,
+            mut aside,
         } = blank;
-        let kids = mem::replace(&mut self.kids, Kids::Inner(Vec::new(*blank.allocator())));
+        let kids = mem::replace(&mut self.kids, Kids::Page(Vec::new(*blank.allocator())));
         let none = Summary::new(counts);
         let sum = mem::replace(&mut self.sum, none);
-        let unknown = Marks::new(labels, pages);
-        let marks = mem::replace(&mut self.marks, unknown);
-        let unread = Firsts::new(firsts);
-        let firsts = mem::replace(&mut self.firsts, unread);
         let left = Node {
             first: self.first,
             height: self.height,
             sum,
-            marks,
-            firsts,
             kids,
         };
         let Ok(()) = blank.push(left) else {
@@ -88,10 +77,9 @@ impl<A: Allocator + Copy> Node<A> {
             unreachable!()
         };
         add_kids(&mut self.sum, blank.as_slice());
-        self.firsts.renew(blank.as_slice());
-        self.kids = Kids::Inner(blank);
+        aside.fill(blank.as_slice());
+        self.kids = Kids::Inner(blank, aside);
         self.height += 1;
-        mark_all(&mut self.marks, &self.kids);
     }
 
     /// Puts the only child of a node in the node's place.
@@ -101,7 +89,7 @@ impl<A: Allocator + Copy> Node<A> {
         ensures wide { 1 ≤ self.new.height → 2 ≤ self.new.width }
         ensures lower { self.new.height ≤ self.old.height }
     {
-        if let Kids::Inner(kids) = &mut self.kids
+        if let Kids::Inner(kids, _) = &mut self.kids
             && kids.len() == 1
         {
             let Some(only) = kids.pop() else {
@@ -111,15 +99,11 @@ impl<A: Allocator + Copy> Node<A> {
                 first,
                 height,
                 sum,
-                marks,
-                firsts,
                 kids,
             } = only;
             self.first = first;
             self.height = height;
             self.sum = sum;
-            self.marks = marks;
-            self.firsts = firsts;
             self.kids = kids;
         }
     }

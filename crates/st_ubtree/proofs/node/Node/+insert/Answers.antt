@@ -17,7 +17,7 @@ use Rattle.st_ubtree.proofs.Lifting.{settled_split}
 use Rattle.st_index.specs.Rows.{rows_of}
 use Rattle.st_index.specs.inner.Changes.{IsChange}
 use Rattle.st_ubtree.specs.Pages.{rows_of_pages}
-use Rattle.st_ubtree.specs.inner.Nodes.{AreMarkedUnder, rows_under}
+use Rattle.st_ubtree.specs.inner.Nodes.{rows_under}
 use Rattle.st_ubtree.specs.inner.Sums.{Sums}
 use Rattle.st_ubtree.proofs.Keeping.{kept_sums}
 use Rattle.std.proofs.lemmas.List.{get_or-set_same}
@@ -27,8 +27,8 @@ use Rattle.st_ubtree.proofs.Keeping.{settled_same}
 use Rattle.st_ubtree.specs.inner.Marks.{AreMarked, HasAt, OpensAt}
 use Rattle.st_ubtree.proofs.Splitting.{one_rows}
 use Rattle.st_ubtree.proofs.Summing.{sums_added}
-use Rattle.st_ubtree.proofs.Firsts.{chosen_in, firsts_set, settled_take}
-use Rattle.st_ubtree.specs.inner.Firsts.{AreFirsts, AreFirstsUnder}
+use Rattle.st_ubtree.proofs.Firsts.{chosen_in, firsts_in, firsts_set, marks_in, settled_take}
+use Rattle.st_ubtree.specs.inner.Firsts.{AreFirsts}
 use Rattle.st_ubtree.proofs.node.Node.+insert.Goals as goal
 
 pub invariant_of-self : goal.invariant_of-self
@@ -48,7 +48,7 @@ insert-requires g t c κs within =
     let kids = c.in-Inner.kids.items in
     let good : IsInnerNode (rank c.self.inside.first) c.self.inside.height kids (vec_capacity c.in-Inner.kids) = subst (IsNode (rank c.self.inside.first) c.self.inside.height) c.in-Inner.is c.self.invariant.0 in
     let i = c.child_for-at.result in
-    let chosen : IsChosen (rank c.args.key) kids i = chosen_in (rank c.args.key) (rank c.self.inside.first) c.self.inside.height c.self.inside.firsts c.self.inside.kids c.in-Inner.kids c.child_for-at.result c.in-Inner.is c.self.invariant.0 c.self.invariant.3 c.child_for-at.ensures in
+    let chosen : IsChosen (rank c.args.key) kids i = chosen_in c.self.inside.kids c.in-Inner.kids c.in-Inner.aside c.deref_mut-aside.result.now c.in-Inner.is c.deref_mut-aside.ensures.value (rank c.args.key) (rank c.self.inside.first) c.self.inside.height c.child_for-at.result c.self.invariant.0 c.self.invariant.3 c.child_for-at.ensures in
     let l = chosen.within in
     let kid = c.index_mut-kid.result.now in
     let read = c.index_mut-kid.ensures.value in
@@ -70,7 +70,7 @@ invariant_of-self-in_default g t c =
     let kids = c.in-Inner.kids.items in
     let good : IsInnerNode (rank c.self.inside.first) c.self.inside.height kids (vec_capacity c.in-Inner.kids) = subst (IsNode (rank c.self.inside.first) c.self.inside.height) c.in-Inner.is c.self.invariant.0 in
     let i = c.child_for-at.result in
-    let chosen : IsChosen (rank c.args.key) kids i = chosen_in (rank c.args.key) (rank c.self.inside.first) c.self.inside.height c.self.inside.firsts c.self.inside.kids c.in-Inner.kids c.child_for-at.result c.in-Inner.is c.self.invariant.0 c.self.invariant.3 c.child_for-at.ensures in
+    let chosen : IsChosen (rank c.args.key) kids i = chosen_in c.self.inside.kids c.in-Inner.kids c.in-Inner.aside c.deref_mut-aside.result.now c.in-Inner.is c.deref_mut-aside.ensures.value (rank c.args.key) (rank c.self.inside.first) c.self.inside.height c.child_for-at.result c.self.invariant.0 c.self.invariant.3 c.child_for-at.ensures in
     let l = chosen.within in
     let kid = c.index_mut-kid.result.now in
     let read = c.index_mut-kid.ensures.value in
@@ -91,8 +91,8 @@ invariant_of-self-in_default g t c =
         room = good.room;
       },
       sums_added c.add.new.self c.args.row _ _ grown.by.adds sums,
-      c.mark_changed.ensures kids kid v (l, read) there (differ_set kids i v) change (subst (AreMarkedUnder c.self.inside.marks) c.in-Inner.is c.self.invariant.2),
-      firsts_set c.self.inside.firsts kids i kid v read c.in_default.ensures.grows.first (subst (AreFirstsUnder c.self.inside.firsts) c.in-Inner.is c.self.invariant.3),
+      c.mark_changed.ensures kids kid v (l, read) there (differ_set kids i v) change (marks_in c.self.inside.kids c.in-Inner.kids c.in-Inner.aside c.deref_mut-aside.result.now c.in-Inner.is c.deref_mut-aside.ensures.value c.self.invariant.2),
+      firsts_set c.deref_mut-aside.result.now.firsts kids i kid v read c.in_default.ensures.grows.first (firsts_in c.self.inside.kids c.in-Inner.kids c.in-Inner.aside c.deref_mut-aside.result.now c.in-Inner.is c.deref_mut-aside.ensures.value c.self.invariant.3),
     )
 
 pub returns-in_default-clause-grows : goal.returns-in_default-clause-grows
@@ -100,7 +100,7 @@ returns-in_default-clause-grows g t c =
     let kids = c.in-Inner.kids.items in
     let good : IsInnerNode (rank c.self.inside.first) c.self.inside.height kids (vec_capacity c.in-Inner.kids) = subst (IsNode (rank c.self.inside.first) c.self.inside.height) c.in-Inner.is c.self.invariant.0 in
     let i = c.child_for-at.result in
-    let chosen : IsChosen (rank c.args.key) kids i = chosen_in (rank c.args.key) (rank c.self.inside.first) c.self.inside.height c.self.inside.firsts c.self.inside.kids c.in-Inner.kids c.child_for-at.result c.in-Inner.is c.self.invariant.0 c.self.invariant.3 c.child_for-at.ensures in
+    let chosen : IsChosen (rank c.args.key) kids i = chosen_in c.self.inside.kids c.in-Inner.kids c.in-Inner.aside c.deref_mut-aside.result.now c.in-Inner.is c.deref_mut-aside.ensures.value (rank c.args.key) (rank c.self.inside.first) c.self.inside.height c.child_for-at.result c.self.invariant.0 c.self.invariant.3 c.child_for-at.ensures in
     let l = chosen.within in
     let kid = c.index_mut-kid.result.now in
     let read = c.index_mut-kid.ensures.value in
@@ -113,7 +113,7 @@ returns-in_default-clause-left g t c =
     let kids = c.in-Inner.kids.items in
     let good : IsInnerNode (rank c.self.inside.first) c.self.inside.height kids (vec_capacity c.in-Inner.kids) = subst (IsNode (rank c.self.inside.first) c.self.inside.height) c.in-Inner.is c.self.invariant.0 in
     let i = c.child_for-at.result in
-    let chosen : IsChosen (rank c.args.key) kids i = chosen_in (rank c.args.key) (rank c.self.inside.first) c.self.inside.height c.self.inside.firsts c.self.inside.kids c.in-Inner.kids c.child_for-at.result c.in-Inner.is c.self.invariant.0 c.self.invariant.3 c.child_for-at.ensures in
+    let chosen : IsChosen (rank c.args.key) kids i = chosen_in c.self.inside.kids c.in-Inner.kids c.in-Inner.aside c.deref_mut-aside.result.now c.in-Inner.is c.deref_mut-aside.ensures.value (rank c.args.key) (rank c.self.inside.first) c.self.inside.height c.child_for-at.result c.self.invariant.0 c.self.invariant.3 c.child_for-at.ensures in
     let l = chosen.within in
     let kid = c.index_mut-kid.result.now in
     let read = c.index_mut-kid.ensures.value in
@@ -126,7 +126,7 @@ settle-split-requires-clause-kids g t c =
     let kids = c.in-Inner.kids.items in
     let good : IsInnerNode (rank c.self.inside.first) c.self.inside.height kids (vec_capacity c.in-Inner.kids) = subst (IsNode (rank c.self.inside.first) c.self.inside.height) c.in-Inner.is c.self.invariant.0 in
     let i = c.child_for-at.result in
-    let chosen : IsChosen (rank c.args.key) kids i = chosen_in (rank c.args.key) (rank c.self.inside.first) c.self.inside.height c.self.inside.firsts c.self.inside.kids c.in-Inner.kids c.child_for-at.result c.in-Inner.is c.self.invariant.0 c.self.invariant.3 c.child_for-at.ensures in
+    let chosen : IsChosen (rank c.args.key) kids i = chosen_in c.self.inside.kids c.in-Inner.kids c.in-Inner.aside c.deref_mut-aside.result.now c.in-Inner.is c.deref_mut-aside.ensures.value (rank c.args.key) (rank c.self.inside.first) c.self.inside.height c.child_for-at.result c.self.invariant.0 c.self.invariant.3 c.child_for-at.ensures in
     let l = chosen.within in
     let kid = c.index_mut-kid.result.now in
     let read = c.index_mut-kid.ensures.value in
@@ -142,7 +142,7 @@ settle-split-requires-clause-enough g t c =
     let kids = c.in-Inner.kids.items in
     let good : IsInnerNode (rank c.self.inside.first) c.self.inside.height kids (vec_capacity c.in-Inner.kids) = subst (IsNode (rank c.self.inside.first) c.self.inside.height) c.in-Inner.is c.self.invariant.0 in
     let i = c.child_for-at.result in
-    let chosen : IsChosen (rank c.args.key) kids i = chosen_in (rank c.args.key) (rank c.self.inside.first) c.self.inside.height c.self.inside.firsts c.self.inside.kids c.in-Inner.kids c.child_for-at.result c.in-Inner.is c.self.invariant.0 c.self.invariant.3 c.child_for-at.ensures in
+    let chosen : IsChosen (rank c.args.key) kids i = chosen_in c.self.inside.kids c.in-Inner.kids c.in-Inner.aside c.deref_mut-aside.result.now c.in-Inner.is c.deref_mut-aside.ensures.value (rank c.args.key) (rank c.self.inside.first) c.self.inside.height c.child_for-at.result c.self.invariant.0 c.self.invariant.3 c.child_for-at.ensures in
     let l = chosen.within in
     let kid = c.index_mut-kid.result.now in
     let read = c.index_mut-kid.ensures.value in
@@ -163,7 +163,7 @@ invariant_of-self-in-Inner g t c =
     let kids = c.in-Inner.kids.items in
     let good : IsInnerNode (rank c.self.inside.first) c.self.inside.height kids (vec_capacity c.in-Inner.kids) = subst (IsNode (rank c.self.inside.first) c.self.inside.height) c.in-Inner.is c.self.invariant.0 in
     let i = c.child_for-at.result in
-    let chosen : IsChosen (rank c.args.key) kids i = chosen_in (rank c.args.key) (rank c.self.inside.first) c.self.inside.height c.self.inside.firsts c.self.inside.kids c.in-Inner.kids c.child_for-at.result c.in-Inner.is c.self.invariant.0 c.self.invariant.3 c.child_for-at.ensures in
+    let chosen : IsChosen (rank c.args.key) kids i = chosen_in c.self.inside.kids c.in-Inner.kids c.in-Inner.aside c.deref_mut-aside.result.now c.in-Inner.is c.deref_mut-aside.ensures.value (rank c.args.key) (rank c.self.inside.first) c.self.inside.height c.child_for-at.result c.self.invariant.0 c.self.invariant.3 c.child_for-at.ensures in
     let l = chosen.within in
     let kid = c.index_mut-kid.result.now in
     let read = c.index_mut-kid.ensures.value in
@@ -179,7 +179,7 @@ invariant_of-self-in-Inner g t c =
     let changed = set kids i c.insert.new.self in
     let same = length-set kids i c.insert.new.self in
     let fits = good.not_more in
-    let firsts = c.insert_at.ensures changed (omega (arith, same, l)) (omega (arith, same, fits)) (firsts_set c.self.inside.firsts kids i kid c.insert.new.self read c.in-Some.ensures.grows.first (subst (AreFirstsUnder c.self.inside.firsts) c.in-Inner.is c.self.invariant.3)) in
+    let firsts = c.insert_at.ensures changed (omega (arith, same, l)) (omega (arith, same, fits)) (firsts_set c.deref_mut-aside.result.now.firsts kids i kid c.insert.new.self read c.in-Some.ensures.grows.first (firsts_in c.self.inside.kids c.in-Inner.kids c.in-Inner.aside c.deref_mut-aside.result.now c.in-Inner.is c.deref_mut-aside.ensures.value c.self.invariant.3)) in
     let count : c.len.result ≡ length c.settle-split.new.kids.items = c.len.ensures ∙ c.settle-split.new.kids.ok.0 in
     let left = ap (take c.len.result) (sym c.in-Ok.ensures.items) ∙ settled_take c.self.inside.height c.len.result c.insert-in-Inner.new.self.items c.settle-split.new.kids.items c.settle-split.result c.settle-split.ensures.settles count in (
       settled_inner good.below (rank c.self.inside.first) c.self.inside.height c.insert-in-Inner.new.self.items c.settle-split.new.kids.items (vec_capacity c.settle-split.new.kids) c.settle-split.result good.higher all at (omega (arith, wide)) (let same = c.settle-split.ensures.capacity in omega (arith, same, room, grown)) c.settle-split.ensures.settles,
@@ -205,7 +205,7 @@ renew_if-requires-in-Inner g t c = λ none.
     let kids = c.in-Inner.kids.items in
     let good : IsInnerNode (rank c.self.inside.first) c.self.inside.height kids (vec_capacity c.in-Inner.kids) = subst (IsNode (rank c.self.inside.first) c.self.inside.height) c.in-Inner.is c.self.invariant.0 in
     let i = c.child_for-at.result in
-    let chosen : IsChosen (rank c.args.key) kids i = chosen_in (rank c.args.key) (rank c.self.inside.first) c.self.inside.height c.self.inside.firsts c.self.inside.kids c.in-Inner.kids c.child_for-at.result c.in-Inner.is c.self.invariant.0 c.self.invariant.3 c.child_for-at.ensures in
+    let chosen : IsChosen (rank c.args.key) kids i = chosen_in c.self.inside.kids c.in-Inner.kids c.in-Inner.aside c.deref_mut-aside.result.now c.in-Inner.is c.deref_mut-aside.ensures.value (rank c.args.key) (rank c.self.inside.first) c.self.inside.height c.child_for-at.result c.self.invariant.0 c.self.invariant.3 c.child_for-at.ensures in
     let l = chosen.within in
     let kid = c.index_mut-kid.result.now in
     let read = c.index_mut-kid.ensures.value in
@@ -221,7 +221,7 @@ returns-clause-grows g t c =
     let kids = c.in-Inner.kids.items in
     let good : IsInnerNode (rank c.self.inside.first) c.self.inside.height kids (vec_capacity c.in-Inner.kids) = subst (IsNode (rank c.self.inside.first) c.self.inside.height) c.in-Inner.is c.self.invariant.0 in
     let i = c.child_for-at.result in
-    let chosen : IsChosen (rank c.args.key) kids i = chosen_in (rank c.args.key) (rank c.self.inside.first) c.self.inside.height c.self.inside.firsts c.self.inside.kids c.in-Inner.kids c.child_for-at.result c.in-Inner.is c.self.invariant.0 c.self.invariant.3 c.child_for-at.ensures in
+    let chosen : IsChosen (rank c.args.key) kids i = chosen_in c.self.inside.kids c.in-Inner.kids c.in-Inner.aside c.deref_mut-aside.result.now c.in-Inner.is c.deref_mut-aside.ensures.value (rank c.args.key) (rank c.self.inside.first) c.self.inside.height c.child_for-at.result c.self.invariant.0 c.self.invariant.3 c.child_for-at.ensures in
     let l = chosen.within in
     let kid = c.index_mut-kid.result.now in
     let read = c.index_mut-kid.ensures.value in
@@ -237,7 +237,7 @@ returns-clause-left g t c =
     let kids = c.in-Inner.kids.items in
     let good : IsInnerNode (rank c.self.inside.first) c.self.inside.height kids (vec_capacity c.in-Inner.kids) = subst (IsNode (rank c.self.inside.first) c.self.inside.height) c.in-Inner.is c.self.invariant.0 in
     let i = c.child_for-at.result in
-    let chosen : IsChosen (rank c.args.key) kids i = chosen_in (rank c.args.key) (rank c.self.inside.first) c.self.inside.height c.self.inside.firsts c.self.inside.kids c.in-Inner.kids c.child_for-at.result c.in-Inner.is c.self.invariant.0 c.self.invariant.3 c.child_for-at.ensures in
+    let chosen : IsChosen (rank c.args.key) kids i = chosen_in c.self.inside.kids c.in-Inner.kids c.in-Inner.aside c.deref_mut-aside.result.now c.in-Inner.is c.deref_mut-aside.ensures.value (rank c.args.key) (rank c.self.inside.first) c.self.inside.height c.child_for-at.result c.self.invariant.0 c.self.invariant.3 c.child_for-at.ensures in
     let l = chosen.within in
     let kid = c.index_mut-kid.result.now in
     let read = c.index_mut-kid.ensures.value in
@@ -267,7 +267,7 @@ returns-clause-split g t c =
     let kids = c.in-Inner.kids.items in
     let good : IsInnerNode (rank c.self.inside.first) c.self.inside.height kids (vec_capacity c.in-Inner.kids) = subst (IsNode (rank c.self.inside.first) c.self.inside.height) c.in-Inner.is c.self.invariant.0 in
     let i = c.child_for-at.result in
-    let chosen : IsChosen (rank c.args.key) kids i = chosen_in (rank c.args.key) (rank c.self.inside.first) c.self.inside.height c.self.inside.firsts c.self.inside.kids c.in-Inner.kids c.child_for-at.result c.in-Inner.is c.self.invariant.0 c.self.invariant.3 c.child_for-at.ensures in
+    let chosen : IsChosen (rank c.args.key) kids i = chosen_in c.self.inside.kids c.in-Inner.kids c.in-Inner.aside c.deref_mut-aside.result.now c.in-Inner.is c.deref_mut-aside.ensures.value (rank c.args.key) (rank c.self.inside.first) c.self.inside.height c.child_for-at.result c.self.invariant.0 c.self.invariant.3 c.child_for-at.ensures in
     let l = chosen.within in
     let kid = c.index_mut-kid.result.now in
     let read = c.index_mut-kid.ensures.value in
@@ -304,14 +304,14 @@ pub index_mut-kid-requires : goal.index_mut-kid-requires
 index_mut-kid-requires g t c =
     let kids = c.in-Inner.kids.items in
     let i = c.child_for-at.result in
-    let chosen : IsChosen (rank c.args.key) kids i = chosen_in (rank c.args.key) (rank c.self.inside.first) c.self.inside.height c.self.inside.firsts c.self.inside.kids c.in-Inner.kids c.child_for-at.result c.in-Inner.is c.self.invariant.0 c.self.invariant.3 c.child_for-at.ensures in
+    let chosen : IsChosen (rank c.args.key) kids i = chosen_in c.self.inside.kids c.in-Inner.kids c.in-Inner.aside c.deref_mut-aside.result.now c.in-Inner.is c.deref_mut-aside.ensures.value (rank c.args.key) (rank c.self.inside.first) c.self.inside.height c.child_for-at.result c.self.invariant.0 c.self.invariant.3 c.child_for-at.ensures in
     held_at c.in-Inner.kids i chosen.within
 
 pub insert-requires-in-Inner : goal.insert-requires-in-Inner
 insert-requires-in-Inner g t c =
     let kids = c.in-Inner.kids.items in
     let i = c.child_for-at.result in
-    let chosen : IsChosen (rank c.args.key) kids i = chosen_in (rank c.args.key) (rank c.self.inside.first) c.self.inside.height c.self.inside.firsts c.self.inside.kids c.in-Inner.kids c.child_for-at.result c.in-Inner.is c.self.invariant.0 c.self.invariant.3 c.child_for-at.ensures in
+    let chosen : IsChosen (rank c.args.key) kids i = chosen_in c.self.inside.kids c.in-Inner.kids c.in-Inner.aside c.deref_mut-aside.result.now c.in-Inner.is c.deref_mut-aside.ensures.value (rank c.args.key) (rank c.self.inside.first) c.self.inside.height c.child_for-at.result c.self.invariant.0 c.self.invariant.3 c.child_for-at.ensures in
     let l = held_at c.in-Inner.kids i chosen.within in
     let next : i + 1 ≤ vec_len c.in-Inner.kids = omega (arith, l) in
     next
@@ -330,7 +330,7 @@ settle-split-requires-clause-not_more g t c =
     let kids = c.in-Inner.kids.items in
     let good : IsInnerNode (rank c.self.inside.first) c.self.inside.height kids (vec_capacity c.in-Inner.kids) = subst (IsNode (rank c.self.inside.first) c.self.inside.height) c.in-Inner.is c.self.invariant.0 in
     let i = c.child_for-at.result in
-    let chosen : IsChosen (rank c.args.key) kids i = chosen_in (rank c.args.key) (rank c.self.inside.first) c.self.inside.height c.self.inside.firsts c.self.inside.kids c.in-Inner.kids c.child_for-at.result c.in-Inner.is c.self.invariant.0 c.self.invariant.3 c.child_for-at.ensures in
+    let chosen : IsChosen (rank c.args.key) kids i = chosen_in c.self.inside.kids c.in-Inner.kids c.in-Inner.aside c.deref_mut-aside.result.now c.in-Inner.is c.deref_mut-aside.ensures.value (rank c.args.key) (rank c.self.inside.first) c.self.inside.height c.child_for-at.result c.self.invariant.0 c.self.invariant.3 c.child_for-at.ensures in
     let l = chosen.within in
     let j : i + 1 ≡ suc i = omega arith in
     let there : c.insert-in-Inner.new.self.items ≡ take i kids ++ c.insert.new.self ∷ c.in-Some.right ∷ drop (suc i) kids =
@@ -349,7 +349,7 @@ pub overflow_add-at : goal.overflow_add-at
 overflow_add-at g t c =
     let kids = c.in-Inner.kids.items in
     let good : IsInnerNode (rank c.self.inside.first) c.self.inside.height kids (vec_capacity c.in-Inner.kids) = subst (IsNode (rank c.self.inside.first) c.self.inside.height) c.in-Inner.is c.self.invariant.0 in
-    let chosen : IsChosen (rank c.args.key) kids c.child_for-at.result = chosen_in (rank c.args.key) (rank c.self.inside.first) c.self.inside.height c.self.inside.firsts c.self.inside.kids c.in-Inner.kids c.child_for-at.result c.in-Inner.is c.self.invariant.0 c.self.invariant.3 c.child_for-at.ensures in
+    let chosen : IsChosen (rank c.args.key) kids c.child_for-at.result = chosen_in c.self.inside.kids c.in-Inner.kids c.in-Inner.aside c.deref_mut-aside.result.now c.in-Inner.is c.deref_mut-aside.ensures.value (rank c.args.key) (rank c.self.inside.first) c.self.inside.height c.child_for-at.result c.self.invariant.0 c.self.invariant.3 c.child_for-at.ensures in
     let l = chosen.within in
     let fits = good.not_more in
     omega (arith, l, fits)
@@ -358,7 +358,7 @@ pub overflow_add-at-in-Inner : goal.overflow_add-at-in-Inner
 overflow_add-at-in-Inner g t c =
     let kids = c.in-Inner.kids.items in
     let good : IsInnerNode (rank c.self.inside.first) c.self.inside.height kids (vec_capacity c.in-Inner.kids) = subst (IsNode (rank c.self.inside.first) c.self.inside.height) c.in-Inner.is c.self.invariant.0 in
-    let chosen : IsChosen (rank c.args.key) kids c.child_for-at.result = chosen_in (rank c.args.key) (rank c.self.inside.first) c.self.inside.height c.self.inside.firsts c.self.inside.kids c.in-Inner.kids c.child_for-at.result c.in-Inner.is c.self.invariant.0 c.self.invariant.3 c.child_for-at.ensures in
+    let chosen : IsChosen (rank c.args.key) kids c.child_for-at.result = chosen_in c.self.inside.kids c.in-Inner.kids c.in-Inner.aside c.deref_mut-aside.result.now c.in-Inner.is c.deref_mut-aside.ensures.value (rank c.args.key) (rank c.self.inside.first) c.self.inside.height c.child_for-at.result c.self.invariant.0 c.self.invariant.3 c.child_for-at.ensures in
     let l = chosen.within in
     let fits = good.not_more in
     omega (arith, l, fits)
@@ -367,7 +367,7 @@ pub overflow_add-at-in-Inner-2 : goal.overflow_add-at-in-Inner-2
 overflow_add-at-in-Inner-2 g t c =
     let kids = c.in-Inner.kids.items in
     let good : IsInnerNode (rank c.self.inside.first) c.self.inside.height kids (vec_capacity c.in-Inner.kids) = subst (IsNode (rank c.self.inside.first) c.self.inside.height) c.in-Inner.is c.self.invariant.0 in
-    let chosen : IsChosen (rank c.args.key) kids c.child_for-at.result = chosen_in (rank c.args.key) (rank c.self.inside.first) c.self.inside.height c.self.inside.firsts c.self.inside.kids c.in-Inner.kids c.child_for-at.result c.in-Inner.is c.self.invariant.0 c.self.invariant.3 c.child_for-at.ensures in
+    let chosen : IsChosen (rank c.args.key) kids c.child_for-at.result = chosen_in c.self.inside.kids c.in-Inner.kids c.in-Inner.aside c.deref_mut-aside.result.now c.in-Inner.is c.deref_mut-aside.ensures.value (rank c.args.key) (rank c.self.inside.first) c.self.inside.height c.child_for-at.result c.self.invariant.0 c.self.invariant.3 c.child_for-at.ensures in
     let l = chosen.within in
     let fits = good.not_more in
     omega (arith, l, fits)
@@ -379,13 +379,13 @@ pub mark_due-requires : goal.mark_due-requires
 mark_due-requires g t c = λ none.
     let kids = c.in-Inner.kids.items in
     let i = c.child_for-at.result in
-    let chosen : IsChosen (rank c.args.key) kids i = chosen_in (rank c.args.key) (rank c.self.inside.first) c.self.inside.height c.self.inside.firsts c.self.inside.kids c.in-Inner.kids c.child_for-at.result c.in-Inner.is c.self.invariant.0 c.self.invariant.3 c.child_for-at.ensures in
+    let chosen : IsChosen (rank c.args.key) kids i = chosen_in c.self.inside.kids c.in-Inner.kids c.in-Inner.aside c.deref_mut-aside.result.now c.in-Inner.is c.deref_mut-aside.ensures.value (rank c.args.key) (rank c.self.inside.first) c.self.inside.height c.child_for-at.result c.self.invariant.0 c.self.invariant.3 c.child_for-at.ensures in
     let l = chosen.within in
     let v = c.insert.new.self in
     let past : i + 1 ≤ length (set kids i v) = let n = length-set kids i v in omega (arith, l, n) in
     let opens = subst (OpensAt (i + 1) (set kids i v)) (sym c.in-Ok.ensures.items) (opens_insert (set kids i v) (i + 1) c.in-Some.right past) in
     subst (AreMarked c.open.new.self) (sym (settled_same c.self.inside.height c.insert-in-Inner.new.self.items c.settle-split.new.kids.items c.settle-split.result c.settle-split.ensures.settles (sym c.is_some-parted.ensures ∙ none)))
-    (c.open.ensures (set kids i v) c.insert-in-Inner.new.self.items opens (c.clear_page.ensures kids (set kids i v) (differ_set kids i v) (subst (AreMarkedUnder c.self.inside.marks) c.in-Inner.is c.self.invariant.2)))
+    (c.open.ensures (set kids i v) c.insert-in-Inner.new.self.items opens (c.clear_page.ensures kids (set kids i v) (differ_set kids i v) (marks_in c.self.inside.kids c.in-Inner.kids c.in-Inner.aside c.deref_mut-aside.result.now c.in-Inner.is c.deref_mut-aside.ensures.value c.self.invariant.2)))
 
 pub returns-clause-change : goal.returns-clause-change
 returns-clause-change g t c = none_so c.settle-split.result (λ low.

@@ -6,9 +6,9 @@ use Rattle.st_ubtree.specs.inner.Kids.{pages_of}
 use Rattle.st_ubtree.specs.inner.Nodes.{IsNode, IsInnerNode, pages_under}
 use Rattle.st_ubtree.proofs.Settling.{held_at}
 use Rattle.st_ubtree.proofs.Spanning.{Found}
-use Rattle.st_ubtree.specs.inner.Firsts.{AreFirsts, AreFirstsUnder}
+use Rattle.st_ubtree.specs.inner.Firsts.{AreFirsts}
 use Rattle.st_ubtree.specs.inner.Marks.{HasAt}
-use Rattle.st_ubtree.proofs.Firsts.{as_many}
+use Rattle.st_ubtree.proofs.Firsts.{as_many, firsts_in}
 use Rattle.st_ubtree.proofs.Placing.{any_default}
 use Rattle.st_ubtree.proofs.Leaves.{leaf_page, leaf_kid, ends_next, ends_last}
 use Rattle.st_ubtree.proofs.node.Node.+leaf_at.Goals as goal
@@ -28,7 +28,7 @@ returns-after-after-len g t c =
     let i = c.max-after.result - 1 in
     let m : c.max-after.result ≡ max n 1 = c.max-after.ensures in
     let is : i + 1 ≡ max n 1 = omega (arith, m) in
-    let firsts : AreFirsts c.self.inside.firsts kids = subst (AreFirstsUnder c.self.inside.firsts) c.in-Inner.is c.self.invariant.3 in
+    let firsts : AreFirsts c.deref.result.now.firsts kids = firsts_in c.self.inside.kids c.in-Inner.kids c.in-Inner.aside c.deref.result.now c.in-Inner.is c.deref.ensures c.self.invariant.3 in
     let found = c.count_up_to.ensures.place kids firsts in
     let bound = c.count_up_to.ensures.bound kids firsts in
     let l : i < length kids = let two = good.not_less in omega (arith, is, bound, two) in
@@ -57,7 +57,7 @@ index-kid-requires g t c =
     let n = c.count_up_to.result in
     let i = c.max-after.result - 1 in
     let m : c.max-after.result ≡ max n 1 = c.max-after.ensures in
-    let firsts : AreFirsts c.self.inside.firsts kids = subst (AreFirstsUnder c.self.inside.firsts) c.in-Inner.is c.self.invariant.3 in
+    let firsts : AreFirsts c.deref.result.now.firsts kids = firsts_in c.self.inside.kids c.in-Inner.kids c.in-Inner.aside c.deref.result.now c.in-Inner.is c.deref.ensures c.self.invariant.3 in
     let bound = c.count_up_to.ensures.bound kids firsts in
     let l : i < length kids = let some = good.not_less in omega (arith, m, bound, some) in
     held_at c.in-Inner.kids i l
@@ -65,7 +65,7 @@ index-kid-requires g t c =
 pub at-requires : goal.at-requires
 at-requires g t c =
     let kids = c.in-Inner.kids.items in
-    let firsts : AreFirsts c.self.inside.firsts kids = subst (AreFirstsUnder c.self.inside.firsts) c.in-Inner.is c.self.invariant.3 in
-    let len = as_many c.self.inside.firsts kids firsts in
+    let firsts : AreFirsts c.deref.result.now.firsts kids = firsts_in c.self.inside.kids c.in-Inner.kids c.in-Inner.aside c.deref.result.now c.in-Inner.is c.deref.ensures c.self.invariant.3 in
+    let len = as_many c.deref.result.now.firsts kids firsts in
     let before = c.if-after-len.true in
-    omega (arith, len, before, c.len.ensures, c.in-Inner.kids.ok.0, c.self.inside.firsts.keys.ok.0)
+    omega (arith, len, before, c.len.ensures, c.in-Inner.kids.ok.0, c.deref.result.now.firsts.keys.ok.0)

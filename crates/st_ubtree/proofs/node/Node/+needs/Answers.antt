@@ -1,4 +1,4 @@
-use Rattle.std.proofs.Common.{[], ◌∷◌, ◌≡◌, ◌-◌, ◌≤◌, length, subst, sym, ap, ◌∙◌, arith, rules, vec_len, vec_capacity}
+use Rattle.std.proofs.Common.{[], ◌∷◌, ◌≡◌, ◌-◌, length, subst, sym, ap, ◌∙◌, arith, rules, vec_len, vec_capacity}
 use Rattle.std.proofs.lemmas.List.Elements.{All-append, All-nil}
 use Rattle.st_key.specs.Key.{rank}
 use Rattle.st_index.specs.Rows.{EntryValue}
@@ -20,7 +20,7 @@ needs-needs-requires g t c κs within =
     let kids = c.in-Inner.kids.items in
     let good : IsInnerNode (rank c.self.inside.first) c.self.inside.height kids (vec_capacity c.in-Inner.kids) = subst (IsNode (rank c.self.inside.first) c.self.inside.height) c.in-Inner.is c.self.invariant.0 in
     let i = c.child_for-at.result in
-    let chosen : IsChosen (rank c.args.key) kids i = chosen_in (rank c.args.key) (rank c.self.inside.first) c.self.inside.height c.self.inside.firsts c.self.inside.kids c.in-Inner.kids c.child_for-at.result c.in-Inner.is c.self.invariant.0 c.self.invariant.3 c.child_for-at.ensures in
+    let chosen : IsChosen (rank c.args.key) kids i = chosen_in c.self.inside.kids c.in-Inner.kids c.in-Inner.aside c.deref-in-Inner.result.now c.in-Inner.is c.deref-in-Inner.ensures (rank c.args.key) (rank c.self.inside.first) c.self.inside.height c.child_for-at.result c.self.invariant.0 c.self.invariant.3 c.child_for-at.ensures in
     let l = chosen.within in
     let kid = c.index-kid.result.now in
     let read = c.index-kid.ensures in
@@ -53,7 +53,7 @@ returns-in-Inner-clause-rows g t c =
     let kids = c.in-Inner.kids.items in
     let good : IsInnerNode (rank c.self.inside.first) c.self.inside.height kids (vec_capacity c.in-Inner.kids) = subst (IsNode (rank c.self.inside.first) c.self.inside.height) c.in-Inner.is c.self.invariant.0 in
     let i = c.child_for-at.result in
-    let chosen : IsChosen (rank c.args.key) kids i = chosen_in (rank c.args.key) (rank c.self.inside.first) c.self.inside.height c.self.inside.firsts c.self.inside.kids c.in-Inner.kids c.child_for-at.result c.in-Inner.is c.self.invariant.0 c.self.invariant.3 c.child_for-at.ensures in
+    let chosen : IsChosen (rank c.args.key) kids i = chosen_in c.self.inside.kids c.in-Inner.kids c.in-Inner.aside c.deref-in-Inner.result.now c.in-Inner.is c.deref-in-Inner.ensures (rank c.args.key) (rank c.self.inside.first) c.self.inside.height c.child_for-at.result c.self.invariant.0 c.self.invariant.3 c.child_for-at.ensures in
     let l = chosen.within in
     let kid = c.index-kid.result.now in
     let pages : c.args.self.now.pages ≡ pages_of kids = ap (λ (v : NodeValue g.row.A.Denot). v.pages) (sym c.self.view_is) ∙ ap (pages_under (rank c.self.inside.first)) c.in-Inner.is in
@@ -65,7 +65,7 @@ returns-in-Inner-clause-no_rows g t c = λ none.
     let kids = c.in-Inner.kids.items in
     let good : IsInnerNode (rank c.self.inside.first) c.self.inside.height kids (vec_capacity c.in-Inner.kids) = subst (IsNode (rank c.self.inside.first) c.self.inside.height) c.in-Inner.is c.self.invariant.0 in
     let i = c.child_for-at.result in
-    let chosen : IsChosen (rank c.args.key) kids i = chosen_in (rank c.args.key) (rank c.self.inside.first) c.self.inside.height c.self.inside.firsts c.self.inside.kids c.in-Inner.kids c.child_for-at.result c.in-Inner.is c.self.invariant.0 c.self.invariant.3 c.child_for-at.ensures in
+    let chosen : IsChosen (rank c.args.key) kids i = chosen_in c.self.inside.kids c.in-Inner.kids c.in-Inner.aside c.deref-in-Inner.result.now c.in-Inner.is c.deref-in-Inner.ensures (rank c.args.key) (rank c.self.inside.first) c.self.inside.height c.child_for-at.result c.self.invariant.0 c.self.invariant.3 c.child_for-at.ensures in
     let l = chosen.within in
     let kid = c.index-kid.result.now in
     let pages : c.args.self.now.pages ≡ pages_of kids = ap (λ (v : NodeValue g.row.A.Denot). v.pages) (sym c.self.view_is) ∙ ap (pages_under (rank c.self.inside.first)) c.in-Inner.is in
@@ -77,7 +77,7 @@ returns-in-Inner-clause-splits g t c =
     let kids = c.in-Inner.kids.items in
     let good : IsInnerNode (rank c.self.inside.first) c.self.inside.height kids (vec_capacity c.in-Inner.kids) = subst (IsNode (rank c.self.inside.first) c.self.inside.height) c.in-Inner.is c.self.invariant.0 in
     let i = c.child_for-at.result in
-    let chosen : IsChosen (rank c.args.key) kids i = chosen_in (rank c.args.key) (rank c.self.inside.first) c.self.inside.height c.self.inside.firsts c.self.inside.kids c.in-Inner.kids c.child_for-at.result c.in-Inner.is c.self.invariant.0 c.self.invariant.3 c.child_for-at.ensures in
+    let chosen : IsChosen (rank c.args.key) kids i = chosen_in c.self.inside.kids c.in-Inner.kids c.in-Inner.aside c.deref-in-Inner.result.now c.in-Inner.is c.deref-in-Inner.ensures (rank c.args.key) (rank c.self.inside.first) c.self.inside.height c.child_for-at.result c.self.invariant.0 c.self.invariant.3 c.child_for-at.ensures in
     let l = chosen.within in
     let kid = c.index-kid.result.now in
     let pages : c.args.self.now.pages ≡ pages_of kids = ap (λ (v : NodeValue g.row.A.Denot). v.pages) (sym c.self.view_is) ∙ ap (pages_under (rank c.self.inside.first)) c.in-Inner.is in
@@ -102,7 +102,7 @@ pub index-kid-requires : goal.index-kid-requires
 index-kid-requires g t c =
     let kids = c.in-Inner.kids.items in
     let i = c.child_for-at.result in
-    let chosen : IsChosen (rank c.args.key) kids i = chosen_in (rank c.args.key) (rank c.self.inside.first) c.self.inside.height c.self.inside.firsts c.self.inside.kids c.in-Inner.kids c.child_for-at.result c.in-Inner.is c.self.invariant.0 c.self.invariant.3 c.child_for-at.ensures in
+    let chosen : IsChosen (rank c.args.key) kids i = chosen_in c.self.inside.kids c.in-Inner.kids c.in-Inner.aside c.deref-in-Inner.result.now c.in-Inner.is c.deref-in-Inner.ensures (rank c.args.key) (rank c.self.inside.first) c.self.inside.height c.child_for-at.result c.self.invariant.0 c.self.invariant.3 c.child_for-at.ensures in
     held_at c.in-Inner.kids i chosen.within
 
 pub page_needs-requires : goal.page_needs-requires

@@ -1,8 +1,7 @@
-use Rattle.std.proofs.Common.{◌≡◌, ◌≤◌, [], length, vec_capacity, Vec, drop, refl, subst, sym, ap, ◌∙◌, arith}
+use Rattle.std.proofs.Common.{◌≡◌, ◌≤◌, [], length, vec_capacity, drop, refl, subst, sym, ap, ◌∙◌, arith}
 use Rattle.std.proofs.lemmas.List.{length-take-le, length-drop}
 use Rattle.std.proofs.lemmas.List.Elements.{All-drop}
 use Rattle.st_key.specs.Key.{rank}
-use Rattle.st_key.specs.declared.key.Key.{Key}
 use Rattle.st_ubtree.specs.Pages.{NodeValue, rows_of_pages}
 use Rattle.st_ubtree.specs.inner.Sums.{Sums}
 use Rattle.st_ubtree.specs.inner.Kids.{AreWide, IsKid, HeadAt, Starts, pages_of, widths_of}
@@ -10,6 +9,7 @@ use Rattle.st_ubtree.specs.inner.Splits.{chains_of}
 use Rattle.st_ubtree.specs.inner.Growing.{AreBlank}
 use Rattle.st_ubtree.specs.inner.Marks.{AreMarked}
 use Rattle.st_ubtree.proofs.Settling.{blank_last, head_there, kids_start, kids_wide}
+use Rattle.st_ubtree.specs.declared.node.aside.Aside.{Aside}
 use Rattle.st_ubtree.specs.inner.Firsts.{AreFirsts}
 use Rattle.st_ubtree.proofs.node.grow.settle.Goals as goal
 
@@ -34,23 +34,23 @@ invariant_of-result g c =
         room = let b = blank.1 in omega (arith, b, cap);
       }),
       subst (λ ks. Sums c.add_kids.new.sum (rows_of_pages (pages_of ks))) (c.as_slice.ensures.value ∙ c.split_at-upper.ensures.moved) (c.add_kids.ensures [] c.new-sum.ensures),
-      subst (AreMarked c.mark_kids.new.marks) (c.as_slice-2.ensures.value ∙ c.split_at-upper.ensures.moved) (c.mark_kids.ensures (c.new-marks.ensures c.as_slice-2.result.now)),
-      subst (AreFirsts c.renew.new.self) (c.as_slice-3.ensures.value ∙ c.split_at-upper.ensures.moved) c.renew.ensures,
+      subst (AreMarked c.fill.new.self.marks) (c.as_slice-2.ensures.value ∙ c.split_at-upper.ensures.moved) c.fill.ensures.marks,
+      subst (AreFirsts c.fill.new.self.firsts) (c.as_slice-2.ensures.value ∙ c.split_at-upper.ensures.moved) c.fill.ensures.firsts,
     )
 
-pub renew-requires-clause-few : goal.renew-requires-clause-few
-renew-requires-clause-few g c =
+pub fill-requires-clause-few : goal.fill-requires-clause-few
+fill-requires-clause-few g c =
     let kids = c.args.kids.now.items in
     let len = c.args.kids.now.ok.0 in
     let all : length kids ≡ 33 = let a = c.if-len-le32.false in let b = c.requires.not_more in omega (arith, len, a, b, c.len.ensures) in
     let moved : length (drop 16 kids) ≡ 17 = let d = length-drop 16 kids in omega (arith, all, d) in
-    let same = ap length (c.as_slice-3.ensures.value ∙ c.split_at-upper.ensures.moved) in
+    let same = ap length (c.as_slice-2.ensures.value ∙ c.split_at-upper.ensures.moved) in
     omega (arith, same, moved)
 
-pub renew-requires-clause-room : goal.renew-requires-clause-room
-renew-requires-clause-room g c =
+pub fill-requires-clause-room : goal.fill-requires-clause-room
+fill-requires-clause-room g c =
     let blank = (blank_last c.pop.new.self.items c.in-Some.blank (subst AreBlank c.in-Some.ensures.items c.requires.blank)).1 in
-    subst (λ (v : Vec Key g.row.A.Denot). 33 ≤ vec_capacity v) (sym c.new-firsts.ensures) blank.2
+    subst (λ (a : Aside g.row.A.Denot). 33 ≤ vec_capacity a.firsts.keys) (sym c.deref_mut.ensures.value) blank.2
 
 pub returns-clause-settles : goal.returns-clause-settles
 returns-clause-settles g c =

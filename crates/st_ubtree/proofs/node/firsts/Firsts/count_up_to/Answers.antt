@@ -1,4 +1,4 @@
-use Rattle.std.proofs.Common.{rules, ◌≡◌, ◌≤◌, length, not, ltb, subst, sym}
+use Rattle.std.proofs.Common.{rules, not, ltb}
 use Rattle.std.proofs.lemmas.Fn.{always_returns_same}
 use Rattle.st_key.specs.Key.{rank}
 use Rattle.st_key.specs.declared.key.Key.{Key}

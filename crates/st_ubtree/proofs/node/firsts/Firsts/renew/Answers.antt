@@ -1,4 +1,4 @@
-use Rattle.std.proofs.Common.{◌≡◌, ◌+◌, ◌<◌, ◌≤◌, ◌∷◌, ◌++◌, [], length, map, take, sym, ap, ◌∙◌, arith, vec_len, vec_capacity}
+use Rattle.std.proofs.Common.{◌≡◌, ◌<◌, ◌≤◌, ◌∷◌, ◌++◌, [], length, map, take, sym, ap, ◌∙◌, arith, vec_len, vec_capacity}
 use Rattle.std.proofs.lemmas.List.{length-map, length-take-le, map-append, map_more, take_all}
 use Rattle.st_key.specs.Key.{rank}
 use Rattle.st_ubtree.specs.Pages.{NodeValue}
