@@ -16,7 +16,7 @@ node_filled {A} first height (Page entries) h = record {
   not_more = All-cons (λ (p : PageValue A). length p.entries ≤ 32) (page first entries.items) [] h.not_more (λ k d l. absurd (omega (arith, l)));
   not_less = λ two. absurd (omega (arith, two));
 }
-node_filled {A} first height (Inner kids) h =
+node_filled {A} first height (Inner kids aside) h =
     let filled = (kids_wide h.below kids.items h.each).keys in
     record {
       not_more = All-weaker IsFilled (λ (p : PageValue A). length p.entries ≤ 32) (λ p f. f.not_more) (pages_of kids.items) filled;
@@ -25,18 +25,18 @@ node_filled {A} first height (Inner kids) h =
 
 pub node_fits : {A : Type 0} (first height : ℕ) (kids : Kids A) → IsNode first height kids → width_of kids ≤ 32
 node_fits first height (Page entries) h = h.not_more
-node_fits first height (Inner kids) h = h.not_more
+node_fits first height (Inner kids aside) h = h.not_more
 
 -- a node at the bottom is a page
 pub lowest_page : {A : Type 0} (first height : ℕ) (kids : Kids A) → IsNode first height kids → height ≡ 0 → ((entries : _) → kids ≡ Page entries → ⊥) → ⊥
 lowest_page first height (Page entries) h low none = none entries refl
-lowest_page first height (Inner kids) h low none = let a = h.higher in omega (arith, a, low)
+lowest_page first height (Inner kids aside) h low none = let a = h.higher in omega (arith, a, low)
 
 -- a node above the bottom is not a page
-pub tall_inner : {A : Type 0} (first height : ℕ) (kids : Kids A) → IsNode first height kids → 1 ≤ height → ((inner : _) → kids ≡ Inner inner → ⊥) → ⊥
+pub tall_inner : {A : Type 0} (first height : ℕ) (kids : Kids A) → IsNode first height kids → 1 ≤ height → ((inner : _) (aside : _) → kids ≡ Inner inner aside → ⊥) → ⊥
 tall_inner first height (Page entries) h tall none = let a = h.lowest in omega (arith, a, tall)
-tall_inner first height (Inner inner) h tall none = none inner refl
+tall_inner first height (Inner inner aside) h tall none = none inner aside refl
 
 pub node_wide : {A : Type 0} (first height : ℕ) (kids : Kids A) → IsNode first height kids → All IsWide (widths_under kids)
 node_wide first height (Page entries) h = λ k d l. absurd (omega (arith, l))
-node_wide first height (Inner kids) h = (kids_wide h.below kids.items h.each).nodes
+node_wide first height (Inner kids aside) h = (kids_wide h.below kids.items h.each).nodes

@@ -18,9 +18,7 @@ use Rattle.st_ubtree.specs.inner.Kids.{pages_of}
 use Rattle.st_ubtree.specs.inner.Growing.{Grows, Settles}
 use Rattle.st_ubtree.specs.inner.Shrinking.{Shrinks}
 use Rattle.st_ubtree.specs.inner.Trading.{TradesIn}
-use Rattle.st_ubtree.specs.declared.marks.Marks.{Marks}
-use Rattle.st_ubtree.specs.inner.Marks.{AreMarked}
-use Rattle.st_ubtree.specs.inner.Nodes.{AreMarkedUnder, kids_under, pages_under, rows_under}
+use Rattle.st_ubtree.specs.inner.Nodes.{pages_under, rows_under}
 use Rattle.st_ubtree.specs.inner.Sums.{IsWithin, Sums}
 use Rattle.st_ubtree.proofs.Inside.{rows_join}
 use Rattle.std.proofs.Math.ListN.{set}
@@ -29,17 +27,9 @@ use Rattle.st_ubtree.proofs.Summing.{sums_added, sums_swapped, sums_taken}
 
 module _ {A : Type 0} where
   -- where no child has marks
-  pub marked_under : (marks : Marks A) (k : Kids A) → ((kids : List (NodeValue A)) → AreMarked marks kids) → AreMarkedUnder marks k
-  marked_under marks (Page entries) all = tt
-  marked_under marks (Inner kids) all = all kids.items
-
-  pub marked_kids : (marks : Marks A) (k : Kids A) → AreMarked marks (kids_under k) → AreMarkedUnder marks k
-  marked_kids marks (Page entries) are = tt
-  marked_kids marks (Inner kids) are = are
-
   pub rows_are : (first : ℕ) (kids : Kids A) → rows_under kids ≡ rows_of_pages (pages_under first kids)
   rows_are first (Page entries) = sym (one_rows first entries.items)
-  rows_are first (Inner kids) = refl
+  rows_are first (Inner kids aside) = refl
 
   -- the rows below some nodes are those below each of them
   pub rows_of_kids : (kids : List (NodeValue A)) → rows_of_pages (pages_of kids) ≡ flat_map (λ (v : NodeValue A). rows_of_pages v.pages) kids

@@ -21,3 +21,4 @@ pub mod Marking
 pub mod ByMarks
 pub mod Fielding
 pub mod Tallied
+pub mod Firsts

@@ -7,7 +7,7 @@ use Rattle.st_index.proofs.Climbing.{all_left, all_right}
 use Rattle.st_ubtree.specs.Pages.{PageValue, NodeValue, IsFilled, IsWide}
 use Rattle.st_ubtree.specs.inner.Kids.{AreWide, IsKid, Starts, StartsAt, HeadAt, pages_of, widths_of}
 use Rattle.st_ubtree.specs.inner.Splits.{chains_of, chains_over, splits_with}
-use Rattle.st_ubtree.specs.declared.node.Blank.{Blank}
+use Rattle.st_ubtree.specs.declared.node.blank.Blank.{Blank}
 use Rattle.st_ubtree.specs.inner.Growing.{AreBlank, IsBlank}
 
 pub blank_last : {A : Type 0} → (bs : List (Blank A)) (b : Blank A) → AreBlank (bs ++ b ∷ []) → AreBlank bs × IsBlank b

@@ -9,3 +9,4 @@ pub mod Splits
 pub mod Trading
 pub mod Falls
 pub mod Nodes
+pub mod Firsts

@@ -10,9 +10,11 @@ ghost use Rattle.st_ubtree.specs.inner.Shrinking.{HasNone, IsWorn, Joins, Shrink
 ghost use Rattle.st_ubtree.specs.inner.Growing.{AreAround, AreBlank, Grows, IsBlank, IsBlankPage, IsLeafIn, IsRoomFor};
 ghost use Rattle.st_ubtree.specs.inner.Splits.{splits};
 
-mod child;
+mod aside;
+mod blank;
 mod count;
 mod fields;
+mod firsts;
 mod grow;
 mod join;
 mod marking;
@@ -22,20 +24,16 @@ mod root;
 mod sums;
 mod widening;
 
-use crate::label_counts::LabelCount;
-use crate::marks::Marks;
-use crate::numbering::FEW_NUMBERS;
-use crate::page_marks::PageMarks;
-use crate::summary::{MAX_LABELS, Summary};
-use child::{child_for, count_up_to};
+use crate::summary::Summary;
+use aside::Aside;
+pub use blank::Blank;
 use grow::{put_in_page, settle};
 use join::{join_kids, join_pages, mend};
 use marking::{mark_changed, mark_due, mark_if, mark_swapped};
 use st_index::entries::{self, Change};
 use st_index::{Entry, Leaf, Row, order};
 use st_key::{Key, Period};
-use st_label::Label;
-use std::alloc::{AllocError, Allocator, Global};
+use std::alloc::{Allocator, Global};
 use std::marker::Model;
 use sums::{drop_row, renew, renew_if};
 
@@ -46,7 +44,6 @@ pub struct Node<A: Allocator = Global> {
     first: Key,
     height: u64,
     sum: Summary<A>,
-    marks: Marks<A>,
     kids: Kids<A>,
 }
 
@@ -54,7 +51,7 @@ pub struct Node<A: Allocator = Global> {
 #[derive(Drop)]
 enum Kids<A: Allocator = Global> {
     Page(Vec<Entry<A>, A>),
-    Inner(Vec<Node<A>, A>),
+    Inner(Vec<Node<A>, A>, Box<Aside<A>, A>),
 }
 
 impl<A: Allocator> Model for Node<A> {
@@ -66,40 +63,19 @@ impl<A: Allocator> Model for Node<A> {
 
     ghost use Rattle.st_ubtree.specs.inner.Nodes.{node_value, IsNode, rows_under};
     ghost use Rattle.st_ubtree.specs.inner.Sums.{Sums};
+    ghost use Rattle.st_ubtree.specs.inner.Firsts.{AreFirstsUnder};
     ghost use Rattle.st_ubtree.specs.inner.Nodes.{AreMarkedUnder};
 
     ghost view = { λ n. node_value (rank n.first) n.height n.kids };
 
-    ghost invariant = { λ n. IsNode (rank n.first) n.height n.kids × Sums n.sum (rows_under n.kids) × AreMarkedUnder n.marks n.kids };
+    ghost invariant = { λ n. IsNode (rank n.first) n.height n.kids × Sums n.sum (rows_under n.kids) × AreMarkedUnder n.kids
+        × AreFirstsUnder n.kids };
 
     ghost size = { λ v. v.height };
 
     ghost use Rattle.st_ubtree.specs.inner.Falls.{node-falls};
 
     ghost size_decreases = { λ a h. node-falls A.Allocator (rank a.first) a.height a.kids h.0 };
-}
-
-/// Lists for the children of a new node, for their labels, and for the marks of its pages.
-#[derive(Drop)]
-pub struct Blank<A: Allocator = Global> {
-    kids: Vec<Node<A>, A>,
-    counts: Vec<LabelCount<A>, A>,
-    labels: Vec<Label<A>, A>,
-    pages: Vec<PageMarks, A>,
-}
-
-impl<A: Allocator + Copy> Blank<A> {
-    /// Lists with room for as many children as a node may have, and for as many labels as it counts.
-    pub fn new(alloc: A) -> Result<Blank<A>, AllocError>
-        ensures { IfOk result IsBlank }
-    {
-        Ok(Blank {
-            kids: Vec::with_capacity(alloc, 33)?,
-            counts: Vec::with_capacity(alloc, MAX_LABELS)?,
-            labels: Vec::with_capacity(alloc, FEW_NUMBERS)?,
-            pages: Vec::with_capacity(alloc, 33)?,
-        })
-    }
 }
 
 impl<A: Allocator + Copy> Node<A> {
@@ -116,7 +92,6 @@ impl<A: Allocator + Copy> Node<A> {
             first,
             height: 0,
             sum,
-            marks: Marks::new(Vec::new(alloc), Vec::new(alloc)),
             kids: Kids::Page(entries),
         }
     }
@@ -138,12 +113,12 @@ impl<A: Allocator + Copy> Node<A> {
                 first: self.first,
                 last,
             },
-            Kids::Inner(kids) => {
-                let after = count_up_to(kids, key).max(1);
+            Kids::Inner(kids, aside) => {
+                let firsts = &aside.firsts;
+                let after = firsts.count_up_to(key).max(1);
                 let kid = &kids[after - 1];
                 let kid_last = if after < kids.len() {
-                    let next = &kids[after];
-                    order::before(next.first)
+                    order::before(firsts.at(after))
                 } else {
                     last
                 };
@@ -183,22 +158,25 @@ impl<A: Allocator + Copy> Node<A> {
                 renew_if(split.is_some(), &mut self.sum, &self.kids);
                 return split;
             }
-            Kids::Inner(kids) => {
-                let at = child_for(kids, key);
+            Kids::Inner(kids, aside) => {
+                let aside = &mut **aside;
+                let at = aside.firsts.child_for(key);
                 let kid = &mut kids[at];
                 let Some(right) = kid.insert(period, key, row, rows, page, inners, change) else {
-                    mark_changed(&mut self.marks, &self.kids, at, *change);
+                    mark_changed(&mut aside.marks, kids, at, *change);
                     return None;
                 };
-                self.marks.clear_page(at);
+                aside.marks.clear_page(at);
+                aside.firsts.insert_at(at + 1, &right);
                 let Ok(()) = kids.insert(at + 1, right) else {
                     unreachable!()
                 };
-                self.marks.open(at + 1);
+                aside.marks.open(at + 1);
                 let split = settle(kids, self.height, inners);
+                aside.firsts.keep(kids.len());
                 let parted = split.is_some();
+                mark_due(parted, at, &mut aside.marks, kids);
                 renew_if(parted, &mut self.sum, &self.kids);
-                mark_due(parted, at, &mut self.marks, &self.kids);
                 split
             }
         }
@@ -210,7 +188,7 @@ impl<A: Allocator + Copy> Node<A> {
     {
         match &self.kids {
             Kids::Page(entries) => entries.len(),
-            Kids::Inner(kids) => kids.len(),
+            Kids::Inner(kids, _) => kids.len(),
         }
     }
 
@@ -224,17 +202,17 @@ impl<A: Allocator + Copy> Node<A> {
         let Node {
             height,
             sum,
-            marks,
             kids,
             ..
         } = right;
         let rest = match (&mut self.kids, kids) {
             (Kids::Page(left), Kids::Page(right)) => join_pages(left, right),
-            (Kids::Inner(left), Kids::Inner(right)) => join_kids(left, right, height, sum, marks),
+            (Kids::Inner(left, aside), Kids::Inner(right, other)) => {
+                join_kids(left, aside, right, other, height, sum)
+            }
             _ => unreachable!(),
         };
         renew(&mut self.sum, &self.kids);
-        self.marks.clear();
         rest
     }
 
@@ -250,13 +228,14 @@ impl<A: Allocator + Copy> Node<A> {
     {
         let taken = match &mut self.kids {
             Kids::Page(entries) => entries::take(entries, key, id, label, change),
-            Kids::Inner(kids) => {
-                let at = child_for(kids, key);
+            Kids::Inner(kids, aside) => {
+                let aside = &mut **aside;
+                let at = aside.firsts.child_for(key);
                 let kid = &mut kids[at];
                 let row = kid.remove(key, id, label, change)?;
-                kids[at].mark_change(at, *change, &mut self.marks);
-                mend(kids, at, &mut self.marks);
-                mark_if(self.sum.is_time(), &mut self.marks, &self.kids);
+                kids[at].mark_change(at, *change, &mut aside.marks);
+                mend(kids, at, aside);
+                mark_if(self.sum.is_time(), &mut aside.marks, kids);
                 Some(row)
             }
         };
@@ -284,12 +263,13 @@ impl<A: Allocator + Copy> Node<A> {
     {
         self.sum.widen(&row.point);
         match &mut self.kids {
-            Kids::Page(entries) => entries::swap(entries, period, row, change),
-            Kids::Inner(kids) => {
-                let at = child_for(kids, key);
+            Kids::Page(entries) => return entries::swap(entries, period, row, change),
+            Kids::Inner(kids, aside) => {
+                let aside = &mut **aside;
+                let at = aside.firsts.child_for(key);
                 let kid = &mut kids[at];
                 let out = kid.replace(period, key, row, change);
-                mark_swapped(&out, at, *change, &mut self.marks, &self.kids);
+                mark_swapped(&out, at, *change, &mut aside.marks, kids);
                 out
             }
         }
@@ -299,7 +279,7 @@ impl<A: Allocator + Copy> Node<A> {
     pub fn allocator(&self) -> A {
         match &self.kids {
             Kids::Page(entries) => *entries.allocator(),
-            Kids::Inner(kids) => *kids.allocator(),
+            Kids::Inner(kids, _) => *kids.allocator(),
         }
     }
 

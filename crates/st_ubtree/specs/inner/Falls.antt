@@ -21,4 +21,4 @@ most-kids below (k ∷ ks) h = let a = (All-head (IsKid below) k ks h).same_heig
 pub node-falls : {A : Type 0} (G : Ghosts A) (first height : ℕ) (kids : Kids A) → IsNode first height kids
     → max (deep-Kids A G kids) 0 ≤ height
 node-falls G first height (Page entries) h = omega arith
-node-falls G first height (Inner kids) h = let a = h.higher in omega (arith, a, most-kids h.below kids.items h.each)
+node-falls G first height (Inner kids aside) h = let a = h.higher in omega (arith, a, most-kids h.below kids.items h.each)

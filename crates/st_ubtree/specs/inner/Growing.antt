@@ -6,7 +6,7 @@ use Rattle.std.specs.List.Sorted.{IsPartitionedBy, IsPartitionPoint}
 use Rattle.st_key.specs.declared.period.Period.{Period}
 use Rattle.st_index.specs.declared.row.Row.{Row}
 use Rattle.st_index.specs.Rows.{EntryValue, Rises}
-use Rattle.st_ubtree.specs.declared.node.Blank.{Blank}
+use Rattle.st_ubtree.specs.declared.node.blank.Blank.{Blank}
 use Rattle.st_ubtree.specs.Pages.{PageValue, NodeValue}
 use Rattle.st_ubtree.specs.inner.Kids.{Spans, GrowsBy, AreWide, IsKid, Starts, pages_of}
 
@@ -20,9 +20,9 @@ abbrev pub IsBlankPage : {A B : Type 0} → Option (Vec B A) → Type 0
 IsBlankPage None = ⊥
 IsBlankPage (Some v) = (v.items ≡ []) × (33 ≤ vec_capacity v)
 
--- an empty list of children with room
+-- an empty list of children with room, and room for their first keys
 abbrev pub IsBlank : {A : Type 0} → Blank A → Type 0
-IsBlank b = (b.kids.items ≡ []) × (33 ≤ vec_capacity b.kids)
+IsBlank b = (b.kids.items ≡ []) × (33 ≤ vec_capacity b.kids) × (33 ≤ vec_capacity b.aside.value.firsts.keys)
 
 abbrev pub AreBlank : {A : Type 0} → List (Blank A) → Type 0
 AreBlank bs = All IsBlank bs

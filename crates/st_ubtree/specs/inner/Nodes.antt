@@ -7,40 +7,34 @@ use Rattle.st_ubtree.specs.declared.node.Kids.{Kids}
 use Rattle.st_ubtree.specs.declared.node.Kids.TheVariants.{Page, Inner}
 use Rattle.st_ubtree.specs.Pages.{PageValue, NodeValue, rows_of_pages}
 use Rattle.st_ubtree.specs.inner.Kids.{IsKid, pages_of, widths_of, HeadAt}
-use Rattle.st_ubtree.specs.declared.marks.Marks.{Marks}
 use Rattle.st_ubtree.specs.inner.Marks.{AreMarked}
 use Rattle.st_ubtree.specs.inner.Splits.{chains_of}
 
 abbrev pub width_of : {A : Type 0} → Kids A → ℕ
 width_of (Page entries) = length entries.items
-width_of (Inner kids) = length kids.items
+width_of (Inner kids aside) = length kids.items
 
 abbrev pub widths_under : {A : Type 0} → Kids A → List ℕ
 widths_under (Page entries) = []
-widths_under (Inner kids) = widths_of kids.items
+widths_under (Inner kids aside) = widths_of kids.items
 
 abbrev pub pages_under : {A : Type 0} → ℕ → Kids A → List (PageValue A)
 pages_under first (Page entries) = record { first = first; entries = entries.items } ∷ []
-pages_under first (Inner kids) = pages_of kids.items
+pages_under first (Inner kids aside) = pages_of kids.items
 
 -- the rows below it
 abbrev pub rows_under : {A : Type 0} → Kids A → List (Row A)
 rows_under (Page entries) = rows_of entries.items
-rows_under (Inner kids) = rows_of_pages (pages_of kids.items)
-
--- its children
-abbrev pub kids_under : {A : Type 0} → Kids A → List (NodeValue A)
-kids_under (Page entries) = []
-kids_under (Inner kids) = kids.items
+rows_under (Inner kids aside) = rows_of_pages (pages_of kids.items)
 
 -- the marks of the pages below it
-abbrev pub AreMarkedUnder : {A : Type 0} → Marks A → Kids A → Type 0
-AreMarkedUnder marks (Page entries) = Unit {0}
-AreMarkedUnder marks (Inner kids) = AreMarked marks kids.items
+abbrev pub AreMarkedUnder : {A : Type 0} → Kids A → Type 0
+AreMarkedUnder (Page entries) = Unit {0}
+AreMarkedUnder (Inner kids aside) = AreMarked aside.value.marks kids.items
 
 abbrev pub chains_under : {A : Type 0} → Kids A → List ℕ
 chains_under (Page entries) = 1 ∷ []
-chains_under (Inner kids) = chains_of kids.items
+chains_under (Inner kids aside) = chains_of kids.items
 
 abbrev pub node_value : {A : Type 0} → ℕ → ℕ → Kids A → NodeValue A
 node_value first height kids = record {
@@ -79,4 +73,4 @@ pub record IsInnerNode {A : Type 0} (first height : ℕ) (kids : List (NodeValue
 
 abbrev pub IsNode : {A : Type 0} → ℕ → ℕ → Kids A → Type 0
 IsNode first height (Page entries) = IsPageNode height (length entries.items) (vec_capacity entries)
-IsNode first height (Inner kids) = IsInnerNode first height kids.items (vec_capacity kids)
+IsNode first height (Inner kids aside) = IsInnerNode first height kids.items (vec_capacity kids)

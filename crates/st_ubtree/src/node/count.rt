@@ -25,9 +25,9 @@ impl<A: Allocator + Copy> Node<A> {
         }
         match &self.kids {
             Kids::Page(entries) => counting::count(entries.as_slice(), query, judge),
-            Kids::Inner(kids) => {
+            Kids::Inner(kids, aside) => {
                 if self.height == 1 {
-                    return count_pages(&self.marks, kids.as_slice(), query, judge);
+                    return count_pages(&aside.marks, kids.as_slice(), query, judge);
                 }
                 let mut sum = 0;
                 for kid in kids.as_slice() {

@@ -41,9 +41,9 @@ impl<A: Allocator + Copy> Node<A> {
             Kids::Page(entries) => {
                 field_counting::count(entries.as_slice(), judge, fields, counts);
             }
-            Kids::Inner(kids) => {
+            Kids::Inner(kids, aside) => {
                 if self.height == 1 {
-                    count_pages(&self.marks, kids.as_slice(), judge, fields, counts);
+                    count_pages(&aside.marks, kids.as_slice(), judge, fields, counts);
                     return;
                 }
                 for kid in kids.as_slice() {

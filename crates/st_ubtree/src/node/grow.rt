@@ -6,10 +6,8 @@ ghost use Rattle.st_index.specs.inner.Changes.{IsChange};
 ghost use Rattle.st_ubtree.specs.inner.Growing.{AreBlank, AreKids, DoRise, IsBlankPage, IsRoomFor, PageGrows, Settles};
 ghost use Rattle.st_ubtree.specs.inner.Splits.{splits_page};
 
-use super::marking::mark_kids;
 use super::sums::add_kids;
 use super::{Blank, Kids, Node};
-use crate::marks::Marks;
 use crate::split::split_at;
 use crate::summary::Summary;
 use st_index::entries::{self, Change};
@@ -73,21 +71,18 @@ pub(super) fn settle<A: Allocator + Copy>(
     let Blank {
         kids: blank,
         counts,
-        labels,
-        pages,
+        mut aside,
     } = blank;
     let least = &kids[16];
     let first = least.first;
     let upper = split_at(kids, 16, blank);
     let mut sum = Summary::new(counts);
     add_kids(&mut sum, upper.as_slice());
-    let mut marks = Marks::new(labels, pages);
-    mark_kids(&mut marks, upper.as_slice());
+    aside.fill(upper.as_slice());
     Some(Node {
         first,
         height,
         sum,
-        marks,
-        kids: Kids::Inner(upper),
+        kids: Kids::Inner(upper, aside),
     })
 }

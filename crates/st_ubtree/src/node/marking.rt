@@ -3,7 +3,6 @@ ghost use Rattle.std.specs.Prelude.{◌≡◌, IfOk, IsFalse, List};
 ghost use Rattle.st_index.specs.inner.Changes.{IsChange};
 ghost use Rattle.st_ubtree.specs.Pages.{NodeValue, entries_of_pages};
 ghost use Rattle.st_ubtree.specs.inner.Marks.{AreMarked, DifferAt, HasAt};
-ghost use Rattle.st_ubtree.specs.inner.Nodes.{AreMarkedUnder, kids_under};
 
 use super::{Kids, Node};
 use crate::marks::Marks;
@@ -29,7 +28,7 @@ impl<A: Allocator + Copy> Node<A> {
     {
         match &self.kids {
             Kids::Page(entries) => marks.follow(at, change, entries.as_slice()),
-            Kids::Inner(_) => marks.clear_page(at),
+            Kids::Inner(..) => marks.clear_page(at),
         }
     }
 }
@@ -37,18 +36,15 @@ impl<A: Allocator + Copy> Node<A> {
 // Marks the entries of a child in which one changed, if that child is a page.
 pub(super) fn mark_changed<A: Allocator + Copy>(
     marks: &mut Marks<A>,
-    kids: &Kids<A>,
+    kids: &Vec<Node<A>, A>,
     at: usize,
     change: Change,
 )
-    ensures { (old : List (NodeValue A)) (u v : NodeValue A) → HasAt old at u → HasAt (kids_under kids.now) at v
-        → DifferAt at old (kids_under kids.now)
+    ensures { (old : List (NodeValue A)) (u v : NodeValue A) → HasAt old at u → HasAt kids.now.items at v
+        → DifferAt at old kids.now.items
         → (v.height ≡ 0 → IsChange change (entries_of_pages u.pages) (entries_of_pages v.pages))
-        → AreMarked marks.old old → AreMarkedUnder marks.new kids.now }
+        → AreMarked marks.old old → AreMarked marks.new kids.now.items }
 {
-    let Kids::Inner(kids) = kids else {
-        return;
-    };
     let kids = kids.as_slice();
     if at >= kids.len() {
         return;
@@ -63,12 +59,12 @@ pub(super) fn mark_swapped<A: Allocator + Copy>(
     at: usize,
     change: Change,
     marks: &mut Marks<A>,
-    kids: &Kids<A>,
+    kids: &Vec<Node<A>, A>,
 )
-    ensures { (old : List (NodeValue A)) (u v : NodeValue A) → HasAt old at u → HasAt (kids_under kids.now) at v
-        → DifferAt at old (kids_under kids.now)
+    ensures { (old : List (NodeValue A)) (u v : NodeValue A) → HasAt old at u → HasAt kids.now.items at v
+        → DifferAt at old kids.now.items
         → IfOk out.now (λ _. v.height ≡ 0 → IsChange change (entries_of_pages u.pages) (entries_of_pages v.pages))
-        → AreMarked marks.old old → AreMarkedUnder marks.new kids.now }
+        → AreMarked marks.old old → AreMarked marks.new kids.now.items }
 {
     match out {
         Ok(_) => mark_changed(marks, kids, at, change),
@@ -97,13 +93,11 @@ fn mark_near<A: Allocator + Copy>(marks: &mut Marks<A>, kids: &[Node<A>], at: us
 }
 
 // Marks the entries of the children that are pages anew.
-pub(super) fn mark_all<A: Allocator + Copy>(marks: &mut Marks<A>, kids: &Kids<A>)
-    ensures { AreMarkedUnder marks.new kids.now }
+pub(super) fn mark_all<A: Allocator + Copy>(marks: &mut Marks<A>, kids: &Vec<Node<A>, A>)
+    ensures { AreMarked marks.new kids.now.items }
 {
     marks.clear();
-    if let Kids::Inner(kids) = kids {
-        mark_kids(marks, kids.as_slice());
-    }
+    mark_kids(marks, kids.as_slice());
 }
 
 // Marks the entries of all children anew, if the marks may be those of others, and else those of one and of those beside it
@@ -112,30 +106,26 @@ pub(super) fn mark_due<A: Allocator + Copy>(
     all: bool,
     at: usize,
     marks: &mut Marks<A>,
-    kids: &Kids<A>,
+    kids: &Vec<Node<A>, A>,
 )
-    requires { IsFalse all → AreMarkedUnder marks.old kids.now }
-    ensures { AreMarkedUnder marks.new kids.now }
+    requires { IsFalse all → AreMarked marks.old kids.now.items }
+    ensures { AreMarked marks.new kids.now.items }
 {
     if all {
         mark_all(marks, kids);
         return;
     }
-    if let Kids::Inner(kids) = kids {
-        mark_near(marks, kids.as_slice(), at);
-    }
+    mark_near(marks, kids.as_slice(), at);
 }
 
 // Marks the entries of all children that have no marks, if it is time.
-pub(super) fn mark_if<A: Allocator + Copy>(due: bool, marks: &mut Marks<A>, kids: &Kids<A>)
-    ensures { AreMarkedUnder marks.old kids.now → AreMarkedUnder marks.new kids.now }
+pub(super) fn mark_if<A: Allocator + Copy>(due: bool, marks: &mut Marks<A>, kids: &Vec<Node<A>, A>)
+    ensures { AreMarked marks.old kids.now.items → AreMarked marks.new kids.now.items }
 {
     if !due {
         return;
     }
-    if let Kids::Inner(kids) = kids {
-        mark_kids(marks, kids.as_slice());
-    }
+    mark_kids(marks, kids.as_slice());
 }
 
 // Marks the entries of the children that are pages.

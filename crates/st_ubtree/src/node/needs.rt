@@ -7,14 +7,14 @@ ghost use Rattle.st_ubtree.specs.Pages.{entries_of_pages};
 ghost use Rattle.st_ubtree.specs.inner.Growing.{AreAround, DoRise};
 ghost use Rattle.st_ubtree.specs.inner.Splits.{split_nodes, splits, splits_page, splits_with};
 
-use super::child::child_for;
 use super::{Kids, Node};
 use st_index::{Entry, entries};
 use st_key::Key;
 use std::alloc::Allocator;
 
 /// What a new row of a key takes: how many rows the key has, and, where its page is to be split, how many
-/// nodes above the page are.
+/// nodes above the page are. Where the node over the page has no room for a further label, `labels` says for how many
+/// it is to get room; else it is 0.
 #[derive(Clone, Copy)]
 pub struct Needs {
     pub rows: usize,
@@ -33,14 +33,14 @@ impl<A: Allocator + Copy> Node<A> {
     {
         match &self.kids {
             Kids::Page(entries) => page_needs(entries, key),
-            Kids::Inner(kids) => {
-                let at = child_for(kids, key);
+            Kids::Inner(kids, aside) => {
+                let at = aside.firsts.child_for(key);
                 let kid = &kids[at];
                 let needs = kid.needs(key);
                 Needs {
                     rows: needs.rows,
                     inners: count_node(needs.inners, self.height, kids.len()),
-                    labels: needs.labels.max(self.marks.wanted()),
+                    labels: needs.labels.max(aside.marks.wanted()),
                 }
             }
         }

@@ -7,10 +7,8 @@ ghost use Rattle.st_ubtree.specs.inner.Kids.{GrowsBy, IsKid};
 ghost use Rattle.st_ubtree.specs.inner.Growing.{AreAround, AreBlank, IsBlankPage, IsRoomFor};
 ghost use Rattle.st_ubtree.specs.inner.Splits.{made_nodes, splits};
 
-use super::marking::mark_all;
 use super::sums::add_kids;
 use super::{Blank, Kids, Node};
-use crate::marks::Marks;
 use crate::summary::Summary;
 use st_index::entries::Change;
 use st_index::{Entry, Row};
@@ -54,6 +52,7 @@ impl<A: Allocator + Copy> Node<A> {
         requires kids { IsKid self.old.height self.old × IsKid self.old.height right }
         requires empty { blank.kids.items ≡ [] }
         requires room { 33 ≤ vec_capacity blank.kids }
+        requires firsts_room { 33 ≤ vec_capacity blank.aside.value.firsts.keys }
         requires height { self.old.height + 1 < 2 ^ 64 }
         ensures first { self.new.first ≡ self.old.first }
         ensures height { self.new.height ≡ self.old.height + 1 }
@@ -63,19 +62,15 @@ impl<A: Allocator + Copy> Node<A> {
         let Blank {
             kids: mut blank,
             counts,
-            labels,
-            pages,
+            mut aside,
         } = blank;
-        let kids = mem::replace(&mut self.kids, Kids::Inner(Vec::new(*blank.allocator())));
+        let kids = mem::replace(&mut self.kids, Kids::Page(Vec::new(*blank.allocator())));
         let none = Summary::new(counts);
         let sum = mem::replace(&mut self.sum, none);
-        let unknown = Marks::new(labels, pages);
-        let marks = mem::replace(&mut self.marks, unknown);
         let left = Node {
             first: self.first,
             height: self.height,
             sum,
-            marks,
             kids,
         };
         let Ok(()) = blank.push(left) else {
@@ -85,9 +80,9 @@ impl<A: Allocator + Copy> Node<A> {
             unreachable!()
         };
         add_kids(&mut self.sum, blank.as_slice());
-        self.kids = Kids::Inner(blank);
+        aside.fill(blank.as_slice());
+        self.kids = Kids::Inner(blank, aside);
         self.height += 1;
-        mark_all(&mut self.marks, &self.kids);
     }
 
     /// Puts the only child of a node in the node's place.
@@ -97,7 +92,7 @@ impl<A: Allocator + Copy> Node<A> {
         ensures wide { 1 ≤ self.new.height → 2 ≤ self.new.width }
         ensures lower { self.new.height ≤ self.old.height }
     {
-        if let Kids::Inner(kids) = &mut self.kids
+        if let Kids::Inner(kids, _) = &mut self.kids
             && kids.len() == 1
         {
             let Some(only) = kids.pop() else {
@@ -107,13 +102,11 @@ impl<A: Allocator + Copy> Node<A> {
                 first,
                 height,
                 sum,
-                marks,
                 kids,
             } = only;
             self.first = first;
             self.height = height;
             self.sum = sum;
-            self.marks = marks;
             self.kids = kids;
         }
     }

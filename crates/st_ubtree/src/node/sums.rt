@@ -18,7 +18,7 @@ impl<A: Allocator + Copy> Node<A> {
     {
         match &self.kids {
             Kids::Page(entries) => sum.add_entries(entries.as_slice()),
-            Kids::Inner(_) => sum.add_all(&self.sum),
+            Kids::Inner(..) => sum.add_all(&self.sum),
         }
     }
 }
@@ -39,7 +39,7 @@ pub(super) fn renew<A: Allocator + Copy>(sum: &mut Summary<A>, kids: &Kids<A>)
     sum.clear();
     match kids {
         Kids::Page(entries) => sum.add_entries(entries.as_slice()),
-        Kids::Inner(kids) => add_kids(sum, kids.as_slice()),
+        Kids::Inner(kids, _) => add_kids(sum, kids.as_slice()),
     }
 }
 

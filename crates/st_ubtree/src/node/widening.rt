@@ -1,7 +1,6 @@
 //! Room for more labels.
 ghost use Rattle.std.specs.Prelude.{◌≡◌};
 
-use super::child::child_for;
 use super::marking::mark_all;
 use super::{Kids, Node};
 use crate::marks::Room;
@@ -13,15 +12,16 @@ impl<A: Allocator + Copy> Node<A> {
     pub fn widen(&mut self, key: Key, room: Room<A>)
         ensures { self.new ≡ self.old }
     {
-        if self.height == 1 {
-            self.marks.make_room(room);
-            mark_all(&mut self.marks, &self.kids);
-            return;
-        }
-        let Kids::Inner(kids) = &mut self.kids else {
+        let Kids::Inner(kids, aside) = &mut self.kids else {
             return;
         };
-        let at = child_for(kids, key);
+        let aside = &mut **aside;
+        if self.height == 1 {
+            aside.marks.make_room(room);
+            mark_all(&mut aside.marks, kids);
+            return;
+        }
+        let at = aside.firsts.child_for(key);
         let kid = &mut kids[at];
         kid.widen(key, room);
     }

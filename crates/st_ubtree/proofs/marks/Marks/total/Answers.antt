@@ -1,4 +1,4 @@
-use Rattle.std.proofs.Common.{◌≡◌, ◌+◌, ◌<◌, ◌≤◌, cond, length, get_or, min, refl, sym, ap, subst, ◌∙◌, arith}
+use Rattle.std.proofs.Common.{◌≡◌, ◌+◌, cond, get_or, refl, sym, ap, ◌∙◌, arith}
 use Rattle.st_ubtree.specs.inner.Marks.{verdict_on}
 use Rattle.st_ubtree.proofs.Tallied.{tallied_all, tallied_next, tallied_none, tallied_within}
 use Rattle.st_ubtree.proofs.marks.Marks.total.Goals as goal

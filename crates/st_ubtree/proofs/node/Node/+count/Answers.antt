@@ -8,8 +8,9 @@ use Rattle.st_ubtree.specs.Pages.{NodeValue, rows_of_pages}
 use Rattle.st_ubtree.specs.inner.Kids.{pages_of}
 use Rattle.std.specs.List.{All}
 use Rattle.st_ubtree.specs.inner.Marks.{AreMarked}
-use Rattle.st_ubtree.specs.inner.Nodes.{AreMarkedUnder, IsInnerNode, IsNode, rows_under}
+use Rattle.st_ubtree.specs.inner.Nodes.{IsInnerNode, IsNode, rows_under}
 use Rattle.st_ubtree.proofs.Keeping.{count_of_kids, fewer_in_kid, rows_are}
+use Rattle.st_ubtree.proofs.Firsts.{marks_in}
 use Rattle.st_ubtree.proofs.Lifting.{that_kid}
 use Rattle.st_ubtree.proofs.Needing.{lower_kid}
 use Rattle.st_ubtree.proofs.node.Node.+count.Goals as goal
@@ -142,7 +143,7 @@ count_pages-requires-clause-fits g t c =
 
 pub count_pages-requires-clause-marked : goal.count_pages-requires-clause-marked
 count_pages-requires-clause-marked g t c =
-    subst (AreMarked c.self.inside.marks) (sym c.as_slice-then-self-eq1.ensures.value) (subst (AreMarkedUnder c.self.inside.marks) c.in-Inner.is c.self.invariant.2)
+    subst (AreMarked c.deref.result.now.marks) (sym c.as_slice-then-self-eq1.ensures.value) (marks_in c.self.inside.kids c.in-Inner.kids c.in-Inner.aside c.deref.result.now c.in-Inner.is c.deref.ensures c.self.invariant.2)
 
 pub returns-then-self-eq1-clause-count : goal.returns-then-self-eq1-clause-count
 returns-then-self-eq1-clause-count g t c =

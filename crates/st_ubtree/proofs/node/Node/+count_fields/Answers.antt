@@ -10,9 +10,10 @@ use Rattle.st_index.proofs.Tallying.{counts_in_one, counts_none, far_all, far_fi
 use Rattle.st_ubtree.specs.Pages.{NodeValue, rows_of_pages}
 use Rattle.st_ubtree.specs.inner.Kids.{pages_of}
 use Rattle.st_ubtree.specs.inner.Marks.{AreMarked}
-use Rattle.st_ubtree.specs.inner.Nodes.{AreMarkedUnder, IsInnerNode, IsNode, rows_under}
+use Rattle.st_ubtree.specs.inner.Nodes.{IsInnerNode, IsNode, rows_under}
 use Rattle.st_ubtree.proofs.Fielding.{all_in_one, counts_by}
 use Rattle.st_ubtree.proofs.Keeping.{rows_are, rows_of_kids}
+use Rattle.st_ubtree.proofs.Firsts.{marks_in}
 use Rattle.st_ubtree.proofs.Lifting.{that_kid}
 use Rattle.st_ubtree.proofs.Needing.{lower_kid}
 use Rattle.st_ubtree.proofs.node.Node.+count_fields.Goals as goal
@@ -102,7 +103,7 @@ count_pages-requires-clause-fits g t c =
 
 pub count_pages-requires-clause-marked : goal.count_pages-requires-clause-marked
 count_pages-requires-clause-marked g t c =
-    subst (AreMarked c.self.inside.marks) (sym c.as_slice-then-self-eq1.ensures.value) (subst (AreMarkedUnder c.self.inside.marks) c.in-Inner.is c.self.invariant.2)
+    subst (AreMarked c.deref.result.now.marks) (sym c.as_slice-then-self-eq1.ensures.value) (marks_in c.self.inside.kids c.in-Inner.kids c.in-Inner.aside c.deref.result.now c.in-Inner.is c.deref.ensures c.self.invariant.2)
 
 pub returns-then-self-eq1-clause-counts : goal.returns-then-self-eq1-clause-counts
 returns-then-self-eq1-clause-counts g t c =

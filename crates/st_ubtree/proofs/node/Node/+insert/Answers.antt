@@ -17,7 +17,7 @@ use Rattle.st_ubtree.proofs.Lifting.{settled_split}
 use Rattle.st_index.specs.Rows.{rows_of}
 use Rattle.st_index.specs.inner.Changes.{IsChange}
 use Rattle.st_ubtree.specs.Pages.{rows_of_pages}
-use Rattle.st_ubtree.specs.inner.Nodes.{AreMarkedUnder, rows_under}
+use Rattle.st_ubtree.specs.inner.Nodes.{rows_under}
 use Rattle.st_ubtree.specs.inner.Sums.{Sums}
 use Rattle.st_ubtree.proofs.Keeping.{kept_sums}
 use Rattle.std.proofs.lemmas.List.{get_or-set_same}
@@ -27,12 +27,14 @@ use Rattle.st_ubtree.proofs.Keeping.{settled_same}
 use Rattle.st_ubtree.specs.inner.Marks.{AreMarked, HasAt, OpensAt}
 use Rattle.st_ubtree.proofs.Splitting.{one_rows}
 use Rattle.st_ubtree.proofs.Summing.{sums_added}
+use Rattle.st_ubtree.proofs.Firsts.{chosen_in, firsts_in, firsts_set, marks_in, settled_take}
+use Rattle.st_ubtree.specs.inner.Firsts.{AreFirsts}
 use Rattle.st_ubtree.proofs.node.Node.+insert.Goals as goal
 
 pub invariant_of-self : goal.invariant_of-self
 invariant_of-self g t c =
     let good : IsPageNode c.self.inside.height (length c.in-Page.entries.items) (vec_capacity c.in-Page.entries) = subst (IsNode (rank c.self.inside.first) c.self.inside.height) c.in-Page.is c.self.invariant.0 in
-    (record { lowest = good.lowest; not_more = page_fits (rank c.args.key) c.args.row _ _ _ c.put_in_page-split.ensures.grows; room = c.put_in_page-split.ensures.room }, c.renew_if.ensures, tt)
+    (record { lowest = good.lowest; not_more = page_fits (rank c.args.key) c.args.row _ _ _ c.put_in_page-split.ensures.grows; room = c.put_in_page-split.ensures.room }, c.renew_if.ensures, tt, tt)
 
 pub returns-in-Page-clause-grows : goal.returns-in-Page-clause-grows
 returns-in-Page-clause-grows g t c =
@@ -46,7 +48,7 @@ insert-requires g t c κs within =
     let kids = c.in-Inner.kids.items in
     let good : IsInnerNode (rank c.self.inside.first) c.self.inside.height kids (vec_capacity c.in-Inner.kids) = subst (IsNode (rank c.self.inside.first) c.self.inside.height) c.in-Inner.is c.self.invariant.0 in
     let i = c.child_for-at.result in
-    let chosen : IsChosen (rank c.args.key) kids i = rw c.deref.ensures.value at c.child_for-at.ensures in
+    let chosen : IsChosen (rank c.args.key) kids i = chosen_in c.self.inside.kids c.in-Inner.kids c.in-Inner.aside c.deref_mut-aside.result.now c.in-Inner.is c.deref_mut-aside.ensures.value (rank c.args.key) (rank c.self.inside.first) c.self.inside.height c.child_for-at.result c.self.invariant.0 c.self.invariant.3 c.child_for-at.ensures in
     let l = chosen.within in
     let kid = c.index_mut-kid.result.now in
     let read = c.index_mut-kid.ensures.value in
@@ -68,7 +70,7 @@ invariant_of-self-in_default g t c =
     let kids = c.in-Inner.kids.items in
     let good : IsInnerNode (rank c.self.inside.first) c.self.inside.height kids (vec_capacity c.in-Inner.kids) = subst (IsNode (rank c.self.inside.first) c.self.inside.height) c.in-Inner.is c.self.invariant.0 in
     let i = c.child_for-at.result in
-    let chosen : IsChosen (rank c.args.key) kids i = rw c.deref.ensures.value at c.child_for-at.ensures in
+    let chosen : IsChosen (rank c.args.key) kids i = chosen_in c.self.inside.kids c.in-Inner.kids c.in-Inner.aside c.deref_mut-aside.result.now c.in-Inner.is c.deref_mut-aside.ensures.value (rank c.args.key) (rank c.self.inside.first) c.self.inside.height c.child_for-at.result c.self.invariant.0 c.self.invariant.3 c.child_for-at.ensures in
     let l = chosen.within in
     let kid = c.index_mut-kid.result.now in
     let read = c.index_mut-kid.ensures.value in
@@ -89,7 +91,8 @@ invariant_of-self-in_default g t c =
         room = good.room;
       },
       sums_added c.add.new.self c.args.row _ _ grown.by.adds sums,
-      c.mark_changed.ensures kids kid v (l, read) there (differ_set kids i v) change (subst (AreMarkedUnder c.self.inside.marks) c.in-Inner.is c.self.invariant.2),
+      c.mark_changed.ensures kids kid v (l, read) there (differ_set kids i v) change (marks_in c.self.inside.kids c.in-Inner.kids c.in-Inner.aside c.deref_mut-aside.result.now c.in-Inner.is c.deref_mut-aside.ensures.value c.self.invariant.2),
+      firsts_set c.deref_mut-aside.result.now.firsts kids i kid v read c.in_default.ensures.grows.first (firsts_in c.self.inside.kids c.in-Inner.kids c.in-Inner.aside c.deref_mut-aside.result.now c.in-Inner.is c.deref_mut-aside.ensures.value c.self.invariant.3),
     )
 
 pub returns-in_default-clause-grows : goal.returns-in_default-clause-grows
@@ -97,7 +100,7 @@ returns-in_default-clause-grows g t c =
     let kids = c.in-Inner.kids.items in
     let good : IsInnerNode (rank c.self.inside.first) c.self.inside.height kids (vec_capacity c.in-Inner.kids) = subst (IsNode (rank c.self.inside.first) c.self.inside.height) c.in-Inner.is c.self.invariant.0 in
     let i = c.child_for-at.result in
-    let chosen : IsChosen (rank c.args.key) kids i = rw c.deref.ensures.value at c.child_for-at.ensures in
+    let chosen : IsChosen (rank c.args.key) kids i = chosen_in c.self.inside.kids c.in-Inner.kids c.in-Inner.aside c.deref_mut-aside.result.now c.in-Inner.is c.deref_mut-aside.ensures.value (rank c.args.key) (rank c.self.inside.first) c.self.inside.height c.child_for-at.result c.self.invariant.0 c.self.invariant.3 c.child_for-at.ensures in
     let l = chosen.within in
     let kid = c.index_mut-kid.result.now in
     let read = c.index_mut-kid.ensures.value in
@@ -110,7 +113,7 @@ returns-in_default-clause-left g t c =
     let kids = c.in-Inner.kids.items in
     let good : IsInnerNode (rank c.self.inside.first) c.self.inside.height kids (vec_capacity c.in-Inner.kids) = subst (IsNode (rank c.self.inside.first) c.self.inside.height) c.in-Inner.is c.self.invariant.0 in
     let i = c.child_for-at.result in
-    let chosen : IsChosen (rank c.args.key) kids i = rw c.deref.ensures.value at c.child_for-at.ensures in
+    let chosen : IsChosen (rank c.args.key) kids i = chosen_in c.self.inside.kids c.in-Inner.kids c.in-Inner.aside c.deref_mut-aside.result.now c.in-Inner.is c.deref_mut-aside.ensures.value (rank c.args.key) (rank c.self.inside.first) c.self.inside.height c.child_for-at.result c.self.invariant.0 c.self.invariant.3 c.child_for-at.ensures in
     let l = chosen.within in
     let kid = c.index_mut-kid.result.now in
     let read = c.index_mut-kid.ensures.value in
@@ -123,7 +126,7 @@ settle-split-requires-clause-kids g t c =
     let kids = c.in-Inner.kids.items in
     let good : IsInnerNode (rank c.self.inside.first) c.self.inside.height kids (vec_capacity c.in-Inner.kids) = subst (IsNode (rank c.self.inside.first) c.self.inside.height) c.in-Inner.is c.self.invariant.0 in
     let i = c.child_for-at.result in
-    let chosen : IsChosen (rank c.args.key) kids i = rw c.deref.ensures.value at c.child_for-at.ensures in
+    let chosen : IsChosen (rank c.args.key) kids i = chosen_in c.self.inside.kids c.in-Inner.kids c.in-Inner.aside c.deref_mut-aside.result.now c.in-Inner.is c.deref_mut-aside.ensures.value (rank c.args.key) (rank c.self.inside.first) c.self.inside.height c.child_for-at.result c.self.invariant.0 c.self.invariant.3 c.child_for-at.ensures in
     let l = chosen.within in
     let kid = c.index_mut-kid.result.now in
     let read = c.index_mut-kid.ensures.value in
@@ -139,7 +142,7 @@ settle-split-requires-clause-enough g t c =
     let kids = c.in-Inner.kids.items in
     let good : IsInnerNode (rank c.self.inside.first) c.self.inside.height kids (vec_capacity c.in-Inner.kids) = subst (IsNode (rank c.self.inside.first) c.self.inside.height) c.in-Inner.is c.self.invariant.0 in
     let i = c.child_for-at.result in
-    let chosen : IsChosen (rank c.args.key) kids i = rw c.deref.ensures.value at c.child_for-at.ensures in
+    let chosen : IsChosen (rank c.args.key) kids i = chosen_in c.self.inside.kids c.in-Inner.kids c.in-Inner.aside c.deref_mut-aside.result.now c.in-Inner.is c.deref_mut-aside.ensures.value (rank c.args.key) (rank c.self.inside.first) c.self.inside.height c.child_for-at.result c.self.invariant.0 c.self.invariant.3 c.child_for-at.ensures in
     let l = chosen.within in
     let kid = c.index_mut-kid.result.now in
     let read = c.index_mut-kid.ensures.value in
@@ -160,7 +163,7 @@ invariant_of-self-in-Inner g t c =
     let kids = c.in-Inner.kids.items in
     let good : IsInnerNode (rank c.self.inside.first) c.self.inside.height kids (vec_capacity c.in-Inner.kids) = subst (IsNode (rank c.self.inside.first) c.self.inside.height) c.in-Inner.is c.self.invariant.0 in
     let i = c.child_for-at.result in
-    let chosen : IsChosen (rank c.args.key) kids i = rw c.deref.ensures.value at c.child_for-at.ensures in
+    let chosen : IsChosen (rank c.args.key) kids i = chosen_in c.self.inside.kids c.in-Inner.kids c.in-Inner.aside c.deref_mut-aside.result.now c.in-Inner.is c.deref_mut-aside.ensures.value (rank c.args.key) (rank c.self.inside.first) c.self.inside.height c.child_for-at.result c.self.invariant.0 c.self.invariant.3 c.child_for-at.ensures in
     let l = chosen.within in
     let kid = c.index_mut-kid.result.now in
     let read = c.index_mut-kid.ensures.value in
@@ -172,10 +175,17 @@ invariant_of-self-in-Inner g t c =
     let at = subst (HeadAt (rank c.self.inside.first)) (sym there) (head_same (rank c.self.inside.first) kids i kid c.insert.new.self (c.in-Some.right ∷ drop (suc i) kids) l read c.in-Some.ensures.grows.first good.head) in
     let wide : length c.insert-in-Inner.new.self.items ≡ length kids + 1 = ap length there ∙ length-inserted kids i c.insert.new.self c.in-Some.right l in
     let room = good.room in
-    let grown = c.in-Ok.ensures.capacity in (
+    let grown = c.in-Ok.ensures.capacity in
+    let changed = set kids i c.insert.new.self in
+    let same = length-set kids i c.insert.new.self in
+    let fits = good.not_more in
+    let firsts = c.insert_at.ensures changed (omega (arith, same, l)) (omega (arith, same, fits)) (firsts_set c.deref_mut-aside.result.now.firsts kids i kid c.insert.new.self read c.in-Some.ensures.grows.first (firsts_in c.self.inside.kids c.in-Inner.kids c.in-Inner.aside c.deref_mut-aside.result.now c.in-Inner.is c.deref_mut-aside.ensures.value c.self.invariant.3)) in
+    let count : c.len.result ≡ length c.settle-split.new.kids.items = c.len.ensures ∙ c.settle-split.new.kids.ok.0 in
+    let left = ap (take c.len.result) (sym c.in-Ok.ensures.items) ∙ settled_take c.self.inside.height c.len.result c.insert-in-Inner.new.self.items c.settle-split.new.kids.items c.settle-split.result c.settle-split.ensures.settles count in (
       settled_inner good.below (rank c.self.inside.first) c.self.inside.height c.insert-in-Inner.new.self.items c.settle-split.new.kids.items (vec_capacity c.settle-split.new.kids) c.settle-split.result good.higher all at (omega (arith, wide)) (let same = c.settle-split.ensures.capacity in omega (arith, same, room, grown)) c.settle-split.ensures.settles,
       c.renew_if-in-Inner.ensures,
       c.mark_due.ensures,
+      subst (AreFirsts c.keep.new.self) left (c.keep.ensures _ firsts),
     )
 
 pub renew_if-requires : goal.renew_if-requires
@@ -195,7 +205,7 @@ renew_if-requires-in-Inner g t c = λ none.
     let kids = c.in-Inner.kids.items in
     let good : IsInnerNode (rank c.self.inside.first) c.self.inside.height kids (vec_capacity c.in-Inner.kids) = subst (IsNode (rank c.self.inside.first) c.self.inside.height) c.in-Inner.is c.self.invariant.0 in
     let i = c.child_for-at.result in
-    let chosen : IsChosen (rank c.args.key) kids i = rw c.deref.ensures.value at c.child_for-at.ensures in
+    let chosen : IsChosen (rank c.args.key) kids i = chosen_in c.self.inside.kids c.in-Inner.kids c.in-Inner.aside c.deref_mut-aside.result.now c.in-Inner.is c.deref_mut-aside.ensures.value (rank c.args.key) (rank c.self.inside.first) c.self.inside.height c.child_for-at.result c.self.invariant.0 c.self.invariant.3 c.child_for-at.ensures in
     let l = chosen.within in
     let kid = c.index_mut-kid.result.now in
     let read = c.index_mut-kid.ensures.value in
@@ -211,7 +221,7 @@ returns-clause-grows g t c =
     let kids = c.in-Inner.kids.items in
     let good : IsInnerNode (rank c.self.inside.first) c.self.inside.height kids (vec_capacity c.in-Inner.kids) = subst (IsNode (rank c.self.inside.first) c.self.inside.height) c.in-Inner.is c.self.invariant.0 in
     let i = c.child_for-at.result in
-    let chosen : IsChosen (rank c.args.key) kids i = rw c.deref.ensures.value at c.child_for-at.ensures in
+    let chosen : IsChosen (rank c.args.key) kids i = chosen_in c.self.inside.kids c.in-Inner.kids c.in-Inner.aside c.deref_mut-aside.result.now c.in-Inner.is c.deref_mut-aside.ensures.value (rank c.args.key) (rank c.self.inside.first) c.self.inside.height c.child_for-at.result c.self.invariant.0 c.self.invariant.3 c.child_for-at.ensures in
     let l = chosen.within in
     let kid = c.index_mut-kid.result.now in
     let read = c.index_mut-kid.ensures.value in
@@ -227,7 +237,7 @@ returns-clause-left g t c =
     let kids = c.in-Inner.kids.items in
     let good : IsInnerNode (rank c.self.inside.first) c.self.inside.height kids (vec_capacity c.in-Inner.kids) = subst (IsNode (rank c.self.inside.first) c.self.inside.height) c.in-Inner.is c.self.invariant.0 in
     let i = c.child_for-at.result in
-    let chosen : IsChosen (rank c.args.key) kids i = rw c.deref.ensures.value at c.child_for-at.ensures in
+    let chosen : IsChosen (rank c.args.key) kids i = chosen_in c.self.inside.kids c.in-Inner.kids c.in-Inner.aside c.deref_mut-aside.result.now c.in-Inner.is c.deref_mut-aside.ensures.value (rank c.args.key) (rank c.self.inside.first) c.self.inside.height c.child_for-at.result c.self.invariant.0 c.self.invariant.3 c.child_for-at.ensures in
     let l = chosen.within in
     let kid = c.index_mut-kid.result.now in
     let read = c.index_mut-kid.ensures.value in
@@ -257,7 +267,7 @@ returns-clause-split g t c =
     let kids = c.in-Inner.kids.items in
     let good : IsInnerNode (rank c.self.inside.first) c.self.inside.height kids (vec_capacity c.in-Inner.kids) = subst (IsNode (rank c.self.inside.first) c.self.inside.height) c.in-Inner.is c.self.invariant.0 in
     let i = c.child_for-at.result in
-    let chosen : IsChosen (rank c.args.key) kids i = rw c.deref.ensures.value at c.child_for-at.ensures in
+    let chosen : IsChosen (rank c.args.key) kids i = chosen_in c.self.inside.kids c.in-Inner.kids c.in-Inner.aside c.deref_mut-aside.result.now c.in-Inner.is c.deref_mut-aside.ensures.value (rank c.args.key) (rank c.self.inside.first) c.self.inside.height c.child_for-at.result c.self.invariant.0 c.self.invariant.3 c.child_for-at.ensures in
     let l = chosen.within in
     let kid = c.index_mut-kid.result.now in
     let read = c.index_mut-kid.ensures.value in
@@ -290,24 +300,18 @@ put_in_page-split-requires-clause-room g t c =
     let good : IsPageNode c.self.inside.height (length c.in-Page.entries.items) (vec_capacity c.in-Page.entries) = subst (IsNode (rank c.self.inside.first) c.self.inside.height) c.in-Page.is c.self.invariant.0 in
     good.room
 
-pub child_for-at-requires : goal.child_for-at-requires
-child_for-at-requires g t c =
-    let kids = c.in-Inner.kids.items in
-    let good : IsInnerNode (rank c.self.inside.first) c.self.inside.height kids (vec_capacity c.in-Inner.kids) = subst (IsNode (rank c.self.inside.first) c.self.inside.height) c.in-Inner.is c.self.invariant.0 in
-    subst (λ ks. 1 ≤ length ks) (sym c.deref.ensures.value) good.not_less
-
 pub index_mut-kid-requires : goal.index_mut-kid-requires
 index_mut-kid-requires g t c =
     let kids = c.in-Inner.kids.items in
     let i = c.child_for-at.result in
-    let chosen : IsChosen (rank c.args.key) kids i = rw c.deref.ensures.value at c.child_for-at.ensures in
+    let chosen : IsChosen (rank c.args.key) kids i = chosen_in c.self.inside.kids c.in-Inner.kids c.in-Inner.aside c.deref_mut-aside.result.now c.in-Inner.is c.deref_mut-aside.ensures.value (rank c.args.key) (rank c.self.inside.first) c.self.inside.height c.child_for-at.result c.self.invariant.0 c.self.invariant.3 c.child_for-at.ensures in
     held_at c.in-Inner.kids i chosen.within
 
 pub insert-requires-in-Inner : goal.insert-requires-in-Inner
 insert-requires-in-Inner g t c =
     let kids = c.in-Inner.kids.items in
     let i = c.child_for-at.result in
-    let chosen : IsChosen (rank c.args.key) kids i = rw c.deref.ensures.value at c.child_for-at.ensures in
+    let chosen : IsChosen (rank c.args.key) kids i = chosen_in c.self.inside.kids c.in-Inner.kids c.in-Inner.aside c.deref_mut-aside.result.now c.in-Inner.is c.deref_mut-aside.ensures.value (rank c.args.key) (rank c.self.inside.first) c.self.inside.height c.child_for-at.result c.self.invariant.0 c.self.invariant.3 c.child_for-at.ensures in
     let l = held_at c.in-Inner.kids i chosen.within in
     let next : i + 1 ≤ vec_len c.in-Inner.kids = omega (arith, l) in
     next
@@ -326,7 +330,7 @@ settle-split-requires-clause-not_more g t c =
     let kids = c.in-Inner.kids.items in
     let good : IsInnerNode (rank c.self.inside.first) c.self.inside.height kids (vec_capacity c.in-Inner.kids) = subst (IsNode (rank c.self.inside.first) c.self.inside.height) c.in-Inner.is c.self.invariant.0 in
     let i = c.child_for-at.result in
-    let chosen : IsChosen (rank c.args.key) kids i = rw c.deref.ensures.value at c.child_for-at.ensures in
+    let chosen : IsChosen (rank c.args.key) kids i = chosen_in c.self.inside.kids c.in-Inner.kids c.in-Inner.aside c.deref_mut-aside.result.now c.in-Inner.is c.deref_mut-aside.ensures.value (rank c.args.key) (rank c.self.inside.first) c.self.inside.height c.child_for-at.result c.self.invariant.0 c.self.invariant.3 c.child_for-at.ensures in
     let l = chosen.within in
     let j : i + 1 ≡ suc i = omega arith in
     let there : c.insert-in-Inner.new.self.items ≡ take i kids ++ c.insert.new.self ∷ c.in-Some.right ∷ drop (suc i) kids =
@@ -345,7 +349,7 @@ pub overflow_add-at : goal.overflow_add-at
 overflow_add-at g t c =
     let kids = c.in-Inner.kids.items in
     let good : IsInnerNode (rank c.self.inside.first) c.self.inside.height kids (vec_capacity c.in-Inner.kids) = subst (IsNode (rank c.self.inside.first) c.self.inside.height) c.in-Inner.is c.self.invariant.0 in
-    let chosen : IsChosen (rank c.args.key) kids c.child_for-at.result = rw c.deref.ensures.value at c.child_for-at.ensures in
+    let chosen : IsChosen (rank c.args.key) kids c.child_for-at.result = chosen_in c.self.inside.kids c.in-Inner.kids c.in-Inner.aside c.deref_mut-aside.result.now c.in-Inner.is c.deref_mut-aside.ensures.value (rank c.args.key) (rank c.self.inside.first) c.self.inside.height c.child_for-at.result c.self.invariant.0 c.self.invariant.3 c.child_for-at.ensures in
     let l = chosen.within in
     let fits = good.not_more in
     omega (arith, l, fits)
@@ -354,7 +358,16 @@ pub overflow_add-at-in-Inner : goal.overflow_add-at-in-Inner
 overflow_add-at-in-Inner g t c =
     let kids = c.in-Inner.kids.items in
     let good : IsInnerNode (rank c.self.inside.first) c.self.inside.height kids (vec_capacity c.in-Inner.kids) = subst (IsNode (rank c.self.inside.first) c.self.inside.height) c.in-Inner.is c.self.invariant.0 in
-    let chosen : IsChosen (rank c.args.key) kids c.child_for-at.result = rw c.deref.ensures.value at c.child_for-at.ensures in
+    let chosen : IsChosen (rank c.args.key) kids c.child_for-at.result = chosen_in c.self.inside.kids c.in-Inner.kids c.in-Inner.aside c.deref_mut-aside.result.now c.in-Inner.is c.deref_mut-aside.ensures.value (rank c.args.key) (rank c.self.inside.first) c.self.inside.height c.child_for-at.result c.self.invariant.0 c.self.invariant.3 c.child_for-at.ensures in
+    let l = chosen.within in
+    let fits = good.not_more in
+    omega (arith, l, fits)
+
+pub overflow_add-at-in-Inner-2 : goal.overflow_add-at-in-Inner-2
+overflow_add-at-in-Inner-2 g t c =
+    let kids = c.in-Inner.kids.items in
+    let good : IsInnerNode (rank c.self.inside.first) c.self.inside.height kids (vec_capacity c.in-Inner.kids) = subst (IsNode (rank c.self.inside.first) c.self.inside.height) c.in-Inner.is c.self.invariant.0 in
+    let chosen : IsChosen (rank c.args.key) kids c.child_for-at.result = chosen_in c.self.inside.kids c.in-Inner.kids c.in-Inner.aside c.deref_mut-aside.result.now c.in-Inner.is c.deref_mut-aside.ensures.value (rank c.args.key) (rank c.self.inside.first) c.self.inside.height c.child_for-at.result c.self.invariant.0 c.self.invariant.3 c.child_for-at.ensures in
     let l = chosen.within in
     let fits = good.not_more in
     omega (arith, l, fits)
@@ -366,13 +379,13 @@ pub mark_due-requires : goal.mark_due-requires
 mark_due-requires g t c = λ none.
     let kids = c.in-Inner.kids.items in
     let i = c.child_for-at.result in
-    let chosen : IsChosen (rank c.args.key) kids i = rw c.deref.ensures.value at c.child_for-at.ensures in
+    let chosen : IsChosen (rank c.args.key) kids i = chosen_in c.self.inside.kids c.in-Inner.kids c.in-Inner.aside c.deref_mut-aside.result.now c.in-Inner.is c.deref_mut-aside.ensures.value (rank c.args.key) (rank c.self.inside.first) c.self.inside.height c.child_for-at.result c.self.invariant.0 c.self.invariant.3 c.child_for-at.ensures in
     let l = chosen.within in
     let v = c.insert.new.self in
     let past : i + 1 ≤ length (set kids i v) = let n = length-set kids i v in omega (arith, l, n) in
     let opens = subst (OpensAt (i + 1) (set kids i v)) (sym c.in-Ok.ensures.items) (opens_insert (set kids i v) (i + 1) c.in-Some.right past) in
     subst (AreMarked c.open.new.self) (sym (settled_same c.self.inside.height c.insert-in-Inner.new.self.items c.settle-split.new.kids.items c.settle-split.result c.settle-split.ensures.settles (sym c.is_some-parted.ensures ∙ none)))
-    (c.open.ensures (set kids i v) c.insert-in-Inner.new.self.items opens (c.clear_page.ensures kids (set kids i v) (differ_set kids i v) (subst (AreMarkedUnder c.self.inside.marks) c.in-Inner.is c.self.invariant.2)))
+    (c.open.ensures (set kids i v) c.insert-in-Inner.new.self.items opens (c.clear_page.ensures kids (set kids i v) (differ_set kids i v) (marks_in c.self.inside.kids c.in-Inner.kids c.in-Inner.aside c.deref_mut-aside.result.now c.in-Inner.is c.deref_mut-aside.ensures.value c.self.invariant.2)))
 
 pub returns-clause-change : goal.returns-clause-change
 returns-clause-change g t c = none_so c.settle-split.result (λ low.

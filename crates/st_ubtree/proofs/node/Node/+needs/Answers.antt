@@ -1,4 +1,4 @@
-use Rattle.std.proofs.Common.{[], ◌∷◌, ◌≡◌, ◌-◌, ◌≤◌, length, subst, sym, ap, ◌∙◌, arith, rules, vec_len, vec_capacity}
+use Rattle.std.proofs.Common.{[], ◌∷◌, ◌≡◌, ◌-◌, length, subst, sym, ap, ◌∙◌, arith, rules, vec_len, vec_capacity}
 use Rattle.std.proofs.lemmas.List.Elements.{All-append, All-nil}
 use Rattle.st_key.specs.Key.{rank}
 use Rattle.st_index.specs.Rows.{EntryValue}
@@ -12,6 +12,7 @@ use Rattle.st_ubtree.proofs.Lifting.{that_kid}
 use Rattle.st_ubtree.proofs.Needing.{kid_around, kid_none, kid_rows, kid_splits_by, lower_kid, page_around, splits_alone}
 use Rattle.st_ubtree.proofs.Settling.{held_at}
 use Rattle.st_ubtree.proofs.Splitting.{page}
+use Rattle.st_ubtree.proofs.Firsts.{chosen_in}
 use Rattle.st_ubtree.proofs.node.Node.+needs.Goals as goal
 
 pub needs-needs-requires : goal.needs-needs-requires
@@ -19,7 +20,7 @@ needs-needs-requires g t c κs within =
     let kids = c.in-Inner.kids.items in
     let good : IsInnerNode (rank c.self.inside.first) c.self.inside.height kids (vec_capacity c.in-Inner.kids) = subst (IsNode (rank c.self.inside.first) c.self.inside.height) c.in-Inner.is c.self.invariant.0 in
     let i = c.child_for-at.result in
-    let chosen : IsChosen (rank c.args.key) kids i = rw c.deref-in-Inner.ensures.value at c.child_for-at.ensures in
+    let chosen : IsChosen (rank c.args.key) kids i = chosen_in c.self.inside.kids c.in-Inner.kids c.in-Inner.aside c.deref-in-Inner.result.now c.in-Inner.is c.deref-in-Inner.ensures (rank c.args.key) (rank c.self.inside.first) c.self.inside.height c.child_for-at.result c.self.invariant.0 c.self.invariant.3 c.child_for-at.ensures in
     let l = chosen.within in
     let kid = c.index-kid.result.now in
     let read = c.index-kid.ensures in
@@ -52,7 +53,7 @@ returns-in-Inner-clause-rows g t c =
     let kids = c.in-Inner.kids.items in
     let good : IsInnerNode (rank c.self.inside.first) c.self.inside.height kids (vec_capacity c.in-Inner.kids) = subst (IsNode (rank c.self.inside.first) c.self.inside.height) c.in-Inner.is c.self.invariant.0 in
     let i = c.child_for-at.result in
-    let chosen : IsChosen (rank c.args.key) kids i = rw c.deref-in-Inner.ensures.value at c.child_for-at.ensures in
+    let chosen : IsChosen (rank c.args.key) kids i = chosen_in c.self.inside.kids c.in-Inner.kids c.in-Inner.aside c.deref-in-Inner.result.now c.in-Inner.is c.deref-in-Inner.ensures (rank c.args.key) (rank c.self.inside.first) c.self.inside.height c.child_for-at.result c.self.invariant.0 c.self.invariant.3 c.child_for-at.ensures in
     let l = chosen.within in
     let kid = c.index-kid.result.now in
     let pages : c.args.self.now.pages ≡ pages_of kids = ap (λ (v : NodeValue g.row.A.Denot). v.pages) (sym c.self.view_is) ∙ ap (pages_under (rank c.self.inside.first)) c.in-Inner.is in
@@ -64,7 +65,7 @@ returns-in-Inner-clause-no_rows g t c = λ none.
     let kids = c.in-Inner.kids.items in
     let good : IsInnerNode (rank c.self.inside.first) c.self.inside.height kids (vec_capacity c.in-Inner.kids) = subst (IsNode (rank c.self.inside.first) c.self.inside.height) c.in-Inner.is c.self.invariant.0 in
     let i = c.child_for-at.result in
-    let chosen : IsChosen (rank c.args.key) kids i = rw c.deref-in-Inner.ensures.value at c.child_for-at.ensures in
+    let chosen : IsChosen (rank c.args.key) kids i = chosen_in c.self.inside.kids c.in-Inner.kids c.in-Inner.aside c.deref-in-Inner.result.now c.in-Inner.is c.deref-in-Inner.ensures (rank c.args.key) (rank c.self.inside.first) c.self.inside.height c.child_for-at.result c.self.invariant.0 c.self.invariant.3 c.child_for-at.ensures in
     let l = chosen.within in
     let kid = c.index-kid.result.now in
     let pages : c.args.self.now.pages ≡ pages_of kids = ap (λ (v : NodeValue g.row.A.Denot). v.pages) (sym c.self.view_is) ∙ ap (pages_under (rank c.self.inside.first)) c.in-Inner.is in
@@ -76,7 +77,7 @@ returns-in-Inner-clause-splits g t c =
     let kids = c.in-Inner.kids.items in
     let good : IsInnerNode (rank c.self.inside.first) c.self.inside.height kids (vec_capacity c.in-Inner.kids) = subst (IsNode (rank c.self.inside.first) c.self.inside.height) c.in-Inner.is c.self.invariant.0 in
     let i = c.child_for-at.result in
-    let chosen : IsChosen (rank c.args.key) kids i = rw c.deref-in-Inner.ensures.value at c.child_for-at.ensures in
+    let chosen : IsChosen (rank c.args.key) kids i = chosen_in c.self.inside.kids c.in-Inner.kids c.in-Inner.aside c.deref-in-Inner.result.now c.in-Inner.is c.deref-in-Inner.ensures (rank c.args.key) (rank c.self.inside.first) c.self.inside.height c.child_for-at.result c.self.invariant.0 c.self.invariant.3 c.child_for-at.ensures in
     let l = chosen.within in
     let kid = c.index-kid.result.now in
     let pages : c.args.self.now.pages ≡ pages_of kids = ap (λ (v : NodeValue g.row.A.Denot). v.pages) (sym c.self.view_is) ∙ ap (pages_under (rank c.self.inside.first)) c.in-Inner.is in
@@ -97,17 +98,11 @@ returns-in-Page-clause-rows g t c =
     let pages = ap (λ (v : NodeValue g.row.A.Denot). v.pages) (sym c.self.view_is) ∙ ap (pages_under (rank c.self.inside.first)) c.in-Page.is in
     rw pages (All-append P c.in-Page.entries.items [] (rw c.deref.ensures.value at c.page_needs.ensures.rows) (All-nil P))
 
-pub child_for-at-requires : goal.child_for-at-requires
-child_for-at-requires g t c =
-    let kids = c.in-Inner.kids.items in
-    let good : IsInnerNode (rank c.self.inside.first) c.self.inside.height kids (vec_capacity c.in-Inner.kids) = subst (IsNode (rank c.self.inside.first) c.self.inside.height) c.in-Inner.is c.self.invariant.0 in
-    subst (λ ks. 1 ≤ length ks) (sym c.deref-in-Inner.ensures.value) good.not_less
-
 pub index-kid-requires : goal.index-kid-requires
 index-kid-requires g t c =
     let kids = c.in-Inner.kids.items in
     let i = c.child_for-at.result in
-    let chosen : IsChosen (rank c.args.key) kids i = rw c.deref-in-Inner.ensures.value at c.child_for-at.ensures in
+    let chosen : IsChosen (rank c.args.key) kids i = chosen_in c.self.inside.kids c.in-Inner.kids c.in-Inner.aside c.deref-in-Inner.result.now c.in-Inner.is c.deref-in-Inner.ensures (rank c.args.key) (rank c.self.inside.first) c.self.inside.height c.child_for-at.result c.self.invariant.0 c.self.invariant.3 c.child_for-at.ensures in
     held_at c.in-Inner.kids i chosen.within
 
 pub page_needs-requires : goal.page_needs-requires

@@ -15,7 +15,7 @@ use Rattle.std.specs.Prelude.{Some}
 use Rattle.st_index.specs.Rows.{Name}
 use Rattle.st_ubtree.specs.Pages.{rows_of_pages}
 use Rattle.st_ubtree.specs.inner.Marks.{AreMarked}
-use Rattle.st_ubtree.specs.inner.Nodes.{AreMarkedUnder, rows_under}
+use Rattle.st_ubtree.specs.inner.Nodes.{rows_under}
 use Rattle.std.proofs.Math.ListN.{set}
 use Rattle.st_ubtree.specs.inner.Sums.{Sums}
 use Rattle.st_ubtree.proofs.Keeping.{kept_taken}
@@ -23,6 +23,8 @@ use Rattle.st_ubtree.proofs.Marking.{changed_kid, page_changed}
 use Rattle.st_ubtree.proofs.Placing.{differ_set}
 use Rattle.st_ubtree.proofs.Splitting.{one_rows}
 use Rattle.st_ubtree.proofs.node.Node.+remove.Goals as goal
+use Rattle.st_ubtree.proofs.Firsts.{chosen_in, firsts_in, firsts_set, marks_in}
+use Rattle.st_ubtree.specs.inner.Firsts.{AreFirsts}
 use Rattle.st_ubtree.proofs.node.Node.+remove.Goals.{in-Page, in-Inner+in_ok-row-in-Inner}
 
 pub returns-in_err-row-in-Inner-clause-absent : goal.returns-in_err-row-in-Inner-clause-absent
@@ -30,7 +32,7 @@ returns-in_err-row-in-Inner-clause-absent g t c =
     let kids = c.in-Inner.kids.items in
     let good : IsInnerNode (rank c.self.inside.first) c.self.inside.height kids (vec_capacity c.in-Inner.kids) = subst (IsNode (rank c.self.inside.first) c.self.inside.height) c.in-Inner.is c.self.invariant.0 in
     let i = c.child_for-at.result in
-    let chosen : IsChosen (rank c.args.key) kids i = rw c.deref.ensures.value at c.child_for-at.ensures in
+    let chosen : IsChosen (rank c.args.key) kids i = chosen_in c.self.inside.kids c.in-Inner.kids c.in-Inner.aside c.deref_mut-aside.result.now c.in-Inner.is c.deref_mut-aside.ensures.value (rank c.args.key) (rank c.self.inside.first) c.self.inside.height c.child_for-at.result c.self.invariant.0 c.self.invariant.3 c.child_for-at.ensures in
     let l = chosen.within in
     let kid = c.index_mut-kid.result.now in
     let read = c.index_mut-kid.ensures.value in
@@ -42,7 +44,7 @@ mend-requires-clause-worn g t c =
     let kids = c.in-Inner.kids.items in
     let good : IsInnerNode (rank c.self.inside.first) c.self.inside.height kids (vec_capacity c.in-Inner.kids) = subst (IsNode (rank c.self.inside.first) c.self.inside.height) c.in-Inner.is c.self.invariant.0 in
     let i = c.child_for-at.result in
-    let chosen : IsChosen (rank c.args.key) kids i = rw c.deref.ensures.value at c.child_for-at.ensures in
+    let chosen : IsChosen (rank c.args.key) kids i = chosen_in c.self.inside.kids c.in-Inner.kids c.in-Inner.aside c.deref_mut-aside.result.now c.in-Inner.is c.deref_mut-aside.ensures.value (rank c.args.key) (rank c.self.inside.first) c.self.inside.height c.child_for-at.result c.self.invariant.0 c.self.invariant.3 c.child_for-at.ensures in
     let l = chosen.within in
     let kid = c.index_mut-kid.result.now in
     let read = c.index_mut-kid.ensures.value in
@@ -65,7 +67,7 @@ invariant_of-self-2 g t c = (
         let kids = w.in-Inner.kids.items in
         let good : IsInnerNode (rank c.self.inside.first) c.self.inside.height kids (vec_capacity w.in-Inner.kids) = subst (IsNode (rank c.self.inside.first) c.self.inside.height) w.in-Inner.is c.self.invariant.0 in
         let i = w.child_for-at.result in
-        let chosen : IsChosen (rank c.args.key) kids i = rw w.deref.ensures.value at w.child_for-at.ensures in
+        let chosen : IsChosen (rank c.args.key) kids i = chosen_in c.self.inside.kids w.in-Inner.kids w.in-Inner.aside w.deref_mut-aside.result.now w.in-Inner.is w.deref_mut-aside.ensures.value (rank c.args.key) (rank c.self.inside.first) c.self.inside.height w.child_for-at.result c.self.invariant.0 c.self.invariant.3 w.child_for-at.ensures in
         let l = chosen.within in
         let kid = w.index_mut-kid.result.now in
         let read = w.index_mut-kid.ensures.value in
@@ -84,14 +86,21 @@ invariant_of-self-2 g t c = (
     | in-Inner+in_ok-row-in-Inner w ↦
         let kids = w.in-Inner.kids.items in
         let i = w.child_for-at.result in
-        let chosen : IsChosen (rank c.args.key) kids i = rw w.deref.ensures.value at w.child_for-at.ensures in
+        let chosen : IsChosen (rank c.args.key) kids i = chosen_in c.self.inside.kids w.in-Inner.kids w.in-Inner.aside w.deref_mut-aside.result.now w.in-Inner.is w.deref_mut-aside.ensures.value (rank c.args.key) (rank c.self.inside.first) c.self.inside.height w.child_for-at.result c.self.invariant.0 c.self.invariant.3 w.child_for-at.ensures in
         let l = chosen.within in
         let kid = w.index_mut-kid.result.now in
         let read = w.index_mut-kid.ensures.value in
         let v = w.remove.new.self in
         let moved = changed_kid kids i kid v w.index.result.now w.remove.new.change l w.index.ensures w.in_ok-row-in-Inner.ensures.some.height w.in_ok-row-in-Inner.ensures.change in
-        let followed = w.mark_change.ensures kids (set kids i v) kid (l, read) moved.0 (differ_set kids i v) moved.1 (subst (AreMarkedUnder c.self.inside.marks) w.in-Inner.is c.self.invariant.2) in
+        let followed = w.mark_change.ensures kids (set kids i v) kid (l, read) moved.0 (differ_set kids i v) moved.1 (marks_in c.self.inside.kids w.in-Inner.kids w.in-Inner.aside w.deref_mut-aside.result.now w.in-Inner.is w.deref_mut-aside.ensures.value c.self.invariant.2) in
         rw w.self-inside-is (w.mark_if.ensures (w.mend.ensures.marks followed))
+  ],
+  elim c.match-self.branch [
+    | in-Page w ↦ rw w.self-inside-is tt
+    | in-Inner+in_ok-row-in-Inner w ↦
+        let kids = w.in-Inner.kids.items in
+        let i = w.child_for-at.result in
+        rw w.self-inside-is (w.mend.ensures.firsts (firsts_set w.deref_mut-aside.result.now.firsts kids i w.index_mut-kid.result.now w.remove.new.self w.index_mut-kid.ensures.value w.in_ok-row-in-Inner.ensures.some.first (firsts_in c.self.inside.kids w.in-Inner.kids w.in-Inner.aside w.deref_mut-aside.result.now w.in-Inner.is w.deref_mut-aside.ensures.value c.self.invariant.3)))
   ],
 )
 
@@ -112,7 +121,7 @@ returns-clause-some g t c =
           let kids = w.in-Inner.kids.items in
           let good : IsInnerNode (rank c.self.inside.first) c.self.inside.height kids (vec_capacity w.in-Inner.kids) = subst (IsNode (rank c.self.inside.first) c.self.inside.height) w.in-Inner.is c.self.invariant.0 in
           let i = w.child_for-at.result in
-          let chosen : IsChosen (rank c.args.key) kids i = rw w.deref.ensures.value at w.child_for-at.ensures in
+          let chosen : IsChosen (rank c.args.key) kids i = chosen_in c.self.inside.kids w.in-Inner.kids w.in-Inner.aside w.deref_mut-aside.result.now w.in-Inner.is w.deref_mut-aside.ensures.value (rank c.args.key) (rank c.self.inside.first) c.self.inside.height w.child_for-at.result c.self.invariant.0 c.self.invariant.3 w.child_for-at.ensures in
           let l = chosen.within in
           let kid = w.index_mut-kid.result.now in
           let read = w.index_mut-kid.ensures.value in
@@ -151,17 +160,11 @@ returns-clause-none g t c =
       | in-Inner+in_ok-row-in-Inner w ↦ rw w.taken-is tt
     ]
 
-pub child_for-at-requires : goal.child_for-at-requires
-child_for-at-requires g t c =
-    let kids = c.in-Inner.kids.items in
-    let good : IsInnerNode (rank c.self.inside.first) c.self.inside.height kids (vec_capacity c.in-Inner.kids) = subst (IsNode (rank c.self.inside.first) c.self.inside.height) c.in-Inner.is c.self.invariant.0 in
-    subst (λ ks. 1 ≤ length ks) (sym c.deref.ensures.value) good.not_less
-
 pub index_mut-kid-requires : goal.index_mut-kid-requires
 index_mut-kid-requires g t c =
     let kids = c.in-Inner.kids.items in
     let i = c.child_for-at.result in
-    let chosen : IsChosen (rank c.args.key) kids i = rw c.deref.ensures.value at c.child_for-at.ensures in
+    let chosen : IsChosen (rank c.args.key) kids i = chosen_in c.self.inside.kids c.in-Inner.kids c.in-Inner.aside c.deref_mut-aside.result.now c.in-Inner.is c.deref_mut-aside.ensures.value (rank c.args.key) (rank c.self.inside.first) c.self.inside.height c.child_for-at.result c.self.invariant.0 c.self.invariant.3 c.child_for-at.ensures in
     held_at c.in-Inner.kids i chosen.within
 
 pub remove-requires : goal.remove-requires
@@ -169,7 +172,7 @@ remove-requires g t c κs within =
     let kids = c.in-Inner.kids.items in
     let good : IsInnerNode (rank c.self.inside.first) c.self.inside.height kids (vec_capacity c.in-Inner.kids) = subst (IsNode (rank c.self.inside.first) c.self.inside.height) c.in-Inner.is c.self.invariant.0 in
     let i = c.child_for-at.result in
-    let chosen : IsChosen (rank c.args.key) kids i = rw c.deref.ensures.value at c.child_for-at.ensures in
+    let chosen : IsChosen (rank c.args.key) kids i = chosen_in c.self.inside.kids c.in-Inner.kids c.in-Inner.aside c.deref_mut-aside.result.now c.in-Inner.is c.deref_mut-aside.ensures.value (rank c.args.key) (rank c.self.inside.first) c.self.inside.height c.child_for-at.result c.self.invariant.0 c.self.invariant.3 c.child_for-at.ensures in
     let l = chosen.within in
     let kid = c.index_mut-kid.result.now in
     let read = c.index_mut-kid.ensures.value in
@@ -182,7 +185,7 @@ pub returns-in_err-row-in-Inner-clause-none : goal.returns-in_err-row-in-Inner-c
 returns-in_err-row-in-Inner-clause-none g t c =
     let kids = c.in-Inner.kids.items in
     let i = c.child_for-at.result in
-    let chosen : IsChosen (rank c.args.key) kids i = rw c.deref.ensures.value at c.child_for-at.ensures in
+    let chosen : IsChosen (rank c.args.key) kids i = chosen_in c.self.inside.kids c.in-Inner.kids c.in-Inner.aside c.deref_mut-aside.result.now c.in-Inner.is c.deref_mut-aside.ensures.value (rank c.args.key) (rank c.self.inside.first) c.self.inside.height c.child_for-at.result c.self.invariant.0 c.self.invariant.3 c.child_for-at.ensures in
     let l = chosen.within in
     let kid = c.index_mut-kid.result.now in
     let read = c.index_mut-kid.ensures.value in
@@ -201,11 +204,11 @@ invariant_of-self g t c =
     let kids = c.in-Inner.kids.items in
     let good : IsInnerNode (rank c.self.inside.first) c.self.inside.height kids (vec_capacity c.in-Inner.kids) = subst (IsNode (rank c.self.inside.first) c.self.inside.height) c.in-Inner.is c.self.invariant.0 in
     let i = c.child_for-at.result in
-    let chosen : IsChosen (rank c.args.key) kids i = rw c.deref.ensures.value at c.child_for-at.ensures in
+    let chosen : IsChosen (rank c.args.key) kids i = chosen_in c.self.inside.kids c.in-Inner.kids c.in-Inner.aside c.deref_mut-aside.result.now c.in-Inner.is c.deref_mut-aside.ensures.value (rank c.args.key) (rank c.self.inside.first) c.self.inside.height c.child_for-at.result c.self.invariant.0 c.self.invariant.3 c.child_for-at.ensures in
     let l = chosen.within in
     let kid = c.index_mut-kid.result.now in
     let read = c.index_mut-kid.ensures.value in
-    (subst (λ ks. IsInnerNode (rank c.self.inside.first) c.self.inside.height ks (vec_capacity c.in-Inner.kids)) (sym (set_read kids i kid c.remove.new.self l read c.in_err-row-in-Inner.ensures.none)) good, subst (λ ks. Sums c.self.inside.sum (rows_of_pages (pages_of ks))) (sym (set_read kids i kid c.remove.new.self l read c.in_err-row-in-Inner.ensures.none)) (subst (λ k. Sums c.self.inside.sum (rows_under k)) c.in-Inner.is c.self.invariant.1), subst (AreMarked c.self.inside.marks) (sym (set_read kids i kid c.remove.new.self l read c.in_err-row-in-Inner.ensures.none)) (subst (AreMarkedUnder c.self.inside.marks) c.in-Inner.is c.self.invariant.2))
+    (subst (λ ks. IsInnerNode (rank c.self.inside.first) c.self.inside.height ks (vec_capacity c.in-Inner.kids)) (sym (set_read kids i kid c.remove.new.self l read c.in_err-row-in-Inner.ensures.none)) good, subst (λ ks. Sums c.self.inside.sum (rows_of_pages (pages_of ks))) (sym (set_read kids i kid c.remove.new.self l read c.in_err-row-in-Inner.ensures.none)) (subst (λ k. Sums c.self.inside.sum (rows_under k)) c.in-Inner.is c.self.invariant.1), subst (AreMarked c.deref_mut-aside.result.now.marks) (sym (set_read kids i kid c.remove.new.self l read c.in_err-row-in-Inner.ensures.none)) (marks_in c.self.inside.kids c.in-Inner.kids c.in-Inner.aside c.deref_mut-aside.result.now c.in-Inner.is c.deref_mut-aside.ensures.value c.self.invariant.2), subst (AreFirsts c.deref_mut-aside.result.now.firsts) (sym (set_read kids i kid c.remove.new.self l read c.in_err-row-in-Inner.ensures.none)) (firsts_in c.self.inside.kids c.in-Inner.kids c.in-Inner.aside c.deref_mut-aside.result.now c.in-Inner.is c.deref_mut-aside.ensures.value c.self.invariant.3))
 
 pub mend-requires-clause-two : goal.mend-requires-clause-two
 mend-requires-clause-two g t c =
@@ -256,7 +259,7 @@ renew_if-requires g t c = λ no.
           let kids = w.in-Inner.kids.items in
           let good : IsInnerNode (rank c.self.inside.first) c.self.inside.height kids (vec_capacity w.in-Inner.kids) = subst (IsNode (rank c.self.inside.first) c.self.inside.height) w.in-Inner.is c.self.invariant.0 in
           let i = w.child_for-at.result in
-          let chosen : IsChosen (rank c.args.key) kids i = rw w.deref.ensures.value at w.child_for-at.ensures in
+          let chosen : IsChosen (rank c.args.key) kids i = chosen_in c.self.inside.kids w.in-Inner.kids w.in-Inner.aside w.deref_mut-aside.result.now w.in-Inner.is w.deref_mut-aside.ensures.value (rank c.args.key) (rank c.self.inside.first) c.self.inside.height w.child_for-at.result c.self.invariant.0 c.self.invariant.3 w.child_for-at.ensures in
           let l = chosen.within in
           let kid = w.index_mut-kid.result.now in
           let read = w.index_mut-kid.ensures.value in

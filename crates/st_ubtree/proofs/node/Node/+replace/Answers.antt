@@ -1,4 +1,4 @@
-use Rattle.std.proofs.Common.{◌≡◌, ◌≤◌, ◌∷◌, ◌++◌, [], length, length-set, subst, sym, ap, ◌∙◌, arith, rules, vec_capacity}
+use Rattle.std.proofs.Common.{◌≡◌, ◌∷◌, ◌++◌, [], length, length-set, subst, sym, ap, ◌∙◌, arith, rules, vec_capacity}
 use Rattle.st_key.specs.Key.{rank}
 use Rattle.st_index.specs.Rows.{name_of, rows_of}
 use Rattle.st_ubtree.specs.inner.Growing.{IsChosen}
@@ -16,12 +16,13 @@ use Rattle.st_ubtree.proofs.Trading.{kept_inner, kid_trades, kids_keep, kids_lac
 use Rattle.std.proofs.Math.ListN.{set}
 use Rattle.st_ubtree.specs.Pages.{rows_of_pages}
 use Rattle.st_ubtree.specs.inner.Marks.{HasAt}
-use Rattle.st_ubtree.specs.inner.Nodes.{AreMarkedUnder, rows_under}
+use Rattle.st_ubtree.specs.inner.Nodes.{rows_under}
 use Rattle.st_ubtree.specs.inner.Sums.{Sums}
 use Rattle.st_ubtree.proofs.Keeping.{kept_traded, kid_stays_so, page_stays}
 use Rattle.st_ubtree.proofs.Marking.{ok_so, ok_then}
 use Rattle.st_ubtree.proofs.Placing.{differ_set}
 use Rattle.st_ubtree.proofs.Splitting.{one_rows}
+use Rattle.st_ubtree.proofs.Firsts.{chosen_in, firsts_in, firsts_set, marks_in}
 use Rattle.st_ubtree.proofs.node.Node.+replace.Goals as goal
 
 pub invariant_of-self : goal.invariant_of-self
@@ -45,14 +46,15 @@ invariant_of-self g t c = (
       (subst (Sums c.widen.new.self) (one_rows first new)
       (kept_traded c.widen.new.self (rank c.args.key) c.args.row (page_node first height es) (page_node first height new) c.swap.result trades named stays c.widen.ensures.point (subst (Sums c.widen.new.self) (sym (one_rows first es)) sums)))),
   tt,
+  tt,
 )
 
-pub invariant_of-self-in-Inner : goal.invariant_of-self-in-Inner
-invariant_of-self-in-Inner g t c = (
+pub invariant_of-self-2 : goal.invariant_of-self-2
+invariant_of-self-2 g t c = (
   (let kids = c.in-Inner.kids.items in
       let good : IsInnerNode (rank c.self.inside.first) c.self.inside.height kids (vec_capacity c.in-Inner.kids) = subst (IsNode (rank c.self.inside.first) c.self.inside.height) c.in-Inner.is c.self.invariant.0 in
       let i = c.child_for-at.result in
-      let chosen : IsChosen (rank c.args.key) kids i = rw c.deref.ensures.value at c.child_for-at.ensures in
+      let chosen : IsChosen (rank c.args.key) kids i = chosen_in c.self.inside.kids c.in-Inner.kids c.in-Inner.aside c.deref_mut-aside.result.now c.in-Inner.is c.deref_mut-aside.ensures.value (rank c.args.key) (rank c.self.inside.first) c.self.inside.height c.child_for-at.result c.self.invariant.0 c.self.invariant.3 c.child_for-at.ensures in
       let l = chosen.within in
       let kid = c.index_mut-kid.result.now in
       let read = c.index_mut-kid.ensures.value in
@@ -62,7 +64,7 @@ invariant_of-self-in-Inner g t c = (
       let kids = c.in-Inner.kids.items in
       let good : IsInnerNode (rank c.self.inside.first) c.self.inside.height kids (vec_capacity c.in-Inner.kids) = subst (IsNode (rank c.self.inside.first) c.self.inside.height) c.in-Inner.is c.self.invariant.0 in
       let i = c.child_for-at.result in
-      let chosen : IsChosen (rank c.args.key) kids i = rw c.deref.ensures.value at c.child_for-at.ensures in
+      let chosen : IsChosen (rank c.args.key) kids i = chosen_in c.self.inside.kids c.in-Inner.kids c.in-Inner.aside c.deref_mut-aside.result.now c.in-Inner.is c.deref_mut-aside.ensures.value (rank c.args.key) (rank c.self.inside.first) c.self.inside.height c.child_for-at.result c.self.invariant.0 c.self.invariant.3 c.child_for-at.ensures in
       let l = chosen.within in
       let kid = c.index_mut-kid.result.now in
       let read = c.index_mut-kid.ensures.value in
@@ -72,7 +74,7 @@ invariant_of-self-in-Inner g t c = (
       (kept_traded c.widen.new.self (rank c.args.key) c.args.row (inner_node first height kids) (inner_node first height (set kids i c.replace-out.new.self)) c.replace-out.result trades c.replace-out.ensures.named stays c.widen.ensures.point sums)),
   (let kids = c.in-Inner.kids.items in
       let i = c.child_for-at.result in
-      let chosen : IsChosen (rank c.args.key) kids i = rw c.deref.ensures.value at c.child_for-at.ensures in
+      let chosen : IsChosen (rank c.args.key) kids i = chosen_in c.self.inside.kids c.in-Inner.kids c.in-Inner.aside c.deref_mut-aside.result.now c.in-Inner.is c.deref_mut-aside.ensures.value (rank c.args.key) (rank c.self.inside.first) c.self.inside.height c.child_for-at.result c.self.invariant.0 c.self.invariant.3 c.child_for-at.ensures in
       let l = chosen.within in
       let kid = c.index_mut-kid.result.now in
       let read = c.index_mut-kid.ensures.value in
@@ -82,7 +84,8 @@ invariant_of-self-in-Inner g t c = (
       let next : (kid.height ≡ 0 → IsChange c.replace-out.new.change (entries_of_pages kid.pages) (entries_of_pages v.pages)) → v.height ≡ 0
       → IsChange c.replace-out.new.change (entries_of_pages kid.pages) (entries_of_pages v.pages) = λ h none. h (sym same ∙ none) in
       let change = ok_then c.replace-out.result next c.replace-out.ensures.change in
-      c.mark_swapped.ensures kids kid v (l, read) there (differ_set kids i v) change (subst (AreMarkedUnder c.self.inside.marks) c.in-Inner.is c.self.invariant.2)),
+      c.mark_swapped.ensures kids kid v (l, read) there (differ_set kids i v) change (marks_in c.self.inside.kids c.in-Inner.kids c.in-Inner.aside c.deref_mut-aside.result.now c.in-Inner.is c.deref_mut-aside.ensures.value c.self.invariant.2)),
+  firsts_set c.deref_mut-aside.result.now.firsts c.in-Inner.kids.items c.child_for-at.result c.index_mut-kid.result.now c.replace-out.new.self c.index_mut-kid.ensures.value c.replace-out.ensures.keeps.first (firsts_in c.self.inside.kids c.in-Inner.kids c.in-Inner.aside c.deref_mut-aside.result.now c.in-Inner.is c.deref_mut-aside.ensures.value c.self.invariant.3),
 )
 
 pub returns-in-Page-clause-ok : goal.returns-in-Page-clause-ok
@@ -91,12 +94,12 @@ returns-in-Page-clause-ok g t c =
     let pages : c.args.self.now.pages ≡ page (rank c.self.inside.first) es ∷ [] = ap (λ (v : NodeValue g.row.A.Denot). v.pages) (sym c.self.view_is) ∙ ap (pages_under (rank c.self.inside.first)) c.in-Page.is in
     rw pages (page_trades (rank c.args.key) c.args.row (rank c.self.inside.first) es c.swap.new.entries.items c.swap.result c.swap.ensures.ok (rw (← c.requires) at c.swap.ensures.placed) (rw (← c.requires) at c.swap.ensures.rising))
 
-pub returns-in-Inner-clause-ok : goal.returns-in-Inner-clause-ok
-returns-in-Inner-clause-ok g t c =
+pub returns-clause-ok : goal.returns-clause-ok
+returns-clause-ok g t c =
     let kids = c.in-Inner.kids.items in
     let good : IsInnerNode (rank c.self.inside.first) c.self.inside.height kids (vec_capacity c.in-Inner.kids) = subst (IsNode (rank c.self.inside.first) c.self.inside.height) c.in-Inner.is c.self.invariant.0 in
     let i = c.child_for-at.result in
-    let chosen : IsChosen (rank c.args.key) kids i = rw c.deref.ensures.value at c.child_for-at.ensures in
+    let chosen : IsChosen (rank c.args.key) kids i = chosen_in c.self.inside.kids c.in-Inner.kids c.in-Inner.aside c.deref_mut-aside.result.now c.in-Inner.is c.deref_mut-aside.ensures.value (rank c.args.key) (rank c.self.inside.first) c.self.inside.height c.child_for-at.result c.self.invariant.0 c.self.invariant.3 c.child_for-at.ensures in
     let l = chosen.within in
     let kid = c.index_mut-kid.result.now in
     let read = c.index_mut-kid.ensures.value in
@@ -107,8 +110,8 @@ pub returns-in-Page-clause-named : goal.returns-in-Page-clause-named
 returns-in-Page-clause-named g t c =
     (page_named c.args.row (rows_of c.in-Page.entries.items) (rows_of c.swap.new.entries.items) c.swap.result c.swap.ensures.ok)
 
-pub returns-in-Inner-clause-named : goal.returns-in-Inner-clause-named
-returns-in-Inner-clause-named g t c =
+pub returns-clause-named : goal.returns-clause-named
+returns-clause-named g t c =
     c.replace-out.ensures.named
 
 pub returns-in-Page-clause-keeps : goal.returns-in-Page-clause-keeps
@@ -121,12 +124,12 @@ returns-in-Page-clause-keeps g t c =
     ap (node_value (rank c.self.inside.first) c.self.inside.height) (sym c.in-Page.is) ∙ c.self.view_is in
     rw (← old) (page_keeps (rank c.self.inside.first) c.self.inside.height es c.swap.new.entries.items same)
 
-pub returns-in-Inner-clause-keeps : goal.returns-in-Inner-clause-keeps
-returns-in-Inner-clause-keeps g t c =
+pub returns-clause-keeps : goal.returns-clause-keeps
+returns-clause-keeps g t c =
     let kids = c.in-Inner.kids.items in
     let good : IsInnerNode (rank c.self.inside.first) c.self.inside.height kids (vec_capacity c.in-Inner.kids) = subst (IsNode (rank c.self.inside.first) c.self.inside.height) c.in-Inner.is c.self.invariant.0 in
     let i = c.child_for-at.result in
-    let chosen : IsChosen (rank c.args.key) kids i = rw c.deref.ensures.value at c.child_for-at.ensures in
+    let chosen : IsChosen (rank c.args.key) kids i = chosen_in c.self.inside.kids c.in-Inner.kids c.in-Inner.aside c.deref_mut-aside.result.now c.in-Inner.is c.deref_mut-aside.ensures.value (rank c.args.key) (rank c.self.inside.first) c.self.inside.height c.child_for-at.result c.self.invariant.0 c.self.invariant.3 c.child_for-at.ensures in
     let l = chosen.within in
     let kid = c.index_mut-kid.result.now in
     let read = c.index_mut-kid.ensures.value in
@@ -140,29 +143,23 @@ returns-in-Page-clause-absent g t c =
     let pages : c.args.self.now.pages ≡ page (rank c.self.inside.first) es ∷ [] = ap (λ (v : NodeValue g.row.A.Denot). v.pages) (sym c.self.view_is) ∙ ap (pages_under (rank c.self.inside.first)) c.in-Page.is in
     rw pages (page_lacks (rank c.args.key) (name_of c.args.row) (rank c.self.inside.first) es c.swap.result (rw (← c.requires) at c.swap.ensures.absent))
 
-pub returns-in-Inner-clause-absent : goal.returns-in-Inner-clause-absent
-returns-in-Inner-clause-absent g t c =
+pub returns-clause-absent : goal.returns-clause-absent
+returns-clause-absent g t c =
     let kids = c.in-Inner.kids.items in
     let good : IsInnerNode (rank c.self.inside.first) c.self.inside.height kids (vec_capacity c.in-Inner.kids) = subst (IsNode (rank c.self.inside.first) c.self.inside.height) c.in-Inner.is c.self.invariant.0 in
     let i = c.child_for-at.result in
-    let chosen : IsChosen (rank c.args.key) kids i = rw c.deref.ensures.value at c.child_for-at.ensures in
+    let chosen : IsChosen (rank c.args.key) kids i = chosen_in c.self.inside.kids c.in-Inner.kids c.in-Inner.aside c.deref_mut-aside.result.now c.in-Inner.is c.deref_mut-aside.ensures.value (rank c.args.key) (rank c.self.inside.first) c.self.inside.height c.child_for-at.result c.self.invariant.0 c.self.invariant.3 c.child_for-at.ensures in
     let l = chosen.within in
     let kid = c.index_mut-kid.result.now in
     let read = c.index_mut-kid.ensures.value in
     let pages : c.args.self.now.pages ≡ pages_of kids = ap (λ (v : NodeValue g.row.A.Denot). v.pages) (sym c.self.view_is) ∙ ap (pages_under (rank c.self.inside.first)) c.in-Inner.is in
     rw pages (kids_lack (rank c.args.key) good.below kids i kid c.replace-out.new.self l read good.each chosen.upto (name_of c.args.row) c.replace-out.result chosen.found chosen.is c.replace-out.ensures.absent)
 
-pub child_for-at-requires : goal.child_for-at-requires
-child_for-at-requires g t c =
-    let kids = c.in-Inner.kids.items in
-    let good : IsInnerNode (rank c.self.inside.first) c.self.inside.height kids (vec_capacity c.in-Inner.kids) = subst (IsNode (rank c.self.inside.first) c.self.inside.height) c.in-Inner.is c.self.invariant.0 in
-    subst (λ ks. 1 ≤ length ks) (sym c.deref.ensures.value) good.not_less
-
 pub index_mut-kid-requires : goal.index_mut-kid-requires
 index_mut-kid-requires g t c =
     let kids = c.in-Inner.kids.items in
     let i = c.child_for-at.result in
-    let chosen : IsChosen (rank c.args.key) kids i = rw c.deref.ensures.value at c.child_for-at.ensures in
+    let chosen : IsChosen (rank c.args.key) kids i = chosen_in c.self.inside.kids c.in-Inner.kids c.in-Inner.aside c.deref_mut-aside.result.now c.in-Inner.is c.deref_mut-aside.ensures.value (rank c.args.key) (rank c.self.inside.first) c.self.inside.height c.child_for-at.result c.self.invariant.0 c.self.invariant.3 c.child_for-at.ensures in
     held_at c.in-Inner.kids i chosen.within
 
 pub returns-in-Page-clause-err : goal.returns-in-Page-clause-err
@@ -171,11 +168,11 @@ returns-in-Page-clause-err g t c =
     let pages : c.args.self.now.pages ≡ page (rank c.self.inside.first) es ∷ [] = ap (λ (v : NodeValue g.row.A.Denot). v.pages) (sym c.self.view_is) ∙ ap (pages_under (rank c.self.inside.first)) c.in-Page.is in
     rw pages (page_stays (rank c.self.inside.first) es c.swap.new.entries.items c.swap.result c.swap.ensures.err)
 
-pub returns-in-Inner-clause-err : goal.returns-in-Inner-clause-err
-returns-in-Inner-clause-err g t c =
+pub returns-clause-err : goal.returns-clause-err
+returns-clause-err g t c =
     let kids = c.in-Inner.kids.items in
     let i = c.child_for-at.result in
-    let chosen : IsChosen (rank c.args.key) kids i = rw c.deref.ensures.value at c.child_for-at.ensures in
+    let chosen : IsChosen (rank c.args.key) kids i = chosen_in c.self.inside.kids c.in-Inner.kids c.in-Inner.aside c.deref_mut-aside.result.now c.in-Inner.is c.deref_mut-aside.ensures.value (rank c.args.key) (rank c.self.inside.first) c.self.inside.height c.child_for-at.result c.self.invariant.0 c.self.invariant.3 c.child_for-at.ensures in
     let kid = c.index_mut-kid.result.now in
     let pages : c.args.self.now.pages ≡ pages_of kids = ap (λ (v : NodeValue g.row.A.Denot). v.pages) (sym c.self.view_is) ∙ ap (pages_under (rank c.self.inside.first)) c.in-Inner.is in
     rw pages (kid_stays_so kids i kid c.replace-out.new.self chosen.within c.index_mut-kid.ensures.value c.replace-out.result c.replace-out.ensures.err)
@@ -185,7 +182,7 @@ replace-out-requires g t c κs within =
     let kids = c.in-Inner.kids.items in
     let good : IsInnerNode (rank c.self.inside.first) c.self.inside.height kids (vec_capacity c.in-Inner.kids) = subst (IsNode (rank c.self.inside.first) c.self.inside.height) c.in-Inner.is c.self.invariant.0 in
     let i = c.child_for-at.result in
-    let chosen : IsChosen (rank c.args.key) kids i = rw c.deref.ensures.value at c.child_for-at.ensures in
+    let chosen : IsChosen (rank c.args.key) kids i = chosen_in c.self.inside.kids c.in-Inner.kids c.in-Inner.aside c.deref_mut-aside.result.now c.in-Inner.is c.deref_mut-aside.ensures.value (rank c.args.key) (rank c.self.inside.first) c.self.inside.height c.child_for-at.result c.self.invariant.0 c.self.invariant.3 c.child_for-at.ensures in
     let l = chosen.within in
     let kid = c.index_mut-kid.result.now in
     let is = that_kid good.below kids i kid l c.index_mut-kid.ensures.value good.each in
@@ -201,8 +198,8 @@ returns-in-Page-clause-change g t c =
     ok_then c.swap.result
     (λ (h : IsChange c.swap.new.change es new) (low : c.args.self.now.height ≡ 0). subst (λ xs. IsChange c.swap.new.change xs (new ++ [])) (sym before) (subst (IsChange c.swap.new.change es) (sym (append-nil new)) h)) c.swap.ensures.change
 
-pub returns-in-Inner-clause-change : goal.returns-in-Inner-clause-change
-returns-in-Inner-clause-change g t c = ok_so c.replace-out.result (λ low.
+pub returns-clause-change : goal.returns-clause-change
+returns-clause-change g t c = ok_so c.replace-out.result (λ low.
     let good : IsInnerNode (rank c.self.inside.first) c.self.inside.height c.in-Inner.kids.items (vec_capacity c.in-Inner.kids) = subst (IsNode (rank c.self.inside.first) c.self.inside.height) c.in-Inner.is c.self.invariant.0 in
     let tall : c.args.self.now.height ≡ c.self.inside.height = ap (λ (v : NodeValue g.row.A.Denot). v.height) (sym c.self.view_is) in
     let higher = good.higher in

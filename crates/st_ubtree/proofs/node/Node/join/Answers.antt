@@ -1,4 +1,4 @@
-use Rattle.std.proofs.Common.{◌≡◌, ◌∷◌, [], length, subst, sym, ap, ◌∙◌, arith, vec_capacity}
+use Rattle.std.proofs.Common.{◌≡◌, ◌≤◌, ◌∷◌, [], length, subst, sym, ap, ◌∙◌, arith, vec_capacity}
 use Rattle.st_key.specs.Key.{rank}
 use Rattle.st_ubtree.specs.Pages.{NodeValue}
 use Rattle.st_ubtree.specs.inner.Kids.{pages_of}
@@ -6,8 +6,9 @@ use Rattle.st_ubtree.specs.inner.Nodes.{IsNode, IsInnerNode, IsPageNode, inner_n
 use Rattle.st_ubtree.specs.Pages.{page_node}
 use Rattle.st_ubtree.specs.inner.Shrinking.{KidsJoin}
 use Rattle.st_ubtree.proofs.Joining.{both_kids, join_of_kids, join_of_pages, joined_each, joined_head, held_both, held_worn}
-use Rattle.st_ubtree.proofs.Keeping.{marked_under}
 use Rattle.st_ubtree.proofs.Splitting.{page}
+use Rattle.st_ubtree.specs.declared.node.aside.Aside.{Aside}
+use Rattle.st_ubtree.specs.inner.Firsts.{AreFirsts, AreFirstsUnder}
 use Rattle.st_ubtree.proofs.node.Node.join.Goals as goal
 use Rattle.st_ubtree.proofs.node.Node.join.Goals.{in-Page-Page, in-Inner-Inner}
 
@@ -46,8 +47,25 @@ invariant_of-self g c =
             })
       ],
       c.renew.ensures,
-      marked_under c.clear.new.self _ c.clear.ensures,
+      elim c.match-self.branch [
+        | in-Page-Page w ↦ rw w.self-inside-is tt
+        | in-Inner-Inner w ↦ rw w.self-inside-is w.join_kids-rest.ensures.marks
+      ],
+      elim c.match-self.branch [
+        | in-Page-Page w ↦ rw w.self-inside-is tt
+        | in-Inner-Inner w ↦ rw w.self-inside-is w.join_kids-rest.ensures.firsts
+      ],
     )
+
+pub join_kids-rest-requires-clause-firsts_room : goal.join_kids-rest-requires-clause-firsts_room
+join_kids-rest-requires-clause-firsts_room g c =
+    let firsts : AreFirsts c.in-Inner-Inner.aside.value.firsts c.in-Inner-Inner.left.items = subst AreFirstsUnder c.in-Inner-Inner.is-0 c.self.invariant.3 in
+    subst (λ (a : Aside g.row.A.Denot). 33 ≤ vec_capacity a.firsts.keys) (sym c.deref_mut.ensures.value) firsts.room
+
+pub join_kids-rest-requires-clause-other_room : goal.join_kids-rest-requires-clause-other_room
+join_kids-rest-requires-clause-other_room g c =
+    let firsts : AreFirsts c.in-Inner-Inner.other.value.firsts c.in-Inner-Inner.right.items = subst AreFirstsUnder c.in-Inner-Inner.is-1 c.right.invariant.3 in
+    firsts.room
 
 pub returns : goal.returns
 returns g c =

@@ -8,4 +8,5 @@ invariant_of-result g c = (
   record { lowest = refl; not_more = c.requires.not_more; room = c.requires.room },
   subst (λ es. Sums c.add_entries.new.self (rows_of es)) c.as_slice.ensures.value (c.add_entries.ensures [] c.new-sum.ensures),
   tt,
+  tt,
 )

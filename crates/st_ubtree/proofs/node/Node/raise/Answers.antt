@@ -5,8 +5,11 @@ use Rattle.st_ubtree.specs.Pages.{NodeValue, rows_of_pages}
 use Rattle.st_ubtree.specs.inner.Sums.{Sums}
 use Rattle.st_ubtree.specs.inner.Kids.{HeadAt, IsKid, pages_of}
 use Rattle.std.proofs.lemmas.List.{append-nil}
+use Rattle.st_ubtree.specs.inner.Marks.{AreMarked}
 use Rattle.st_ubtree.specs.inner.Nodes.{AreMarkedUnder, IsNode, node_value, rows_under}
 use Rattle.st_ubtree.proofs.Lifting.{both}
+use Rattle.st_ubtree.specs.declared.node.aside.Aside.{Aside}
+use Rattle.st_ubtree.specs.inner.Firsts.{AreFirsts, AreFirstsUnder}
 use Rattle.st_ubtree.proofs.node.Node.raise.Goals as goal
 
 pub invariant_of-self : goal.invariant_of-self
@@ -33,7 +36,8 @@ invariant_of-self g c =
         room = omega (arith, a, b, room);
       },
       subst (λ ks. Sums c.add_kids.new.sum (rows_of_pages (pages_of ks))) c.as_slice.ensures.value (c.add_kids.ensures [] (subst (λ s. Sums s []) (sym c.replace-sum.ensures.after) c.new-none.ensures)),
-      c.mark_all.ensures,
+      subst (AreMarked c.fill.new.self.marks) c.as_slice-2.ensures.value c.fill.ensures.marks,
+      subst (AreFirsts c.fill.new.self.firsts) c.as_slice-2.ensures.value c.fill.ensures.firsts,
     )
 
 pub returns-clause-first : goal.returns-clause-first
@@ -73,8 +77,18 @@ pub invariant_of-left : goal.invariant_of-left
 invariant_of-left g c = (
   subst (IsNode (rank c.self.inside.first) c.self.inside.height) (sym c.replace-kids.ensures.value) c.self.invariant.0,
   subst (λ s. Sums s (rows_under c.replace-kids.result)) (sym c.replace-sum.ensures.value) (subst (λ k. Sums c.self.inside.sum (rows_under k)) (sym c.replace-kids.ensures.value) c.self.invariant.1),
-  subst (λ m. AreMarkedUnder m c.replace-kids.result) (sym c.replace-marks.ensures.value) (subst (AreMarkedUnder c.self.inside.marks) (sym c.replace-kids.ensures.value) c.self.invariant.2),
+  subst AreMarkedUnder (sym c.replace-kids.ensures.value) c.self.invariant.2,
+  subst AreFirstsUnder (sym c.replace-kids.ensures.value) c.self.invariant.3,
 )
+
+pub fill-requires-clause-few : goal.fill-requires-clause-few
+fill-requires-clause-few g c =
+    let left : NodeValue g.row.A.Denot = node_value (rank c.self.inside.first) c.self.inside.height c.replace-kids.result in
+    let two = ap length (c.as_slice-2.ensures.value ∙ c.in-Ok-push.ensures.items ∙ ap (λ t. t ++ c.args.right ∷ []) (c.in-Ok.ensures.items ∙ ap (λ t. t ++ left ∷ []) c.requires.empty)) in
+    omega (arith, two)
+
+pub fill-requires-clause-room : goal.fill-requires-clause-room
+fill-requires-clause-room g c = subst (λ (a : Aside g.row.A.Denot). 33 ≤ vec_capacity a.firsts.keys) (sym c.deref_mut.ensures.value) c.requires.firsts_room
 
 pub unreachable-unreachable : goal.unreachable-unreachable
 unreachable-unreachable g c = c.unreachable.result

@@ -1,7 +1,7 @@
-use Rattle.std.proofs.Common.{◌<◌, ◌≤◌, List, length, sym, ap, subst, ◌∙◌, arith, Bor}
+use Rattle.std.proofs.Common.{◌<◌, ◌≤◌, List, length, refl, sym, ap, subst, ◌∙◌, arith, Bor}
 use Rattle.st_index.specs.declared.row.Row.{Row}
 use Rattle.st_index.specs.Fields.{CanAdd, Counts}
-use Rattle.st_index.proofs.Tallying.{far_all, far_fits, far_next}
+use Rattle.st_index.proofs.Tallying.{far_all, far_fits, far_next, far_none}
 use Rattle.st_ubtree.specs.Pages.{NodeValue, rows_of_pages}
 use Rattle.st_ubtree.specs.declared.marks.Marks.{Marks}
 use Rattle.st_ubtree.specs.inner.Marks.{AreMarked}
@@ -33,6 +33,16 @@ pub count_page_fields-requires-clause-known : goal.count_page_fields-requires-cl
 count_page_fields-requires-clause-known g c =
     known_by (g.J.Judge.judges c.loop-at.judge) (g.J.Judge.judges c.args.judge.now) c.none-verdicts.result.marks c.loop-at.verdicts.marks c.loop-at.verdicts.found
     (sym c.loop-at.invariant.same) (sym c.loop-at.invariant.marks) c.loop-at.invariant.known
+
+pub loop-at-init : goal.loop-at-init
+loop-at-init g c =
+    let judges = g.J.Judge.judges c.args.judge.now in
+    record {
+      far = far_none (g.F.Fields.query c.args.fields.now) judges (g.F.Fields.field_of c.args.fields.now) (λ (v : NodeValue g.row.A.Denot). rows_of_pages v.pages) c.args.kids.now c.args.counts.now;
+      same = refl;
+      marks = refl;
+      known = c.none-verdicts.ensures.known judges;
+    }
 
 pub loop-at-preserved : goal.loop-at-preserved
 loop-at-preserved g c =

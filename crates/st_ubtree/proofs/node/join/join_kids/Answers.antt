@@ -6,14 +6,16 @@ use Rattle.st_ubtree.specs.Pages.{NodeValue, rows_of_pages}
 use Rattle.st_ubtree.specs.inner.Sums.{Sums}
 use Rattle.st_ubtree.specs.inner.Kids.{HeadAt, IsKid, pages_of}
 use Rattle.st_ubtree.proofs.Settling.{head_there, held_at, kids_start, kids_wide}
+use Rattle.st_ubtree.specs.inner.Firsts.{AreFirsts}
+use Rattle.st_ubtree.specs.inner.Marks.{AreMarked}
 use Rattle.st_ubtree.proofs.node.join.join_kids.Goals as goal
 
 pub invariant_of-result : goal.invariant_of-result
 invariant_of-result g c =
-    let left = c.share.new.left.items in
-    let rest = c.share.new.right.items in
-    let wide : (16 ≤ length rest) × (length rest ≤ 32) = c.share.ensures.some c.if-not-share.false in
-    let each : All (IsKid c.requires.kids.below) rest = all_right (IsKid c.requires.kids.below) left rest (subst (All (IsKid c.requires.kids.below)) (sym c.share.ensures.kept) c.requires.kids.each) in
+    let left = c.share-are_two.new.left.items in
+    let rest = c.share-are_two.new.right.items in
+    let wide : (16 ≤ length rest) × (length rest ≤ 32) = c.share-are_two.ensures.some c.if-not-are_two.false in
+    let each : All (IsKid c.requires.kids.below) rest = all_right (IsKid c.requires.kids.below) left rest (subst (All (IsKid c.requires.kids.below)) (sym c.share-are_two.ensures.kept) c.requires.kids.each) in
     let least : HeadAt c.index-least.result.now.first rest = head_there rest 0 c.index-least.result.now (let a = wide.0 in omega (arith, a)) c.index-least.ensures in
     let first : c.index-least.result.now.first ≡ rank c.least.inside.first = ap (λ (v : NodeValue g.row.A.Denot). v.first) (sym c.least.view_is) in (
       record {
@@ -23,34 +25,53 @@ invariant_of-result g c =
         head = subst (λ n. HeadAt n rest) first least;
         not_less = let a = wide.0 in omega (arith, a);
         not_more = wide.1;
-        room = c.share.ensures.right_room;
+        room = c.share-are_two.ensures.right_room;
       },
-      subst (λ ks. Sums c.add_kids.new.sum (rows_of_pages (pages_of ks))) c.as_slice.ensures.value (c.add_kids.ensures [] c.clear.ensures),
-      c.clear-2.ensures rest,
+      subst (λ ks. Sums c.add_kids.new.sum (rows_of_pages (pages_of ks))) c.as_slice-2.ensures.value (c.add_kids.ensures [] c.clear.ensures),
+      subst (AreMarked c.renew-2.new.self.marks) c.as_slice-3.ensures.value c.renew-2.ensures.marks,
+      subst (AreFirsts c.renew-2.new.self.firsts) c.as_slice-3.ensures.value c.renew-2.ensures.firsts,
     )
+
+pub renew-requires-clause-few : goal.renew-requires-clause-few
+renew-requires-clause-few g c =
+    let few = c.share-are_two.ensures.left.1 in
+    let same = ap length c.as_slice.ensures.value in
+    omega (arith, few, same)
+
+pub returns-clause-marks : goal.returns-clause-marks
+returns-clause-marks g c = subst (AreMarked c.renew.new.self.marks) c.as_slice.ensures.value c.renew.ensures.marks
+
+pub returns-clause-firsts : goal.returns-clause-firsts
+returns-clause-firsts g c = subst (AreFirsts c.renew.new.self.firsts) c.as_slice.ensures.value c.renew.ensures.firsts
+
+pub returns-then-not-are_two-clause-marks : goal.returns-then-not-are_two-clause-marks
+returns-then-not-are_two-clause-marks g c = subst (AreMarked c.renew.new.self.marks) c.as_slice.ensures.value c.renew.ensures.marks
+
+pub returns-then-not-are_two-clause-firsts : goal.returns-then-not-are_two-clause-firsts
+returns-then-not-are_two-clause-firsts g c = subst (AreFirsts c.renew.new.self.firsts) c.as_slice.ensures.value c.renew.ensures.firsts
 
 pub returns-clause-joins : goal.returns-clause-joins
 returns-clause-joins g c =
-    let left = c.share.new.left.items in
-    let rest = c.share.new.right.items in
+    let left = c.share-are_two.new.left.items in
+    let rest = c.share-are_two.new.right.items in
     let i = (invariant_of-result g c).0 in
-    let wide : (16 ≤ length rest) × (length rest ≤ 32) = c.share.ensures.some c.if-not-share.false in
+    let wide : (16 ≤ length rest) × (length rest ≤ 32) = c.share-are_two.ensures.some c.if-not-are_two.false in
     record {
       rest = rest;
-      kept = c.share.ensures.kept;
-      not_less = c.share.ensures.left.0;
-      not_more = c.share.ensures.left.1;
+      kept = c.share-are_two.ensures.kept;
+      not_less = c.share-are_two.ensures.left.0;
+      not_more = c.share-are_two.ensures.left.1;
       beside = (record { same_height = refl; not_less = wide.0; not_more = wide.1; starts = kids_start i.below (rank c.least.inside.first) rest i.each i.head; filled = kids_wide i.below rest i.each }, refl);
     }
 
 pub index-least-requires : goal.index-least-requires
-index-least-requires g c = let wide = (c.share.ensures.some c.if-not-share.false).0 in held_at c.share.new.right 0 (omega (arith, wide))
+index-least-requires g c = let wide = (c.share-are_two.ensures.some c.if-not-are_two.false).0 in held_at c.share-are_two.new.right 0 (omega (arith, wide))
 
-pub returns-then-not-share-clause-joins : goal.returns-then-not-share-clause-joins
-returns-then-not-share-clause-joins g c = record {
-  rest = c.share.new.right.items;
-  kept = c.share.ensures.kept;
-  not_less = c.share.ensures.left.0;
-  not_more = c.share.ensures.left.1;
-  beside = c.share.ensures.none c.if-not-share.true;
+pub returns-then-not-are_two-clause-joins : goal.returns-then-not-are_two-clause-joins
+returns-then-not-are_two-clause-joins g c = record {
+  rest = c.share-are_two.new.right.items;
+  kept = c.share-are_two.ensures.kept;
+  not_less = c.share-are_two.ensures.left.0;
+  not_more = c.share-are_two.ensures.left.1;
+  beside = c.share-are_two.ensures.none c.if-not-are_two.true;
 }

@@ -4,6 +4,8 @@ use Rattle.st_ubtree.specs.Pages.{NodeValue}
 use Rattle.st_ubtree.specs.inner.Marks.{ClosesAt, OpensAt}
 use Rattle.st_ubtree.proofs.Placing.{closes_remove, differ_set, opens_insert}
 use Rattle.st_ubtree.proofs.Mending.{joins_worn, mends_alone, mends_both, mends_none, paired, worn_is}
+use Rattle.st_ubtree.specs.inner.Firsts.{AreFirsts}
+use Rattle.st_ubtree.proofs.Firsts.{firsts_set}
 use Rattle.st_ubtree.proofs.node.join.mend.Goals as goal
 
 pub returns-in_default-clause-mends : goal.returns-in_default-clause-mends
@@ -96,3 +98,29 @@ returns-clause-marks g c = λ marked.
     let past : left + 1 ≤ length (set rest left kid) = let n = length-set rest left kid in omega (arith, fits, fewer, count, n) in
     let opens = subst (OpensAt (left + 1) (set rest left kid)) (sym c.in-Ok.ensures.items) (opens_insert (set rest left kid) (left + 1) c.in-Some.right past) in
     c.open.ensures (set rest left kid) c.insert.new.self.items opens (c.clear_page.ensures rest (set rest left kid) (differ_set rest left kid) (c.close.ensures kids rest closes marked))
+
+pub returns-in_default-clause-firsts : goal.returns-in_default-clause-firsts
+returns-in_default-clause-firsts g c = λ h.
+    let kids = c.args.kids.now.items in
+    let left = c.min-left.result in
+    let m : left ≡ min c.args.at (length kids - 2) = c.min-left.ensures ∙ ap (λ n. min c.args.at (n - 2)) (c.len.ensures ∙ c.args.kids.now.ok.0) in
+    let two = c.requires.two in
+    let fits : left + 1 < length kids = omega (arith, m, two) in
+    let firsts = subst (AreFirsts c.remove_at.new.self) (sym c.remove-right.ensures.items) (c.remove_at.ensures kids fits h) in
+    firsts_set c.remove_at.new.self c.remove-right.new.self.items left c.index_mut-kid.result.now c.join.new.self c.index_mut-kid.ensures.value c.in_default.ensures.joins.first firsts
+
+pub returns-clause-firsts : goal.returns-clause-firsts
+returns-clause-firsts g c = λ h.
+    let kids = c.args.kids.now.items in
+    let left = c.min-left.result in
+    let m : left ≡ min c.args.at (length kids - 2) = c.min-left.ensures ∙ ap (λ n. min c.args.at (n - 2)) (c.len.ensures ∙ c.args.kids.now.ok.0) in
+    let two = c.requires.two in
+    let most = c.requires.not_more in
+    let fits : left + 1 < length kids = omega (arith, m, two) in
+    let rest = c.remove-right.new.self.items in
+    let fewer = length-remove kids (left + 1) fits in
+    let count = ap length c.remove-right.ensures.items in
+    let same = length-set rest left c.join.new.self in
+    let firsts = subst (AreFirsts c.remove_at.new.self) (sym c.remove-right.ensures.items) (c.remove_at.ensures kids fits h) in
+    let kept = firsts_set c.remove_at.new.self rest left c.index_mut-kid.result.now c.join.new.self c.index_mut-kid.ensures.value c.in-Some.ensures.joins.first firsts in
+    subst (AreFirsts c.insert_at.new.self) (sym c.in-Ok.ensures.items) (c.insert_at.ensures (set rest left c.join.new.self) (omega (arith, fits, fewer, count, same)) (omega (arith, most, fewer, count, same)) kept)

@@ -1,8 +1,6 @@
 use Rattle.std.proofs.Common.{◌≡◌, IfOk, subst}
 use Rattle.st_index.specs.inner.Changes.{IsChange}
 use Rattle.st_ubtree.specs.Pages.{entries_of_pages}
-use Rattle.st_ubtree.specs.inner.Nodes.{kids_under}
-use Rattle.st_ubtree.proofs.Keeping.{marked_kids}
 use Rattle.st_ubtree.proofs.node.marking.mark_swapped.Goals as goal
 
 pub returns-in-Ok : goal.returns-in-Ok
@@ -11,5 +9,4 @@ returns-in-Ok g c = λ old u v here there differ change marked.
     (subst (λ o. IfOk o (λ _. v.height ≡ 0 → IsChange c.args.change (entries_of_pages u.pages) (entries_of_pages v.pages))) c.in-Ok.is change) marked
 
 pub returns-in-Err : goal.returns-in-Err
-returns-in-Err g c = λ old u v here there differ change marked.
-    marked_kids c.clear_page.new.self c.args.kids.now (c.clear_page.ensures old (kids_under c.args.kids.now) differ marked)
+returns-in-Err g c = λ old u v here there differ change marked. c.clear_page.ensures old c.args.kids.now.items differ marked

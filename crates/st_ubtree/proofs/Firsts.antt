@@ -1,0 +1,105 @@
+-- The first keys of children, as these change.
+use Rattle.std.proofs.Common.{◌≡◌, ℕ, ◌<◌, ◌≤◌, List, ◌∷◌, ◌++◌, length, get_or, map, take, drop, sym, ap, subst, ◌∙◌, suc, arith, true, false, not, ltb, Vec, vec_capacity, Option, Some, None, Box}
+use Rattle.std.proofs.Math.ListN.{set}
+use Rattle.std.proofs.Math.Seq.{map-set_same}
+use Rattle.std.proofs.lemmas.List.{get_or-map, length-map, map-append, take-map, take_all}
+use Rattle.std.specs.List.{drop-map, insert, remove}
+use Rattle.std.specs.List.Sorted.{IsPartitionedBy, IsPartitionPoint}
+use Rattle.st_key.specs.Key.{rank}
+use Rattle.st_key.specs.declared.key.Key.{Key}
+use Rattle.st_ubtree.specs.declared.node.Kids.{Kids}
+use Rattle.st_ubtree.specs.declared.node.Kids.TheVariants.{Inner}
+use Rattle.st_ubtree.specs.declared.node.aside.Aside.{Aside}
+use Rattle.st_ubtree.specs.declared.node.firsts.Firsts.{Firsts}
+use Rattle.st_ubtree.specs.Pages.{NodeValue}
+use Rattle.st_ubtree.specs.inner.Firsts.{AreFirsts, AreFirstsUnder}
+use Rattle.st_ubtree.specs.inner.Growing.{IsChosen, Settles}
+use Rattle.st_ubtree.specs.inner.Marks.{AreMarked}
+use Rattle.st_ubtree.specs.inner.Nodes.{AreMarkedUnder, IsNode}
+use Rattle.st_ubtree.proofs.Placing.{there_is}
+
+map_insert : {X : Type 0} (n : X → ℕ) (xs : List X) (i : ℕ) (x : X) → map n (insert xs i x) ≡ insert (map n xs) i (n x)
+map_insert n xs i x = map-append n (take i xs) (x ∷ drop i xs) ∙ ap (λ front. front ++ n x ∷ map n (drop i xs)) (sym (take-map n i xs)) ∙ ap (λ back. take i (map n xs) ++ n x ∷ back) (sym (drop-map n i xs))
+
+map_remove : {X : Type 0} (n : X → ℕ) (xs : List X) (i : ℕ) → map n (remove xs i) ≡ remove (map n xs) i
+map_remove n xs i = map-append n (take i xs) (drop (suc i) xs) ∙ ap (λ front. front ++ map n (drop (suc i) xs)) (sym (take-map n i xs)) ∙ ap (λ back. take i (map n xs) ++ back) (sym (drop-map n (suc i) xs))
+
+module _ {A : Type 0} where
+  -- as many as there are children
+  pub as_many : (f : Firsts A) (kids : List (NodeValue A)) → AreFirsts f kids → length f.keys.items ≡ length kids
+  as_many f kids h = sym (length-map f.keys.items rank) ∙ ap length h.same ∙ length-map kids (λ (v : NodeValue A). v.first)
+
+  -- what stands at a place
+  pub read_first : (f : Firsts A) (kids : List (NodeValue A)) (i : ℕ) (k : Key) (v : NodeValue A) → AreFirsts f kids → i < length kids → rank (get_or f.keys.items i k) ≡ (get_or kids i v).first
+  read_first f kids i k v h l =
+      let n = as_many f kids h in
+      sym (get_or-map rank f.keys.items i k (rank k) (omega (arith, n, l)))
+      ∙ ap (λ ns. get_or ns i (rank k)) h.same
+      ∙ get_or-map (λ (w : NodeValue A). w.first) kids i v (rank k) l
+
+  module _ (key : ℕ) (f : Firsts A) (kids : List (NodeValue A)) (h : AreFirsts f kids) where
+    parted : IsPartitionedBy (λ (v : NodeValue A). not (ltb key v.first)) kids → IsPartitionedBy (λ (k : Key). not (ltb key (rank k))) f.keys.items
+    parted p i j d le l passes =
+        let n = as_many f kids h in
+        let within : j < length kids = omega (arith, n, l) in
+        let v = (there_is kids j within).0 in
+        let at = read_first f kids j d v h within in
+        let before = read_first f kids i d v h (omega (arith, le, within)) in
+        ap (λ m. not (ltb key m)) before ∙ p i j v le within (ap (λ m. not (ltb key m)) (sym at) ∙ passes)
+
+    -- a search among the first keys finds the place among the children
+    pub found_by : (n : ℕ) → n ≤ length f.keys.items → (IsPartitionedBy (λ (k : Key). not (ltb key (rank k))) f.keys.items → IsPartitionPoint (λ (k : Key). not (ltb key (rank k)) ≡ true) (λ (k : Key). not (ltb key (rank k)) ≡ false) f.keys.items n) → IsPartitionedBy (λ (v : NodeValue A). not (ltb key v.first)) kids → IsPartitionPoint (λ (v : NodeValue A). not (ltb key v.first) ≡ true) (λ (v : NodeValue A). not (ltb key v.first) ≡ false) kids n
+    found_by n bound found p =
+        let q = found (parted p) in
+        let len = as_many f kids h in (
+          λ i d low l.
+              let t = there_is f.keys.items i (omega (arith, l, bound)) in
+              let within : i < length kids = omega (arith, l, bound, len) in
+              ap (λ m. not (ltb key m)) (sym (read_first f kids i t.0 d h within)) ∙ q.0 i t.0 low l,
+          λ i d low l.
+              let t = there_is f.keys.items i (omega (arith, l, len)) in
+              ap (λ m. not (ltb key m)) (sym (read_first f kids i t.0 d h l)) ∙ q.1 i t.0 low (omega (arith, l, len)),
+        )
+
+  -- one child is another one that begins where it did
+  pub firsts_set : (f : Firsts A) (kids : List (NodeValue A)) (i : ℕ) (kid v : NodeValue A) → kid ≡ get_or kids i kid → v.first ≡ kid.first → AreFirsts f kids → AreFirsts f (set kids i v)
+  firsts_set f kids i kid v read same h = record {
+    same = h.same ∙ sym (map-set_same (λ (w : NodeValue A). w.first) kids i v kid (same ∙ ap (λ (w : NodeValue A). w.first) read));
+    room = h.room;
+  }
+
+  -- those of a node's children, by its block
+  module _ (k : Kids A) (kids : Vec (NodeValue A) A) (aside : Box (Aside A) A) (a : Aside A) (is : k ≡ Inner kids aside) (same : a ≡ aside.value) where
+    pub firsts_in : AreFirstsUnder k → AreFirsts a.firsts kids.items
+    firsts_in h = subst (λ (b : Aside A). AreFirsts b.firsts kids.items) (sym same) (subst AreFirstsUnder is h)
+
+    pub marks_in : AreMarkedUnder k → AreMarked a.marks kids.items
+    marks_in h = subst (λ (b : Aside A). AreMarked b.marks kids.items) (sym same) (subst AreMarkedUnder is h)
+
+    pub chosen_in : (key first height at : ℕ) → IsNode first height k → AreFirstsUnder k → ((ks : List (NodeValue A)) → 1 ≤ length ks → AreFirsts a.firsts ks → IsChosen key ks at) → IsChosen key kids.items at
+    chosen_in key first height at node firsts chosen =
+        let good = subst (IsNode first height) is node in
+        chosen kids.items good.not_less (firsts_in firsts)
+
+  -- of children that were settled, as many stay as there are then
+  pub settled_take : (height count : ℕ) (old new : List (NodeValue A)) (split : Option (NodeValue A)) → Settles height old new split → count ≡ length new → take count old ≡ new
+  settled_take height count old new None s is = let n = ap length s.0 in take_all count old (omega (arith, n, is)) ∙ sym s.0
+  settled_take height count old new (Some r) s is = ap (λ n. take n old) (is ∙ s.1) ∙ sym s.0
+
+  pub firsts_open : (f g : Firsts A) (kids : List (NodeValue A)) (i : ℕ) (k : Key) (v : NodeValue A) → g.keys.items ≡ insert f.keys.items i k → rank k ≡ v.first → vec_capacity f.keys ≤ vec_capacity g.keys → AreFirsts f kids → AreFirsts g (insert kids i v)
+  firsts_open f g kids i k v is first more h = record {
+    same = ap (map rank) is ∙ map_insert rank f.keys.items i k ∙ ap (λ ns. insert ns i (rank k)) h.same ∙ ap (insert (map (λ (w : NodeValue A). w.first) kids) i) first ∙ sym (map_insert (λ (w : NodeValue A). w.first) kids i v);
+    room = let room = h.room in omega (arith, more, room);
+  }
+
+  pub firsts_close : (f g : Firsts A) (kids : List (NodeValue A)) (i : ℕ) → g.keys.items ≡ remove f.keys.items i → vec_capacity g.keys ≡ vec_capacity f.keys → AreFirsts f kids → AreFirsts g (remove kids i)
+  firsts_close f g kids i is same h = record {
+    same = ap (map rank) is ∙ map_remove rank f.keys.items i ∙ ap (λ ns. remove ns i) h.same ∙ sym (map_remove (λ (w : NodeValue A). w.first) kids i);
+    room = let room = h.room in omega (arith, same, room);
+  }
+
+  pub firsts_keep : (f g : Firsts A) (kids : List (NodeValue A)) (count : ℕ) → g.keys.items ≡ take count f.keys.items → vec_capacity g.keys ≡ vec_capacity f.keys → AreFirsts f kids → AreFirsts g (take count kids)
+  firsts_keep f g kids count is same h = record {
+    same = ap (map rank) is ∙ sym (take-map rank count f.keys.items) ∙ ap (take count) h.same ∙ take-map (λ (w : NodeValue A). w.first) count kids;
+    room = let room = h.room in omega (arith, same, room);
+  }

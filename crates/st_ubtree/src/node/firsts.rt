@@ -1,0 +1,108 @@
+//! The first keys of a node's children, which a search reads side by side.
+ghost use Rattle.std.specs.Prelude.{◌≡◌, ◌+◌, ◌<◌, ◌≤◌, List, length, take, ltb, not, true, false, vec_len, vec_capacity};
+ghost use Rattle.std.specs.List.{insert, remove};
+ghost use Rattle.std.specs.List.Sorted.{IsPartitionPoint, IsPartitionedBy};
+ghost use Rattle.st_key.specs.Key.{rank};
+ghost use Rattle.st_ubtree.specs.Pages.{NodeValue};
+ghost use Rattle.st_ubtree.specs.inner.Firsts.{AreFirsts};
+ghost use Rattle.st_ubtree.specs.inner.Growing.{IsChosen};
+ghost use Rattle.st_ubtree.specs.inner.Marks.{HasAt};
+
+use super::Node;
+use st_index::order;
+use st_key::Key;
+use std::alloc::{Allocator, Global};
+
+/// The first keys of a node's children, in their order.
+#[derive(Drop)]
+pub struct Firsts<A: Allocator = Global> {
+    keys: Vec<Key, A>,
+}
+
+impl<A: Allocator + Copy> Firsts<A> {
+    /// A list of first keys.
+    pub fn new(keys: Vec<Key, A>) -> Firsts<A>
+        ensures { result.keys ≡ keys }
+    {
+        Firsts { keys }
+    }
+
+    /// How many children begin at or before the key.
+    pub fn count_up_to(&self, key: Key) -> usize
+        ensures bound { (kids : List (NodeValue A)) → AreFirsts self.now kids → result ≤ length kids }
+        ensures place { (kids : List (NodeValue A)) → AreFirsts self.now kids
+            → IsPartitionedBy (λ (v : NodeValue A). not (ltb (rank key) v.first)) kids
+            → IsPartitionPoint (λ (v : NodeValue A). not (ltb (rank key) v.first) ≡ true)
+            (λ (v : NodeValue A). not (ltb (rank key) v.first) ≡ false) kids result }
+    {
+        let keys = self.keys.as_slice();
+        keys.partition_point(
+            |first: &Key| -> bool
+                ensures { result ≡ not (ltb (rank key) (rank first.now)) }
+            { !order::is_before(key, *first) },
+        )
+    }
+
+    /// Where the child stands that a search for the key goes on in: the last that begins at or before it, or else the first.
+    pub fn child_for(&self, key: Key) -> usize
+        ensures { (kids : List (NodeValue A)) → 1 ≤ length kids → AreFirsts self.now kids → IsChosen (rank key) kids result }
+    {
+        self.count_up_to(key).max(1) - 1
+    }
+
+    /// The first key of a child.
+    pub fn at(&self, at: usize) -> Key
+        requires { at < vec_len self.now.keys }
+        ensures { (kids : List (NodeValue A)) (v : NodeValue A) → AreFirsts self.now kids → HasAt kids at v → rank result ≡ v.first }
+    {
+        let first = &self.keys[at];
+        *first
+    }
+
+    /// Puts in that of a child that comes in at a place.
+    pub fn insert_at(&mut self, at: usize, kid: &Node<A>)
+        ensures { (kids : List (NodeValue A)) → at ≤ length kids → length kids ≤ 32 → AreFirsts self.old kids
+            → AreFirsts self.new (insert kids at kid.now) }
+    {
+        if at > self.keys.len() {
+            return;
+        }
+        if self.keys.len() >= self.keys.capacity() {
+            return;
+        }
+        let Ok(()) = self.keys.insert(at, kid.first) else {
+            unreachable!()
+        };
+    }
+
+    /// Lets go of that of a child that is taken out.
+    pub fn remove_at(&mut self, at: usize)
+        ensures { (kids : List (NodeValue A)) → at < length kids → AreFirsts self.old kids → AreFirsts self.new (remove kids at) }
+    {
+        if at >= self.keys.len() {
+            return;
+        }
+        let _first = self.keys.remove(at);
+    }
+
+    /// Keeps those of so many children.
+    pub fn keep(&mut self, count: usize)
+        ensures { (kids : List (NodeValue A)) → AreFirsts self.old kids → AreFirsts self.new (take count kids) }
+    {
+        self.keys.truncate(count);
+    }
+
+    /// Takes those of some children in their place.
+    pub fn renew(&mut self, kids: &[Node<A>])
+        requires few { length kids.now ≤ 33 }
+        requires room { 33 ≤ vec_capacity self.old.keys }
+        ensures { AreFirsts self.new kids.now }
+    {
+        self.keys.clear();
+        for kid in kids {
+            let Ok(()) = self.keys.push(kid.first) else {
+                unreachable!()
+            };
+        }
+    }
+}
