@@ -79,7 +79,7 @@ pub(crate) fn find<I: RowIndex>(
     ensures held { IfSome result (λ key. 0 < number_at places.now.numbers (place_of hash (rank key))) }
 {
     let mut from = 0;
-    'keys: while let Some(found) = places.next(hash, from) {
+    'keys: while let Some((found, _)) = places.next(hash, from) {
         let key = key_at(found);
         if has_row(index, key, id, label) {
             return Some(key);
@@ -145,7 +145,7 @@ fn shown<'a, I: RowIndex, B: Allocator>(
     let keys = places.keys(hash)?;
     let mut rows = Vec::new(places.alloc());
     let mut low = 0;
-    'ranks: while let Some(found) = keys.next(0, low) {
+    'ranks: while let Some((found, _)) = keys.next(0, low) {
         push_shown(&mut rows, rows_at(index, key_at(found)), id, auths)?;
         low = found + 1;
     }

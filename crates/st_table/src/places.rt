@@ -1,5 +1,5 @@
 //! Where the rows of a name stand.
-ghost use Rattle.std.specs.Prelude.{◌≡◌, ℕ, ◌+◌, ◌*◌, ◌^◌, ◌<◌, ◌≤◌, IfOk, IfSome, IfNone, OnOk, OnErr, [], List};
+ghost use Rattle.std.specs.Prelude.{◌≡◌, ℕ, ◌+◌, ◌*◌, ◌^◌, ◌<◌, ◌≤◌, IfOk, IfSome, IfNone, OnOk, OnErr, nat_eq, if◌then◌else◌, [], List};
 ghost use Rattle.st_key.specs.Key.{rank};
 ghost use Rattle.st_table.specs.inner.Places.{AddsNoKeys, KeepsKeys, one_at, one_before, number_at, place_of};
 
@@ -16,6 +16,13 @@ const PLACES: u128 = 1 << 81;
 
 // How many places an id's hash has: one for each hash of a label and each key.
 const PLACES_OF_ID: u128 = 1 << 96;
+
+/// A key where rows of a hash stand, and how many.
+#[derive(Clone, Copy)]
+pub(crate) struct Stand {
+    pub key: Key,
+    pub number: u32,
+}
 
 // The rank of a key.
 fn rank_in(key: Key) -> u128
@@ -69,6 +76,19 @@ impl<A: Allocator + Copy> Places<A> {
         self.seed
     }
 
+    // Another number at a place where rows stand. It takes no memory.
+    fn set(&mut self, place: u128, number: u32)
+        requires some { 0 < number }
+        requires held { 0 < number_at self.old.numbers place }
+        ensures seed { self.new.seed ≡ self.old.seed }
+        ensures numbers { (other : ℕ) → number_at self.new.numbers other
+            ≡ (if nat_eq place other then number else number_at self.old.numbers other) }
+    {
+        let Ok(_) = self.numbers.insert(place, number) else {
+            unreachable!()
+        };
+    }
+
     // One row more at a place. If memory runs out, nothing is changed.
     fn add(&mut self, place: u128) -> Result<(), AllocError>
         ensures seed { self.new.seed ≡ self.old.seed }
@@ -76,27 +96,36 @@ impl<A: Allocator + Copy> Places<A> {
             ≡ number_at self.old.numbers other + one_at place other) }
         ensures err { OnErr result ((other : ℕ) → number_at self.new.numbers other ≡ number_at self.old.numbers other) }
     {
-        let number = self.numbers.get(&place).copied().unwrap_or(0);
-        let Some(more) = number.checked_add(1) else {
+        let Ok(before) = self.numbers.insert(place, 1) else {
             return Err(AllocError);
         };
-        let Ok(_) = self.numbers.insert(place, more) else {
-            return Err(AllocError);
+        let Some(number) = before else {
+            return Ok(());
         };
-        Ok(())
+        let more = number.checked_add(1);
+        self.set(place, more.unwrap_or(number));
+        match more {
+            Some(_) => Ok(()),
+            None => Err(AllocError),
+        }
     }
 
-    // One row less at a place.
-    fn take(&mut self, place: u128)
-        requires { 0 < number_at self.old.numbers place }
+    // How many rows stand at a place.
+    fn number(&self, place: u128) -> u32
+        ensures { result ≡ number_at self.now.numbers place }
+    {
+        self.numbers.get(&place).copied().unwrap_or(0)
+    }
+
+    // One row less at a place where so many stand. It takes no memory.
+    fn take(&mut self, place: u128, number: u32)
+        requires held { 0 < number_at self.old.numbers place }
+        requires number { number ≡ number_at self.old.numbers place }
         ensures seed { self.new.seed ≡ self.old.seed }
         ensures numbers { (other : ℕ) → number_at self.new.numbers other + one_at place other ≡ number_at self.old.numbers other }
     {
-        let number = self.numbers.get(&place).copied().unwrap_or(0);
         if number > 1 {
-            let Ok(_) = self.numbers.insert(place, number - 1) else {
-                unreachable!()
-            };
+            self.set(place, number - 1);
         } else {
             let _ = self.numbers.remove(&place);
         }
@@ -120,47 +149,55 @@ impl<A: Allocator + Copy> Places<A> {
             return Ok(());
         }
         self.add(place)?;
-        self.take(left);
+        let number = self.number(left);
+        self.take(left, number);
         Ok(())
     }
 
-    /// A row of this hash, which stood at this key, is taken out. It takes no memory.
-    pub fn delete(&mut self, hash: u64, key: Key)
+    /// A row of this hash, which stood there, is taken out. It takes no memory.
+    pub fn delete(&mut self, hash: u64, stand: Stand)
         requires hash { hash < 2 ^ 47 }
-        requires held { 0 < number_at self.old.numbers (place_of hash (rank key)) }
+        requires held { 0 < number_at self.old.numbers (place_of hash (rank stand.key)) }
+        requires number { stand.number ≡ number_at self.old.numbers (place_of hash (rank stand.key)) }
         ensures seed { self.new.seed ≡ self.old.seed }
-        ensures numbers { (place : ℕ) → number_at self.new.numbers place + one_at (place_of hash (rank key)) place
+        ensures numbers { (place : ℕ) → number_at self.new.numbers place + one_at (place_of hash (rank stand.key)) place
             ≡ number_at self.old.numbers place }
     {
-        self.take(u128::from(hash) * PLACES + rank_in(key));
+        self.take(u128::from(hash) * PLACES + rank_in(stand.key), stand.number);
     }
 
-    // The first of so many places, from a number of them on, at which rows stand, as a number.
-    fn next_of(&self, first: u128, many: u128, from: u128) -> Option<u128>
+    // The first of so many places, from a number of them on, at which rows stand, as a number, and how many stand there.
+    fn next_of(&self, first: u128, many: u128, from: u128) -> Option<(u128, u32)>
         requires { first + many ≤ 2 ^ 128 }
-        ensures later { IfSome result (λ found. from ≤ found) }
-        ensures in_range { IfSome result (λ found. found < many) }
-        ensures held { IfSome result (λ found. 0 < number_at self.now.numbers (first + found)) }
-        ensures first { IfSome result (λ k. (n : ℕ) → from ≤ n → n < k → number_at self.now.numbers (first + n) ≡ 0) }
+        ensures later { IfSome result (λ found. from ≤ found.0) }
+        ensures in_range { IfSome result (λ found. found.0 < many) }
+        ensures held { IfSome result (λ found. 0 < number_at self.now.numbers (first + found.0)) }
+        ensures number { IfSome result (λ found. found.1 ≡ number_at self.now.numbers (first + found.0)) }
+        ensures first { IfSome result (λ found. (n : ℕ) → from ≤ n → n < found.0 → number_at self.now.numbers (first + n) ≡ 0) }
         ensures none { IfNone result ((n : ℕ) → from ≤ n → n < many → number_at self.now.numbers (first + n) ≡ 0) }
     {
         if from >= many {
             return None;
         }
-        let Some((place, _)) = self.numbers.range(first + from..).next() else {
+        let Some((place, number)) = self.numbers.range(first + from..).next() else {
             return None;
         };
         let found = *place - first;
-        if found < many { Some(found) } else { None }
+        if found < many {
+            Some((found, *number))
+        } else {
+            None
+        }
     }
 
-    /// The rank of the first key, from a rank on, at which rows of a hash stand. It takes no memory.
-    pub fn next(&self, hash: u64, from: u128) -> Option<u128>
+    /// The rank of the first key, from a rank on, at which rows of a hash stand, and how many stand there. It takes no memory.
+    pub fn next(&self, hash: u64, from: u128) -> Option<(u128, u32)>
         requires hash { hash < 2 ^ 47 }
-        ensures later { IfSome result (λ found. from ≤ found) }
-        ensures in_range { IfSome result (λ found. found < 2 ^ 81) }
-        ensures held { IfSome result (λ found. 0 < number_at self.now.numbers (place_of hash found)) }
-        ensures first { IfSome result (λ found. (n : ℕ) → from ≤ n → n < found → number_at self.now.numbers (place_of hash n) ≡ 0) }
+        ensures later { IfSome result (λ found. from ≤ found.0) }
+        ensures in_range { IfSome result (λ found. found.0 < 2 ^ 81) }
+        ensures held { IfSome result (λ found. 0 < number_at self.now.numbers (place_of hash found.0)) }
+        ensures number { IfSome result (λ found. found.1 ≡ number_at self.now.numbers (place_of hash found.0)) }
+        ensures first { IfSome result (λ found. (n : ℕ) → from ≤ n → n < found.0 → number_at self.now.numbers (place_of hash n) ≡ 0) }
         ensures none { IfNone result ((n : ℕ) → from ≤ n → n < 2 ^ 81 → number_at self.now.numbers (place_of hash n) ≡ 0) }
     {
         self.next_of(u128::from(hash) * PLACES, PLACES, from)
@@ -175,7 +212,7 @@ impl<A: Allocator + Copy> Places<A> {
         let first = u128::from(hash) * PLACES_OF_ID;
         let mut keys = Places::new(self.alloc, self.seed);
         let mut from = 0;
-        'places: while let Some(found) = self.next_of(first, PLACES_OF_ID, from) {
+        'places: while let Some((found, _)) = self.next_of(first, PLACES_OF_ID, from) {
             keys.add(found % PLACES)?;
             from = found + 1;
         }

@@ -36,15 +36,15 @@ impl Seed {
         hasher.finish()
     }
 
-    // The hash of an id. Those of ids that differ in their last bytes alone lie near each other, as such ids are often put one
+    // The hash of an id. Those of ids that differ in their last two bytes alone lie near each other, as such ids are often put one
     // after the other.
     pub(crate) fn hash(self, id: &str) -> u64
         ensures value { result ≡ hash_of self id.now }
         ensures in_range { result < 2 ^ 32 }
     {
         let bytes = id.as_bytes();
-        let (front, back) = bytes.split_at(bytes.len().saturating_sub(1));
-        (self.sip(front) >> 40 << 8) + number_of(back)
+        let (front, back) = bytes.split_at(bytes.len().saturating_sub(2));
+        ((self.sip(front) >> 32) + number_of(back)) % (1 << 32)
     }
 
     // The hash of a label.
@@ -64,13 +64,14 @@ impl Seed {
     }
 }
 
-// The number that the first byte writes.
+// The number that the first two bytes write.
 fn number_of(bytes: &[u8]) -> u64
     ensures value { result ≡ written bytes.now }
-    ensures in_range { result < 2 ^ 8 }
+    ensures in_range { result < 2 ^ 16 }
 {
     match bytes {
-        [first, ..] => *first as u64,
+        [first, second, ..] => (*first as u64) * 256 + *second as u64,
+        [first] => *first as u64,
         [] => 0,
     }
 }

@@ -1,5 +1,5 @@
 //! Tables.
-ghost use Rattle.std.specs.Prelude.{◌≡◌, ◌↔◌, ◌^◌, ◌<◌, ◌≤◌, ◌⊎◌, [], length, map, nat_lt, option_copied, take, OnOk, OnErr, IsOk, IfOk, IfErr, IfSome};
+ghost use Rattle.std.specs.Prelude.{◌≡◌, ◌↔◌, ◌^◌, ◌<◌, ◌≤◌, ◌⊎◌, [], length, map, nat_lt, option_copied, option_map, take, OnOk, OnErr, IsOk, IfOk, IfErr, IfSome};
 ghost use Rattle.st_key.specs.declared.period.Period.{Period};
 ghost use Rattle.st_key.specs.Key.{rank};
 ghost use Rattle.st_text.specs.Texts.{in_order};
@@ -17,7 +17,7 @@ ghost use Rattle.st_table.specs.inner.Places.{IsTied, name_hash, number_at, plac
 use crate::lookup::{self, find, key_at};
 use crate::moving::copy_rows;
 use crate::own_name::OwnName;
-use crate::places::Places;
+use crate::places::{Places, Stand};
 use crate::seed::Seed;
 use st_auth::Auths;
 use st_box::Query;
@@ -70,28 +70,30 @@ fn put_at<I: RowIndex>(index: &mut I, before: Option<Key>, row: I::Row, spare: I
     }
 }
 
-// Takes the row of a name, which has this hash, out of an index, and gives the key where it stood. It takes no memory.
+// Takes the row of a name, which has this hash, out of an index, and gives where it stood. It takes no memory.
 fn take_out<I: RowIndex>(
     index: &mut I,
     places: &Places<I::Alloc>,
     hash: u64,
     id: &str,
     label: &str,
-) -> Option<Key>
+) -> Option<Stand>
     requires hash { hash ≡ name_hash places.now.seed id.now label.now }
     requires hash_in_range { hash < 2 ^ 47 }
     requires tied { IsTied places.now.seed (I.period_of index.old) places.now.numbers (I.content index.old) }
     requires once { HasEachOnce (I.content index.old) }
-    ensures found { IsFound (I.period_of index.old) result (record { id = id.now; label = label.now }) (I.content index.old) }
-    ensures held { IfSome result (λ key. 0 < number_at places.now.numbers (place_of hash (rank key))) }
+    ensures found { IsFound (I.period_of index.old) (option_map (λ stand. stand.key) result)
+        (record { id = id.now; label = label.now }) (I.content index.old) }
+    ensures held { IfSome result (λ stand. 0 < number_at places.now.numbers (place_of hash (rank stand.key))) }
+    ensures number { IfSome result (λ stand. stand.number ≡ number_at places.now.numbers (place_of hash (rank stand.key))) }
     ensures rows { I.content index.new ≡ without_named id.now label.now (I.content index.old) }
     ensures period { I.period_of index.new ≡ I.period_of index.old }
 {
     let mut from = 0;
-    'keys: while let Some(found) = places.next(hash, from) {
+    'keys: while let Some((found, number)) = places.next(hash, from) {
         let key = key_at(found);
         if index.remove(key, id, label).is_some() {
-            return Some(key);
+            return Some(Stand { key, number });
         }
         from = found + 1;
     }
@@ -157,10 +159,10 @@ impl<I: RowIndex> Table<I> {
         ensures { self.new ≡ record self.old { rows = without_named id.now label.now self.old.rows } }
     {
         let hash = self.places.seed().name_hash(id, label);
-        let Some(key) = take_out(&mut self.index, &self.places, hash, id, label) else {
+        let Some(stand) = take_out(&mut self.index, &self.places, hash, id, label) else {
             return;
         };
-        self.places.delete(hash, key);
+        self.places.delete(hash, stand);
     }
 
     /// The rows of an id whose labels the authorizations satisfy, by the bytes of their labels. An error if memory runs out.

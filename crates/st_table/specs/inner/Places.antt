@@ -14,18 +14,19 @@ use Rattle.st_index.specs.declared.row.Row.{Row}
 use Rattle.st_index.specs.Rows.{rank_of}
 use Rattle.st_table.specs.declared.seed.Seed.{Seed}
 
--- the number that the first byte writes
+-- the number that the first two bytes write
 abbrev pub written : Text → ℕ
 written [] = 0
-written (b ∷ bs) = b
+written (a ∷ []) = a
+written (a ∷ b ∷ bs) = a * 256 + b
 
 -- SipHash-1-3 of the seed and of these bytes
 unfoldable pub sip : Seed → Text → ℕ
 sip seed bytes = finish (write (fold write (fold write initial (u64 seed.first)) (u64 seed.second)) bytes)
 
--- the hash of an id: 24 bits of all bytes but the last, and this one
+-- the hash of an id: 32 bits of all bytes but the last two, and on from there as far as these say
 unfoldable pub hash_of : Seed → Text → ℕ
-hash_of seed id = sip seed (take (length id - 1) id) / 2 ^ 40 * 2 ^ 8 + written (drop (length id - 1) id)
+hash_of seed id = (sip seed (take (length id - 2) id) / 2 ^ 32 + written (drop (length id - 2) id)) % 2 ^ 32
 
 -- the hash of a label: 15 bits
 unfoldable pub label_hash : Seed → Text → ℕ

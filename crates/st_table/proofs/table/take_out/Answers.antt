@@ -42,6 +42,7 @@ returns-then-is_some g c =
     record {
       found = at;
       held = subst (λ n. 0 < number_at c.args.places.now.numbers (place_of c.args.hash n)) (sym c.key_at-key.ensures) c.in-Some.ensures.held;
+      number = subst (λ n. c.in-Some.number ≡ number_at c.args.places.now.numbers (place_of c.args.hash n)) (sym c.key_at-key.ensures) c.in-Some.ensures.number;
       rows = taken period key name rows new out at gone c.remove.ensures.named absent;
       period = c.remove.ensures.period ∙ c.keys.invariant.1;
     }
@@ -73,6 +74,7 @@ returns g c =
     record {
       found = none;
       held = tt;
+      number = tt;
       rows = c.keys.invariant.2 ∙ sym (none_fails (is_named name.id name.label) rows none);
       period = c.keys.invariant.1;
     }
