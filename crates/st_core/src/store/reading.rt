@@ -3,6 +3,7 @@ ghost use Rattle.std.specs.Prelude.{◌≡◌, true, Bool, filter, length, map, 
 ghost use Rattle.st_text.specs.Texts.{Text, in_order};
 ghost use Rattle.st_dir.specs.Directory.{is_table, period_of};
 ghost use Rattle.st_index.specs.Order.{scan_key};
+ghost use Rattle.st_index.specs.RowViews.{row_of_view};
 ghost use Rattle.st_index.specs.declared.row.Row.{Row as Labelled};
 ghost use Rattle.st_table.specs.Rows.{rows_in_table};
 ghost use Rattle.st_table.specs.Table.{rows_by_label};
@@ -15,7 +16,7 @@ use crate::store::Store;
 use st_auth::Auths;
 use st_box::Query;
 use st_dir::TableName;
-use st_index::Row;
+use st_index::{Row, RowView};
 use st_key::Place;
 use st_plan::{Plan, PlanFault};
 use st_policy::{Budget, Limit, Reply, Side};
@@ -28,9 +29,9 @@ use std::alloc::{AllocError, Allocator};
 // Copies of rows.
 fn copy_rows<A: Allocator + Copy>(
     alloc: A,
-    rows: &[&Row<A>],
+    rows: &[RowView<'_, A>],
 ) -> Result<Items<Row<A>, A>, AllocError>
-    ensures { IfOk result (λ copies. copies ≡ map (λ row. row.now) rows.now) }
+    ensures { IfOk result (λ copies. copies ≡ map row_of_view rows.now) }
 {
     let mut copies = Items::new(alloc);
     for row in rows {
