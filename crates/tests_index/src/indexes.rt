@@ -22,8 +22,8 @@ fn told(alloc: Global, entries: &[Entry]) -> Option<String> {
         for _ in 0..entry.len() {
             let (row, rest) = rows.split_first()?;
             rows = rest;
-            out.push_str(row.id.as_str()).ok()?;
-            out.push_str(row.label.text()).ok()?;
+            out.push_str(row.id().as_str()).ok()?;
+            out.push_str(row.label().text()).ok()?;
         }
     }
     Some(out)

@@ -1,7 +1,7 @@
 //! Tables made of short lists of rows, and what their reads show as text.
 
 use st_box::Query;
-use st_index::{Id, Note, Row};
+use st_index::{Id, Note, Row, RowView};
 use st_key::{Period, Point};
 use st_label::Label;
 use st_table::{Seed, Table};
@@ -76,12 +76,12 @@ pub fn query_of([x0, x1, y0, y1, t0, t1]: [u64; 6]) -> Option<Query> {
 pub const WHOLE: [u64; 6] = [0, 2_097_151, 0, 2_097_151, 0, 19_818_086_399];
 
 /// A line for each row: its id, label, point and note.
-pub fn told<A: Allocator + Copy>(alloc: Global, rows: &[&Row<A>]) -> Option<String> {
+pub fn told<A: Allocator + Copy>(alloc: Global, rows: &[RowView<'_, A>]) -> Option<String> {
     let mut lines = String::new(alloc);
     for row in rows {
-        let (id, label, point) = (row.id.as_str(), row.label.text(), row.point);
+        let (id, label, point) = (row.id().as_str(), row.label().text(), row.point());
         let (x, y, t) = (point.x(), point.y(), point.t());
-        write!(lines, "{id} {label} {x} {y} {t}{}\n", row.note.as_str()).ok()?;
+        write!(lines, "{id} {label} {x} {y} {t}{}\n", row.note().as_str()).ok()?;
     }
     Some(lines)
 }

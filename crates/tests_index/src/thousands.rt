@@ -4,7 +4,7 @@
 use crate::putting::{put_at, take_at};
 use crate::tabling::query_of;
 use st_auth::Auths;
-use st_index::{ListIndex, Row, RowIndex};
+use st_index::{ListIndex, Row, RowIndex, RowView};
 use st_key::Period;
 use st_scan::{count, page};
 use st_ubtree::UbTree;
@@ -78,10 +78,10 @@ fn counts<I: RowIndex<Alloc = Global>>(
 }
 
 // Whether the rows are at these places, one at each, in rising order.
-fn are_at(rows: &[&Row], (from, to): Places) -> bool {
+fn are_at(rows: &[RowView<'_>], (from, to): Places) -> bool {
     let mut place = from;
     for row in rows {
-        if u64::from(row.point.x()) != place {
+        if u64::from(row.point().x()) != place {
             return false;
         }
         place = place.saturating_add(1);

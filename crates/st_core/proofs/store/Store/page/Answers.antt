@@ -1,5 +1,6 @@
 use Rattle.std.proofs.Common.{List, map, ap, ◌∙◌}
 use Rattle.st_index.specs.declared.row.Row.{Row}
+use Rattle.st_index.specs.RowViews.{row_of_view}
 use Rattle.st_scan.specs.Visible.{is_visible_inside}
 use Rattle.st_policy.specs.declared.reply.Reply.{Reply}
 use Rattle.st_core.proofs.Pages.{paged}
@@ -7,7 +8,7 @@ use Rattle.st_core.proofs.store.Store.page.Goals as goal
 
 pub returns : goal.returns
 returns g c =
-    let copied = c.in_ok-copy_rows.ensures ∙ ap (map (λ row. row.now)) c.deref.ensures.value in
+    let copied = c.in_ok-copy_rows.ensures ∙ ap (map row_of_view) c.deref.ensures.value in
     let rows = rw (c.get.ensures.value, c.as_ref.ensures.value) at c.in-Ok.ensures.rows in
     let more = rw (c.get.ensures.value, c.as_ref.ensures.value) at c.in-Ok.ensures.more in
     ap (λ (rows : List (Row g.row.A.Denot)). Reply.Page rows c.in-Ok.page.more) copied
