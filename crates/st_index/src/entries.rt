@@ -29,7 +29,9 @@ pub enum Change {
 fn first_from<A: Allocator + Copy>(entries: &[Entry<A>], key: Key) -> Option<usize>
     ensures { result ≡ position (λ (e : EntryValue A). not (ltb e.at (rank key))) entries.now }
 {
-    entries.iter().position(|entry| !order::is_before(entry.key(), key))
+    entries
+        .iter()
+        .position(|entry| !order::is_before(entry.key(), key))
 }
 
 /// The index of the key's entry, or the index where it would stand.

@@ -1,9 +1,12 @@
 -- The first keys of children, as these change.
-use Rattle.std.proofs.Common.{◌≡◌, ℕ, ◌<◌, ◌≤◌, List, ◌∷◌, ◌++◌, length, get_or, map, take, drop, sym, ap, subst, ◌∙◌, suc, arith, true, false, not, ltb, Vec, vec_capacity, Option, Some, None, Box}
+use Rattle.std.proofs.Common.{Bool, refl, ◌≡◌, ℕ, ◌<◌, ◌≤◌, List, ◌∷◌, ◌++◌, length, get_or, map, take, drop, sym, ap, subst, ◌∙◌, suc, arith, true, false, not, ltb, Vec, vec_capacity, Option, Some, None, Box}
 use Rattle.std.proofs.Math.ListN.{set}
 use Rattle.std.proofs.Math.Seq.{map-set_same}
 use Rattle.std.proofs.lemmas.List.{get_or-map, length-map, map-append, take-map, take_all}
-use Rattle.std.specs.List.{drop-map, insert, remove}
+use Rattle.std.specs.List.{drop-map, insert, position, position_or_len, prefix_len, remove}
+use Rattle.std.specs.Option.{unwrap_or}
+use Rattle.std.proofs.lemmas.Grind.{common_steps}
+use Rattle.std.proofs.lemmas.List.Sums.{fails_before_first, passes_at_first, prefix_len-le-length}
 use Rattle.std.specs.List.Sorted.{IsPartitionedBy, IsPartitionPoint}
 use Rattle.st_key.specs.Key.{rank}
 use Rattle.st_key.specs.declared.key.Key.{Key}
@@ -23,6 +26,29 @@ map_insert n xs i x = map-append n (take i xs) (x ∷ drop i xs) ∙ ap (λ fron
 
 map_remove : {X : Type 0} (n : X → ℕ) (xs : List X) (i : ℕ) → map n (remove xs i) ≡ remove (map n xs) i
 map_remove n xs i = map-append n (take i xs) (drop (suc i) xs) ∙ ap (λ front. front ++ map n (drop (suc i) xs)) (sym (take-map n i xs)) ∙ ap (λ back. take i (map n xs) ++ back) (sym (drop-map n (suc i) xs))
+
+module _ {X : Type 0} (p : X → Bool) (xs : List X) where
+  -- where the first that passes stands, or how many there are
+  pub at_first : (r : Option ℕ) → r ≡ position p xs → unwrap_or r (length xs) ≡ position_or_len p xs
+  at_first r e =
+      let most : prefix_len (λ x. not (p x)) xs ≤ length xs = prefix_len-le-length (λ x. not (p x)) xs in
+      grind (arith, common_steps)
+
+  pub within_all : (n : ℕ) → n ≡ position_or_len p xs → n ≤ length xs
+  within_all n e = subst (λ m. m ≤ length xs) (sym e) (prefix_len-le-length (λ x. not (p x)) xs)
+
+  -- it parts those that fail from those that pass, where no failing one comes after a passing one
+  pub parted_at : (n : ℕ) → n ≡ position_or_len p xs → IsPartitionedBy (λ x. not (p x)) xs → IsPartitionPoint (λ x. not (p x) ≡ true) (λ x. not (p x) ≡ false) xs n
+  parted_at n e parted = (
+    λ k d low l. ap not (fails_before_first p xs k d (omega (arith, e, l))),
+    λ k d low l.
+        let first : p (get_or xs n d) ≡ true = subst (λ i. p (get_or xs i d) ≡ true) (sym e) (passes_at_first p xs d (omega (arith, e, low, l))) in
+        by (not (p (get_or xs k d))) refl (λ (passes : not (p (get_or xs k d)) ≡ true). sym (ap not first) ∙ parted n k d low l passes),
+  )
+    where
+      by : (b : Bool) {c : Bool} → c ≡ b → (c ≡ true → false ≡ true) → c ≡ false
+      by true e absurd_then = e ∙ sym (absurd_then e)
+      by false e absurd_then = e
 
 module _ {A : Type 0} where
   -- as many as there are children

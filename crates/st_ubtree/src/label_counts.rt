@@ -76,6 +76,13 @@ fn push<A: Allocator + Copy>(counts: &mut Vec<LabelCount<A>, A>, count: LabelCou
     true
 }
 
+// Lets a value lie where another did, which is let go.
+fn overwrite<T: Drop>(at: &mut T, value: T)
+    ensures { at.new ≡ value }
+{
+    *at = value;
+}
+
 // Puts a label that is not among the others at a place where there are no rows, or behind the others if the list has room
 // for it. Says whether it did.
 fn put_new<A: Allocator + Copy>(
@@ -92,8 +99,7 @@ fn put_new<A: Allocator + Copy>(
     let Some(at) = find_spare(counts.as_slice()) else {
         return push(counts, count);
     };
-    let place = &mut counts[at];
-    *place = count;
+    overwrite(&mut counts[at], count);
     true
 }
 

@@ -1,6 +1,6 @@
 //! The first keys of a node's children, which a search reads side by side.
 ghost use Rattle.std.specs.Prelude.{◌≡◌, ◌+◌, ◌<◌, ◌≤◌, List, length, take, ltb, not, true, false, vec_len, vec_capacity};
-ghost use Rattle.std.specs.List.{insert, remove};
+ghost use Rattle.std.specs.List.{insert, position, remove};
 ghost use Rattle.std.specs.List.Sorted.{IsPartitionPoint, IsPartitionedBy};
 ghost use Rattle.st_key.specs.Key.{rank};
 ghost use Rattle.st_ubtree.specs.Pages.{NodeValue};
@@ -17,6 +17,14 @@ use std::alloc::{Allocator, Global};
 #[derive(Drop)]
 pub struct Firsts<A: Allocator = Global> {
     keys: Vec<Key, A>,
+}
+
+// The index of the first key after this one. The keys are looked at one by one: a processor fetches several at once, where a search
+// by halves would wait for one after the other.
+fn first_after(keys: &[Key], key: Key) -> Option<usize>
+    ensures { result ≡ position (λ k. ltb (rank key) (rank k)) keys.now }
+{
+    keys.iter().position(|first| order::is_before(key, *first))
 }
 
 impl<A: Allocator + Copy> Firsts<A> {
@@ -36,11 +44,7 @@ impl<A: Allocator + Copy> Firsts<A> {
             (λ (v : NodeValue A). not (ltb (rank key) v.first) ≡ false) kids result }
     {
         let keys = self.keys.as_slice();
-        keys.partition_point(
-            |first: &Key| -> bool
-                ensures { result ≡ not (ltb (rank key) (rank first.now)) }
-            { !order::is_before(key, *first) },
-        )
+        first_after(keys, key).unwrap_or(keys.len())
     }
 
     /// Where the child stands that a search for the key goes on in: the last that begins at or before it, or else the first.

@@ -14,9 +14,10 @@ pub returns-then-is_before-clause-place : goal.returns-then-is_before-clause-pla
 returns-then-is_before-clause-place g c rises =
     let at = λ (e : EntryValue g.row.A.Denot). e.at in
     let found = sym c.first_from.ensures ∙ c.in-Some.is in
-    let after : true ≡ ltb (rank c.args.key) (at c.index-entries-place.result) = c.if-is_before.ensures ∙ ap (λ n. ltb (rank c.args.key) n) c.key.ensures in
-    (λ k d _ lt. less_before at (rank c.args.key) c.args.entries.now c.in-Some.place found k d lt,
-     λ k d le lt. greater_from at (rank c.args.key) c.args.entries.now c.in-Some.place found c.index-entries-place.result c.index-entries-place.is after rises k d le lt)
+    let after : true ≡ ltb (rank c.args.key) (at c.index-entries-place.result) = c.if-is_before.ensures ∙ ap (λ n. ltb (rank c.args.key) n) c.key.ensures in (
+      λ k d _ lt. less_before at (rank c.args.key) c.args.entries.now c.in-Some.place found k d lt,
+      λ k d le lt. greater_from at (rank c.args.key) c.args.entries.now c.in-Some.place found c.index-entries-place.result c.index-entries-place.is after rises k d le lt,
+    )
 
 pub returns-else-is_before-clause-bound : goal.returns-else-is_before-clause-bound
 returns-else-is_before-clause-bound g c = inside (λ (e : EntryValue g.row.A.Denot). e.at) (rank c.args.key) c.args.entries.now c.in-Some.place (sym c.first_from.ensures ∙ c.in-Some.is)

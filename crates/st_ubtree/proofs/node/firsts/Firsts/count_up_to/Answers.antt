@@ -1,11 +1,15 @@
-use Rattle.std.proofs.Common.{rules, not, ltb}
-use Rattle.std.proofs.lemmas.Fn.{always_returns_same}
+use Rattle.std.proofs.Common.{◌≡◌, ℕ, ◌≤◌, length, not, ltb, ap, subst, sym, ◌∙◌, arith}
+use Rattle.std.proofs.lemmas.Grind.{common_steps}
+use Rattle.std.specs.List.{position_or_len}
 use Rattle.st_key.specs.Key.{rank}
 use Rattle.st_key.specs.declared.key.Key.{Key}
-use Rattle.st_ubtree.proofs.Firsts.{found_by}
+use Rattle.st_ubtree.proofs.Firsts.{at_first, parted_at, found_by, within_all}
 use Rattle.st_ubtree.proofs.node.firsts.Firsts.count_up_to.Goals as goal
 
 pub returns-clause-place : goal.returns-clause-place
 returns-clause-place g c = λ kids h.
-    let found = c.partition_point.ensures.partitioned (λ (k : Key). not (ltb (rank c.args.key) (rank k))) (always_returns_same _ _ _ (λ a r f called. search rules)) in
-    found_by (rank c.args.key) c.args.self.now kids h c.partition_point.result (rw c.as_slice-keys.ensures.value at c.partition_point.ensures.bound) (rw c.as_slice-keys.ensures.value at found)
+    let after = λ (k : Key). ltb (rank c.args.key) (rank k) in
+    let keys = c.args.self.now.keys.items in
+    let is : c.unwrap_or.result ≡ position_or_len (λ (k : Key). ltb (rank c.args.key) (rank k)) c.args.self.now.keys.items =
+    rw c.as_slice-keys.ensures.value at (c.unwrap_or.ensures ∙ at_first after c.as_slice-keys.result.now c.first_after.result c.first_after.ensures) in
+    found_by (rank c.args.key) c.args.self.now kids h c.unwrap_or.result (within_all after keys c.unwrap_or.result is) (parted_at after keys c.unwrap_or.result is)
