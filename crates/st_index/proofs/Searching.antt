@@ -1,5 +1,5 @@
 -- Where a key's entry stands among entries that are looked at one by one.
-use Rattle.std.proofs.Common.{◌≡◌, ℕ, ◌<◌, ◌≤◌, Bool, true, false, List, length, get_or, not, ltb, Some, None, ap, sym, subst, ◌∙◌, arith, refl, Less, Equal, Greater}
+use Rattle.std.proofs.Common.{◌≡◌, ℕ, ◌<◌, ◌≤◌, true, false, List, length, get_or, not, ltb, Some, None, ap, sym, ◌∙◌, arith, refl, Less, Equal, Greater}
 use Rattle.std.specs.declared.cmp.Ordering.{Ordering}
 use Rattle.std.specs.List.{position, position_or_len}
 use Rattle.std.specs.List.Sorted.{IsNonDecreasingBy}

@@ -1,4 +1,4 @@
-use Rattle.std.proofs.Common.{◌≡◌, ◌+◌, ◌<◌, length, cond, take, sym, ap, ◌∙◌, arith}
+use Rattle.std.proofs.Common.{◌≡◌, ◌+◌, ◌<◌, length, cond, sym, ap, ◌∙◌, arith}
 use Rattle.std.proofs.lemmas.List.Sums.{count_by-le-length, sum_by-take-le}
 use Rattle.st_index.specs.declared.row.Row.{Row}
 use Rattle.st_index.specs.Counting.{count_of, is_counted}

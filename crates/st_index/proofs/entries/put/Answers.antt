@@ -1,7 +1,6 @@
 use Rattle.std.proofs.Common.{◌≡◌, ◌<◌, length, subst, sym, ap, ◌∙◌}
 use Rattle.st_index.specs.Rows.{EntryValue, name_of, rows_of, rank_of}
 use Rattle.std.specs.Prelude.{vec_capacity}
-use Rattle.st_key.specs.Key.{rank}
 use Rattle.st_index.specs.Index.{IsAbsent}
 use Rattle.st_index.proofs.Names.{nat_equal}
 use Rattle.st_index.proofs.Putting.{held_added, held_rising, missing_added, missing_rising}

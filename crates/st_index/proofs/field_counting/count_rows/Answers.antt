@@ -1,4 +1,4 @@
-use Rattle.std.proofs.Common.{◌≡◌, ◌<◌, List, [], ◌∷◌, length, sym, ap, subst, ◌∙◌, arith}
+use Rattle.std.proofs.Common.{◌<◌, List, [], ◌∷◌, length, sym, subst, ◌∙◌, arith}
 use Rattle.st_index.specs.declared.row.Row.{Row}
 use Rattle.st_index.specs.Fields.{CanAdd, Counts}
 use Rattle.st_index.proofs.Tallying.{each_alone, far_all, far_fits, far_next}

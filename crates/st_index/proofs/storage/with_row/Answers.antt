@@ -1,4 +1,3 @@
-use Rattle.std.proofs.Common.{arith, refl}
 use Rattle.st_index.proofs.storage.with_row.Goals as goal
 
 pub two-requires-clause-index : goal.two-requires-clause-index

@@ -3,7 +3,6 @@ use Rattle.std.proofs.lemmas.Bool.{eqb-true, eqb-false}
 use Rattle.std.proofs.lemmas.List.{nil_from_length}
 use Rattle.std.specs.List.{insert}
 use Rattle.st_index.specs.RowViews.{viewed}
-use Rattle.st_index.specs.Rows.{EntryValue}
 use Rattle.st_index.proofs.Putting.{adds_insert, names_put, names_held}
 use Rattle.st_index.proofs.entry.Entry.put.Goals as goal
 use Rattle.st_index.specs.declared.row.Row.{Row}

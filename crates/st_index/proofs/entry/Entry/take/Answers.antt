@@ -1,6 +1,6 @@
-use Rattle.std.proofs.Common.{◌≡◌, ap, sym, ◌∙◌}
+use Rattle.std.proofs.Common.{◌≡◌, ap, ◌∙◌}
 use Rattle.st_index.specs.RowViews.{viewed}
-use Rattle.st_index.specs.Rows.{EntryValue, name_of}
+use Rattle.st_index.specs.Rows.{name_of}
 use Rattle.st_index.proofs.Names.{name_equal}
 use Rattle.st_index.proofs.Taking.{removed_adds, removed_named, names_missing}
 use Rattle.st_index.proofs.entry.Entry.take.Goals as goal

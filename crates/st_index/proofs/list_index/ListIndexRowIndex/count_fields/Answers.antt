@@ -1,5 +1,4 @@
-use Rattle.std.proofs.Common.{◌≡◌, ◌<◌, ◌^◌, length, get_or, sym, ap, subst, ◌∙◌, arith}
-use Rattle.st_index.specs.Fields.{Counts}
+use Rattle.std.proofs.Common.{◌≡◌, ◌<◌, ◌^◌, length, ap, arith}
 use Rattle.st_index.specs.Rows.{rows_of}
 use Rattle.st_index.proofs.Tallying.{zero_at}
 use Rattle.st_index.proofs.list_index.ListIndexRowIndex.count_fields.Goals as goal

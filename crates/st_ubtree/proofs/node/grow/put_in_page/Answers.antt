@@ -1,7 +1,6 @@
 use Rattle.std.proofs.Common.{◌≡◌, ◌<◌, length, drop, take, subst, sym, ap, ◌∙◌, vec_len, arith, Some}
 use Rattle.std.proofs.lemmas.List.{length-drop}
 use Rattle.st_key.specs.Key.{rank}
-use Rattle.st_index.specs.Rows.{EntryValue}
 use Rattle.st_ubtree.specs.Pages.{page_node}
 use Rattle.st_ubtree.specs.inner.Growing.{IsBlankPage, PageGrows}
 use Rattle.st_ubtree.proofs.Splitting.{held_full, page_cut, page_grows}

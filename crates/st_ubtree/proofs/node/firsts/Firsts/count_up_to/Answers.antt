@@ -1,5 +1,4 @@
-use Rattle.std.proofs.Common.{◌≡◌, ℕ, ◌≤◌, length, not, ltb, ap, subst, sym, ◌∙◌, arith}
-use Rattle.std.proofs.lemmas.Grind.{common_steps}
+use Rattle.std.proofs.Common.{◌≡◌, ltb, ◌∙◌}
 use Rattle.std.specs.List.{position_or_len}
 use Rattle.st_key.specs.Key.{rank}
 use Rattle.st_key.specs.declared.key.Key.{Key}
