@@ -13,7 +13,6 @@ use Rattle.st_core.specs.contracts.store.tables.Tables as Tables
 use Rattle.st_core.specs.contracts.store.Store as Store
 use Rattle.st_dir.specs.contracts.directory.Directory as Directory
 use Rattle.st_index.specs.contracts.row.Row as Row
-use Rattle.st_index.specs.contracts.row_list.RowList as RowList
 use Rattle.st_index.specs.contracts.entry.Entry as Entry
 use Rattle.st_ubtree.specs.contracts.tree.UbTree as UbTree
 use Rattle.st_ubtree.specs.contracts.label_counts.LabelCount as LabelCount
@@ -56,17 +55,11 @@ row = search (sendable, crosses) depth 60 fits 100000
 row_sync : IsSync (Row.the_row Heap.the_row ghosts)
 row_sync = search (sendable, crosses) depth 60 fits 100000
 
-row_list : IsSend (RowList.the_row Heap.the_row ghosts)
-row_list = search (sendable, crosses, row) depth 60 fits 100000
-
-row_list_sync : IsSync (RowList.the_row Heap.the_row ghosts)
-row_list_sync = search (sendable, crosses, row_sync) depth 60 fits 100000
-
 entry : IsSend (Entry.the_row Heap.the_row ghosts)
-entry = search (sendable, crosses, row_list) depth 60 fits 100000
+entry = search (sendable, crosses, row) depth 60 fits 100000
 
 entry_sync : IsSync (Entry.the_row Heap.the_row ghosts)
-entry_sync = search (sendable, crosses, row_list_sync) depth 60 fits 100000
+entry_sync = search (sendable, crosses, row_sync) depth 60 fits 100000
 
 label_count : IsSend (LabelCount.the_row Heap.the_row ghosts)
 label_count = search (sendable, crosses) depth 60 fits 100000

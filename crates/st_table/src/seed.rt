@@ -37,7 +37,7 @@ impl Seed {
     }
 
     // The hash of an id. Those of ids that differ in their last two bytes alone lie near each other, as such ids are often put one
-    // after the other.
+    // after the other, but not in the order in which they are counted up, which would leave the nodes of a map half empty.
     pub(crate) fn hash(self, id: &str) -> u64
         ensures value { result ≡ hash_of self id.now }
         ensures in_range { result < 2 ^ 32 }
@@ -64,13 +64,13 @@ impl Seed {
     }
 }
 
-// The number that the first two bytes write.
+// The number that the first two bytes write, the last digit first.
 fn number_of(bytes: &[u8]) -> u64
     ensures value { result ≡ written bytes.now }
     ensures in_range { result < 2 ^ 16 }
 {
     match bytes {
-        [first, second, ..] => (*first as u64) * 256 + *second as u64,
+        [first, second, ..] => (*second as u64) * 256 + *first as u64,
         [first] => *first as u64,
         [] => 0,
     }

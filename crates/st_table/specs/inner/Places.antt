@@ -14,11 +14,11 @@ use Rattle.st_index.specs.declared.row.Row.{Row}
 use Rattle.st_index.specs.Rows.{rank_of}
 use Rattle.st_table.specs.declared.seed.Seed.{Seed}
 
--- the number that the first two bytes write
+-- the number that the first two bytes write, the last digit first
 abbrev pub written : Text → ℕ
 written [] = 0
 written (a ∷ []) = a
-written (a ∷ b ∷ bs) = a * 256 + b
+written (a ∷ b ∷ bs) = b * 256 + a
 
 -- SipHash-1-3 of the seed and of these bytes
 unfoldable pub sip : Seed → Text → ℕ
