@@ -18,6 +18,7 @@ use Rattle.st_ubtree.specs.contracts.tree.UbTree as UbTree
 use Rattle.st_ubtree.specs.contracts.label_counts.LabelCount as LabelCount
 use Rattle.st_ubtree.specs.contracts.label_counts.LabelCounts as LabelCounts
 use Rattle.st_ubtree.specs.contracts.summary.Summary as Summary
+use Rattle.st_ubtree.specs.contracts.node.aside.Aside as Aside
 use Rattle.st_ubtree.specs.contracts.node.Node as Node
 use Rattle.st_ubtree.specs.contracts.node.Node.TheKnot as knot
 use Rattle.st_ubtree.specs.declared.node.Node.TheDeep.{the_members, member-Node}
@@ -79,11 +80,17 @@ summary = search (sendable, crosses, label_counts) depth 60 fits 100000
 summary_sync : IsSync (Summary.the_row Heap.the_row ghosts)
 summary_sync = search (sendable, crosses, label_counts_sync) depth 60 fits 100000
 
+aside : IsSend (Aside.the_row Heap.the_row ghosts)
+aside = search (sendable, crosses) depth 60 fits 100000
+
+aside_sync : IsSync (Aside.the_row Heap.the_row ghosts)
+aside_sync = search (sendable, crosses) depth 60 fits 100000
+
 layer : (h : RattleType) → IsSend h → IsSend (knot.layer-Node Heap.the_row ghosts h)
 layer h s = search (sendable, crosses) depth 60 fits 100000
 
 viewed : (p : Parts K) → IsSend (rows K p member-Node) → IsSend (knot.view-Node Heap.the_row ghosts p)
-viewed p s = search (sendable, crosses, entry, summary) depth 60 fits 100000
+viewed p s = search (sendable, crosses, entry, summary, aside) depth 60 fits 100000
 
 keeps : (p : Parts K) → ((j : the_members) → IsSend (rows K p j)) → (i : the_members) → IsSend (rows K (knot.step Heap.the_row ghosts p) i)
 keeps p all member-Node = has_of K send (knot.step Heap.the_row ghosts p) member-Node (part_has send (knot.view-Node Heap.the_row ghosts p) (viewed p (all member-Node)))
@@ -101,7 +108,7 @@ layer_sync : (h : RattleType) → IsSync h → IsSync (knot.layer-Node Heap.the_
 layer_sync h s = search (sendable, crosses) depth 60 fits 100000
 
 viewed_sync : (p : Parts K) → IsSync (rows K p member-Node) → IsSync (knot.view-Node Heap.the_row ghosts p)
-viewed_sync p s = search (sendable, crosses, entry_sync, summary_sync) depth 60 fits 100000
+viewed_sync p s = search (sendable, crosses, entry_sync, summary_sync, aside_sync) depth 60 fits 100000
 
 keeps_sync : (p : Parts K) → ((j : the_members) → IsSync (rows K p j)) → (i : the_members) → IsSync (rows K (knot.step Heap.the_row ghosts p) i)
 keeps_sync p all member-Node = has_of K sync (knot.step Heap.the_row ghosts p) member-Node (part_has sync (knot.view-Node Heap.the_row ghosts p) (viewed_sync p (all member-Node)))
