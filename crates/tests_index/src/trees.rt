@@ -110,13 +110,13 @@ fn growths_of_each(heap: &Refusing<Global>) -> Option<[u64; 65]> {
 }
 
 // A row at a key of its own takes no growth but where pages are split: the 33rd row splits the only page, and puts a
-// node over the halves, which takes a list for its nodes, one for its children, one for their labels' counts, and two for
-// their labels and marks; the 49th and the 65th split the last page.
+// node over the halves, which takes a list for its nodes, one for its children, one for their labels' counts, one for their
+// first keys, two for their labels and marks, and a block for these three; the 49th and the 65th split the last page.
 #[test]
 fn each_growth_refused(rt: HostRuntime) {
     let heap = Refusing::new(rt.alloc());
     let mut wanted = [0; 65];
-    wanted[32] = 6;
+    wanted[32] = 8;
     wanted[48] = 1;
     wanted[64] = 1;
     assert!(rt; growths_of_each(&heap) == Some(wanted));
