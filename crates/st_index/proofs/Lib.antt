@@ -10,3 +10,4 @@ pub mod Scanning
 pub mod Listing
 pub mod Sorting
 pub mod Searching
+pub mod Ranges

@@ -12,7 +12,7 @@ use Rattle.st_index.specs.Rows.{Name, name_of, EntryValue, IsEntry, Rises, Names
 use Rattle.st_index.specs.Index.{Adds, Swaps, IsAbsent, Holds}
 use Rattle.st_index.proofs.Climbing.{all_left, all_right, within_take, within_drop, climbs_search, climbs_drop, climbs_swap}
 use Rattle.st_index.proofs.Rising.{rises_bounds, rises_from, rises_join, rises_around, rises_all, Around}
-use Rattle.st_index.proofs.Names.{name_total}
+use Rattle.st_index.proofs.Names.{name_equal, name_total}
 use Rattle.st_index.proofs.Putting.{split_read, rows-append, adds_inside, missing}
 use Rattle.st_key.specs.declared.period.Period.{Period}
 use Rattle.st_index.specs.declared.row.Row.{Row}
@@ -26,6 +26,11 @@ module _ {A : Type 0} where
 
   pub removed_named : (rows : List (Row A)) (i : ℕ) (row : Row A) → i < length rows → row ≡ get_or rows i row → NamesRise rows → NamesRise (remove rows i)
   removed_named rows i row l e h = climbs_drop name_total name_of (take i rows) row (drop (suc i) rows) (subst NamesRise (split_read rows i row l e) h)
+
+  -- a name that is found at an index is there
+  pub names_found : (n : Name) (rows : List (Row A)) (i : ℕ) → i < length rows → ((r : Row A) → name_cmp (name_of (get_or rows i r)) n ≡ Equal) → All (λ (r : Row A). (name_of r) ≡ n → ⊥) rows → ⊥
+  names_found n [] i low found gone = absurd (omega (arith, low))
+  names_found n (r ∷ rows) i low found gone = gone i r low (name_equal _ _ (found r))
 
   pub names_missing : (n : Name) (rows : List (Row A)) (i : ℕ) → (IsNonDecreasingBy (λ (r : Row A). ordering_index (name_cmp (name_of r) n)) rows → IsPartitionPoint (λ (r : Row A). name_cmp (name_of r) n ≡ Less) (λ (r : Row A). name_cmp (name_of r) n ≡ Greater) rows i) → NamesRise rows → All (λ (r : Row A). (name_of r) ≡ n → ⊥) rows
   names_missing n rows i found h =

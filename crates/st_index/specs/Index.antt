@@ -1,5 +1,5 @@
 -- What an index of rows promises.
-use Rattle.std.specs.Prelude.{◌≡◌, ℕ, ◌+◌, ◌<◌, ◌≤◌, ◌^◌, List, [], ◌∷◌, ◌++◌, length}
+use Rattle.std.specs.Prelude.{◌≡◌, ℕ, ◌+◌, ◌<◌, ◌≤◌, ◌^◌, ◌&&◌, nat_le, List, [], ◌∷◌, ◌++◌, filter, length}
 use Rattle.std.specs.List.{All}
 use Rattle.st_key.specs.declared.period.Period.{Period}
 use Rattle.st_index.specs.declared.row.Row.{Row}
@@ -40,6 +40,14 @@ pub record Region : Type 0 where
 
 abbrev pub region : ℕ → ℕ → Region
 region first last = record { first = first; last = last }
+
+-- the rows whose keys do not come before this rank
+abbrev pub rows_from : {A : Type 0} → Period → ℕ → List (Row A) → List (Row A)
+rows_from period from rows = filter (λ row. nat_le from (rank_of period row)) rows
+
+-- the rows whose keys are from the first rank to the last
+abbrev pub rows_between : {A : Type 0} → Period → (first last : ℕ) → List (Row A) → List (Row A)
+rows_between period first last rows = filter (λ row. nat_le first (rank_of period row) && nat_le (rank_of period row) last) rows
 
 -- the regions follow each other from lo to just below hi
 abbrev pub Follow : ℕ → ℕ → List Region → Type 0

@@ -1,13 +1,15 @@
 //! The rows of one key.
-ghost use Rattle.std.specs.Prelude.{◌≡◌, ◌+◌, ◌<◌, ◌≤◌, ◌==◌, ◌^◌, [], ◌∷◌, length, get_or, set, vec_capacity, IfSome, IfNone, IfOk, OnErr};
+ghost use Rattle.std.specs.Prelude.{◌≡◌, ◌+◌, ◌<◌, ◌≤◌, ◌==◌, ◌^◌, [], ◌∷◌, true, false, length, get_or, set, vec_capacity, IfSome, IfNone, IfOk, OnErr};
 ghost use Rattle.std.specs.List.{All, Contains, insert, remove};
+ghost use Rattle.std.specs.List.Sorted.{IsSearchInRange, IsBinarySearchResult};
 ghost use Rattle.st_key.specs.declared.period.Period.{Period};
 ghost use Rattle.st_index.specs.declared.row.Row.{Row};
 ghost use Rattle.st_key.specs.Key.{rank};
 ghost use Rattle.st_index.specs.RowViews.{row_of_view, viewed};
-ghost use Rattle.st_index.specs.Rows.{name_of, NamesRise, rank_of};
+ghost use Rattle.st_index.specs.Rows.{name_cmp, name_of, NamesRise, rank_of};
 ghost use Rattle.st_index.specs.Index.{Adds, Swaps, IsAbsent};
 
+use crate::placing;
 use crate::room::overwrite;
 use crate::row::Row;
 use crate::row_view::RowView;
@@ -19,13 +21,13 @@ use std::marker::Model;
 use std::mem;
 
 /// The rows of one key, by their names: by the id's bytes, then by the label's. A row alone lies in the entry, and takes no
-/// memory of its own. An entry takes 64 bytes where its allocator takes none.
+/// memory of its own. An entry takes 48 bytes where its allocator takes none.
 #[derive(Drop)]
 pub struct Entry<A: Allocator = Global> {
     place: Storage<A>,
 }
 
-const _: () = prove!(size_of::<Entry>() == 64);
+const _: () = prove!(size_of::<Entry>() == 48);
 
 impl<A: Allocator> Model for Entry<A> {
     ghost use Rattle.st_index.specs.Rows.{EntryValue};
@@ -79,6 +81,28 @@ impl<A: Allocator + Copy> Entry<A> {
         self.len() == 0
     }
 
+    // The index of the row of this name, or the index where it would stand.
+    fn find(&self, id: &str, label: &str) -> Result<usize, usize>
+        ensures bound { IsSearchInRange result (length self.now.rows) }
+        ensures place { IsBinarySearchResult (λ (r : Row A). name_cmp (name_of r) (record { id = id.now; label = label.now }))
+            self.now.rows result }
+    {
+        storage::find(&self.place, id, label)
+    }
+
+    /// Whether there is a row of this name. No point is computed.
+    pub fn has(&self, id: &str, label: &str) -> bool
+        ensures held { result ≡ true
+            → All (λ (r : Row A). (name_of r) ≡ record { id = id.now; label = label.now } → ⊥) self.now.rows → ⊥ }
+        ensures absent { result ≡ false → NamesRise self.now.rows
+            → All (λ (r : Row A). (name_of r) ≡ record { id = id.now; label = label.now } → ⊥) self.now.rows }
+    {
+        match self.find(id, label) {
+            Ok(_) => true,
+            Err(_) => false,
+        }
+    }
+
     /// The row of this name.
     pub fn get(&self, id: &str, label: &str) -> Option<RowView<'_, A>>
         ensures some { IfSome result (λ row. Contains self.now.rows (row_of_view row)
@@ -86,9 +110,8 @@ impl<A: Allocator + Copy> Entry<A> {
         ensures absent { IfNone result (NamesRise self.now.rows
             → All (λ (r : Row A). (name_of r) ≡ record { id = id.now; label = label.now } → ⊥) self.now.rows) }
     {
-        let rows = self.rows();
-        match rows.find(id, label) {
-            Ok(i) => Some(rows.at(i)),
+        match self.find(id, label) {
+            Ok(i) => Some(self.rows().at(i)),
             Err(_) => None,
         }
     }
@@ -103,7 +126,7 @@ impl<A: Allocator + Copy> Entry<A> {
         ensures rows { self.new.rows ≡ insert self.old.rows index row }
     {
         let place = mem::replace(&mut self.place, storage::nothing());
-        overwrite(&mut self.place, storage::with_row(place, index, row, list));
+        overwrite(&mut self.place, placing::with_row(place, index, row, list));
     }
 
     // Takes out the row at an index.
@@ -114,7 +137,7 @@ impl<A: Allocator + Copy> Entry<A> {
         ensures rows { self.new.rows ≡ remove self.old.rows index }
     {
         let place = mem::replace(&mut self.place, storage::nothing());
-        let (row, left) = storage::without_row(place, index);
+        let (row, left) = placing::without_row(place, index);
         overwrite(&mut self.place, left);
         row
     }
@@ -127,7 +150,7 @@ impl<A: Allocator + Copy> Entry<A> {
         ensures at { self.new.at ≡ self.old.at }
         ensures rows { self.new.rows ≡ set self.old.rows index row }
     {
-        storage::replace(&mut self.place, index, period, row)
+        placing::replace(&mut self.place, index, period, row)
     }
 
     // Puts a row of the key at its place. Where there are rows already and their list is full, the new list takes all of them
@@ -145,7 +168,7 @@ impl<A: Allocator + Copy> Entry<A> {
             overwrite(self, Entry::new(period, row));
             return;
         }
-        let place = match self.rows().find(row.id.as_str(), row.label.text()) {
+        let place = match self.find(row.id.as_str(), row.label.text()) {
             Ok(place) => place,
             Err(place) => place,
         };
@@ -162,7 +185,7 @@ impl<A: Allocator + Copy> Entry<A> {
             → All (λ (r : Row A). (name_of r) ≡ record { id = id.now; label = label.now } → ⊥) self.old.rows) }
         ensures named { NamesRise self.old.rows → NamesRise self.new.rows }
     {
-        match self.rows().find(id, label) {
+        match self.find(id, label) {
             Ok(i) => Some(self.remove(i)),
             Err(_) => None,
         }
@@ -177,7 +200,7 @@ impl<A: Allocator + Copy> Entry<A> {
         ensures absent { OnErr result (NamesRise self.old.rows → All (λ (r : Row A). (name_of r) ≡ (name_of row) → ⊥) self.old.rows) }
         ensures named { NamesRise self.old.rows → NamesRise self.new.rows }
     {
-        match self.rows().find(row.id.as_str(), row.label.text()) {
+        match self.find(row.id.as_str(), row.label.text()) {
             Ok(i) => Ok(self.replace(i, period, row)),
             Err(_) => Err(row),
         }

@@ -13,6 +13,7 @@ pub const MAX_ID: usize = 64;
 /// The id of a row: a text of 1 to [`MAX_ID`] bytes. One of at most 14 bytes takes no memory of its own.
 #[derive(Drop)]
 pub struct Id<A: Allocator = Global> {
+    alloc: A,
     text: CompactText<A>,
 }
 
@@ -37,15 +38,21 @@ impl<A: Allocator + Copy> Id<A> {
             return Ok(None);
         }
         let text = CompactText::new(alloc, text)?;
-        Ok(Some(Id { text }))
+        Ok(Some(Id { alloc, text }))
     }
 
     /// An equal id, or an error if memory runs out.
     pub fn copy(&self) -> Result<Id<A>, AllocError>
         ensures { IfOk result (λ id. id ≡ self.now) }
     {
+        let alloc = self.alloc;
         let text = self.text.copy()?;
-        Ok(Id { text })
+        Ok(Id { alloc, text })
+    }
+
+    // The allocator.
+    pub(crate) fn alloc(&self) -> A {
+        self.alloc
     }
 }
 

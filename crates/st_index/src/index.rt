@@ -1,14 +1,14 @@
 //! What an index of rows promises.
-ghost use Rattle.std.specs.Prelude.{◌≡◌, ◌<◌, List, IfOk, IfSome, IfNone, length};
+ghost use Rattle.std.specs.Prelude.{◌≡◌, ◌<◌, ◌≤◌, List, IfOk, IfSome, IfNone, length};
 ghost use Rattle.std.specs.List.{All, Contains};
 ghost use Rattle.st_key.specs.declared.period.Period.{Period};
 ghost use Rattle.st_index.specs.declared.row.Row.{Row};
 ghost use Rattle.st_index.specs.Rows.{key_end, name_of, rank_of};
 ghost use Rattle.st_key.specs.Key.{rank};
 ghost use Rattle.st_index.specs.Counting.{count_of};
-ghost use Rattle.st_index.specs.Fields.{Counts};
+ghost use Rattle.st_index.specs.Fields.{CanAdd, Counts};
 ghost use Rattle.st_index.specs.RowViews.{row_of_view};
-ghost use Rattle.st_index.specs.Index.{Adds, Swaps, IsAbsent, Holds, Region, region, IsLawful, IsLeafAt};
+ghost use Rattle.st_index.specs.Index.{Adds, Swaps, IsAbsent, Holds, Region, region, IsLawful, IsLeafAt, rows_between, rows_from};
 
 use crate::entry::Entry;
 use crate::fields::Fields;
@@ -23,6 +23,13 @@ use std::alloc::{AllocError, Allocator, Global};
 #[derive(Drop)]
 pub struct Leaf<'a, A: Allocator = Global> {
     pub entries: &'a [Entry<A>],
+    pub first: Key,
+    pub last: Key,
+}
+
+/// Consecutive keys, from the first to the last.
+#[derive(Clone, Copy)]
+pub struct KeyRange {
     pub first: Key,
     pub last: Key,
 }
@@ -102,6 +109,28 @@ pub trait RowIndex {
         requires long { length counts.old ≡ F.count fields.now }
         requires none { All (λ n. n ≡ 0) counts.old }
         ensures { Counts (F.query fields.now) (J.judges judge.old) (F.field_of fields.now) (content self.now) counts.old counts.new };
+
+    /// Adds to the number of each field how many rows of the content are in it, inside the query, and have a label that is found
+    /// true, of those whose keys are in a range around this one. The index chooses the range, and hands it back. `None`, and
+    /// nothing added, where it begins before `from`. It takes no memory of its own.
+    fn count_fields_at<J: Judge<Self::Alloc>, F: Fields>(
+        &self,
+        from: Key,
+        key: Key,
+        judge: &mut J,
+        fields: &F,
+        counts: &mut [u64],
+    ) -> Option<KeyRange>
+        requires key { rank key < key_end (period_of self.now) }
+        requires long { length counts.old ≡ F.count fields.now }
+        requires fits { CanAdd (length (rows_from (period_of self.now) (rank from) (content self.now))) counts.old }
+        ensures counts { IfSome result (λ range. Counts (F.query fields.now) (J.judges judge.old) (F.field_of fields.now)
+            (rows_between (period_of self.now) (rank range.first) (rank range.last) (content self.now)) counts.old counts.new) }
+        ensures has_key { IfSome result (λ range. (rank range.first ≤ rank key) × (rank key ≤ rank range.last)) }
+        ensures from { IfSome result (λ range. rank from ≤ rank range.first) }
+        ensures within { IfSome result (λ range. rank range.last < key_end (period_of self.now)) }
+        ensures none { IfNone result (counts.new ≡ counts.old) }
+        ensures same { J.judges judge.new ≡ J.judges judge.old };
 
     /// All the memory that it takes to put in this row now. An error if memory runs out, or if
     /// 2^64 - 1 rows are held.

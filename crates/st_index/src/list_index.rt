@@ -6,10 +6,10 @@ ghost use Rattle.st_index.specs.Index.{region};
 use crate::entries::Change;
 use crate::entry::Entry;
 use crate::fields::Fields;
-use crate::index::{Leaf, RowIndex};
+use crate::index::{KeyRange, Leaf, RowIndex};
 use crate::judge::Judge;
 use crate::row::Row;
-use crate::{counting, entries, field_counting, room};
+use crate::{counting, entries, field_counting, order, room};
 use st_box::Query;
 use st_key::{Key, Period};
 use std::alloc::{AllocError, Allocator, Global};
@@ -91,6 +91,22 @@ impl<A: Allocator + Copy> RowIndex for ListIndex<A> {
 
     fn count_fields<J: Judge<A>, F: Fields>(&self, judge: &mut J, fields: &F, counts: &mut [u64]) {
         field_counting::count(&self.entries, judge, fields, counts);
+    }
+
+    fn count_fields_at<J: Judge<A>, F: Fields>(
+        &self,
+        from: Key,
+        _key: Key,
+        judge: &mut J,
+        fields: &F,
+        counts: &mut [u64],
+    ) -> Option<KeyRange> {
+        if order::is_before(Key::FIRST, from) {
+            return None;
+        }
+        field_counting::count(&self.entries, judge, fields, counts);
+        let (first, last) = (Key::FIRST, Key::last(self.period));
+        Some(KeyRange { first, last })
     }
 
     fn prepare(&self, row: &Row<A>) -> Result<ListSpare<A>, AllocError> {

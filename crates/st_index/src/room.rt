@@ -1,5 +1,5 @@
 //! Putting in values of any type: into lists that have room for them, and in the place of others.
-ghost use Rattle.std.specs.Prelude.{◌≡◌, ◌+◌, ◌<◌, ◌≤◌, [], length, vec_len, vec_capacity};
+ghost use Rattle.std.specs.Prelude.{◌≡◌, ◌+◌, ◌<◌, ◌≤◌, [], ◌∷◌, length, vec_len, vec_capacity};
 ghost use Rattle.std.specs.List.{insert};
 
 use std::alloc::Allocator;
@@ -44,6 +44,40 @@ pub(crate) fn with_room<T: Drop, A: Allocator>(
     }
     take_over(&mut list, &mut held);
     list
+}
+
+// The list of an item at an index and of another that was alone.
+pub(crate) fn two<T: Drop, A: Allocator>(
+    index: usize,
+    item: T,
+    held: T,
+    mut list: Vec<T, A>,
+) -> Vec<T, A>
+    requires index { index ≤ 1 }
+    requires empty { list.items ≡ [] }
+    requires room { 1 < vec_capacity list }
+    ensures { result.items ≡ insert (held ∷ []) index item }
+{
+    put(&mut list, 0, held);
+    put(&mut list, index, item);
+    list
+}
+
+// The list of an item at an index and of those that are held.
+pub(crate) fn more<T: Drop, A: Allocator>(
+    index: usize,
+    item: T,
+    held: Vec<T, A>,
+    list: Vec<T, A>,
+) -> Vec<T, A>
+    requires index { index ≤ length held.items }
+    requires empty { list.items ≡ [] }
+    requires room { length held.items < vec_capacity list }
+    ensures { result.items ≡ insert held.items index item }
+{
+    let mut items = with_room(held, list);
+    put(&mut items, index, item);
+    items
 }
 
 // Lets a value lie where another did, which is let go.

@@ -4,6 +4,7 @@ ghost use Rattle.st_index.specs.Rows.{key_end, name_cmp, name_of, rank_of};
 ghost use Rattle.st_key.specs.Key.{rank};
 
 use crate::id::Id;
+use crate::naming::cmp_names;
 use crate::note::Note;
 use st_key::{Key, Period, Point};
 use st_label::Label;
@@ -48,9 +49,6 @@ impl<A: Allocator + Copy> Row<A> {
     pub fn cmp_name(&self, id: &str, label: &str) -> Ordering
         ensures { result ≡ name_cmp (name_of self.now) (record { id = id.now; label = label.now }) }
     {
-        match self.id.as_str().cmp(id) {
-            Ordering::Equal => self.label.text().cmp(label),
-            order => order,
-        }
+        cmp_names(&self.id, &self.label, id, label)
     }
 }

@@ -1,11 +1,14 @@
 //! Views of single rows.
 ghost use Rattle.std.specs.Prelude.{◌≡◌, ◌<◌, IfOk};
+ghost use Rattle.st_index.specs.Notes.{lent_bytes};
 ghost use Rattle.st_index.specs.RowViews.{row_of_view};
 ghost use Rattle.st_index.specs.Rows.{key_end, name_cmp, name_of, rank_of};
+ghost use Rattle.st_index.specs.Texts.{IsNote};
 ghost use Rattle.st_key.specs.Key.{rank};
 
 use crate::id::Id;
-use crate::note::Note;
+use crate::naming::cmp_names;
+use crate::note::{Note, NoteText, lent_text};
 use crate::row::Row;
 use st_key::{Key, Period, Point};
 use st_label::Label;
@@ -18,13 +21,18 @@ pub struct RowView<'a, A: Allocator = Global> {
     point: Point,
     id: &'a Id<A>,
     label: &'a Label<A>,
-    note: &'a Note<A>,
+    note: Option<&'a NoteText<A>>,
 }
 
 impl<'a, A: Allocator> RowView<'a, A> {
-    /// The row of these parts.
-    pub fn new(point: Point, id: &'a Id<A>, label: &'a Label<A>, note: &'a Note<A>) -> Self
-        ensures { row_of_view result ≡ record { id = id.now; point = point; label = label.now; note = note.now } }
+    // The row of these parts. Where there is no note, its text is empty.
+    pub(crate) fn new(
+        point: Point,
+        id: &'a Id<A>,
+        label: &'a Label<A>,
+        note: Option<&'a NoteText<A>>,
+    ) -> Self
+        ensures { row_of_view result ≡ record { id = id.now; point = point; label = label.now; note = lent_bytes note.entry } }
     {
         RowView {
             point,
@@ -38,7 +46,7 @@ impl<'a, A: Allocator> RowView<'a, A> {
     pub fn of(row: &'a Row<A>) -> Self
         ensures { row_of_view result ≡ row.now }
     {
-        RowView::new(row.point, &row.id, &row.label, &row.note)
+        RowView::new(row.point, &row.id, &row.label, row.note.lend())
     }
 
     /// The row's id.
@@ -63,10 +71,11 @@ impl<'a, A: Allocator> RowView<'a, A> {
     }
 
     /// What else is to be kept with the point.
-    pub fn note(self) -> &'a Note<A>
-        ensures { result.now ≡ (row_of_view self.entry).note }
+    pub fn note(self) -> &'a str
+        ensures value { result.now ≡ (row_of_view self.entry).note }
+        ensures fits { IsNote result.now }
     {
-        self.note
+        lent_text(self.note)
     }
 }
 
@@ -79,7 +88,7 @@ impl<A: Allocator + Copy> RowView<'_, A> {
             id: self.id.copy()?,
             point: self.point,
             label: self.label.copy()?,
-            note: self.note.copy()?,
+            note: Note::fitting(self.id.alloc(), self.note())?,
         })
     }
 
@@ -95,9 +104,6 @@ impl<A: Allocator + Copy> RowView<'_, A> {
     pub fn cmp_name(self, id: &str, label: &str) -> Ordering
         ensures { result ≡ name_cmp (name_of (row_of_view self.entry)) (record { id = id.now; label = label.now }) }
     {
-        match self.id.as_str().cmp(id) {
-            Ordering::Equal => self.label.text().cmp(label),
-            order => order,
-        }
+        cmp_names(self.id, self.label, id, label)
     }
 }

@@ -1,25 +1,27 @@
 //! Where the rows of a key lie.
-ghost use Rattle.std.specs.Prelude.{◌≡◌, ◌+◌, ◌<◌, ◌≤◌, ◌^◌, [], ◌∷◌, length, get_or, set, vec_capacity};
-ghost use Rattle.std.specs.List.{insert, remove};
+ghost use Rattle.std.specs.Prelude.{◌≡◌, ◌+◌, ◌<◌, ◌^◌, [], ◌∷◌, length};
+ghost use Rattle.std.specs.List.Sorted.{IsSearchInRange, IsBinarySearchResult};
 ghost use Rattle.st_key.specs.Key.{rank};
+ghost use Rattle.st_index.specs.declared.row.Row.{Row};
+ghost use Rattle.st_index.specs.Notes.{noted_bytes};
 ghost use Rattle.st_index.specs.RowViews.{viewed};
-ghost use Rattle.st_index.specs.Rows.{rank_of};
+ghost use Rattle.st_index.specs.Rows.{name_cmp, name_of, rank_of};
 ghost use Rattle.st_index.specs.inner.KeyPoints.{IsKey, IsPointKey, point_of_key};
-ghost use Rattle.st_index.specs.inner.Storages.{IsStored, stored_at, stored_rows};
+ghost use Rattle.st_index.specs.inner.Storages.{IsStored, owned_rows, stored_at, stored_rows};
 
 use crate::id::Id;
-use crate::note::Note;
-use crate::room::{put, with_room};
+use crate::naming::{find_beside, find_name};
+use crate::note::{Note, NoteText};
 use crate::row::Row;
 use crate::row_view::RowView;
 use crate::rows_view::RowsView;
 use st_key::{Key, Period, Point};
 use st_label::Label;
 use std::alloc::Allocator;
-use std::mem;
 
 // The parts of a key, and where its rows lie. The key's parts lie flat, beside the variant's tag, so that they take no more than
-// they need. Of a row alone no point is kept, since its key in this period tells it.
+// they need. Of a row alone no point is kept, since its key in this period tells it. If it has a note, the label lies in the note's box,
+// so that an entry never holds both the label and the box; a row without a note has no box.
 #[derive(Drop)]
 pub enum Storage<A: Allocator> {
     Nowhere {
@@ -33,7 +35,13 @@ pub enum Storage<A: Allocator> {
         address: u64,
         id: Id<A>,
         label: Label<A>,
-        note: Note<A>,
+    },
+    Noted {
+        period: Period,
+        bin: u32,
+        address: u64,
+        id: Id<A>,
+        text: Box<NoteText<A>, A>,
     },
     Heap {
         period: Period,
@@ -43,14 +51,46 @@ pub enum Storage<A: Allocator> {
     },
 }
 
+/// The rows of a place by themselves: a row alone, or their list.
+#[derive(Drop)]
+pub enum OwnedRows<A: Allocator> {
+    One(Row<A>),
+    Many(Vec<Row<A>, A>),
+}
+
 /// No rows at the first key.
 pub(crate) fn nothing<A: Allocator>() -> Storage<A>
     ensures { IsStored result }
 {
+    vacant(Period::Day, Key::FIRST)
+}
+
+/// No rows at a key.
+pub(crate) fn vacant<A: Allocator>(period: Period, key: Key) -> Storage<A>
+    ensures stored { IsStored result }
+    ensures at { stored_at result ≡ rank key }
+    ensures rows { stored_rows result ≡ [] }
+{
+    let (bin, address) = (key.bin(), key.address());
     Storage::Nowhere {
-        period: Period::Day,
-        bin: 0,
-        address: 0,
+        period,
+        bin,
+        address,
+    }
+}
+
+/// The rows of a key in a list.
+pub(crate) fn listed<A: Allocator>(period: Period, key: Key, rows: Vec<Row<A>, A>) -> Storage<A>
+    ensures stored { IsStored result }
+    ensures at { stored_at result ≡ rank key }
+    ensures rows { stored_rows result ≡ rows.items }
+{
+    let (bin, address) = (key.bin(), key.address());
+    Storage::Heap {
+        period,
+        bin,
+        address,
+        rows,
     }
 }
 
@@ -67,13 +107,25 @@ pub(crate) fn alone<A: Allocator>(period: Period, key: Key, row: Row<A>) -> Stor
         note,
         ..
     } = row;
-    Storage::Inline {
-        period,
-        bin: key.bin(),
-        address: key.address(),
-        id,
-        label,
-        note,
+    let (bin, address) = (key.bin(), key.address());
+    match note.into_text() {
+        None => Storage::Inline {
+            period,
+            bin,
+            address,
+            id,
+            label,
+        },
+        Some(mut text) => {
+            text.put_label(label);
+            Storage::Noted {
+                period,
+                bin,
+                address,
+                id,
+                text,
+            }
+        }
     }
 }
 
@@ -85,6 +137,7 @@ pub(crate) fn key_of<A: Allocator>(place: &Storage<A>) -> Key
     match place {
         Storage::Nowhere { bin, address, .. } => Key::at(*bin, *address),
         Storage::Inline { bin, address, .. } => Key::at(*bin, *address),
+        Storage::Noted { bin, address, .. } => Key::at(*bin, *address),
         Storage::Heap { bin, address, .. } => Key::at(*bin, *address),
     }
 }
@@ -101,6 +154,67 @@ fn point_of(period: Period, bin: u32, address: u64) -> Point
     point
 }
 
+// The row that is alone at the key of these parts.
+fn lone<A: Allocator + Copy>(
+    period: Period,
+    bin: u32,
+    address: u64,
+    id: Id<A>,
+    label: Label<A>,
+    text: Option<Box<NoteText<A>, A>>,
+) -> Row<A>
+    requires key { IsKey bin address }
+    requires point { IsPointKey period bin address }
+    ensures { result ≡ record { id = id; point = point_of_key period bin address; label = label; note = noted_bytes text } }
+{
+    let note = Note::of(id.alloc(), text);
+    Row {
+        id,
+        point: point_of(period, bin, address),
+        label,
+        note,
+    }
+}
+
+/// The period, the key and the rows of a place that has rows.
+pub(crate) fn into_rows<A: Allocator + Copy>(place: Storage<A>) -> (Period, Key, OwnedRows<A>)
+    requires stored { IsStored place }
+    requires some { 0 < length (stored_rows place) }
+    ensures key { rank result.1 ≡ stored_at place }
+    ensures rows { owned_rows result.2 ≡ stored_rows place }
+{
+    match place {
+        Storage::Nowhere { .. } => unreachable!(),
+        Storage::Inline {
+            period,
+            bin,
+            address,
+            id,
+            label,
+        } => {
+            let row = lone(period, bin, address, id, label, None);
+            (period, Key::at(bin, address), OwnedRows::One(row))
+        }
+        Storage::Noted {
+            period,
+            bin,
+            address,
+            id,
+            mut text,
+        } => {
+            let label = text.take_label();
+            let row = lone(period, bin, address, id, label, Some(text));
+            (period, Key::at(bin, address), OwnedRows::One(row))
+        }
+        Storage::Heap {
+            period,
+            bin,
+            address,
+            rows,
+        } => (period, Key::at(bin, address), OwnedRows::Many(rows)),
+    }
+}
+
 /// The rows, in order.
 pub(crate) fn rows_in<A: Allocator>(place: &Storage<A>) -> RowsView<'_, A>
     requires { IsStored place.now }
@@ -114,8 +228,17 @@ pub(crate) fn rows_in<A: Allocator>(place: &Storage<A>) -> RowsView<'_, A>
             address,
             id,
             label,
-            note,
-        } => RowsView::One(RowView::new(point_of(*period, *bin, *address), id, label, note)),
+        } => RowsView::One(RowView::new(point_of(*period, *bin, *address), id, label, None)),
+        Storage::Noted {
+            period,
+            bin,
+            address,
+            id,
+            text,
+        } => {
+            let point = point_of(*period, *bin, *address);
+            RowsView::One(RowView::new(point, id, text.label(), Some(text)))
+        }
         Storage::Heap { rows, .. } => RowsView::Many(rows.as_slice()),
     }
 }
@@ -128,191 +251,34 @@ pub(crate) fn count<A: Allocator>(place: &Storage<A>) -> usize
     match place {
         Storage::Nowhere { .. } => 0,
         Storage::Inline { .. } => 1,
+        Storage::Noted { .. } => 1,
         Storage::Heap { rows, .. } => rows.len(),
     }
 }
 
-/// The place of the rows of a place and of a row at an index. Where their list is full, the new list takes all of them without
-/// more memory.
-pub(crate) fn with_row<A: Allocator + Copy>(
-    place: Storage<A>,
-    index: usize,
-    row: Row<A>,
-    list: Vec<Row<A>, A>,
-) -> Storage<A>
-    requires stored { IsStored place }
-    requires some { 0 < length (stored_rows place) }
-    requires index { index ≤ length (stored_rows place) }
-    requires empty { list.items ≡ [] }
-    requires room { length (stored_rows place) < vec_capacity list }
-    ensures stored { IsStored result }
-    ensures at { stored_at result ≡ stored_at place }
-    ensures rows { stored_rows result ≡ insert (stored_rows place) index row }
+/// The index of the row of this name, or the index where it would stand. No point is computed.
+pub(crate) fn find<A: Allocator + Copy>(
+    place: &Storage<A>,
+    id: &str,
+    label: &str,
+) -> Result<usize, usize>
+    requires { IsStored place.now }
+    ensures bound { IsSearchInRange result (length (stored_rows place.now)) }
+    ensures place { IsBinarySearchResult (λ (r : Row A). name_cmp (name_of r) (record { id = id.now; label = label.now }))
+        (stored_rows place.now) result }
 {
     match place {
-        Storage::Nowhere { .. } => unreachable!(),
+        Storage::Nowhere { .. } => Err(0),
         Storage::Inline {
-            period,
-            bin,
-            address,
-            id,
-            label,
-            note,
-        } => {
-            let point = point_of(period, bin, address);
-            let held = Row {
-                id,
-                point,
-                label,
-                note,
-            };
-            Storage::Heap {
-                period,
-                bin,
-                address,
-                rows: two(index, row, held, list),
-            }
-        }
-        Storage::Heap {
-            period,
-            bin,
-            address,
-            rows,
-        } => Storage::Heap {
-            period,
-            bin,
-            address,
-            rows: more(index, row, rows, list),
-        },
+            id: row_id,
+            label: row_label,
+            ..
+        } => find_beside(row_id, row_label, id, label),
+        Storage::Noted {
+            id: row_id,
+            text,
+            ..
+        } => find_beside(row_id, text.label(), id, label),
+        Storage::Heap { rows, .. } => find_name(rows.as_slice(), id, label),
     }
-}
-
-// The list of a row at an index and of another that was alone.
-fn two<A: Allocator + Copy>(
-    index: usize,
-    row: Row<A>,
-    held: Row<A>,
-    mut list: Vec<Row<A>, A>,
-) -> Vec<Row<A>, A>
-    requires index { index ≤ 1 }
-    requires empty { list.items ≡ [] }
-    requires room { 1 < vec_capacity list }
-    ensures { result.items ≡ insert (held ∷ []) index row }
-{
-    put(&mut list, 0, held);
-    put(&mut list, index, row);
-    list
-}
-
-// The list of a row at an index and of those that are held.
-fn more<A: Allocator + Copy>(
-    index: usize,
-    row: Row<A>,
-    held: Vec<Row<A>, A>,
-    list: Vec<Row<A>, A>,
-) -> Vec<Row<A>, A>
-    requires index { index ≤ length held.items }
-    requires empty { list.items ≡ [] }
-    requires room { length held.items < vec_capacity list }
-    ensures { result.items ≡ insert held.items index row }
-{
-    let mut rows = with_room(held, list);
-    put(&mut rows, index, row);
-    rows
-}
-
-/// The row at an index of a place, and the place of the others.
-pub(crate) fn without_row<A: Allocator + Copy>(
-    place: Storage<A>,
-    index: usize,
-) -> (Row<A>, Storage<A>)
-    requires stored { IsStored place }
-    requires index { index < length (stored_rows place) }
-    ensures stored { IsStored result.1 }
-    ensures at { stored_at result.1 ≡ stored_at place }
-    ensures value { result.0 ≡ get_or (stored_rows place) index result.0 }
-    ensures left { stored_rows result.1 ≡ remove (stored_rows place) index }
-{
-    match place {
-        Storage::Nowhere { .. } => unreachable!(),
-        Storage::Inline {
-            period,
-            bin,
-            address,
-            id,
-            label,
-            note,
-        } => {
-            let point = point_of(period, bin, address);
-            let row = Row {
-                id,
-                point,
-                label,
-                note,
-            };
-            let left = Storage::Nowhere {
-                period,
-                bin,
-                address,
-            };
-            (row, left)
-        }
-        Storage::Heap {
-            period,
-            bin,
-            address,
-            mut rows,
-        } => {
-            let row = rows.remove(index);
-            (row, settled(period, Key::at(bin, address), rows))
-        }
-    }
-}
-
-// The place of rows that lie in a list: a single one that belongs to the key lies there no more.
-fn settled<A: Allocator + Copy>(period: Period, key: Key, mut rows: Vec<Row<A>, A>) -> Storage<A>
-    ensures stored { IsStored result }
-    ensures at { stored_at result ≡ rank key }
-    ensures rows { stored_rows result ≡ rows.items }
-{
-    let (bin, address) = (key.bin(), key.address());
-    if rows.len() != 1 || rows[0].key(period) != key {
-        return Storage::Heap {
-            period,
-            bin,
-            address,
-            rows,
-        };
-    }
-    match rows.pop() {
-        Some(row) => alone(period, key, row),
-        None => Storage::Nowhere {
-            period,
-            bin,
-            address,
-        },
-    }
-}
-
-/// Puts a row of the key in the place of the one at an index.
-pub(crate) fn replace<A: Allocator + Copy>(
-    place: &mut Storage<A>,
-    index: usize,
-    period: Period,
-    row: Row<A>,
-) -> Row<A>
-    requires stored { IsStored place.old }
-    requires key { stored_at place.old ≡ rank_of period row }
-    requires index { index < length (stored_rows place.old) }
-    ensures stored { IsStored place.new }
-    ensures at { stored_at place.new ≡ stored_at place.old }
-    ensures value { result ≡ get_or (stored_rows place.old) index result }
-    ensures rows { stored_rows place.new ≡ set (stored_rows place.old) index row }
-{
-    if let Storage::Heap { rows, .. } = place {
-        return mem::replace(&mut rows[index], row);
-    }
-    let key = key_of(place);
-    let (out, _) = without_row(mem::replace(place, alone(period, key, row)), index);
-    out
 }

@@ -7,12 +7,9 @@ use Rattle.st_index.proofs.entry.Entry.get.Goals as goal
 
 pub returns-in-Ok-clause-some : goal.returns-in-Ok-clause-some
 returns-in-Ok-clause-some g c =
-    let bound = rw c.rows-rows.ensures at c.in-Ok.ensures.bound in
-    let read = rw c.rows-rows.ensures at c.at.ensures in
-    let same = rw c.rows-rows.ensures at (c.in-Ok.ensures.place (row_of_view c.at.result)) in
-    ((c.in-Ok.i, bound, sym read), ap name_of read ∙ name_equal _ _ same)
+    let read = rw c.rows.ensures at c.at.ensures in
+    let same = c.in-Ok.ensures.place (row_of_view c.at.result) in
+    ((c.in-Ok.i, c.in-Ok.ensures.bound, sym read), ap name_of read ∙ name_equal _ _ same)
 
 pub returns-in-Err-clause-absent : goal.returns-in-Err-clause-absent
-returns-in-Err-clause-absent g c =
-    let found = rw c.rows-rows.ensures at c.in-Err.ensures.place in
-    names_missing _ c.args.self.now.rows c.in-Err.field-0 found
+returns-in-Err-clause-absent g c = names_missing _ c.args.self.now.rows c.in-Err.field-0 c.in-Err.ensures.place

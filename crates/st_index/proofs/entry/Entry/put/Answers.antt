@@ -1,8 +1,7 @@
-use Rattle.std.proofs.Common.{arith, ◌≡◌, [], length, sym, refl, ap, ◌∙◌}
+use Rattle.std.proofs.Common.{arith, ◌≡◌, [], sym, refl, ◌∙◌}
 use Rattle.std.proofs.lemmas.Bool.{eqb-true, eqb-false}
 use Rattle.std.proofs.lemmas.List.{nil_from_length}
 use Rattle.std.specs.List.{insert}
-use Rattle.st_index.specs.RowViews.{viewed}
 use Rattle.st_index.proofs.Putting.{adds_insert, names_put, names_held}
 use Rattle.st_index.proofs.entry.Entry.put.Goals as goal
 use Rattle.st_index.specs.declared.row.Row.{Row}
@@ -14,30 +13,27 @@ returns-clause-added g c =
 
 pub returns-clause-named : goal.returns-clause-named
 returns-clause-named g c = λ p named absent placed.
-    let was : viewed c.rows.result ≡ c.args.self.now.rows = c.rows.ensures in
     let is : c.insert.new.self.rows ≡ insert c.args.self.now.rows c.match-find.place c.args.row = c.insert.ensures.rows in
     let id : c.as_str.result.now ≡ c.args.row.id = c.as_str.ensures.value in
     let label : c.text.result.now ≡ c.args.row.label = c.text.ensures.value in
     elim c.match-find.branch [
       | in-Ok w ↦
-          let same = λ (d : Row g.row.A.Denot). rw (was, id, label) at (w.in-Ok.ensures.place d) in
-          absurd (names_held p c.args.self.now.rows c.args.row w.in-Ok.place (rw was at w.in-Ok.ensures.bound) same absent placed)
+          let same = λ (d : Row g.row.A.Denot). rw (id, label) at (w.in-Ok.ensures.place d) in
+          absurd (names_held p c.args.self.now.rows c.args.row w.in-Ok.place w.in-Ok.ensures.bound same absent placed)
       | in-Err w ↦
-          let found = rw (was, id, label) at w.in-Err.ensures.place in
+          let found = rw (id, label) at w.in-Err.ensures.place in
           rw (is, w.place-is) (names_put c.args.self.now.rows c.args.row w.in-Err.place found named)
     ]
 
 pub insert-requires-clause-index : goal.insert-requires-clause-index
 insert-requires-clause-index g c =
-    let was : viewed c.rows.result ≡ c.args.self.now.rows = c.rows.ensures in
-    let len = ap length was in
     elim c.match-find.branch [
       | in-Ok w ↦
           let bound = w.in-Ok.ensures.bound in
-          omega (arith, w.place-is, bound, len)
+          omega (arith, w.place-is, bound)
       | in-Err w ↦
           let bound = w.in-Err.ensures.bound in
-          omega (arith, w.place-is, bound, len)
+          omega (arith, w.place-is, bound)
     ]
 
 pub insert-requires-clause-some : goal.insert-requires-clause-some

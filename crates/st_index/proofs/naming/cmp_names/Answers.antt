@@ -1,5 +1,5 @@
 use Rattle.std.proofs.Common.{rules}
-use Rattle.st_index.proofs.row.Row.cmp_name.Goals as goal
+use Rattle.st_index.proofs.naming.cmp_names.Goals as goal
 
 pub returns-in-Equal : goal.returns-in-Equal
 returns-in-Equal g c = search rules

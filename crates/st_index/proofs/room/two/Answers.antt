@@ -1,5 +1,5 @@
 use Rattle.std.proofs.Common.{arith, refl}
-use Rattle.st_index.proofs.storage.two.Goals as goal
+use Rattle.st_index.proofs.room.two.Goals as goal
 
 pub put-requires-clause-index : goal.put-requires-clause-index
 put-requires-clause-index g c = omega arith

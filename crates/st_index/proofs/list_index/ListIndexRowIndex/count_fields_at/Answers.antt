@@ -1,0 +1,29 @@
+use Rattle.std.proofs.Common.{◌≡◌, ◌+◌, ◌≤◌, length, sym, ap, subst, ◌∙◌, arith}
+use Rattle.std.proofs.lemmas.Bool.{ltb-false}
+use Rattle.st_key.specs.Key.{rank}
+use Rattle.st_index.specs.Fields.{CanAdd, Counts}
+use Rattle.st_index.specs.Index.{rows_between, rows_from}
+use Rattle.st_index.specs.Rows.{key_end, rows_of}
+use Rattle.st_index.proofs.Ranges.{between_all, from_all}
+use Rattle.st_index.proofs.Taking.{rows_below}
+use Rattle.st_index.proofs.list_index.ListIndexRowIndex.count_fields_at.Goals as goal
+
+pub count-requires-clause-fits : goal.count-requires-clause-fits
+count-requires-clause-fits g c =
+    let p = c.self.inside.period in
+    let rows = rows_of c.self.inside.entries.items in
+    let low : rank c.args.from ≤ 0 = ltb-false 0 (rank c.args.from) (sym c.is_before.ensures ∙ c.if-is_before.false) in
+    let all : rows_from p (rank c.args.from) rows ≡ rows = from_all p (rank c.args.from) rows (λ k d l. omega (arith, low)) in
+    let fits : CanAdd (length (rows_from p (rank c.args.from) rows)) c.args.counts.now = rw (← c.self.view_is) at c.requires.fits in
+    subst (λ rs. CanAdd (length rs) c.args.counts.now) (all ∙ ap rows_of (sym c.deref.ensures.value)) fits
+
+pub returns-clause-counts : goal.returns-clause-counts
+returns-clause-counts g c =
+    let p = c.self.inside.period in
+    let rows = rows_of c.self.inside.entries.items in
+    let end : rank c.last-last.result + 1 ≡ key_end p = c.last-last.ensures.rank in
+    let below = rows_below p 0 (key_end p) c.self.inside.entries.items c.self.invariant.0 in
+    let all : rows_between p 0 (rank c.last-last.result) rows ≡ rows = between_all p 0 (rank c.last-last.result) rows
+    (λ k d l. omega arith) (λ k d l. let b = below k d l in omega (arith, b, end)) in
+    rw (← c.self.view_is) (subst (λ rs. Counts (g.F.Fields.query c.args.fields.now) (g.J.Judge.judges c.args.judge.now) (g.F.Fields.field_of c.args.fields.now) rs c.args.counts.now c.count.new.counts)
+    (ap rows_of c.deref.ensures.value ∙ sym all) c.count.ensures.counts)
