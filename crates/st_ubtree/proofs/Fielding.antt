@@ -1,5 +1,5 @@
 -- Rows that are all in one field.
-use Rattle.std.proofs.Common.{◌≡◌, ℕ, ◌+◌, ◌<◌, ◌&&◌, List, [], Bool, true, false, Option, Some, None, IsTrue, cond, nat_eq, length, get_or, sym, ap, subst, ◌∙◌, arith}
+use Rattle.std.proofs.Common.{◌≡◌, ℕ, ◌+◌, ◌<◌, ◌&&◌, List, [], Bool, true, false, Option, Some, None, IsTrue, cond, nat_eq, length, get_or, sym, ap, subst, arith}
 use Rattle.std.specs.Prelude.{IfSome}
 use Rattle.std.proofs.lemmas.Bool.{and_parts}
 use Rattle.std.proofs.lemmas.List.Sums.{sum_by-cons}
@@ -15,6 +15,7 @@ use Rattle.st_index.proofs.Tallying.{counts_not}
 use Rattle.st_ubtree.specs.declared.bounds.Bounds.{Bounds}
 use Rattle.st_index.specs.Rows.{EntryValue}
 use Rattle.st_ubtree.specs.inner.Marks.{IsMark, verdict_on}
+use Rattle.st_ubtree.specs.inner.Spots.{IsSpotOf}
 use Rattle.st_ubtree.specs.inner.Sums.{IsWithin}
 use Rattle.st_ubtree.proofs.Tallied.{verdict_here}
 
@@ -42,36 +43,38 @@ module _ {A : Type 0} (q : Query) (field_of : Point → ℕ) (rows : List (Row A
       → All (λ (row : Row A). is_counted q judges row ≡ true → field_of row.point ≡ one) rows
   all_in_one judges one all = λ k d l counted. all k d l (and_parts _ _ counted).0
 
--- what was counted of an entry of one row by its mark
-pub marked_counts : {A : Type 0} (q : Query) (judges : Text → Bool) (field_of : Point → ℕ) (labels : List Text) (e : EntryValue A) (number : ℕ) (point : Point) (old new : List ℕ)
-    → IsMark labels e number point → number < 512
-    → ((at : ℕ) → get_or new at 0 ≡ get_or old at 0 + cond (is_inside q point && verdict_on judges labels number && nat_eq (field_of point) at) 1 0)
-    → Counts q judges field_of e.rows old new
-marked_counts {A = A} q judges field_of labels e number point old new mark low added =
-    let is = mark (omega (arith, low)) in
-    let row = is.0 in
-    subst (λ rows. Counts q judges field_of rows old new) (sym is.1)
-    (λ field.
-    let one = sum_by-cons (λ (r : Row A). cond (is_counted q judges r && nat_eq (field_of r.point) field) 1 0) row [] in
-    let same : cond (is_counted q judges row && nat_eq (field_of row.point) field) 1 0 ≡ cond (is_inside q point && verdict_on judges labels number && nat_eq (field_of point) field) 1 0 =
-    ap {B = ℕ} (λ p. cond (is_inside q p && judges row.label && nat_eq (field_of p) field) 1 0) is.2
-    ∙ ap {B = ℕ} (λ b. cond (is_inside q point && b && nat_eq (field_of point) field) 1 0) (sym (verdict_here judges labels number row.label (is.3 low))) in
-    let more = added field in
-    omega (arith, one, same, more))
+module _ {A : Type 0} (q : Query) (judges : Text → Bool) (field_of : Point → ℕ) (labels : List Text) (e : EntryValue A) (number week spot : ℕ)
+    (mark : IsMark labels e number week spot) where
+  -- what was counted of an entry of one row by its mark
+  pub marked_counts : (old new : List ℕ) → number < 512
+      → ((p : Point) (at : ℕ) → IsSpotOf week spot p → get_or new at 0 ≡ get_or old at 0
+      + cond (is_inside q p && verdict_on judges labels number && nat_eq (field_of p) at) 1 0)
+      → Counts q judges field_of e.rows old new
+  marked_counts old new low added =
+      let is = mark (omega (arith, low)) in
+      let row = is.0 in
+      subst (λ rows. Counts q judges field_of rows old new) (sym is.1)
+      (λ field.
+      let one = sum_by-cons (λ (r : Row A). cond (is_counted q judges r && nat_eq (field_of r.point) field) 1 0) row [] in
+      let same : cond (is_counted q judges row && nat_eq (field_of row.point) field) 1 0 ≡ cond (is_inside q row.point && verdict_on judges labels number && nat_eq (field_of row.point) field) 1 0 =
+      ap {B = ℕ} (λ b. cond (is_inside q row.point && b && nat_eq (field_of row.point) field) 1 0) (sym (verdict_here judges labels number row.label (is.3 low))) in
+      let more = added row.point field is.2 in
+      omega (arith, one, same, more))
 
--- as many can be added
-pub marked_fits : {A : Type 0} (labels : List Text) (e : EntryValue A) (number : ℕ) (point : Point) (counts : List ℕ)
-    → IsMark labels e number point → number < 65535 → CanAdd (length e.rows) counts → CanAdd 1 counts
-marked_fits {A = A} labels e number point counts mark few can =
-    let is = mark few in subst (λ (rows : List (Row A)). CanAdd (length rows) counts) is.1 can
+  -- as many can be added
+  pub marked_fits : (counts : List ℕ) → number < 65535 → CanAdd (length e.rows) counts → CanAdd 1 counts
+  marked_fits counts few can = let is = mark few in subst (λ (rows : List (Row A)). CanAdd (length rows) counts) is.1 can
 
--- and where its point is outside
-pub outside_counts : {A : Type 0} (q : Query) (judges : Text → Bool) (field_of : Point → ℕ) (labels : List Text) (e : EntryValue A) (number : ℕ) (point : Point) (counts : List ℕ)
-    → IsMark labels e number point → number < 65535 → is_inside q point ≡ false → Counts q judges field_of e.rows counts counts
-outside_counts q judges field_of labels e number point counts mark few outside =
-    let is = mark few in
-    subst (λ rows. Counts q judges field_of rows counts counts) (sym is.1)
-    (counts_not q judges field_of is.0 counts (ap {B = Bool} (λ b. b && judges is.0.label) (ap (is_inside q) is.2 ∙ outside)))
+  -- there is a point at the spot
+  pub marked_spot : number < 65535 → (p : Point) × IsSpotOf week spot p
+  marked_spot few = let is = mark few in (is.0.point, is.2)
+
+  -- and where it is outside
+  pub outside_counts : (counts : List ℕ) → number < 65535 → ((p : Point) → IsSpotOf week spot p → is_inside q p ≡ false) → Counts q judges field_of e.rows counts counts
+  outside_counts counts few outside =
+      let is = mark few in
+      subst (λ rows. Counts q judges field_of rows counts counts) (sym is.1)
+      (counts_not q judges field_of is.0 counts (ap {B = Bool} (λ b. b && judges is.0.label) (outside is.0.point is.2)))
 
 -- what was counted of rows, by another name for the judgement and for the rows
 pub counts_by : {A : Type 0} (q : Query) (field_of : Point → ℕ) (old new : List ℕ) (j k : Text → Bool) (rows others : List (Row A)) → j ≡ k → rows ≡ others

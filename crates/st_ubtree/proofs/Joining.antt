@@ -1,19 +1,19 @@
 -- Two children side by side that are evened.
-use Rattle.std.proofs.Common.{◌≡◌, ℕ, ◌+◌, ◌≤◌, List, [], ◌∷◌, ◌++◌, length, get_or, refl, sym, ap, subst, ◌∙◌, arith, Option, Some, None, Vec, vec_len}
+use Rattle.std.proofs.Common.{◌≡◌, ℕ, ◌+◌, ◌≤◌, List, [], ◌∷◌, ◌++◌, length, get_or, drop, refl, sym, ap, subst, ◌∙◌, arith, Option, Some, None, Vec, vec_len}
 use Rattle.std.proofs.lemmas.List.{append-nil}
 use Rattle.std.proofs.lemmas.List.Elements.{All-append}
 use Rattle.std.specs.List.{All}
-use Rattle.st_index.specs.Rows.{EntryValue, Rises, rows_of}
+use Rattle.st_index.specs.Rows.{EntryValue, Rises}
 use Rattle.st_index.proofs.Climbing.{all_left}
+use Rattle.st_index.proofs.Putting.{split_read}
 use Rattle.st_index.proofs.Rising.{rises_around, rises_bounds, rises_join}
 use Rattle.st_ubtree.specs.inner.Nodes.{IsInnerNode, inner_node}
 use Rattle.st_ubtree.specs.Pages.{page_node}
-use Rattle.st_ubtree.specs.Pages.{PageValue, NodeValue, rows_of_pages}
+use Rattle.st_ubtree.specs.Pages.{PageValue, NodeValue, entries_of_pages}
 use Rattle.st_ubtree.specs.inner.Kids.{HeadAt, IsKid, Spans, pages_of}
 use Rattle.st_ubtree.specs.inner.Shrinking.{IsNodeOf, IsPageOf, IsKidBeside, Joins, KidsJoin, PagesJoin, Reshapes, pages_beside}
-use Rattle.st_ubtree.proofs.Inside.{rows_three}
 use Rattle.st_ubtree.proofs.Settling.{kids_start, kids_wide}
-use Rattle.st_ubtree.proofs.Spanning.{pages-append, spans_cut, spans_join}
+use Rattle.st_ubtree.proofs.Spanning.{entries_three, pages-append, spans_cut, spans_join}
 use Rattle.st_ubtree.proofs.Splitting.{wide_page, page, rises_wide}
 
 -- a list of a worn node, as the code counts it
@@ -25,25 +25,25 @@ held_both v w one two is other both = omega (arith, v.ok.0, w.ok.0, is, other, b
 
 module _ {A : Type 0} where
   pub reshapes_same : (old new : List (PageValue A)) → new ≡ old → Reshapes old new
-  reshapes_same old new e = record { rows = ap rows_of_pages e; spans = λ period lo hi h. subst (Spans period lo hi) (sym e) h }
+  reshapes_same old new e = record { entries = ap entries_of_pages e; spans = λ period lo hi h. subst (Spans period lo hi) (sym e) h }
 
   pub reshapes_inside : (front old new back : List (PageValue A)) → Reshapes old new → Reshapes (front ++ (old ++ back)) (front ++ (new ++ back))
   reshapes_inside front old new back r = record {
-    rows = rows_three front new back ∙ ap (λ t. rows_of_pages front ++ (t ++ rows_of_pages back)) r.rows ∙ sym (rows_three front old back);
+    entries = entries_three front new back ∙ ap (λ t. entries_of_pages front ++ (t ++ entries_of_pages back)) r.entries ∙ sym (entries_three front old back);
     spans = λ period lo hi h.
         let c = spans_cut period lo hi front (old ++ back) h in
         let d = spans_cut period c.at hi old back c.high in
         spans_join period lo c.at hi front (new ++ back) c.low (spans_join period c.at d.at hi new back (r.spans period c.at d.at d.low) d.high);
   }
 
-  two_pages : (first second : ℕ) (es fs : List (EntryValue A)) → rows_of_pages (page first es ∷ page second fs ∷ []) ≡ rows_of (es ++ fs)
-  two_pages first second es fs = ap rows_of (ap (λ t. es ++ t) (append-nil fs))
+  two_pages : (first second : ℕ) (es fs : List (EntryValue A)) → entries_of_pages (page first es ∷ page second fs ∷ []) ≡ es ++ fs
+  two_pages first second es fs = ap (λ t. es ++ t) (append-nil fs)
 
   pages_shape : (old right new : List (EntryValue A)) (r : Option (NodeValue A)) → PagesJoin old right new r → (first second : ℕ) → Reshapes (page first old ∷ page second right ∷ []) (page first new ∷ pages_beside r)
   pages_shape old right new None j first second =
       let is : new ≡ old ++ right = sym (append-nil new) ∙ sym (ap (λ t. new ++ t) j.beside) ∙ j.kept in
       record {
-        rows = ap rows_of (append-nil new ∙ is) ∙ sym (two_pages first second old right);
+        entries = append-nil new ∙ is ∙ sym (two_pages first second old right);
         spans = λ period lo hi h.
             let mid = h.1.0 in
             let last = h.1.3.1.0 in
@@ -59,7 +59,7 @@ module _ {A : Type 0} where
       let rest_is = j.beside.1.2 in
       let beside = j.beside.1.3 in
       record {
-        rows = ap (λ ps. rows_of_pages (page first new ∷ ps)) beside ∙ two_pages first e.at new j.rest ∙ ap rows_of j.kept ∙ sym (two_pages first second old right);
+        entries = ap (λ ps. entries_of_pages (page first new ∷ ps)) beside ∙ two_pages first e.at new j.rest ∙ j.kept ∙ sym (two_pages first second old right);
         spans = λ period lo hi h.
             let mid = h.1.0 in
             let last = h.1.3.1.0 in
@@ -70,6 +70,13 @@ module _ {A : Type 0} where
             let high : Rises period e.at last j.rest = subst (Rises period e.at last) (sym rest_is) (omega arith, cut.entry, cut.back) in
             subst (λ ps. Spans period lo hi (page first new ∷ ps)) (sym beside) (h.0, (e.at, wide, cut.front, (refl, (last, omega (arith, b), high, h.1.3.1.3))));
       }
+
+  -- a page that begins at the first of its entries
+  pub page_beside : (first : ℕ) (rest : List (EntryValue A)) (e : EntryValue A) (r : NodeValue A) → r ≡ page_node first 0 rest → first ≡ e.at → e ≡ get_or rest 0 e
+      → 16 ≤ length rest → length rest ≤ 32 → IsPageOf rest (Some r)
+  page_beside first rest e r is at read least most =
+      let kid : IsKid 0 (page_node first 0 rest) = record { same_height = refl; not_less = least; not_more = most; starts = (refl, refl); filled = wide_page first rest least most } in
+      subst (λ v. IsPageOf rest (Some v)) (sym is) (kid, (e, drop 1 rest, split_read rest 0 e (omega (arith, least)) read, ap (λ n. page n rest ∷ []) at))
 
   beside_page : (rest : List (EntryValue A)) (r : Option (NodeValue A)) → IsPageOf rest r → IsKidBeside 0 r
   beside_page rest None h = tt

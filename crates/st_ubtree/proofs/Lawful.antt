@@ -10,7 +10,7 @@ use Rattle.st_index.proofs.Listing.{adds_length, swaps_length}
 use Rattle.st_ubtree.specs.inner.Shrinking.{DropsFrom}
 use Rattle.st_index.proofs.Rising.{rises_join}
 use Rattle.st_index.proofs.Scanning.{scan_rises}
-use Rattle.st_ubtree.specs.inner.Growing.{IsLeafIn}
+use Rattle.st_ubtree.specs.inner.Growing.{AreAround, IsLeafIn}
 use Rattle.st_ubtree.specs.Pages.{PageValue, NodeValue, IsFilled, entries_of_pages, rows_of_pages}
 use Rattle.st_ubtree.specs.inner.Kids.{GrowsBy, Spans}
 use Rattle.st_ubtree.specs.inner.Trading.{TradesIn}
@@ -19,13 +19,19 @@ use Rattle.st_ubtree.specs.Trees.{regions_of}
 use Rattle.st_ubtree.specs.inner.Tree.{IsTree}
 use Rattle.st_ubtree.proofs.Inside.{rows_join, rows_three}
 use Rattle.st_ubtree.proofs.Shrinking.{page_rows_below, page_rows_from}
-use Rattle.st_ubtree.proofs.Spanning.{spans_bounds}
+use Rattle.st_ubtree.proofs.Parts.{part_spans, part_from, part_to, part_within}
 use Rattle.st_ubtree.proofs.Splitting.{one_rows, page}
 
 module _ {A : Type 0} (period : Period) where
   pub spans_rise : (lo hi : ℕ) (ps : List (PageValue A)) → Spans period lo hi ps → Rises period lo hi (entries_of_pages ps)
   spans_rise lo hi [] h = omega (arith, h)
   spans_rise lo hi (p ∷ ps) h = rises_join period lo h.1.0 hi p.entries (entries_of_pages ps) h.1.2 (spans_rise h.1.0 hi ps h.1.3)
+
+  one_rises : (lo hi : ℕ) (p : PageValue A) → Spans period lo hi (p ∷ []) → Rises period lo hi p.entries
+  one_rises lo hi p h = subst (λ n. Rises period lo n p.entries) h.1.3 h.1.2
+
+  one_wide : (lo hi : ℕ) (p : PageValue A) → Spans period lo hi (p ∷ []) → lo < hi
+  one_wide lo hi p h = let a = h.1.1 in let b = h.1.3 in omega (arith, a, b)
 
   pub spans_follow : (lo hi : ℕ) (ps : List (PageValue A)) → Spans period lo hi ps → Follow lo hi (regions_of hi ps)
   spans_follow lo hi [] h = h
@@ -96,32 +102,43 @@ module _ {A : Type 0} (period : Period) where
   module _ (key end first last : ℕ) (pages : List (PageValue A)) (entries : List (EntryValue A)) (h : IsLeafIn key pages end first last entries) (s : Spans period 0 (key_end period) pages) (e : end + 1 ≡ key_end period) (below : key < key_end period) where
     pub leaf_at_key : IsLeafAt period key (rows_of_pages pages) (region first last) entries
     leaf_at_key =
-        let hi = key_end period in
-        let low = page_rows_below period 0 first h.before (h.low period 0 hi s) in
-        let high = page_rows_from period (last + 1) hi h.after (h.high period 0 hi s e) in
-        let b = spans_bounds period (last + 1) hi h.after (h.high period 0 hi s e) in
+        let all = part_spans period key end first last pages (page first entries ∷ []) h s e in
+        let high = page_rows_from period (last + 1) (end + 1) h.after (h.high period 0 all) in
         record {
-          from = h.from period 0 hi s (omega arith);
-          to = h.to period 0 hi s e below;
-          within = omega (arith, b);
+          from = part_from period key end first last pages (page first entries ∷ []) h s e;
+          to = part_to period key end first last pages (page first entries ∷ []) h s e below;
+          within = part_within period key end first last pages (page first entries ∷ []) h s e;
           before = rows_of_pages h.before;
           after = rows_of_pages h.after;
           parts = ap rows_of_pages h.is ∙ rows_three h.before (page first entries ∷ []) h.after ∙ ap (λ t. rows_of_pages h.before ++ (t ++ rows_of_pages h.after)) (one_rows first entries);
-          earlier = low;
+          earlier = page_rows_below period 0 first h.before (h.low period 0 all);
           later = λ k d l. let a = high k d l in omega (arith, a);
-          rising = (h.inside period 0 hi s e).1;
+          rising = one_rises period first (last + 1) (page first entries) (h.inside period 0 all);
         }
 
     pub leaf_of_regions : Contains (regions_of (key_end period) pages) (region first last)
     leaf_of_regions =
         let hi = key_end period in
-        let l = (h.inside period 0 hi s e).0 in
+        let all = part_spans period key end first last pages (page first entries ∷ []) h s e in
+        let l = one_wide period first (last + 1) (page first entries) (h.inside period 0 all) in
+        let high = subst (λ n. Spans period (last + 1) n h.after) e (h.high period 0 all) in
         subst (λ ps. Contains (regions_of hi ps) (region first last)) (sym h.is)
-        (length h.before, regions_longer hi h.before (page first entries) h.after, region_at 0 hi h.before (page first entries) h.after last (region first last) l (h.high period 0 hi s e))
+        (length h.before, regions_longer hi h.before (page first entries) h.after, region_at 0 hi h.before (page first entries) h.after last (region first last) (omega (arith, l)) high)
 
   -- no row stands past the last page
   pub absent_past : (key hi : ℕ) (name : Name) (ps : List (PageValue A)) → Spans period 0 hi ps → hi ≤ key → IsAbsent period key name (rows_of_pages ps)
   absent_past key hi name ps s past = λ k d l at named. let low = page_rows_below period 0 hi ps s k d l in omega (arith, low, at, past)
+
+  -- all pages stand around a key of the period
+  pub tree_around : (key : ℕ) (v : NodeValue A) (len : ℕ) → IsTree period v len → key < key_end period → AreAround key v.pages
+  tree_around key v len t below = record {
+    period = period;
+    lo = 0;
+    hi = key_end period;
+    spans = t.spans;
+    from = omega arith;
+    to = below;
+  }
 
   -- a tree that changes
 

@@ -1,50 +1,79 @@
--- The page that a search finds.
-use Rattle.std.proofs.Common.{◌≡◌, ℕ, ◌+◌, ◌-◌, ◌<◌, ◌≤◌, max, List, [], ◌∷◌, ◌++◌, length, get_or, take, drop, refl, sym, ap, subst, ◌∙◌, suc, arith, append_assoc, drop-cons, true, false, not, ltb}
-use Rattle.std.proofs.lemmas.List.{drop_all}
+-- The pages that a search finds.
+use Rattle.std.proofs.Common.{◌≡◌, ℕ, ◌+◌, ◌-◌, ◌<◌, ◌≤◌, max, List, [], ◌++◌, length, get_or, take, drop, refl, sym, ap, subst, ◌∙◌, suc, arith, append_assoc, drop-cons, true, false, not, ltb}
+use Rattle.std.proofs.lemmas.List.{append-nil, drop_all}
 use Rattle.std.specs.List.{All}
 use Rattle.std.specs.List.Sorted.{IsPartitionedBy, IsPartitionPoint}
-use Rattle.st_index.specs.Rows.{EntryValue, Rises}
-use Rattle.st_ubtree.specs.Pages.{NodeValue}
-use Rattle.st_ubtree.specs.inner.Kids.{Spans, IsKid, pages_of}
-use Rattle.st_ubtree.specs.inner.Growing.{IsLeafIn}
-use Rattle.st_ubtree.proofs.Spanning.{Found, found_kid, pages_split, spans_join}
+use Rattle.st_ubtree.specs.declared.node.Kids.{Kids}
+use Rattle.st_ubtree.specs.declared.node.Kids.TheVariants.{Page, Inner}
+use Rattle.st_ubtree.specs.Pages.{PageValue, NodeValue}
+use Rattle.st_ubtree.specs.inner.Kids.{Spans, StartsAt, IsKid, pages_of}
+use Rattle.st_ubtree.specs.inner.Nodes.{IsNode, pages_under}
+use Rattle.st_ubtree.specs.inner.Growing.{IsPartIn}
+use Rattle.st_ubtree.proofs.Settling.{kids_start}
+use Rattle.st_ubtree.proofs.Spanning.{Found, found_kid, pages_split, spans_join, starts_there}
 use Rattle.st_key.specs.declared.period.Period.{Period}
 
 module _ {A : Type 0} where
-  pub leaf_page : (key end first : ℕ) (entries : List (EntryValue A)) → IsLeafIn key (record { first = first; entries = entries } ∷ []) end first end entries
-  leaf_page key end first entries = record {
+  -- a node's pages start at its first key
+  pub node_starts : (first height : ℕ) (kids : Kids A) → IsNode first height kids → StartsAt first (pages_under first kids)
+  node_starts first height (Page entries) h = refl
+  node_starts first height (Inner kids aside) h = (kids_start h.below first kids.items h.each h.head).0
+
+  -- all pages are a part
+  pub part_all : (key end first : ℕ) (pages : List (PageValue A)) → StartsAt first pages → IsPartIn key pages end first end pages
+  part_all key end first pages start = record {
     before = [];
     after = [];
-    is = refl;
-    from = λ period lo hi s l. let e = s.0 in omega (arith, e, l);
-    to = λ period lo hi s e k. omega (arith, e, k);
-    low = λ period lo hi s. sym s.0;
-    inside = λ period lo hi s e. (let a = s.0 in let b = s.1.1 in let d = s.1.3 in omega (arith, a, b, d, e), subst (λ a. Rises period a (end + 1) entries) (sym s.0) (subst (λ b. Rises period lo b entries) (s.1.3 ∙ sym e) s.1.2));
-    high = λ period lo hi s e. e;
+    is = sym (append-nil pages);
+    from = λ period lo s l. let e = is_lo period lo s in omega (arith, e, l);
+    to = λ period lo s l. l;
+    low = λ period lo s. sym (is_lo period lo s);
+    inside = λ period lo s. subst (λ n. Spans period n (end + 1) pages) (sym (is_lo period lo s)) s;
+    high = λ period lo s. refl;
+  }
+    where
+      is_lo : (period : Period) (lo : ℕ) → Spans period lo (end + 1) pages → first ≡ lo
+      is_lo period lo s = (starts_there period first lo (end + 1) pages start s).0
+
+  -- a part of a part is a part
+  pub part_of_part : (key end f l first last : ℕ) (pages mid part : List (PageValue A)) → IsPartIn key pages end f l mid → IsPartIn key mid l first last part → IsPartIn key pages end first last part
+  part_of_part key end f l first last pages mid part o i = record {
+    before = o.before ++ i.before;
+    after = i.after ++ o.after;
+    is = o.is ∙ ap (λ ps. o.before ++ (ps ++ o.after)) i.is ∙ simp append_assoc;
+    from = λ period lo s a. i.from period f (o.inside period lo s) (o.from period lo s a);
+    to = λ period lo s a. i.to period f (o.inside period lo s) (o.to period lo s a);
+    low = λ period lo s. spans_join period lo f first o.before i.before (o.low period lo s) (i.low period f (o.inside period lo s));
+    inside = λ period lo s. i.inside period f (o.inside period lo s);
+    high = λ period lo s. spans_join period (last + 1) (l + 1) (end + 1) i.after o.after (i.high period f (o.inside period lo s)) (o.high period lo s);
   }
 
   module _ (key below end : ℕ) (kids : List (NodeValue A)) (i n : ℕ) (kid : NodeValue A) (each : All (IsKid below) kids) (found : IsPartitionedBy (λ (v : NodeValue A). not (ltb key v.first)) kids → IsPartitionPoint (λ (v : NodeValue A). not (ltb key v.first) ≡ true) (λ (v : NodeValue A). not (ltb key v.first) ≡ false) kids n) (is : i + 1 ≡ max n 1) (l : i < length kids) (read : kid ≡ get_or kids i kid) where
-    f_at : (period : Period) (lo hi : ℕ) → Spans period lo hi (pages_of kids) → Found period key lo hi kids i kid
-    f_at period lo hi s = found_kid period key below lo hi kids each s n i kid found is l read
+    f_at : (period : Period) (lo : ℕ) → Spans period lo (end + 1) (pages_of kids) → Found period key lo (end + 1) kids i kid
+    f_at period lo s = found_kid period key below lo (end + 1) kids each s n i kid found is l read
 
-    pub leaf_kid : (k first last : ℕ) (entries : List (EntryValue A)) → ((period : Period) (lo hi : ℕ) (f : Found period key lo hi kids i kid) → end + 1 ≡ hi → k + 1 ≡ f.b) → IsLeafIn key kid.pages k first last entries → IsLeafIn key (pages_of kids) end first last entries
-    leaf_kid k first last entries ends h = record {
-      before = pages_of (take i kids) ++ h.before;
-      after = h.after ++ pages_of (drop (suc i) kids);
-      is = pages_split kids i kid l read ∙ ap (λ ps. pages_of (take i kids) ++ (ps ++ pages_of (drop (suc i) kids))) h.is ∙ simp append_assoc;
-      from = λ period lo hi s a. let f = f_at period lo hi s in h.from period f.a f.b f.mid (f.from a);
-      to = λ period lo hi s e a. let f = f_at period lo hi s in h.to period f.a f.b f.mid (ends period lo hi f e) (f.to a);
-      low = λ period lo hi s. let f = f_at period lo hi s in spans_join period lo f.a first (pages_of (take i kids)) h.before f.low (h.low period f.a f.b f.mid);
-      inside = λ period lo hi s e. let f = f_at period lo hi s in h.inside period f.a f.b f.mid (ends period lo hi f e);
-      high = λ period lo hi s e. let f = f_at period lo hi s in spans_join period (last + 1) f.b hi h.after (pages_of (drop (suc i) kids)) (h.high period f.a f.b f.mid (ends period lo hi f e)) f.high;
+    begins : (period : Period) (a b : ℕ) → Spans period a b kid.pages → kid.first ≡ a
+    begins period a b s = let k : IsKid below kid = subst (IsKid below) (sym read) (each i kid l) in (starts_there period kid.first a b kid.pages k.starts.0 s).0
+
+    -- the pages of the child that a search finds
+    pub part_kid : (last : ℕ) → ((period : Period) (lo : ℕ) (f : Found period key lo (end + 1) kids i kid) → last + 1 ≡ f.b) → IsPartIn key (pages_of kids) end kid.first last kid.pages
+    part_kid last ends = record {
+      before = pages_of (take i kids);
+      after = pages_of (drop (suc i) kids);
+      is = pages_split kids i kid l read;
+      from = λ period lo s k. let f = f_at period lo s in let e = begins period f.a f.b f.mid in let from = f.from k in omega (arith, e, from);
+      to = λ period lo s k. let f = f_at period lo s in let e = ends period lo f in let to = f.to (omega (arith, k)) in omega (arith, e, to);
+      low = λ period lo s. let f = f_at period lo s in subst (λ m. Spans period lo m (pages_of (take i kids))) (sym (begins period f.a f.b f.mid)) f.low;
+      inside = λ period lo s. let f = f_at period lo s in subst (λ m. Spans period kid.first m kid.pages) (sym (ends period lo f)) (subst (λ m. Spans period m f.b kid.pages) (sym (begins period f.a f.b f.mid)) f.mid);
+      high = λ period lo s. let f = f_at period lo s in subst (λ m. Spans period m (end + 1) (pages_of (drop (suc i) kids))) (sym (ends period lo f)) f.high;
     }
 
-    pub ends_next : (k : ℕ) (w : NodeValue A) → suc i < length kids → w ≡ get_or kids (suc i) w → k ≡ w.first - 1 → (period : Period) (lo hi : ℕ) (f : Found period key lo hi kids i kid) → end + 1 ≡ hi → k + 1 ≡ f.b
-    ends_next k w m at e period lo hi f g =
+    pub ends_next : (k : ℕ) (w : NodeValue A) → suc i < length kids → w ≡ get_or kids (suc i) w → k ≡ w.first - 1 → (period : Period) (lo : ℕ) (f : Found period key lo (end + 1) kids i kid) → k + 1 ≡ f.b
+    ends_next k w m at e period lo f =
         let q = drop-cons kids (suc i) w m in
         let b = f.next (get_or kids (suc i) w) (drop (suc (suc i)) kids) q in
         let c = ap (λ (v : NodeValue A). v.first) at in
         let d = f.wide in omega (arith, b, c, d, e)
 
-    pub ends_last : length kids ≤ suc i → (period : Period) (lo hi : ℕ) (f : Found period key lo hi kids i kid) → end + 1 ≡ hi → end + 1 ≡ f.b
-    ends_last m period lo hi f g = g ∙ f.last (drop_all (suc i) kids m)
+    pub ends_last : length kids ≤ suc i → (period : Period) (lo : ℕ) (f : Found period key lo (end + 1) kids i kid) → end + 1 ≡ f.b
+    ends_last m period lo f = f.last (drop_all (suc i) kids m)

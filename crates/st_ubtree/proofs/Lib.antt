@@ -2,13 +2,16 @@ pub mod Spanning
 pub mod Leaves
 pub mod Inside
 pub mod Splitting
+pub mod Spotting
 pub mod Settling
 pub mod Lifting
 pub mod Joining
 pub mod Mending
 pub mod Shrinking
+pub mod Parts
 pub mod Trading
 pub mod Needing
+pub mod Evening
 pub mod Counting
 pub mod Lawful
 pub mod Walking

@@ -5,8 +5,7 @@ use Rattle.std.proofs.lemmas.Bool.{cases_lt}
 use Rattle.std.proofs.lemmas.List.{get_or-set_same}
 use Rattle.std.proofs.lemmas.List.Edits.{get_or-insert_above, get_or-insert_at, get_or-insert_below, get_or-remove_above, get_or-remove_below, length-insert, length-remove}
 use Rattle.std.specs.List.{insert, remove}
-use Rattle.std.specs.Prelude.{IfNone, IfOk, IfSome, Option, None, Some, Result, Ok, Err}
-use Rattle.st_key.specs.declared.point.Point.{Point}
+use Rattle.std.specs.Prelude.{is_some, IfNone, IfOk, IfSome, Option, None, Some, Result, Ok, Err}
 use Rattle.st_text.specs.Texts.{Text}
 use Rattle.st_index.specs.Rows.{EntryValue}
 use Rattle.st_index.specs.declared.entries.Change.{Change}
@@ -20,6 +19,10 @@ pub none_so : {X P : Type 0} (o : Option X) → P → IfNone o P
 none_so None p = p
 none_so (Some x) p = tt
 
+pub none_holds : {X : Type 0} (o : Option X) (P : Type 0) → is_some o ≡ false → IfNone o P → P
+none_holds None P none h = h
+none_holds (Some x) P none h = cc
+
 pub ok_so : {X Y P : Type 0} (r : Result X Y) → P → IfOk r (λ _. P)
 ok_so (Ok x) p = p
 ok_so (Err e) p = tt
@@ -29,11 +32,11 @@ ok_then (Ok x) next p = next p
 ok_then (Err e) next p = tt
 
 module _ {A : Type 0} where
-  pub mark_kept : (old new : List Text) (e : EntryValue A) (number : ℕ) (point : Point) → Keeps old new → IsMark old e number point → IsMark new e number point
-  mark_kept old new e number point keeps is = λ few. let h = is few in (h.0, h.1, h.2, λ low. keeps number h.0.label (h.3 low))
+  pub mark_kept : (old new : List Text) (e : EntryValue A) (number week spot : ℕ) → Keeps old new → IsMark old e number week spot → IsMark new e number week spot
+  mark_kept old new e number week spot keeps is = λ few. let h = is few in (h.0, h.1, h.2, λ low. keeps number h.0.label (h.3 low))
 
   pub marks_kept : (old new : List Text) (es : List (EntryValue A)) (p : PageMarks) → Keeps old new → AreMarks old es p → AreMarks new es p
-  marks_kept old new es p keeps are = λ i e h number point a b. mark_kept old new e number point keeps (are i e h number point a b)
+  marks_kept old new es p keeps are = λ i e h number spot a b. mark_kept old new e number p.week spot keeps (are i e h number spot a b)
 
   -- the entries before a place have marks
   abbrev pub AreMarksTo : ℕ → List Text → List (EntryValue A) → PageMarks → Type 0
@@ -44,11 +47,11 @@ module _ {A : Type 0} where
   AreMarksBut n labels es p = (i : ℕ) (e : EntryValue A) → (i ≡ n → ⊥) → HasAt es i e → IsMarkedAt labels p i e
 
   -- one of another page that has the same here
-  pub mark_moved : (old new : List Text) (p q : PageMarks) (i j : ℕ) (e : EntryValue A) → Keeps old new
-      → ((number : ℕ) → HasAt q.numbers j number → HasAt p.numbers i number) → ((point : Point) → HasAt q.points j point → HasAt p.points i point)
+  pub mark_moved : (old new : List Text) (p q : PageMarks) (i j : ℕ) (e : EntryValue A) → Keeps old new → q.week ≡ p.week
+      → ((number : ℕ) → HasAt q.numbers j number → HasAt p.numbers i number) → ((spot : ℕ) → HasAt q.spots j spot → HasAt p.spots i spot)
       → IsMarkedAt old p i e → IsMarkedAt new q j e
-  mark_moved old new p q i j e keeps numbers points is = λ number point a b.
-      mark_kept old new e number point keeps (is number point (numbers number a) (points point b))
+  mark_moved old new p q i j e keeps week numbers spots is = λ number spot a b.
+      subst (λ w. IsMark new e number w spot) (sym week) (mark_kept old new e number p.week spot keeps (is number spot (numbers number a) (spots spot b)))
 
   pub mark_here : (labels : List Text) (p : PageMarks) (es : List (EntryValue A)) (n i : ℕ) (e f : EntryValue A) → i ≡ n → HasAt es n f → HasAt es i e
       → IsMarkedAt labels p n f → IsMarkedAt labels p i e
@@ -62,7 +65,7 @@ module _ {A : Type 0} where
       elim (cases_lt i n) [
         | inl less ↦
             let ne : i ≡ n → ⊥ = λ same. omega (arith, less, same) in
-            mark_moved old new p q i i f keeps (λ number. others.0 i number ne) (λ point. others.1 i point ne) (before i f less h)
+            mark_moved old new p q i i f keeps others.2 (λ number. others.0 i number ne) (λ spot. others.1 i spot ne) (before i f less h)
         | inr over ↦ mark_here new q es n i f e (omega (arith, l, over)) here h is
       ]
 
@@ -72,7 +75,7 @@ module _ {A : Type 0} where
   marks_whole old new es p q n e keeps here is others but = λ i f h.
       elim (same_or_not i n) [
         | inl same ↦ mark_here new q es n i f e same here h is
-        | inr ne ↦ mark_moved old new p q i i f keeps (λ number. others.0 i number ne) (λ point. others.1 i point ne) (but i f ne h)
+        | inr ne ↦ mark_moved old new p q i i f keeps others.2 (λ number. others.0 i number ne) (λ spot. others.1 i spot ne) (but i f ne h)
       ]
 
   -- the marks of entries of which one changed
@@ -82,30 +85,30 @@ module _ {A : Type 0} where
 
   -- among which one came in
   pub marks_opened : (labels : List Text) (es fs : List (EntryValue A)) (p q : PageMarks) (n : ℕ) → OpensAt n es fs → length fs ≤ 32
-      → Opens n (length fs) p.numbers q.numbers → Opens n (length fs) p.points q.points → AreMarks labels es p → AreMarksBut n labels fs q
-  marks_opened labels es fs p q n opens few numbers points are = λ i e ne h.
+      → q.week ≡ p.week → Opens n (length fs) p.numbers q.numbers → Opens n (length fs) p.spots q.spots → AreMarks labels es p → AreMarksBut n labels fs q
+  marks_opened labels es fs p q n opens few week numbers spots are = λ i e ne h.
       let l = h.0 in
       elim (cases_lt i n) [
         | inl less ↦
-            mark_moved labels labels p q i i e (keeps_all labels) (λ number a. (numbers i number l a).0 less) (λ point a. (points i point l a).0 less)
+            mark_moved labels labels p q i i e (keeps_all labels) week (λ number a. (numbers i number l a).0 less) (λ spot a. (spots i spot l a).0 less)
             (are i e ((opens i e h).0 less))
         | inr over ↦
             let more : n < i = apart i n ne over in
-            mark_moved labels labels p q (i - 1) i e (keeps_all labels) (λ number a. (numbers i number l a).1 more) (λ point a. (points i point l a).1 more)
+            mark_moved labels labels p q (i - 1) i e (keeps_all labels) week (λ number a. (numbers i number l a).1 more) (λ spot a. (spots i spot l a).1 more)
             (are (i - 1) e ((opens i e h).1 more))
       ]
 
   -- from which one went
   pub marks_closed : (labels : List Text) (es fs : List (EntryValue A)) (p q : PageMarks) (n : ℕ) → ClosesAt n es fs
-      → Closes n (length fs) p.numbers q.numbers → Closes n (length fs) p.points q.points → AreMarks labels es p → AreMarks labels fs q
-  marks_closed labels es fs p q n closes numbers points are = λ i e h.
+      → q.week ≡ p.week → Closes n (length fs) p.numbers q.numbers → Closes n (length fs) p.spots q.spots → AreMarks labels es p → AreMarks labels fs q
+  marks_closed labels es fs p q n closes week numbers spots are = λ i e h.
       let l = h.0 in
       elim (cases_lt i n) [
         | inl less ↦
-            mark_moved labels labels p q i i e (keeps_all labels) (λ number a. (numbers i number l a).0 less) (λ point a. (points i point l a).0 less)
+            mark_moved labels labels p q i i e (keeps_all labels) week (λ number a. (numbers i number l a).0 less) (λ spot a. (spots i spot l a).0 less)
             (are i e ((closes i e h).0 less))
         | inr over ↦
-            mark_moved labels labels p q (i + 1) i e (keeps_all labels) (λ number a. (numbers i number l a).1 over) (λ point a. (points i point l a).1 over)
+            mark_moved labels labels p q (i + 1) i e (keeps_all labels) week (λ number a. (numbers i number l a).1 over) (λ spot a. (spots i spot l a).1 over)
             (are (i + 1) e ((closes i e h).1 over))
       ]
 

@@ -44,7 +44,7 @@ module _ {A : Type 0} where
   whole_kid below v w h = record { same_height = w.same_height; not_less = h; not_more = w.not_more; starts = w.starts; filled = w.filled h }
 
   -- the worn child and the one beside it
-  pub record Pair (below left : ℕ) (kids : List (NodeValue A)) : Type 0 where
+  pub record Pair (below left most : ℕ) (kids : List (NodeValue A)) : Type 0 where
     pub front : List (NodeValue A)
     pub one : NodeValue A
     pub two : NodeValue A
@@ -55,9 +55,9 @@ module _ {A : Type 0} where
     pub behind : All (IsKid below) back
     pub one_worn : IsWorn below one
     pub two_worn : IsWorn below two
-    pub both : one.width + two.width ≤ 47
+    pub both : one.width + two.width ≤ most
 
-  pair_by : (below at left : ℕ) (kids : List (NodeValue A)) (w : AreWorn below at kids) (back : List (NodeValue A)) (f : List (NodeValue A)) → back ≡ w.back → f ≡ w.front → w.kid.width < 16 → 2 ≤ length kids → left ≡ min at (length kids - 2) → Pair below left kids
+  pair_by : (below at left : ℕ) (kids : List (NodeValue A)) (w : AreWorn below at kids) (back : List (NodeValue A)) (f : List (NodeValue A)) → back ≡ w.back → f ≡ w.front → w.kid.width < 16 → 2 ≤ length kids → left ≡ min at (length kids - 2) → Pair below left 47 kids
   pair_by below at left kids w (b ∷ bs) f e q low two m =
       let n = ap length w.is ∙ length-append w.front (w.kid ∷ w.back) in
       let s = w.stands in
@@ -105,7 +105,7 @@ module _ {A : Type 0} where
         both = let c = k.not_more in omega (arith, low, c);
       }
 
-  pub pair_of : (below at left : ℕ) (kids : List (NodeValue A)) (w : AreWorn below at kids) → w.kid.width < 16 → 2 ≤ length kids → left ≡ min at (length kids - 2) → Pair below left kids
+  pub pair_of : (below at left : ℕ) (kids : List (NodeValue A)) (w : AreWorn below at kids) → w.kid.width < 16 → 2 ≤ length kids → left ≡ min at (length kids - 2) → Pair below left 47 kids
   pair_of below at left kids w low two m = pair_by below at left kids w w.back w.front refl refl low two m
 
   abbrev pub list_of : Option (NodeValue A) → List (NodeValue A)
@@ -132,7 +132,7 @@ module _ {A : Type 0} where
   pair_head first [] one v xs ys e h = e ∙ h
   pair_head first (x ∷ front) one v xs ys e h = h
 
-  pub mends_pair : (below left : ℕ) (kids new : List (NodeValue A)) (p : Pair below left kids) (v : NodeValue A) (r : Option (NodeValue A)) → Joins below p.one p.two v r → new ≡ p.front ++ v ∷ (list_of r ++ p.back) → Mends below kids new
+  pub mends_pair : {most : ℕ} (below left : ℕ) (kids new : List (NodeValue A)) (p : Pair below left most kids) (v : NodeValue A) (r : Option (NodeValue A)) → Joins below p.one p.two v r → new ≡ p.front ++ v ∷ (list_of r ++ p.back) → Mends below kids new
   mends_pair below left kids new p v r j e =
       let n = ap length p.is ∙ length-append p.front (p.one ∷ p.two ∷ p.back) in
       let m = ap length e ∙ length-append p.front (v ∷ (list_of r ++ p.back)) in
@@ -161,8 +161,8 @@ module _ {A : Type 0} where
   }
 
   -- what a code that takes the pair out finds
-  pub record Paired (below left : ℕ) (kids rest : List (NodeValue A)) (kid right : NodeValue A) : Type 0 where
-    pub pair : Pair below left kids
+  pub record Paired (below left most : ℕ) (kids rest : List (NodeValue A)) (kid right : NodeValue A) : Type 0 where
+    pub pair : Pair below left most kids
     pub one_is : kid ≡ pair.one
     pub two_is : right ≡ pair.two
     pub rest_is : rest ≡ pair.front ++ pair.one ∷ pair.back
@@ -170,10 +170,9 @@ module _ {A : Type 0} where
   pub worn_is : (below at : ℕ) (kids : List (NodeValue A)) (w : AreWorn below at kids) (kid : NodeValue A) → kid ≡ get_or kids at kid → kid ≡ w.kid
   worn_is below at kids w kid read = read ∙ ap (λ ks. get_or ks at kid) w.is ∙ ap (λ n. get_or (w.front ++ w.kid ∷ w.back) n kid) (sym w.stands) ∙ get_at w.front w.kid w.back kid
 
-  pub paired : (below at left : ℕ) (kids rest : List (NodeValue A)) (w : AreWorn below at kids) (first kid right : NodeValue A) → first ≡ get_or kids at first → first.width < 16 → 2 ≤ length kids → left ≡ min at (length kids - 2) → rest ≡ remove kids (left + 1) → right ≡ get_or kids (left + 1) right → kid ≡ get_or rest left kid → Paired below left kids rest kid right
-  paired below at left kids rest w first kid right there low two m removed taken read =
-      let e = ap (λ (v : NodeValue A). v.width) (worn_is below at kids w first there) in
-      let p = pair_of below at left kids w (omega (arith, e, low)) two m in
+  -- a pair that was taken out
+  pub taken_pair : {most : ℕ} (below left : ℕ) (kids rest : List (NodeValue A)) (kid right : NodeValue A) → Pair below left most kids → rest ≡ remove kids (left + 1) → right ≡ get_or kids (left + 1) right → kid ≡ get_or rest left kid → Paired below left most kids rest kid right
+  taken_pair below left kids rest kid right p removed taken read =
       let s = p.stands in
       let after : left + 1 ≡ suc (length p.front) = omega (arith, s) in
       let rest_is = removed ∙ ap (λ ks. remove ks (left + 1)) p.is ∙ ap (λ n. remove (p.front ++ p.one ∷ p.two ∷ p.back) n) after ∙ remove_after p.front p.one p.two p.back in
@@ -184,26 +183,36 @@ module _ {A : Type 0} where
         rest_is = rest_is;
       }
 
-  pub joins_pair : (below left : ℕ) (kids rest : List (NodeValue A)) (kid right v : NodeValue A) (r : Option (NodeValue A)) (q : Paired below left kids rest kid right) → Joins kid.height kid right v r → Joins below q.pair.one q.pair.two v r
+  pub paired : (below at left : ℕ) (kids rest : List (NodeValue A)) (w : AreWorn below at kids) (first kid right : NodeValue A) → first ≡ get_or kids at first → first.width < 16 → 2 ≤ length kids → left ≡ min at (length kids - 2) → rest ≡ remove kids (left + 1) → right ≡ get_or kids (left + 1) right → kid ≡ get_or rest left kid → Paired below left 47 kids rest kid right
+  paired below at left kids rest w first kid right there low two m removed taken read =
+      let e = ap (λ (v : NodeValue A). v.width) (worn_is below at kids w first there) in
+      let p = pair_of below at left kids w (omega (arith, e, low)) two m in
+      taken_pair below left kids rest kid right p removed taken read
+
+  pub joins_pair : {most : ℕ} (below left : ℕ) (kids rest : List (NodeValue A)) (kid right v : NodeValue A) (r : Option (NodeValue A)) (q : Paired below left most kids rest kid right) → Joins kid.height kid right v r → Joins below q.pair.one q.pair.two v r
   joins_pair below left kids rest kid right v r q j =
       let e : kid.height ≡ below = ap (λ (n : NodeValue A). n.height) q.one_is ∙ q.pair.one_worn.same_height in
       subst (λ n. Joins n q.pair.one q.pair.two v r) e (subst (λ n. Joins kid.height n q.pair.two v r) q.one_is (subst (λ n. Joins kid.height kid n v r) q.two_is j))
 
-  pub mends_alone : (below left : ℕ) (kids rest : List (NodeValue A)) (kid right v : NodeValue A) → Paired below left kids rest kid right → Joins kid.height kid right v None → Mends below kids (set rest left v)
+  pub mends_alone : {most : ℕ} (below left : ℕ) (kids rest : List (NodeValue A)) (kid right v : NodeValue A) → Paired below left most kids rest kid right → Joins kid.height kid right v None → Mends below kids (set rest left v)
   mends_alone below left kids rest kid right v q j =
       let p = q.pair in
       mends_pair below left kids (set rest left v) p v None (joins_pair below left kids rest kid right v None q j)
       (ap (λ ks. set ks left v) q.rest_is ∙ ap (λ n. set (p.front ++ p.one ∷ p.back) n v) (sym p.stands) ∙ set_at p.front p.one p.back v)
 
-  pub mends_both : (below left : ℕ) (kids rest : List (NodeValue A)) (kid right v s : NodeValue A) → Paired below left kids rest kid right → Joins kid.height kid right v (Some s) → Mends below kids (insert (set rest left v) (left + 1) s)
-  mends_both below left kids rest kid right v s q j =
+  pub both_are : {most : ℕ} (below left : ℕ) (kids rest : List (NodeValue A)) (kid right v s : NodeValue A) (q : Paired below left most kids rest kid right) → insert (set rest left v) (left + 1) s ≡ q.pair.front ++ v ∷ s ∷ q.pair.back
+  both_are below left kids rest kid right v s q =
       let p = q.pair in
       let t = p.stands in
       let set_is : set rest left v ≡ p.front ++ v ∷ p.back = ap (λ ks. set ks left v) q.rest_is ∙ ap (λ n. set (p.front ++ p.one ∷ p.back) n v) (sym p.stands) ∙ set_at p.front p.one p.back v in
-      mends_pair below left kids (insert (set rest left v) (left + 1) s) p v (Some s) (joins_pair below left kids rest kid right v (Some s) q j)
-      (ap (λ ks. insert ks (left + 1) s) set_is ∙ insert_after p.front v p.back s (left + 1) (omega (arith, t)))
+      ap (λ ks. insert ks (left + 1) s) set_is ∙ insert_after p.front v p.back s (left + 1) (omega (arith, t))
 
-  pub joins_worn : (below left : ℕ) (kids rest : List (NodeValue A)) (kid right : NodeValue A) → Paired below left kids rest kid right → IsWorn kid.height kid × IsWorn kid.height right × (kid.width + right.width ≤ 47)
+  pub mends_both : {most : ℕ} (below left : ℕ) (kids rest : List (NodeValue A)) (kid right v s : NodeValue A) → Paired below left most kids rest kid right → Joins kid.height kid right v (Some s) → Mends below kids (insert (set rest left v) (left + 1) s)
+  mends_both below left kids rest kid right v s q j =
+      mends_pair below left kids (insert (set rest left v) (left + 1) s) q.pair v (Some s) (joins_pair below left kids rest kid right v (Some s) q j)
+      (both_are below left kids rest kid right v s q)
+
+  pub joins_worn : (below left : ℕ) (kids rest : List (NodeValue A)) (kid right : NodeValue A) → Paired below left 47 kids rest kid right → IsWorn kid.height kid × IsWorn kid.height right × (kid.width + right.width ≤ 47)
   joins_worn below left kids rest kid right q =
       let p = q.pair in
       let e : kid.height ≡ below = ap (λ (n : NodeValue A). n.height) q.one_is ∙ p.one_worn.same_height in

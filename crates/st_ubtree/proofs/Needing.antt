@@ -16,9 +16,9 @@ use Rattle.st_ubtree.specs.inner.Splits.{chains_of, chains_over, has_key, made_n
 use Rattle.st_ubtree.proofs.Settling.{chains_length}
 use Rattle.st_index.proofs.Climbing.{all_left, all_right}
 use Rattle.st_index.proofs.Putting.{split_read}
-use Rattle.st_ubtree.proofs.Spanning.{Found, entries-append, found_kid, pages_split, spans_bounds}
+use Rattle.st_ubtree.proofs.Spanning.{Found, entries-append, found_kid, pages-append, pages_split, spans_bounds}
 
-with_none : (width height : ℕ) → splits_with width height 0 ≡ 0
+pub with_none : (width height : ℕ) → splits_with width height 0 ≡ 0
 with_none width height = by (ltb width 32) (eqb 0 (height + 1)) (ne_eqb 0 (height + 1) (λ e. omega (arith, e)))
   where
     by : (a b : Bool) → b ≡ false → (if a then zero else (if b then suc zero else zero)) ≡ zero
@@ -77,7 +77,7 @@ module _ {A : Type 0} where
       by true = sym (with_none width height)
       by false = refl
 
-  lift_splits : (width height key : ℕ) (ps : List (PageValue A)) (ns : List ℕ) → length ns ≡ length ps → splits_in ps (map (splits_with width height) ns) key ≡ splits_with width height (splits_in ps ns key)
+  pub lift_splits : (width height key : ℕ) (ps : List (PageValue A)) (ns : List ℕ) → length ns ≡ length ps → splits_in ps (map (splits_with width height) ns) key ≡ splits_with width height (splits_in ps ns key)
   unfolding splits_in
   lift_splits width height key [] ns e = sym (with_none width height)
   lift_splits width height key (p ∷ ps) [] e = absurd (omega (arith, e))
@@ -90,7 +90,7 @@ module _ {A : Type 0} where
 
   module _ (period : Period) where
     -- pages before that of the key, and after it
-    skip_front : (key lo a hi : ℕ) (front : List (PageValue A)) (m : PageValue A) (rest : List (PageValue A)) (xs ys : List ℕ) → Spans period lo a front → m.first ≡ a → a ≤ key → length xs ≡ length front → splits_in (front ++ m ∷ rest) (xs ++ ys) key ≡ splits_in (m ∷ rest) ys key
+    pub skip_front : (key lo a hi : ℕ) (front : List (PageValue A)) (m : PageValue A) (rest : List (PageValue A)) (xs ys : List ℕ) → Spans period lo a front → m.first ≡ a → a ≤ key → length xs ≡ length front → splits_in (front ++ m ∷ rest) (xs ++ ys) key ≡ splits_in (m ∷ rest) ys key
     unfolding splits_in
     skip_front key lo a hi [] m rest [] ys s e k n = refl
     skip_front key lo a hi [] m rest (x ∷ xs) ys s e k n = absurd (omega (arith, n))
@@ -111,14 +111,26 @@ module _ {A : Type 0} where
     drop_back key a b hi m [] (r ∷ rs) (y ∷ ys) zs s k n = let e = s.0 in ap (λ t. if t then splits_page m.entries y key else splits_in (r ∷ rs) (ys ++ zs) key) (lt-ltb key r.first (omega (arith, e, k)))
     drop_back key a b hi m (q ∷ ms) back (y ∷ ys) zs s k n = ap (λ t. if ltb key q.first then splits_page m.entries y key else t) (drop_back key a b hi q ms back ys zs s k (omega (arith, n)))
 
-    mid_splits : (key lo a b hi : ℕ) (front mid back : List (PageValue A)) (xs ys zs : List ℕ) → Spans period lo a front → Spans period a b mid → Spans period b hi back → a ≤ key → key < b → length xs ≡ length front → length ys ≡ length mid → splits_in (front ++ (mid ++ back)) (xs ++ (ys ++ zs)) key ≡ splits_in mid ys key
+    pub mid_splits : (key lo a b hi : ℕ) (front mid back : List (PageValue A)) (xs ys zs : List ℕ) → Spans period lo a front → Spans period a b mid → Spans period b hi back → a ≤ key → key < b → length xs ≡ length front → length ys ≡ length mid → splits_in (front ++ (mid ++ back)) (xs ++ (ys ++ zs)) key ≡ splits_in mid ys key
     mid_splits key lo a b hi front [] back xs ys zs f m r j k u v = absurd (omega (arith, m, j, k))
     mid_splits key lo a b hi front (m ∷ ms) back xs ys zs f s r j k u v =
         skip_front key lo a hi front m (ms ++ back) xs (ys ++ zs) f s.0 j u ∙ drop_back key a b hi m ms back ys zs r k v
 
-  chains-append : (width : ℕ) (xs ys : List (NodeValue A)) → chains_over width (xs ++ ys) ≡ chains_over width xs ++ chains_over width ys
+  pub chains-append : (width : ℕ) (xs ys : List (NodeValue A)) → chains_over width (xs ++ ys) ≡ chains_over width xs ++ chains_over width ys
   chains-append width [] ys = refl
   chains-append width (x ∷ xs) ys = ap (λ t. map (splits_with width x.height) x.chains ++ t) (chains-append width xs ys) ∙ sym (append_assoc (map (splits_with width x.height) x.chains) (chains_over width xs) (chains_over width ys))
+
+  -- a node over a child that holds the key
+  pub splits_under : (period : Period) (key below w lo a b hi : ℕ) (front back : List (NodeValue A)) (v : NodeValue A) → All (IsKid below) (front ++ v ∷ back)
+      → Spans period lo a (pages_of front) → Spans period a b v.pages → Spans period b hi (pages_of back) → a ≤ key → key < b
+      → splits_in (pages_of (front ++ v ∷ back)) (chains_over w (front ++ v ∷ back)) key ≡ splits_with w v.height (splits v key)
+  splits_under period key below w lo a b hi front back v all low mid high from to =
+      let kid_is : IsKid below v = All-head (IsKid below) v back (all_right (IsKid below) front (v ∷ back) all) in
+      let same : length (map (splits_with w v.height) v.chains) ≡ length v.pages = length-map v.chains (splits_with w v.height) ∙ kid_is.starts.1 in
+      ap (λ ps. splits_in ps (chains_over w (front ++ v ∷ back)) key) (pages-append front (v ∷ back))
+      ∙ ap (λ ns. splits_in (pages_of front ++ (v.pages ++ pages_of back)) ns key) (chains-append w front (v ∷ back))
+      ∙ mid_splits period key lo a b hi (pages_of front) v.pages (pages_of back) (chains_over w front) (map (splits_with w v.height) v.chains) (chains_over w back) low mid high from to (chains_length w below front (all_left (IsKid below) front (v ∷ back) all)) same
+      ∙ lift_splits w v.height key v.pages v.chains kid_is.starts.1
 
   -- entries by their keys
 
@@ -155,13 +167,8 @@ module _ {A : Type 0} where
         let front = take i kids in
         let back = drop (suc i) kids in
         let all = subst (All (IsKid below)) (split_read kids i kid l read) each in
-        let kid_is : IsKid below kid = All-head (IsKid below) kid back (all_right (IsKid below) front (kid ∷ back) all) in
-        let chains : chains_of kids ≡ chains_over w front ++ (map (splits_with w kid.height) kid.chains ++ chains_over w back) = ap (chains_over w) (split_read kids i kid l read) ∙ chains-append w front (kid ∷ back) in
-        let same : length (map (splits_with w kid.height) kid.chains) ≡ length kid.pages = length-map kid.chains (splits_with w kid.height) ∙ kid_is.starts.1 in
-        ap (λ ps. splits_in ps (chains_of kids) key) (pages_split kids i kid l read)
-        ∙ ap (λ ns. splits_in (pages_of front ++ (kid.pages ++ pages_of back)) ns key) chains
-        ∙ mid_splits o.period key o.lo there.a there.b o.hi (pages_of front) kid.pages (pages_of back) (chains_over w front) (map (splits_with w kid.height) kid.chains) (chains_over w back) there.low there.mid there.high (there.from o.from) (there.to o.to) (chains_length w below front (all_left (IsKid below) front (kid ∷ back) all)) same
-        ∙ lift_splits w kid.height key kid.pages kid.chains kid_is.starts.1
+        ap (λ ks. splits_in (pages_of ks) (chains_over w ks) key) (split_read kids i kid l read)
+        ∙ splits_under o.period key below w o.lo there.a there.b o.hi front back kid all there.low there.mid there.high (there.from o.from) (there.to o.to)
 
     pub kid_rows : (r : ℕ) → All (λ (e : EntryValue A). e.at ≡ key → length e.rows ≡ r) (entries_of_pages kid.pages) → All (λ (e : EntryValue A). e.at ≡ key → length e.rows ≡ r) (entries_of_pages (pages_of kids))
     kid_rows r h =

@@ -77,7 +77,7 @@ module _ {A : Type 0} where
 
   pub drops_reshape : (key : ℕ) (row : Row A) (old mid new : List (PageValue A)) → DropsFrom key row old mid → Reshapes mid new → DropsFrom key row old new
   drops_reshape key row old mid new d r = record {
-    adds = subst (λ t. Adds row t (rows_of_pages old)) (sym r.rows) d.adds;
+    adds = subst (λ t. Adds row t (rows_of_pages old)) (sym (ap rows_of r.entries)) d.adds;
     spans = λ period lo hi h. r.spans period lo hi (d.spans period lo hi h);
     placed = d.placed;
   }

@@ -36,6 +36,9 @@ module _ {A : Type 0} where
   entries-append [] ys = refl
   entries-append (x ∷ xs) ys = ap (λ es. x.entries ++ es) (entries-append xs ys) ∙ sym (append_assoc x.entries (entries_of_pages xs) (entries_of_pages ys))
 
+  pub entries_three : (xs ys zs : List (PageValue A)) → entries_of_pages (xs ++ (ys ++ zs)) ≡ entries_of_pages xs ++ (entries_of_pages ys ++ entries_of_pages zs)
+  entries_three xs ys zs = entries-append xs (ys ++ zs) ∙ ap (λ t. entries_of_pages xs ++ t) (entries-append ys zs)
+
   pub pages_split : (kids : List (NodeValue A)) (i : ℕ) (kid : NodeValue A) → i < length kids → kid ≡ get_or kids i kid → pages_of kids ≡ pages_of (take i kids) ++ (kid.pages ++ pages_of (drop (suc i) kids))
   pages_split kids i kid l read = ap pages_of (split_read kids i kid l read) ∙ pages-append (take i kids) (kid ∷ drop (suc i) kids)
 

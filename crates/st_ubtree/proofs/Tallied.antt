@@ -17,10 +17,12 @@ use Rattle.st_index.proofs.Sums.{sum_all, sum_by-flat_map, sum_one_more}
 use Rattle.st_ubtree.specs.declared.marks.Marks.{Marks}
 use Rattle.st_ubtree.specs.declared.page_marks.PageMarks.{PageMarks}
 use Rattle.st_ubtree.specs.inner.Marks.{AreKnown, AreMarks, HasAt, IsMark, MakeUp, tallied, verdict_on}
+use Rattle.st_ubtree.specs.inner.Spots.{IsSpotOf}
 use Rattle.st_ubtree.specs.inner.Sums.{AreInside}
 use Rattle.st_ubtree.proofs.ByMarks.{one_row}
 use Rattle.st_ubtree.proofs.Labels.{found_more}
 use Rattle.st_ubtree.proofs.Placing.{read_at}
+use Rattle.st_ubtree.proofs.Spotting.{same_point}
 
 pub verdict_here : (judges : Text → Bool) (labels : List Text) (n : ℕ) (l : Text) → HasAt labels n l → verdict_on judges labels n ≡ judges l
 verdict_here judges labels n l h = get_or-map judges labels n l false h.0 ∙ ap judges (sym h.1)
@@ -133,47 +135,49 @@ one_of_both false false = refl
 
 module _ {A : Type 0} (labels : List Text) where
   -- the mark at a place
-  pub mark_at : (es : List (EntryValue A)) (p : PageMarks) (i : ℕ) (e : EntryValue A) (number : ℕ) (point : Point) → AreMarks labels es p → HasAt es i e
-      → i < length p.numbers → i < length p.points → number ≡ get_or p.numbers i 0 → point ≡ get_or p.points i point → IsMark labels e number point
-  mark_at es p i e number point are h n m number_is point_is = are i e h number point (read_at p.numbers i 0 number n number_is) (m, point_is)
+  pub mark_at : (es : List (EntryValue A)) (p : PageMarks) (i : ℕ) (e : EntryValue A) (number spot : ℕ) → AreMarks labels es p → HasAt es i e
+      → i < length p.numbers → i < length p.spots → number ≡ get_or p.numbers i 0 → spot ≡ get_or p.spots i 0 → IsMark labels e number p.week spot
+  mark_at es p i e number spot are h n m number_is spot_is = are i e h number spot (read_at p.numbers i 0 number n number_is) (read_at p.spots i 0 spot m spot_is)
 
   -- its entry has one row
-  pub one_in : (e : EntryValue A) (number : ℕ) (point : Point) → IsMark labels e number point → number < 65535 → length e.rows ≡ 1
-  one_in e number point is few = ap length (is few).1
+  pub one_in : (e : EntryValue A) (number week spot : ℕ) → IsMark labels e number week spot → number < 65535 → length e.rows ≡ 1
+  one_in e number week spot is few = ap length (is few).1
 
-module _ {A : Type 0} (q : Query) (labels : List Text) (e : EntryValue A) (number : ℕ) (point : Point) (is : IsMark labels e number point) where
-  counted_at : (judges : Text → Bool) → number < 512 → count_of q judges e.rows ≡ cond (is_inside q point && verdict_on judges labels number) 1 0
+  -- where all rows of its entry are inside, so is the point of its spot
+  pub spot_inside : (q : Query) (e : EntryValue A) (number week spot : ℕ) → IsMark labels e number week spot → number < 65535 → AreInside q e.rows
+      → (p : Point) → IsSpotOf week spot p → true ≡ is_inside q p
+  spot_inside q e number week spot is few inside p at =
+      let one = is few in
+      let P = λ (r : Row A). is_inside q r.point ≡ true in
+      sym (ap (is_inside q) (same_point week spot p one.0.point at one.2) ∙ All-head P one.0 [] (subst (All P) one.1 inside))
+
+module _ {A : Type 0} (q : Query) (labels : List Text) (e : EntryValue A) (number week spot : ℕ) (is : IsMark labels e number week spot) (inside : Bool)
+    (told : (p : Point) → IsSpotOf week spot p → inside ≡ is_inside q p) where
+  counted_at : (judges : Text → Bool) → number < 512 → count_of q judges e.rows ≡ cond (inside && verdict_on judges labels number) 1 0
   counted_at judges low =
       let one = is (omega (arith, low)) in
       ap (count_of q judges) one.1
       ∙ one_row q judges one.0
-      ∙ ap {B = ℕ} (λ p. cond (is_inside q p && judges one.0.label) 1 0) one.2
-      ∙ ap {B = ℕ} (λ b. cond (is_inside q point && b) 1 0) (sym (verdict_here judges labels number one.0.label (one.3 low)))
+      ∙ ap {B = ℕ} (λ b. cond (b && judges one.0.label) 1 0) (sym (told one.0.point one.2))
+      ∙ ap {B = ℕ} (λ b. cond (inside && b) 1 0) (sym (verdict_here judges labels number one.0.label (one.3 low)))
 
   -- the row of an entry is tallied by its mark
-  pub tallied_at : (judges : Text → Bool) (tally : List ℕ) (more : ℕ) → number < 512 → number < length tally → more ≡ cond (is_inside q point) 1 0
+  pub tallied_at : (judges : Text → Bool) (tally : List ℕ) (more : ℕ) → number < 512 → number < length tally → more ≡ cond inside 1 0
       → MakeUp judges labels 0 (count_of q judges e.rows) tally (set tally number (get_or tally number 0 + more))
   tallied_at judges tally more low fits one =
       let counted = counted_at judges low in
       let added = tallied_set judges labels tally number more fits in
-      let here : cond (verdict_on judges labels number) more 0 ≡ cond (is_inside q point && verdict_on judges labels number) 1 0 =
-      ap (λ n. cond (verdict_on judges labels number) n 0) one ∙ one_of_both (is_inside q point) (verdict_on judges labels number) in
+      let here : cond (verdict_on judges labels number) more 0 ≡ cond (inside && verdict_on judges labels number) 1 0 =
+      ap (λ n. cond (verdict_on judges labels number) n 0) one ∙ one_of_both inside (verdict_on judges labels number) in
       omega (arith, counted, added, here)
 
   -- and where its point is outside
-  pub outside_at : (judges : Text → Bool) → number < 65535 → is_inside q point ≡ false → count_of q judges e.rows ≡ 0
+  pub outside_at : (judges : Text → Bool) → number < 65535 → inside ≡ false → count_of q judges e.rows ≡ 0
   outside_at judges few outside =
       let one = is few in
       ap (count_of q judges) one.1
       ∙ one_row q judges one.0
-      ∙ ap {B = ℕ} (λ b. cond (b && judges one.0.label) 1 0) (ap (is_inside q) one.2 ∙ outside)
-
-  -- and where all its rows are inside
-  pub point_inside : number < 65535 → AreInside q e.rows → is_inside q point ≡ true
-  point_inside few inside =
-      let one = is few in
-      let P = λ (r : Row A). is_inside q r.point ≡ true in
-      ap (is_inside q) (sym one.2) ∙ All-head P one.0 [] (subst (All P) one.1 inside)
+      ∙ ap {B = ℕ} (λ b. cond (b && judges one.0.label) 1 0) (sym (told one.0.point one.2) ∙ outside)
 
 -- rows that some things have, as they are counted one after another
 module _ {A X : Type 0} (rows : X → List (Row A)) (xs : List X) (at : ℕ) where

@@ -82,7 +82,7 @@ module _ {A : Type 0} where
     kids_lack n name (Ok out) found is h = tt
     kids_lack n name (Err back) found is h = none_in_kids key below kids i kid l read each n name found is h
 
-    kept_kid : Keeps kid v → IsKid below v
+    pub kept_kid : Keeps kid v → IsKid below v
     kept_kid k =
         let w = that_kid below kids i kid l read each in
         let e = k.width in
@@ -94,10 +94,10 @@ module _ {A : Type 0} where
           filled = k.filled w.filled;
         }
 
-    kept_all : Keeps kid v → All (IsKid below) (set kids i v)
+    pub kept_all : Keeps kid v → All (IsKid below) (set kids i v)
     kept_all k = subst (All (IsKid below)) (sym (set_split kids i v l)) (each_with below kids i kid l read each (v ∷ []) (alone below v (kept_kid k)))
 
-    kept_head : (first : ℕ) → Keeps kid v → HeadAt first kids → HeadAt first (set kids i v)
+    pub kept_head : (first : ℕ) → Keeps kid v → HeadAt first kids → HeadAt first (set kids i v)
     kept_head first k h = subst (HeadAt first) (sym (set_split kids i v l)) (head_same first kids i kid v (drop (suc i) kids) l read k.first h)
 
     pub kids_keep : (first height : ℕ) → HeadAt first kids → Keeps kid v → Keeps (inner_node first height kids) (inner_node first height (set kids i v))

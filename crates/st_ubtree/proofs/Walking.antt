@@ -9,7 +9,7 @@ use Rattle.st_key.specs.Key.{rank}
 use Rattle.st_index.specs.Rows.{key_end}
 use Rattle.std.specs.Prelude.{IfNone, IfSome}
 use Rattle.st_index.specs.Index.{Follow, Region}
-use Rattle.st_ubtree.specs.declared.tree.KeyRange.{KeyRange}
+use Rattle.st_index.specs.declared.index.KeyRange.{KeyRange}
 use Rattle.st_ubtree.specs.Ranges.{region_in}
 
 -- what is gone over, and what is left from the next key on

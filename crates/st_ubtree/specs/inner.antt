@@ -1,10 +1,12 @@
 -- Invariants of representations and stages of the code, which no reader has to believe.
 pub mod Sums
+pub mod Spots
 pub mod Marks
 pub mod Kids
 pub mod Tree
 pub mod Growing
 pub mod Shrinking
+pub mod Evening
 pub mod Splits
 pub mod Trading
 pub mod Falls

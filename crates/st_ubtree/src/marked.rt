@@ -1,29 +1,17 @@
 //! Counts of marked entries, whose rows are tallied by the numbers of their labels.
 ghost use Rattle.std.specs.Prelude.{◌≡◌, ◌+◌, ◌<◌, ◌≤◌, ◌^◌, List, length, sum};
-ghost use Rattle.st_box.specs.Query.{is_inside};
 ghost use Rattle.st_text.specs.Texts.{Text};
 ghost use Rattle.st_index.specs.Counting.{count_of};
 ghost use Rattle.st_index.specs.Rows.{EntryValue, rows_of};
 ghost use Rattle.st_ubtree.specs.inner.Marks.{AreMarks, HasAt, MakeUp};
+ghost use Rattle.st_ubtree.specs.inner.Spots.{IsBoxOf};
 ghost use Rattle.st_ubtree.specs.inner.Sums.{AreInside};
 
 use crate::page_marks::{MANY, PageMarks};
+use crate::spots::SpotBox;
 use st_box::Query;
 use st_index::{Entry, Judge, counting};
-use st_key::Point;
 use std::alloc::Allocator;
-
-/// Whether the point is inside the query. All is compared, since to branch at each would take longer.
-pub fn is_in(query: &Query, point: &Point) -> bool
-    ensures { result ≡ is_inside query.now point.now }
-{
-    (query.x0() <= point.x())
-        & (point.x() <= query.x1())
-        & (query.y0() <= point.y())
-        & (point.y() <= query.y1())
-        & (query.t0() <= point.t())
-        & (point.t() <= query.t1())
-}
 
 // How many rows of the entry at a place are counted.
 fn count_at<A: Allocator + Copy, J: Judge<A>>(
@@ -47,6 +35,7 @@ fn tally_at<A: Allocator + Copy, J: Judge<A>>(
     entries: &[Entry<A>],
     at: usize,
     marks: &PageMarks,
+    bounds: &SpotBox,
     query: &Query,
     judge: &mut J,
     tally: &mut [u64],
@@ -54,6 +43,7 @@ fn tally_at<A: Allocator + Copy, J: Judge<A>>(
     requires within { at < length entries.now }
     requires not_more { length entries.now ≤ 32 }
     requires marked { (labels : List Text) × AreMarks labels entries.now marks.now }
+    requires bounds { IsBoxOf query.now marks.now.week bounds.now }
     requires few { length tally.old ≤ 512 }
     requires fits { (e : EntryValue A) → HasAt entries.now at e → sum tally.old + length e.rows < 2 ^ 64 }
     ensures count { (labels : List Text) (e : EntryValue A) → AreMarks labels entries.now marks.now → HasAt entries.now at e
@@ -62,7 +52,7 @@ fn tally_at<A: Allocator + Copy, J: Judge<A>>(
     ensures same { J.judges judge.new ≡ J.judges judge.old }
 {
     let number = marks.numbers[at];
-    let inside = is_in(query, &marks.points[at]);
+    let inside = bounds.has(marks.spots[at]);
     let index = usize::from(number);
     if index < tally.len() {
         tally[index] += u64::from(inside);
@@ -120,9 +110,10 @@ pub fn count_marked<A: Allocator + Copy, J: Judge<A>>(
     ensures most { sum tally.new ≤ sum tally.old + length (rows_of entries.now) }
     ensures same { J.judges judge.new ≡ J.judges judge.old }
 {
+    let bounds = SpotBox::new(query, marks.week);
     let mut count = 0;
     for at in 0..entries.len() {
-        count += tally_at(entries, at, marks, query, judge, tally);
+        count += tally_at(entries, at, marks, &bounds, query, judge, tally);
     }
     count
 }

@@ -10,9 +10,16 @@ use st_index::entries::Change;
 use st_index::{Entry, Judge};
 use st_label::Label;
 use std::alloc::{AllocError, Allocator, Global};
+use std::mem;
 
 // How many times as many labels a longer list has room for.
 const GROWTH: usize = 4;
+
+/// How many pages a new node has room for the marks of.
+pub const FEW_PAGES: usize = 18;
+
+// How many more pages a longer list has room for than it is to have.
+const MORE_PAGES: usize = 1;
 
 /// The labels below a node whose children are pages, in the order of their numbers, and the marks of the pages. Pages
 /// may be without marks.
@@ -23,23 +30,28 @@ pub struct Marks<A: Allocator = Global> {
     pages: Vec<PageMarks, A>,
 }
 
-/// A longer list for labels, and slots for their numbers.
+/// A longer list: for labels, with slots for their numbers, or for the marks of pages.
 #[derive(Drop)]
-pub struct Room<A: Allocator = Global> {
-    labels: Vec<Label<A>, A>,
-    slots: Vec<u16, A>,
+pub enum Room<A: Allocator = Global> {
+    Labels(Vec<Label<A>, A>, Vec<u16, A>),
+    Pages(Vec<PageMarks, A>),
 }
 
 impl<A: Allocator + Copy> Room<A> {
+    /// Room for the marks of so many pages.
+    pub fn pages(alloc: A, count: usize) -> Result<Room<A>, AllocError> {
+        Ok(Room::Pages(Vec::with_capacity(alloc, count)?))
+    }
+
     /// Room for so many labels.
-    pub fn new(alloc: A, count: usize) -> Result<Room<A>, AllocError> {
+    pub fn labels(alloc: A, count: usize) -> Result<Room<A>, AllocError> {
         let labels = Vec::with_capacity(alloc, count)?;
         let slots = if count < MAX_NUMBERS {
             Vec::new(alloc)
         } else {
             vec![in alloc; NO_NUMBER; SLOTS]?
         };
-        Ok(Room { labels, slots })
+        Ok(Room::Labels(labels, slots))
     }
 }
 
@@ -86,6 +98,20 @@ impl<A: Allocator + Copy> Marks<A> {
         }
         let page = &mut self.pages[at];
         page.known = false;
+    }
+
+    /// Lets the numbers of a page and the next be likely ones where entries went over between them: the page had so many before,
+    /// and has so many now. Neither has marks then.
+    pub fn shift(&mut self, at: usize, had: usize, has: usize)
+        ensures { (kids : List (NodeValue A)) → AreMarked self.old kids → AreMarked self.new kids }
+    {
+        let next = at.saturating_add(1);
+        if next >= self.pages.len() {
+            return;
+        }
+        let (first, second) = self.pages[at].shifted(&self.pages[next], had, has);
+        self.pages[at] = first;
+        self.pages[next] = second;
     }
 
     /// Marks anew the one entry of a page that changed, if the page has marks.
@@ -146,15 +172,62 @@ impl<A: Allocator + Copy> Marks<A> {
         room.saturating_mul(GROWTH).min(MAX_NUMBERS)
     }
 
-    /// Takes away all marks, and makes room for more labels.
-    pub fn make_room(&mut self, room: Room<A>)
+    /// How many pages there is to be room for where these are to have marks: 0 where there is enough.
+    pub fn wanted_pages(&self, pages: usize) -> usize {
+        if self.pages.capacity() >= pages {
+            return 0;
+        }
+        pages.saturating_add(MORE_PAGES)
+    }
+
+    // Takes away all marks, and takes a longer list for labels.
+    fn take_labels(&mut self, labels: Vec<Label<A>, A>, slots: Vec<u16, A>)
         ensures { (kids : List (NodeValue A)) → AreMarked self.new kids }
     {
-        let Room { labels, slots } = room;
         self.labels = labels;
         self.slots = slots;
         let pages = &mut self.pages;
         pages.clear();
+    }
+
+    // Takes a longer list for the marks of pages.
+    fn take_pages(&mut self, mut longer: Vec<PageMarks, A>)
+        ensures { (kids : List (NodeValue A)) → AreMarked self.old kids → AreMarked self.new kids }
+    {
+        longer.clear();
+        if longer.capacity() < self.pages.len() {
+            return;
+        }
+        let Ok(()) = longer.append(&mut self.pages) else {
+            unreachable!()
+        };
+        self.pages = longer;
+    }
+
+    /// Makes room for more labels, where all marks are taken away, or for the marks of more pages.
+    pub fn make_room(&mut self, room: Room<A>)
+        ensures { (kids : List (NodeValue A)) → AreMarked self.old kids → AreMarked self.new kids }
+    {
+        match room {
+            Room::Labels(labels, slots) => self.take_labels(labels, slots),
+            Room::Pages(pages) => self.take_pages(pages),
+        }
+    }
+
+    /// Takes another list for the marks of pages. There are none then.
+    pub fn renew(&mut self, pages: Vec<PageMarks, A>) {
+        self.pages = pages;
+        self.clear();
+    }
+
+    /// Keeps the longer one of two lists for the marks of pages. There are none then.
+    pub fn keep_longer(&mut self, other: &mut Marks<A>)
+        ensures { (kids : List (NodeValue A)) → AreMarked self.new kids }
+    {
+        if other.pages.capacity() > self.pages.capacity() {
+            mem::swap(&mut self.pages, &mut other.pages);
+        }
+        self.clear();
     }
 
     // Puts in a page without marks at a place, if it comes right behind the others there, and takes no memory.

@@ -7,12 +7,13 @@ ghost use Rattle.st_index.specs.inner.Changes.{IsChange};
 ghost use Rattle.st_ubtree.specs.Pages.{IsWide, NodeValue, entries_of_pages, AreFilled, page_node};
 ghost use Rattle.st_ubtree.specs.inner.Trading.{Keeps, TradesIn};
 ghost use Rattle.st_ubtree.specs.inner.Shrinking.{HasNone, IsWorn, Joins, Shrinks};
-ghost use Rattle.st_ubtree.specs.inner.Growing.{AreAround, AreBlank, Grows, IsBlank, IsBlankPage, IsLeafIn, IsRoomFor};
+ghost use Rattle.st_ubtree.specs.inner.Growing.{AreAround, AreBlank, Grows, IsBlank, IsBlankPage, IsRoomFor};
 ghost use Rattle.st_ubtree.specs.inner.Splits.{splits};
 
 mod aside;
 mod blank;
 mod count;
+mod even;
 mod fields;
 mod firsts;
 mod grow;
@@ -21,6 +22,7 @@ mod marking;
 mod needs;
 mod pages;
 mod root;
+mod seek;
 mod sums;
 mod widening;
 
@@ -31,7 +33,7 @@ use grow::{put_in_page, settle};
 use join::{join_kids, join_pages, mend};
 use marking::{mark_changed, mark_due, mark_if, mark_swapped};
 use st_index::entries::{self, Change};
-use st_index::{Entry, Leaf, Row, order};
+use st_index::{Entry, Row};
 use st_key::{Key, Period};
 use std::alloc::{Allocator, Global};
 use std::marker::Model;
@@ -103,30 +105,6 @@ impl<A: Allocator + Copy> Node<A> {
         self.height
     }
 
-    /// The page that holds the key, where the node's region ends at `last`.
-    pub fn leaf_at(&self, key: Key, last: Key) -> Leaf<'_, A>
-        ensures { IsLeafIn (rank key) self.now.pages (rank last) (rank result.first) (rank result.last) result.entries.now }
-    {
-        match &self.kids {
-            Kids::Page(entries) => Leaf {
-                entries: entries.as_slice(),
-                first: self.first,
-                last,
-            },
-            Kids::Inner(kids, aside) => {
-                let firsts = &aside.firsts;
-                let after = firsts.count_up_to(key).max(1);
-                let kid = &kids[after - 1];
-                let kid_last = if after < kids.len() {
-                    order::before(firsts.at(after))
-                } else {
-                    last
-                };
-                kid.leaf_at(key, kid_last)
-            }
-        }
-    }
-
     /// Puts in a row. Where the node is full, its upper half is handed back as a node of its own. A page says where.
     pub fn insert(
         &mut self,
@@ -172,7 +150,7 @@ impl<A: Allocator + Copy> Node<A> {
                     unreachable!()
                 };
                 aside.marks.open(at + 1);
-                let split = settle(kids, self.height, inners);
+                let split = settle(kids, self.height, &mut aside.marks, inners);
                 aside.firsts.keep(kids.len());
                 let parted = split.is_some();
                 mark_due(parted, at, &mut aside.marks, kids);

@@ -5,30 +5,23 @@ ghost use Rattle.st_index.specs.inner.Changes.{IsChange};
 ghost use Rattle.st_ubtree.specs.inner.Marks.{AreMarks, ClosesAt, DifferAt, DifferInMarks, HasNone, IsMarkedAt, Keeps, OpensAt};
 
 use crate::numbering::{NO_NUMBER, number_of};
+use crate::spots::{spot_of, week_of};
 use st_index::entries::Change;
 use st_index::{Entry, RowsView};
-use st_key::Point;
 use st_label::Label;
 use std::alloc::Allocator;
 
-/// The number of an entry of several rows.
+/// The number of an entry that is to be read: one of several rows, or of one row that has no spot in its page's week.
 pub const MANY: u16 = u16::MAX;
 
-/// For each entry of a page that has one row, the number of its label and its point, side by side with those of the others.
+/// For each entry of a page that has one row, the number of its label and its spot, side by side with those of the others.
 /// Where the page has changed since, they are not known.
 #[derive(Clone, Copy)]
 pub struct PageMarks {
     pub known: bool,
+    pub week: u32,
     pub numbers: [u16; 32],
-    pub points: [Point; 32],
-}
-
-// Some point, where none is known yet.
-fn origin() -> Point {
-    let Ok(point) = Point::new(0, 0, 0) else {
-        unreachable!()
-    };
-    point
+    pub spots: [u64; 32],
 }
 
 // What the numbers of the upper half of a page may be, once it is a page of its own.
@@ -38,6 +31,23 @@ fn upper_half(numbers: &[u16; 32]) -> [u16; 32] {
     upper
 }
 
+// The numbers of two pages side by side, where the first has so many entries.
+fn side_by_side(left: &[u16; 32], right: &[u16; 32], count: usize) -> [u16; 64] {
+    let count = count.min(32);
+    let mut both = [NO_NUMBER; 64];
+    both[..32].copy_from_slice(left);
+    both[count..count + 32].copy_from_slice(right);
+    both
+}
+
+// What the numbers of a page may be, whose entries are those from a place on of two pages side by side.
+fn numbers_from(both: &[u16; 64], at: usize) -> [u16; 32] {
+    let at = at.min(32);
+    let mut numbers = [NO_NUMBER; 32];
+    numbers.copy_from_slice(&both[at..at + 32]);
+    numbers
+}
+
 impl PageMarks {
     /// None that are known.
     pub fn none() -> PageMarks
@@ -45,8 +55,9 @@ impl PageMarks {
     {
         PageMarks {
             known: false,
+            week: 0,
             numbers: [NO_NUMBER; 32],
-            points: [origin(); 32],
+            spots: [0; 32],
         }
     }
 
@@ -56,9 +67,30 @@ impl PageMarks {
     {
         PageMarks {
             known: false,
+            week: self.week,
             numbers: upper_half(&self.numbers),
-            points: self.points,
+            spots: self.spots,
         }
+    }
+
+    /// None that are known yet of this page and the next, between which entries went over: this one had so many before, and has so
+    /// many now. The numbers are likely to go with their entries.
+    pub fn shifted(&self, next: &PageMarks, had: usize, has: usize) -> (PageMarks, PageMarks)
+        ensures first { HasNone result.0 }
+        ensures second { HasNone result.1 }
+    {
+        let both = side_by_side(&self.numbers, &next.numbers, had);
+        let first = PageMarks {
+            known: false,
+            numbers: numbers_from(&both, 0),
+            ..*self
+        };
+        let second = PageMarks {
+            known: false,
+            numbers: numbers_from(&both, has),
+            ..*next
+        };
+        (first, second)
     }
 
     // The number after that of an entry.
@@ -84,12 +116,27 @@ fn mark_entry<A: Allocator + Copy>(
     ensures mark { IsMarkedAt labels.new.items page.new at entry.now }
     ensures others { DifferInMarks at page.old page.new }
 {
+    if let RowsView::One(row) = entry.rows()
+        && let Some(spot) = spot_of(&row.point(), page.week)
+    {
+        page.numbers[at] = number_of(labels, slots, row.label(), likely);
+        page.spots[at] = spot;
+        return;
+    }
+    page.numbers[at] = MANY;
+}
+
+// The week of the first row of a page, or another where there is none.
+fn first_week<A: Allocator + Copy>(entries: &[Entry<A>], other: u32) -> u32 {
+    let Some(entry) = entries.first() else {
+        return other;
+    };
     match entry.rows() {
-        RowsView::One(row) => {
-            page.numbers[at] = number_of(labels, slots, row.label(), likely);
-            page.points[at] = row.point();
-        }
-        RowsView::Many(_) => page.numbers[at] = MANY,
+        RowsView::One(row) => week_of(&row.point()),
+        RowsView::Many(rows) => match rows.first() {
+            Some(row) => week_of(&row.point),
+            None => other,
+        },
     }
 }
 
@@ -104,6 +151,7 @@ pub fn mark_page<A: Allocator + Copy>(
     ensures keeps { Keeps labels.old.items labels.new.items }
     ensures marks { AreMarks labels.new.items entries.now page.new }
 {
+    page.week = first_week(entries, page.week);
     let mut before = NO_NUMBER;
     for (at, entry) in entries.iter().enumerate() {
         let had = page.numbers[at];
@@ -132,7 +180,7 @@ fn open_entry<A: Allocator + Copy>(
         return false;
     }
     page.numbers.copy_within(at..count - 1, at + 1);
-    page.points.copy_within(at..count - 1, at + 1);
+    page.spots.copy_within(at..count - 1, at + 1);
     mark_entry(labels, slots, page, at, &entries[at], &[NO_NUMBER; 3]);
     true
 }
@@ -172,7 +220,7 @@ fn close_entry<A: Allocator + Copy>(
         return false;
     }
     page.numbers.copy_within(at + 1..count + 1, at);
-    page.points.copy_within(at + 1..count + 1, at);
+    page.spots.copy_within(at + 1..count + 1, at);
     true
 }
 

@@ -1,5 +1,5 @@
 //! Cutting a list in two without more memory.
-ghost use Rattle.std.specs.Prelude.{◌≡◌, ◌+◌, ◌-◌, ◌≤◌, ◌++◌, [], IsTrue, IsFalse, length, take, drop, vec_len, vec_capacity};
+ghost use Rattle.std.specs.Prelude.{◌≡◌, ◌+◌, ◌-◌, ◌<◌, ◌≤◌, ◌++◌, [], IsTrue, IsFalse, length, min, reverse, take, drop, vec_len, vec_capacity};
 
 use std::alloc::Allocator;
 
@@ -63,4 +63,41 @@ pub(crate) fn share<T: Drop, A: Allocator>(left: &mut Vec<T, A>, right: &mut Vec
         };
     }
     true
+}
+
+// Moves last items of one of two lists over to the end of the other, until it has at most so many.
+fn pour<T: Drop, A: Allocator>(from: &mut Vec<T, A>, to: &mut Vec<T, A>, count: usize)
+    requires room { vec_len from.old + vec_len to.old ≤ count + vec_capacity to.old }
+    ensures kept { from.new.items ++ reverse to.new.items ≡ from.old.items ++ reverse to.old.items }
+    ensures count { length from.new.items ≡ min count (length from.old.items) }
+    ensures from_room { vec_capacity from.old ≤ vec_capacity from.new }
+    ensures to_room { vec_capacity to.old ≤ vec_capacity to.new }
+{
+    while from.len() > count {
+        let Some(last) = from.pop() else {
+            unreachable!()
+        };
+        let Ok(()) = to.push(last) else {
+            unreachable!()
+        };
+    }
+}
+
+// Moves items between two lists that stand side by side, so that both have 16 to 31.
+pub(crate) fn halve<T: Drop, A: Allocator>(left: &mut Vec<T, A>, right: &mut Vec<T, A>)
+    requires both { (32 ≤ vec_len left.old + vec_len right.old) × (vec_len left.old + vec_len right.old ≤ 62) }
+    requires left_room { 33 ≤ vec_capacity left.old }
+    requires right_room { 33 ≤ vec_capacity right.old }
+    ensures kept { left.new.items ++ right.new.items ≡ left.old.items ++ right.old.items }
+    ensures left { (16 ≤ length left.new.items) × (length left.new.items < 32) }
+    ensures right { (16 ≤ length right.new.items) × (length right.new.items < 32) }
+    ensures left_room { 33 ≤ vec_capacity left.new }
+    ensures right_room { 33 ≤ vec_capacity right.new }
+{
+    let both = left.len() + right.len();
+    let half = both / 2;
+    right.reverse();
+    pour(left, right, half);
+    pour(right, left, both - half);
+    right.reverse();
 }

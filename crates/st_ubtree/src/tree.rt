@@ -9,11 +9,11 @@ ghost use Rattle.st_ubtree.specs.Trees.{regions_of};
 ghost use Rattle.st_ubtree.specs.inner.Tree.{HasTreeRoom};
 ghost use Rattle.st_ubtree.specs.Ranges.{region_in};
 
-use crate::marks::Room;
+use crate::marks::{FEW_PAGES, Room};
 use crate::node::{Blank, Node};
 use st_box::Query;
 use st_index::entries::{self, Change};
-use st_index::{Entry, Fields, Judge, Leaf, Row, RowIndex};
+use st_index::{Entry, Fields, Judge, KeyRange, Leaf, Row, RowIndex, order};
 use st_key::{Key, Period};
 use std::alloc::{AllocError, Allocator, Global};
 use std::marker::Model;
@@ -38,13 +38,6 @@ impl<A: Allocator> Model for UbTree<A> {
     ghost invariant = { λ t. IsTree t.period t.root t.len };
 }
 
-/// The keys from the first to the last.
-#[derive(Clone, Copy)]
-pub struct KeyRange {
-    pub first: Key,
-    pub last: Key,
-}
-
 /// The memory that one more row takes in a tree.
 #[derive(Drop)]
 pub struct UbSpare<A: Allocator = Global> {
@@ -52,6 +45,7 @@ pub struct UbSpare<A: Allocator = Global> {
     page: Option<Vec<Entry<A>, A>>,
     inners: Vec<Blank<A>, A>,
     room: Option<Room<A>>,
+    places: Option<Room<A>>,
 }
 
 // A page, where one is split.
@@ -72,7 +66,18 @@ fn blank_page<A: Allocator + Copy>(
 fn blank_room<A: Allocator + Copy>(alloc: A, count: usize) -> Result<Option<Room<A>>, AllocError> {
     match count {
         0 => Ok(None),
-        count => Ok(Some(Room::new(alloc, count)?)),
+        count => Ok(Some(Room::labels(alloc, count)?)),
+    }
+}
+
+// Room for the marks of so many pages of a node, where it needs more.
+fn blank_places<A: Allocator + Copy>(
+    alloc: A,
+    count: usize,
+) -> Result<Option<Room<A>>, AllocError> {
+    match count {
+        0 => Ok(None),
+        count => Ok(Some(Room::pages(alloc, count)?)),
     }
 }
 
@@ -87,14 +92,15 @@ fn count_made(inners: Option<u64>, height: u64) -> Result<u64, AllocError>
     }
 }
 
-// So many empty lists of children.
+// So many empty lists of children. The last one is for the lowest node, whose children are pages.
 fn blank_nodes<A: Allocator + Copy>(alloc: A, count: u64) -> Result<Vec<Blank<A>, A>, AllocError>
     ensures blank { IfOk result (λ blanks. AreBlank blanks.items) }
     ensures count { IfOk result (λ blanks. length blanks.items ≡ count) }
 {
     let mut blanks = Vec::new(alloc);
-    for _ in 0..count {
-        blanks.push(Blank::new(alloc)?)?;
+    for at in 0..count {
+        let places = if at + 1 == count { FEW_PAGES } else { 0 };
+        blanks.push(Blank::new(alloc, places)?)?;
     }
     Ok(blanks)
 }
@@ -177,6 +183,23 @@ impl<A: Allocator + Copy> RowIndex for UbTree<A> {
         self.root.count_fields(judge, fields, counts);
     }
 
+    fn count_fields_at<J: Judge<A>, F: Fields>(
+        &self,
+        from: Key,
+        key: Key,
+        judge: &mut J,
+        fields: &F,
+        counts: &mut [u64],
+    ) -> Option<KeyRange> {
+        let (node, last) = self.root.lowest_at(key, Key::last(self.period));
+        let first = node.first();
+        if order::is_before(first, from) {
+            return None;
+        }
+        node.count_fields(judge, fields, counts);
+        Some(KeyRange { first, last })
+    }
+
     fn prepare(&self, row: &Row<A>) -> Result<UbSpare<A>, AllocError> {
         if self.len == u64::MAX {
             return Err(AllocError);
@@ -188,11 +211,13 @@ impl<A: Allocator + Copy> RowIndex for UbTree<A> {
         let made = count_made(needs.inners, self.root.height())?;
         let inners = blank_nodes(alloc, made)?;
         let room = blank_room(alloc, needs.labels)?;
+        let places = blank_places(alloc, needs.pages)?;
         Ok(UbSpare {
             rows,
             page,
             inners,
             room,
+            places,
         })
     }
 
@@ -202,8 +227,11 @@ impl<A: Allocator + Copy> RowIndex for UbTree<A> {
             page,
             inners,
             room,
+            places,
         } = spare;
         let key = row.key(self.period);
+        self.root.widen_if(key, places);
+        self.root.even_if(page.is_some(), key);
         self.root.put(self.period, key, row, rows, page, inners);
         self.root.widen_if(key, room);
         self.root.count_keys();

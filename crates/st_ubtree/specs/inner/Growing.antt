@@ -64,17 +64,21 @@ pub record IsChosen {A : Type 0} (key : ℕ) (kids : List (NodeValue A)) (at : �
   pub is : at + 1 ≡ max upto 1
   pub within : at < length kids
 
--- among these pages it is the one of the key, where they end with this last key
-pub record IsLeafIn {A : Type 0} (key : ℕ) (pages : List (PageValue A)) (end first last : ℕ) (entries : List (EntryValue A)) : Type 0 where
+-- some of these pages, one after the other, among them that of the key: they have the keys from first to last, where all pages end
+-- with this last key
+pub record IsPartIn {A : Type 0} (key : ℕ) (pages : List (PageValue A)) (end first last : ℕ) (part : List (PageValue A)) : Type 0 where
   pub before : List (PageValue A)
   pub after : List (PageValue A)
-  pub is : pages ≡ before ++ record { first = first; entries = entries } ∷ after
-  pub from : (period : Period) (lo hi : ℕ) → Spans period lo hi pages → lo ≤ key → first ≤ key
-  pub to : (period : Period) (lo hi : ℕ) → Spans period lo hi pages → end + 1 ≡ hi → key < hi → key ≤ last
-  pub low : (period : Period) (lo hi : ℕ) → Spans period lo hi pages → Spans period lo first before
-  pub inside : (period : Period) (lo hi : ℕ) → Spans period lo hi pages → end + 1 ≡ hi → (first ≤ last)
-      × Rises period first (last + 1) entries
-  pub high : (period : Period) (lo hi : ℕ) → Spans period lo hi pages → end + 1 ≡ hi → Spans period (last + 1) hi after
+  pub is : pages ≡ before ++ (part ++ after)
+  pub from : (period : Period) (lo : ℕ) → Spans period lo (end + 1) pages → lo ≤ key → first ≤ key
+  pub to : (period : Period) (lo : ℕ) → Spans period lo (end + 1) pages → key ≤ end → key ≤ last
+  pub low : (period : Period) (lo : ℕ) → Spans period lo (end + 1) pages → Spans period lo first before
+  pub inside : (period : Period) (lo : ℕ) → Spans period lo (end + 1) pages → Spans period first (last + 1) part
+  pub high : (period : Period) (lo : ℕ) → Spans period lo (end + 1) pages → Spans period (last + 1) (end + 1) after
+
+-- among these pages it is the one of the key
+abbrev pub IsLeafIn : {A : Type 0} → ℕ → List (PageValue A) → (end first last : ℕ) → List (EntryValue A) → Type 0
+IsLeafIn key pages end first last entries = IsPartIn key pages end first last (record { first = first; entries = entries } ∷ [])
 
 -- a page that takes a row holds more, or half of what it then has goes to a page beside it
 abbrev pub PageGrows : {A : Type 0} → ℕ → Row A → List (EntryValue A) → List (EntryValue A) → Option (NodeValue A) → Type 0

@@ -1,12 +1,12 @@
 -- An invariant of a representation, which no reader has to believe: what the marks of pages say of their rows' labels.
 use Rattle.std.specs.Prelude.{◌≡◌, ℕ, ◌+◌, ◌-◌, ◌<◌, ◌≤◌, Bool, false, cond, IfSome, IsTrue, List, [], ◌∷◌, Option, None, length, get_or, map}
-use Rattle.st_key.specs.declared.point.Point.{Point}
 use Rattle.st_text.specs.Texts.{Text}
 use Rattle.st_index.specs.declared.row.Row.{Row}
 use Rattle.st_index.specs.Rows.{EntryValue}
 use Rattle.st_ubtree.specs.Pages.{NodeValue, entries_of_pages}
 use Rattle.st_ubtree.specs.declared.marks.Marks.{Marks}
 use Rattle.st_ubtree.specs.declared.page_marks.PageMarks.{PageMarks}
+use Rattle.st_ubtree.specs.inner.Spots.{IsSpotOf}
 
 -- the list has this at this place
 abbrev pub HasAt : {X : Type 0} → List X → ℕ → X → Type 0
@@ -16,14 +16,15 @@ HasAt xs i x = (i < length xs) × (x ≡ get_or xs i x)
 abbrev pub Keeps : (old new : List Text) → Type 0
 Keeps old new = (i : ℕ) (l : Text) → HasAt old i l → HasAt new i l
 
--- a number below 65,535 says that the entry has one row, at this point, and one below 512 is the number of the row's label
-abbrev pub IsMark : {A : Type 0} → List Text → EntryValue A → ℕ → Point → Type 0
-IsMark {A} labels e number point = number < 65535
-    → (row : Row A) × (e.rows ≡ row ∷ []) × (row.point ≡ point) × (number < 512 → HasAt labels number row.label)
+-- a number below 65,535 says that the entry has one row, at the point of this spot, and one below 512 is the number of the
+-- row's label
+abbrev pub IsMark : {A : Type 0} → List Text → EntryValue A → (number week spot : ℕ) → Type 0
+IsMark {A} labels e number week spot = number < 65535
+    → (row : Row A) × (e.rows ≡ row ∷ []) × IsSpotOf week spot row.point × (number < 512 → HasAt labels number row.label)
 
 -- what stands at this place is such a mark of the entry
 abbrev pub IsMarkedAt : {A : Type 0} → List Text → PageMarks → ℕ → EntryValue A → Type 0
-IsMarkedAt labels p i e = (number : ℕ) (point : Point) → HasAt p.numbers i number → HasAt p.points i point → IsMark labels e number point
+IsMarkedAt labels p i e = (number spot : ℕ) → HasAt p.numbers i number → HasAt p.spots i spot → IsMark labels e number p.week spot
 
 -- each entry has such a mark, at the same place
 abbrev pub AreMarks : {A : Type 0} → List Text → List (EntryValue A) → PageMarks → Type 0
@@ -47,7 +48,7 @@ DifferAt {X} at old new = (i : ℕ) (x : X) → (i ≡ at → ⊥) → HasAt new
 
 -- no mark differs, except at this place
 abbrev pub DifferInMarks : ℕ → (old new : PageMarks) → Type 0
-DifferInMarks at old new = DifferAt at old.numbers new.numbers × DifferAt at old.points new.points
+DifferInMarks at old new = DifferAt at old.numbers new.numbers × DifferAt at old.spots new.spots × (new.week ≡ old.week)
 
 -- something comes in at this place
 abbrev pub OpensAt : {X : Type 0} → ℕ → (old new : List X) → Type 0

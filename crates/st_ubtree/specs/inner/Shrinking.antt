@@ -5,12 +5,12 @@ use Rattle.st_key.specs.declared.period.Period.{Period}
 use Rattle.st_index.specs.declared.row.Row.{Row}
 use Rattle.st_index.specs.Rows.{EntryValue, Name, rank_of}
 use Rattle.st_index.specs.Index.{Adds, IsAbsent}
-use Rattle.st_ubtree.specs.Pages.{PageValue, NodeValue, rows_of_pages}
+use Rattle.st_ubtree.specs.Pages.{PageValue, NodeValue, entries_of_pages, rows_of_pages}
 use Rattle.st_ubtree.specs.inner.Kids.{HeadAt, AreWide, IsKid, Spans, Starts, pages_of}
 
--- the same rows in pages between the same bounds
+-- the same entries in pages between the same bounds
 pub record Reshapes {A : Type 0} (old new : List (PageValue A)) : Type 0 where
-  pub rows : rows_of_pages new ≡ rows_of_pages old
+  pub entries : entries_of_pages new ≡ entries_of_pages old
   pub spans : (period : Period) (lo hi : ℕ) → Spans period lo hi old → Spans period lo hi new
 
 -- new pages hold one row less, that of the key, between the same bounds

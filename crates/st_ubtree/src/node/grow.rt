@@ -8,6 +8,7 @@ ghost use Rattle.st_ubtree.specs.inner.Splits.{splits_page};
 
 use super::sums::add_kids;
 use super::{Blank, Kids, Node};
+use crate::marks::Marks;
 use crate::split::split_at;
 use crate::summary::Summary;
 use st_index::entries::{self, Change};
@@ -47,10 +48,11 @@ pub(super) fn put_in_page<A: Allocator + Copy>(
     Some(Node::page(first, upper))
 }
 
-// Of 33 children the upper 17 are handed back under a node of their own.
+// Of 33 children the upper 17 are handed back under a node of their own. The others' marks then go into a shorter list.
 pub(super) fn settle<A: Allocator + Copy>(
     kids: &mut Vec<Node<A>, A>,
     height: u64,
+    marks: &mut Marks<A>,
     inners: &mut Vec<Blank<A>, A>,
 ) -> Option<Node<A>>
     requires kids { AreKids height kids.old.items }
@@ -61,6 +63,7 @@ pub(super) fn settle<A: Allocator + Copy>(
     ensures capacity { vec_capacity kids.new ≡ vec_capacity kids.old }
     ensures blank { AreBlank inners.new.items }
     ensures left { vec_len inners.old ≤ vec_len inners.new + 1 }
+    ensures marks { IfNone result (marks.new ≡ marks.old) }
 {
     if kids.len() <= 32 {
         return None;
@@ -72,7 +75,9 @@ pub(super) fn settle<A: Allocator + Copy>(
         kids: blank,
         counts,
         mut aside,
+        pages,
     } = blank;
+    marks.renew(pages);
     let least = &kids[16];
     let first = least.first;
     let upper = split_at(kids, 16, blank);

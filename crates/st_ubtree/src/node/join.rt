@@ -34,7 +34,8 @@ pub(super) fn join_pages<A: Allocator + Copy>(
     Some(Node::page(first, right))
 }
 
-// Evens the children of two nodes. Those that do not go into the first one are handed back under a node.
+// Evens the children of two nodes. Those that do not go into the first one are handed back under a node. If all do, it keeps the
+// longer one of their lists for marks.
 pub(super) fn join_kids<A: Allocator + Copy>(
     left: &mut Vec<Node<A>, A>,
     aside: &mut Aside<A>,
@@ -59,6 +60,7 @@ pub(super) fn join_kids<A: Allocator + Copy>(
     let are_two = share(left, &mut right);
     aside.renew(left.as_slice());
     if !are_two {
+        aside.marks.keep_longer(&mut other.marks);
         return None;
     }
     let least = &right[0];

@@ -84,7 +84,7 @@ fn mark_at<A: Allocator + Copy>(marks: &mut Marks<A>, kids: &[Node<A>], at: usiz
 }
 
 // Marks the entries of a child and of those beside it, where they have no marks.
-fn mark_near<A: Allocator + Copy>(marks: &mut Marks<A>, kids: &[Node<A>], at: usize)
+pub(super) fn mark_near<A: Allocator + Copy>(marks: &mut Marks<A>, kids: &[Node<A>], at: usize)
     ensures { AreMarked marks.old kids.now → AreMarked marks.new kids.now }
 {
     mark_at(marks, kids, at.saturating_sub(1));

@@ -8,18 +8,20 @@ ghost use Rattle.st_ubtree.specs.inner.Growing.{AreAround, DoRise};
 ghost use Rattle.st_ubtree.specs.inner.Splits.{split_nodes, splits, splits_page, splits_with};
 
 use super::{Kids, Node};
+use crate::marks::Marks;
 use st_index::{Entry, entries};
 use st_key::Key;
 use std::alloc::Allocator;
 
 /// What a new row of a key takes: how many rows the key has, and, where its page is to be split, how many
 /// nodes above the page are. Where the node over the page has no room for a further label, `labels` says for how many
-/// it is to get room; else it is 0.
+/// it is to get room; else it is 0. `pages` says the same for the marks of a further page.
 #[derive(Clone, Copy)]
 pub struct Needs {
     pub rows: usize,
     pub inners: Option<u64>,
     pub labels: usize,
+    pub pages: usize,
 }
 
 impl<A: Allocator + Copy> Node<A> {
@@ -41,6 +43,12 @@ impl<A: Allocator + Copy> Node<A> {
                     rows: needs.rows,
                     inners: count_node(needs.inners, self.height, kids.len()),
                     labels: needs.labels.max(aside.marks.wanted()),
+                    pages: needs.pages.max(further_pages(
+                        needs.inners,
+                        self.height,
+                        &aside.marks,
+                        kids.len(),
+                    )),
                 }
             }
         }
@@ -62,14 +70,31 @@ pub(super) fn page_needs<A: Allocator + Copy>(entries: &[Entry<A>], key: Key) ->
                 rows: entry.len(),
                 inners: None,
                 labels: 0,
+                pages: 0,
             }
         }
         Err(_) => Needs {
             rows: 0,
             inners: if entries.len() < 32 { None } else { Some(0) },
             labels: 0,
+            pages: 0,
         },
     }
+}
+
+// For the marks of how many pages a node of this height over so many children is to get room, where so many nodes are split up
+// to a child of it. A node that is split itself gets none, since its pages are marked anew.
+fn further_pages<A: Allocator + Copy>(
+    inners: Option<u64>,
+    height: u64,
+    marks: &Marks<A>,
+    kids: usize,
+) -> usize {
+    let pages = kids.saturating_add(usize::from(inners.is_some()));
+    if height != 1 || pages > 32 {
+        return 0;
+    }
+    marks.wanted_pages(pages)
 }
 
 // How many nodes above a page are split, up to a node of this height over so many children, from how many

@@ -63,6 +63,7 @@ impl<A: Allocator + Copy> Node<A> {
             kids: mut blank,
             counts,
             mut aside,
+            ..
         } = blank;
         let kids = mem::replace(&mut self.kids, Kids::Page(Vec::new(*blank.allocator())));
         let none = Summary::new(counts);

@@ -1,14 +1,14 @@
-//! Room for more labels.
+//! Room for more labels, and for the marks of more pages.
 ghost use Rattle.std.specs.Prelude.{◌≡◌};
 
-use super::marking::mark_all;
+use super::marking::mark_if;
 use super::{Kids, Node};
 use crate::marks::Room;
 use st_key::Key;
 use std::alloc::Allocator;
 
 impl<A: Allocator + Copy> Node<A> {
-    /// Gives the lowest node over the page of a key room for more labels, and marks its pages anew.
+    /// Gives the lowest node over the page of a key room for more labels or pages, and marks its pages that have no marks then.
     pub fn widen(&mut self, key: Key, room: Room<A>)
         ensures { self.new ≡ self.old }
     {
@@ -18,7 +18,7 @@ impl<A: Allocator + Copy> Node<A> {
         let aside = &mut **aside;
         if self.height == 1 {
             aside.marks.make_room(room);
-            mark_all(&mut aside.marks, kids);
+            mark_if(true, &mut aside.marks, kids);
             return;
         }
         let at = aside.firsts.child_for(key);

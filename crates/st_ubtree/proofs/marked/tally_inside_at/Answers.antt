@@ -1,7 +1,7 @@
-use Rattle.std.proofs.Common.{◌≡◌, ℕ, cond, length, sym, ap, arith, rules}
+use Rattle.std.proofs.Common.{◌≡◌, true, length, get_or, arith, rules}
 use Rattle.st_ubtree.proofs.ByMarks.{inside_at}
 use Rattle.st_ubtree.proofs.Placing.{there_is}
-use Rattle.st_ubtree.proofs.Tallied.{below_sum, mark_at, one_in, point_inside, sum_set, tallied_at}
+use Rattle.st_ubtree.proofs.Tallied.{below_sum, mark_at, one_in, spot_inside, sum_set, tallied_at}
 use Rattle.st_ubtree.proofs.marked.tally_inside_at.Goals as goal
 
 pub overflow_add-tally : goal.overflow_add-tally
@@ -13,13 +13,13 @@ overflow_add-tally g c =
     let given = c.requires.marked in
     let number = c.from-index.result in
     let numbers : length marks.numbers ≡ 32 = search rules in
-    let points : length marks.points ≡ 32 = search rules in
+    let spots : length marks.spots ≡ 32 = search rules in
     let most_numbers = c.requires.few in
     let low = c.if-index-tally.true in
     let some = there_is c.args.entries.now c.args.at w in
-    let point = there_is marks.points c.args.at (omega (arith, w, m, points)) in
-    let mark = mark_at given.0 c.args.entries.now marks c.args.at some.0 number point.0 given.1 some.1 (omega (arith, w, m, numbers)) point.1.0 c.from-index.ensures point.1.1 in
-    let one = one_in given.0 some.0 number point.0 mark (omega (arith, low, most_numbers)) in
+    let spot = get_or marks.spots c.args.at 0 in
+    let mark = mark_at given.0 c.args.entries.now marks c.args.at some.0 number spot given.1 some.1 (omega (arith, w, m, numbers)) (omega (arith, w, m, spots)) c.from-index.ensures (λ i. spot) in
+    let one = one_in given.0 some.0 number marks.week spot mark (omega (arith, low, most_numbers)) in
     let most = below_sum tally number low in
     let fits = c.requires.fits some.0 some.1 in
     omega (arith, one, most, fits)
@@ -33,13 +33,13 @@ returns-then-index-tally-clause-count g c = λ labels e are h.
     let m = c.requires.not_more in
     let number = c.from-index.result in
     let numbers : length marks.numbers ≡ 32 = search rules in
-    let points : length marks.points ≡ 32 = search rules in
+    let spots : length marks.spots ≡ 32 = search rules in
     let most_numbers = c.requires.few in
     let low = c.if-index-tally.true in
-    let point = there_is marks.points c.args.at (omega (arith, w, m, points)) in
-    let mark = mark_at labels c.args.entries.now marks c.args.at e number point.0 are h (omega (arith, w, m, numbers)) point.1.0 c.from-index.ensures point.1.1 in
-    let inside = point_inside q labels e number point.0 mark (omega (arith, low, most_numbers)) (inside_at q c.args.entries.now c.args.at e h c.requires.inside) in
-    tallied_at q labels e number point.0 mark (g.J.Judge.judges c.args.judge.now) tally 1 (omega (arith, low, most_numbers)) low (sym (ap {B = ℕ} (λ b. cond b 1 0) inside))
+    let spot = get_or marks.spots c.args.at 0 in
+    let mark = mark_at labels c.args.entries.now marks c.args.at e number spot are h (omega (arith, w, m, numbers)) (omega (arith, w, m, spots)) c.from-index.ensures (λ i. spot) in
+    let inside = spot_inside labels q e number marks.week spot mark (omega (arith, low, most_numbers)) (inside_at q c.args.entries.now c.args.at e h c.requires.inside) in
+    tallied_at q labels e number marks.week spot mark true inside (g.J.Judge.judges c.args.judge.now) tally 1 (omega (arith, low, most_numbers)) low (λ i. 1)
 
 pub returns-then-index-tally-clause-most : goal.returns-then-index-tally-clause-most
 returns-then-index-tally-clause-most g c = λ e h.
@@ -50,12 +50,12 @@ returns-then-index-tally-clause-most g c = λ e h.
     let given = c.requires.marked in
     let number = c.from-index.result in
     let numbers : length marks.numbers ≡ 32 = search rules in
-    let points : length marks.points ≡ 32 = search rules in
+    let spots : length marks.spots ≡ 32 = search rules in
     let most_numbers = c.requires.few in
     let low = c.if-index-tally.true in
-    let point = there_is marks.points c.args.at (omega (arith, w, m, points)) in
-    let mark = mark_at given.0 c.args.entries.now marks c.args.at e number point.0 given.1 h (omega (arith, w, m, numbers)) point.1.0 c.from-index.ensures point.1.1 in
-    let one = one_in given.0 e number point.0 mark (omega (arith, low, most_numbers)) in
+    let spot = get_or marks.spots c.args.at 0 in
+    let mark = mark_at given.0 c.args.entries.now marks c.args.at e number spot given.1 h (omega (arith, w, m, numbers)) (omega (arith, w, m, spots)) c.from-index.ensures (λ i. spot) in
+    let one = one_in given.0 e number marks.week spot mark (omega (arith, low, most_numbers)) in
     let more = sum_set tally number 1 low in
     omega (arith, one, more)
 

@@ -21,7 +21,7 @@ use Rattle.st_ubtree.specs.inner.Nodes.{rows_under}
 use Rattle.st_ubtree.specs.inner.Sums.{Sums}
 use Rattle.st_ubtree.proofs.Keeping.{kept_sums}
 use Rattle.std.proofs.lemmas.List.{get_or-set_same}
-use Rattle.st_ubtree.proofs.Marking.{none_so}
+use Rattle.st_ubtree.proofs.Marking.{none_holds, none_so}
 use Rattle.st_ubtree.proofs.Placing.{differ_set, opens_insert}
 use Rattle.st_ubtree.proofs.Keeping.{settled_same}
 use Rattle.st_ubtree.specs.inner.Marks.{AreMarked, HasAt, OpensAt}
@@ -384,8 +384,9 @@ mark_due-requires g t c = λ none.
     let v = c.insert.new.self in
     let past : i + 1 ≤ length (set kids i v) = let n = length-set kids i v in omega (arith, l, n) in
     let opens = subst (OpensAt (i + 1) (set kids i v)) (sym c.in-Ok.ensures.items) (opens_insert (set kids i v) (i + 1) c.in-Some.right past) in
-    subst (AreMarked c.open.new.self) (sym (settled_same c.self.inside.height c.insert-in-Inner.new.self.items c.settle-split.new.kids.items c.settle-split.result c.settle-split.ensures.settles (sym c.is_some-parted.ensures ∙ none)))
-    (c.open.ensures (set kids i v) c.insert-in-Inner.new.self.items opens (c.clear_page.ensures kids (set kids i v) (differ_set kids i v) (marks_in c.self.inside.kids c.in-Inner.kids c.in-Inner.aside c.deref_mut-aside.result.now c.in-Inner.is c.deref_mut-aside.ensures.value c.self.invariant.2)))
+    subst (λ m. AreMarked m c.settle-split.new.kids.items) (sym (none_holds c.settle-split.result _ (sym c.is_some-parted.ensures ∙ none) c.settle-split.ensures.marks))
+    (subst (AreMarked c.open.new.self) (sym (settled_same c.self.inside.height c.insert-in-Inner.new.self.items c.settle-split.new.kids.items c.settle-split.result c.settle-split.ensures.settles (sym c.is_some-parted.ensures ∙ none)))
+    (c.open.ensures (set kids i v) c.insert-in-Inner.new.self.items opens (c.clear_page.ensures kids (set kids i v) (differ_set kids i v) (marks_in c.self.inside.kids c.in-Inner.kids c.in-Inner.aside c.deref_mut-aside.result.now c.in-Inner.is c.deref_mut-aside.ensures.value c.self.invariant.2))))
 
 pub returns-clause-change : goal.returns-clause-change
 returns-clause-change g t c = none_so c.settle-split.result (λ low.

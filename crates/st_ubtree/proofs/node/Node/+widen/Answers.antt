@@ -54,7 +54,8 @@ pub invariant_of-self-then-self-eq1 : goal.invariant_of-self-then-self-eq1
 invariant_of-self-then-self-eq1 g t c = (
   subst (IsNode (rank c.self.inside.first) c.self.inside.height) c.in-Inner.is c.self.invariant.0,
   subst (λ k. Sums c.self.inside.sum (rows_under k)) c.in-Inner.is c.self.invariant.1,
-  c.mark_all.ensures,
+  c.mark_if.ensures (c.make_room.ensures c.in-Inner.kids.items
+      (marks_in c.self.inside.kids c.in-Inner.kids c.in-Inner.aside c.deref_mut-aside.result.now c.in-Inner.is c.deref_mut-aside.ensures.value c.self.invariant.2)),
   firsts_in c.self.inside.kids c.in-Inner.kids c.in-Inner.aside c.deref_mut-aside.result.now c.in-Inner.is c.deref_mut-aside.ensures.value c.self.invariant.3,
 )
 

@@ -45,7 +45,7 @@ pub returns-clause-firsts : goal.returns-clause-firsts
 returns-clause-firsts g c = subst (AreFirsts c.renew.new.self.firsts) c.as_slice.ensures.value c.renew.ensures.firsts
 
 pub returns-then-not-are_two-clause-marks : goal.returns-then-not-are_two-clause-marks
-returns-then-not-are_two-clause-marks g c = subst (AreMarked c.renew.new.self.marks) c.as_slice.ensures.value c.renew.ensures.marks
+returns-then-not-are_two-clause-marks g c = c.keep_longer.ensures c.share-are_two.new.left.items
 
 pub returns-then-not-are_two-clause-firsts : goal.returns-then-not-are_two-clause-firsts
 returns-then-not-are_two-clause-firsts g c = subst (AreFirsts c.renew.new.self.firsts) c.as_slice.ensures.value c.renew.ensures.firsts

@@ -1,10 +1,7 @@
-use Rattle.std.proofs.Common.{◌≡◌, ◌≤◌, ◌∷◌, [], length, drop, refl, ap, ◌∙◌, arith}
+use Rattle.std.proofs.Common.{◌≡◌, ◌≤◌, length, arith}
 use Rattle.st_key.specs.Key.{rank}
-use Rattle.st_index.proofs.Putting.{split_read}
-use Rattle.st_ubtree.specs.Pages.{NodeValue}
-use Rattle.st_ubtree.specs.inner.Kids.{IsKid}
+use Rattle.st_ubtree.proofs.Joining.{page_beside}
 use Rattle.st_ubtree.proofs.Settling.{held_at}
-use Rattle.st_ubtree.proofs.Splitting.{page, wide_page}
 use Rattle.st_ubtree.proofs.node.join.join_pages.Goals as goal
 
 pub returns-clause-joins : goal.returns-clause-joins
@@ -14,22 +11,12 @@ returns-clause-joins g c =
     let first = rank c.key-first.result in
     let e = c.index-least.result.now in
     let at : first ≡ e.at = c.key-first.ensures in
-    let width : c.page.result.width ≡ length rest = ap (λ (v : NodeValue g.row.A.Denot). v.width) c.page.ensures in
-    let kid : IsKid 0 c.page.result = record {
-      same_height = ap (λ (v : NodeValue g.row.A.Denot). v.height) c.page.ensures;
-      not_less = omega (arith, width, wide.0);
-      not_more = omega (arith, width, wide.1);
-      starts = rw c.page.ensures (refl, refl);
-      filled = rw c.page.ensures (wide_page first rest wide.0 wide.1);
-    } in
-    let some = split_read rest 0 e (omega (arith, wide.0)) c.index-least.ensures in
-    let pages = ap (λ (v : NodeValue g.row.A.Denot). v.pages) c.page.ensures ∙ ap (λ n. page n rest ∷ []) at in
     record {
       rest = rest;
       kept = c.share.ensures.kept;
       not_less = c.share.ensures.left.0;
       not_more = c.share.ensures.left.1;
-      beside = (kid, (e, drop 1 rest, some, pages));
+      beside = page_beside first rest e c.page.result c.page.ensures at c.index-least.ensures wide.0 wide.1;
     }
 
 pub page-requires-clause-not_more : goal.page-requires-clause-not_more
