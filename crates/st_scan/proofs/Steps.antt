@@ -21,7 +21,7 @@ use Rattle.st_scan.proofs.Keys.{row_has, row_key}
 use Rattle.st_scan.proofs.Entries.{all_left, all_right, entries_below, entries_from, keyed, rises_right, rows-append, rows_all, rows_around}
 use Rattle.st_scan.proofs.Regions.{apart, count_iff, count_le, count_more, count_none, lies}
 
-from_parts : (b c : Bool) → (b && c) ≡ true → (b ≡ true) × (c ≡ true)
+pub from_parts : (b c : Bool) → (b && c) ≡ true → (b ≡ true) × (c ≡ true)
 from_parts true c h = (refl, h)
 from_parts false c h = absurd (true≢false (sym h))
 

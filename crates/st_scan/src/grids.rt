@@ -7,12 +7,12 @@ ghost use Rattle.st_scan.specs.Grids.{field_of, grid_of};
 ghost use Rattle.st_scan.specs.Visible.{visible_rows};
 
 use crate::fault::ScanFault;
+use crate::few::count_few;
 use crate::sight::Sight;
-use crate::step::{FEW, open_next};
 use st_auth::Auths;
-use st_box::{KeyTest, Query};
-use st_index::{Fields, Judge, RowIndex, field_counting};
-use st_key::{Key, Point};
+use st_box::Query;
+use st_index::{Fields, Judge, RowIndex};
+use st_key::Point;
 use std::alloc::Allocator;
 
 /// The most columns of a grid, and the most lines.
@@ -88,37 +88,6 @@ impl Fields for GridFields<'_> {
         let line = one_share(query.y0(), query.y1(), self.lines, y0, y1)?;
         Some((line * self.columns + column) as usize)
     }
-}
-
-// Adds to the number of each field how many rows of an index are in it, inside the query, and have a label that is found
-// true, and tells whether it did so, as it does where at most `FEW` regions meet the query.
-fn count_few<I: RowIndex, J: Judge<I::Alloc>, F: Fields>(
-    index: &I,
-    judge: &mut J,
-    fields: &F,
-    counts: &mut [u64],
-) -> bool
-    requires long { length counts.old ≡ F.count fields.now }
-    requires none { All (λ n. n ≡ 0) counts.old }
-    ensures counts { IsTrue result → Counts (F.query fields.now) (J.judges judge.old) (F.field_of fields.now) (I.content index.now)
-        counts.old counts.new }
-    ensures same { J.judges judge.new ≡ J.judges judge.old }
-{
-    let test = KeyTest::new(fields.query(), index.period());
-    let mut from = Some(Key::FIRST);
-    let mut opened = 0;
-    'regions: while let Some(key) = from {
-        let Some((entries, next)) = open_next(index, &test, key) else {
-            return true;
-        };
-        if opened >= FEW {
-            return false;
-        }
-        opened += 1;
-        field_counting::count(entries, judge, fields, counts);
-        from = next;
-    }
-    true
 }
 
 // Adds to the number of each field how many rows of an index are in it, inside the query, and have a label that is found true.

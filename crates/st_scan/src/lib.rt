@@ -5,6 +5,7 @@ mod after;
 mod counts;
 mod exact;
 mod fault;
+mod few;
 mod grids;
 mod own_plan;
 mod pages;

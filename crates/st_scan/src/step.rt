@@ -22,9 +22,6 @@ use st_index::{Entry, RowIndex, RowsView, order};
 use st_key::Key;
 use std::alloc::Allocator;
 
-// In how many regions rows are counted one by one.
-pub(crate) const FEW: u64 = 12;
-
 // The rows of an entry.
 pub(crate) fn rows_of_entry<A: Allocator + Copy>(entry: &Entry<A>) -> RowsView<'_, A>
     ensures { viewed result ≡ entry.now.rows }
