@@ -12,6 +12,7 @@ use Rattle.std_heap.specs.contracts.GlobalAllocator.TheImpl.{ghosts}
 use Rattle.st_core.specs.contracts.store.tables.Tables as Tables
 use Rattle.st_core.specs.contracts.store.Store as Store
 use Rattle.st_dir.specs.contracts.directory.Directory as Directory
+use Rattle.st_index.specs.contracts.note.NoteText as NoteText
 use Rattle.st_index.specs.contracts.row.Row as Row
 use Rattle.st_index.specs.contracts.entry.Entry as Entry
 use Rattle.st_ubtree.specs.contracts.tree.UbTree as UbTree
@@ -50,17 +51,23 @@ use Rattle.circular_buffer.proofs.cells.Deed.TheSendSync as DeedCross
 abbrev K : Frame the_members
 K = knot.frame Heap.the_row ghosts
 
+note_text : IsSend (NoteText.the_row Heap.the_row ghosts)
+note_text = search (sendable, crosses) depth 60 fits 100000
+
+note_text_sync : IsSync (NoteText.the_row Heap.the_row ghosts)
+note_text_sync = search (sendable, crosses) depth 60 fits 100000
+
 row : IsSend (Row.the_row Heap.the_row ghosts)
-row = search (sendable, crosses) depth 60 fits 100000
+row = search (sendable, crosses, note_text) depth 60 fits 100000
 
 row_sync : IsSync (Row.the_row Heap.the_row ghosts)
-row_sync = search (sendable, crosses) depth 60 fits 100000
+row_sync = search (sendable, crosses, note_text_sync) depth 60 fits 100000
 
 entry : IsSend (Entry.the_row Heap.the_row ghosts)
-entry = search (sendable, crosses, row) depth 60 fits 100000
+entry = search (sendable, crosses, note_text, row) depth 60 fits 100000
 
 entry_sync : IsSync (Entry.the_row Heap.the_row ghosts)
-entry_sync = search (sendable, crosses, row_sync) depth 60 fits 100000
+entry_sync = search (sendable, crosses, note_text_sync, row_sync) depth 60 fits 100000
 
 label_count : IsSend (LabelCount.the_row Heap.the_row ghosts)
 label_count = search (sendable, crosses) depth 60 fits 100000

@@ -1,8 +1,8 @@
 -- The rows of a key, and the row of a name among them.
 use Rattle.std.proofs.Common.{◌≡◌, ℕ, suc, ◌+◌, ◌<◌, nat_eq, take, drop, List, [], ◌∷◌, ◌++◌, filter, length, get_or, Bool, true, refl, sym, ap, ◌∙◌, subst, arith}
-use Rattle.std.specs.List.{All, Contains}
+use Rattle.std.specs.List.{All}
 use Rattle.std.proofs.lemmas.Bool.{eqb-true, eq-eqb}
-use Rattle.std.proofs.lemmas.List.Elements.{All-contains, All-contains_itself, All-head, All-tail, filter-append as filter_append}
+use Rattle.std.proofs.lemmas.List.Elements.{All-head, All-tail, filter-append as filter_append}
 use Rattle.st_key.specs.declared.period.Period.{Period}
 use Rattle.st_index.specs.declared.row.Row.{Row}
 use Rattle.st_index.specs.Index.{IsAbsent, IsLeafAt, Region}
@@ -11,12 +11,9 @@ use Rattle.st_index.proofs.Climbing.{all_left, all_right}
 use Rattle.st_index.proofs.Taking.{absent_entries, absent_high, absent_join, absent_low, around, rows_at, rows_below, rows_from}
 use Rattle.st_table.proofs.Standing.{filter_none}
 
--- an element of an entry's rows is one of the entries'
-pub in_rows : {A : Type 0} (es : List (EntryValue A)) (i : ℕ) (e : EntryValue A) → i < length es → e ≡ get_or es i e → (row : Row A) → Contains e.rows row → Contains (rows_of es) row
-in_rows es i e low read row held =
-    let P : Row _ → Type 0 = Contains (rows_of es) in
-    let all = subst (All P) (rows_at es i e e low read) (All-contains_itself (rows_of es)) in
-    All-contains P e.rows row (all_left P e.rows _ (all_right P _ _ all)) held
+-- what is true of all rows of the entries is true of those of each
+pub all_in : {A : Type 0} (P : Row A → Type 0) (es : List (EntryValue A)) (i : ℕ) (e : EntryValue A) → i < length es → e ≡ get_or es i e → All P (rows_of es) → All P e.rows
+all_in P es i e low read all = all_left P e.rows _ (all_right P _ _ (subst (All P) (rows_at es i e e low read) all))
 
 nil_after : {X : Type 0} (xs : List X) → xs ++ [] ≡ xs
 nil_after [] = refl
@@ -31,13 +28,12 @@ module _ {A : Type 0} (period : Period) (k : ℕ) (name : Name) (content : List 
       subst (IsAbsent period k name) (sym leaf.parts)
       (absent_join period k name leaf.before (rows_of entries ++ leaf.after) early (absent_join period k name (rows_of entries) leaf.after absent late))
 
-  -- what is absent is not among them
-  pub absent_here : IsAbsent period k name content → (row : Row A) → Contains (rows_of entries) row → rank_of period row ≡ k → name_of row ≡ name → ⊥
-  absent_here absent row held placed named_so =
+  -- what is absent is absent among them
+  pub absent_here : IsAbsent period k name content → IsAbsent period k name (rows_of entries)
+  absent_here absent =
       let P : Row A → Type 0 = λ r. rank_of period r ≡ k → name_of r ≡ name → ⊥ in
       let all = subst (All P) leaf.parts absent in
-      let here = all_left P (rows_of entries) leaf.after (all_right P leaf.before (rows_of entries ++ leaf.after) all) in
-      All-contains P (rows_of entries) row here held placed named_so
+      all_left P (rows_of entries) leaf.after (all_right P leaf.before (rows_of entries ++ leaf.after) all)
 
   abbrev stands : Row A → Bool
   stands r = nat_eq (rank_of period r) k

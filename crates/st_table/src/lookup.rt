@@ -18,26 +18,18 @@ use st_index::{Entry, RowIndex, RowView, RowsView, entries};
 use st_key::Key;
 use std::alloc::{AllocError, Allocator};
 
-// The row of this key and this name.
-fn find_row<'a, A: Allocator + Copy>(
-    held: &'a [Entry<A>],
-    key: Key,
-    id: &str,
-    label: &str,
-) -> Option<RowView<'a, A>>
-    ensures held { IfSome result (λ row. Contains (rows_of held.now) (row_of_view row)) }
-    ensures placed { IfSome result (λ row. (period : Period) (lo hi : _) → Rises period lo hi held.now
-        → rank_of period (row_of_view row) ≡ rank key) }
-    ensures named { IfSome result (λ row. name_of (row_of_view row) ≡ record { id = id.now; label = label.now }) }
-    ensures absent { IfNone result
-        ((period : Period) (lo hi : _) → Rises period lo hi held.now
-        → IsAbsent period (rank key) (record { id = id.now; label = label.now }) (rows_of held.now)) }
+// Whether entries have a row of this key and this name.
+fn have_row<A: Allocator + Copy>(held: &[Entry<A>], key: Key, id: &str, label: &str) -> bool
+    ensures held { result ≡ true → (period : Period) (lo hi : _) → Rises period lo hi held.now
+        → IsAbsent period (rank key) (record { id = id.now; label = label.now }) (rows_of held.now) → ⊥ }
+    ensures absent { result ≡ false → (period : Period) (lo hi : _) → Rises period lo hi held.now
+        → IsAbsent period (rank key) (record { id = id.now; label = label.now }) (rows_of held.now) }
 {
     let Ok(at) = entries::find(held, key) else {
-        return None;
+        return false;
     };
     let entry = &held[at];
-    entry.get(id, label)
+    entry.has(id, label)
 }
 
 // Whether a row of this key and this name is held.
@@ -49,10 +41,7 @@ fn has_row<I: RowIndex>(index: &I, key: Key, id: &str, label: &str) -> bool
         → IsAbsent (I.period_of index.now) (rank key) (record { id = id.now; label = label.now }) (I.content index.now) }
 {
     let leaf = index.leaf_at(key);
-    match find_row(leaf.entries, key, id, label) {
-        Some(_) => true,
-        None => false,
-    }
+    have_row(leaf.entries, key, id, label)
 }
 
 // The key of this rank.

@@ -21,7 +21,7 @@ const PLACES_OF_ID: u128 = 1 << 96;
 #[derive(Clone, Copy)]
 pub(crate) struct Stand {
     pub key: Key,
-    pub number: u32,
+    pub number: u16,
 }
 
 // The rank of a key.
@@ -38,7 +38,7 @@ fn rank_in(key: Key) -> u128
 pub(crate) struct Places<A: Allocator> {
     alloc: A,
     seed: Seed,
-    numbers: BTreeMap<u128, u32, A>,
+    numbers: BTreeMap<u128, u16, A>,
 }
 
 impl<A: Allocator> Model for Places<A> {
@@ -77,7 +77,7 @@ impl<A: Allocator + Copy> Places<A> {
     }
 
     // Another number at a place where rows stand. It takes no memory.
-    fn set(&mut self, place: u128, number: u32)
+    fn set(&mut self, place: u128, number: u16)
         requires some { 0 < number }
         requires held { 0 < number_at self.old.numbers place }
         ensures seed { self.new.seed ≡ self.old.seed }
@@ -89,7 +89,7 @@ impl<A: Allocator + Copy> Places<A> {
         };
     }
 
-    // One row more at a place. If memory runs out, nothing is changed.
+    // One row more at a place. If memory runs out, or 65,535 rows stand there, nothing is changed.
     fn add(&mut self, place: u128) -> Result<(), AllocError>
         ensures seed { self.new.seed ≡ self.old.seed }
         ensures ok { OnOk result ((other : ℕ) → number_at self.new.numbers other
@@ -111,14 +111,14 @@ impl<A: Allocator + Copy> Places<A> {
     }
 
     // How many rows stand at a place.
-    fn number(&self, place: u128) -> u32
+    fn number(&self, place: u128) -> u16
         ensures { result ≡ number_at self.now.numbers place }
     {
         self.numbers.get(&place).copied().unwrap_or(0)
     }
 
     // One row less at a place where so many stand. It takes no memory.
-    fn take(&mut self, place: u128, number: u32)
+    fn take(&mut self, place: u128, number: u16)
         requires held { 0 < number_at self.old.numbers place }
         requires number { number ≡ number_at self.old.numbers place }
         ensures seed { self.new.seed ≡ self.old.seed }
@@ -167,7 +167,7 @@ impl<A: Allocator + Copy> Places<A> {
     }
 
     // The first of so many places, from a number of them on, at which rows stand, as a number, and how many stand there.
-    fn next_of(&self, first: u128, many: u128, from: u128) -> Option<(u128, u32)>
+    fn next_of(&self, first: u128, many: u128, from: u128) -> Option<(u128, u16)>
         requires { first + many ≤ 2 ^ 128 }
         ensures later { IfSome result (λ found. from ≤ found.0) }
         ensures in_range { IfSome result (λ found. found.0 < many) }
@@ -191,7 +191,7 @@ impl<A: Allocator + Copy> Places<A> {
     }
 
     /// The rank of the first key, from a rank on, at which rows of a hash stand, and how many stand there. It takes no memory.
-    pub fn next(&self, hash: u64, from: u128) -> Option<(u128, u32)>
+    pub fn next(&self, hash: u64, from: u128) -> Option<(u128, u16)>
         requires hash { hash < 2 ^ 47 }
         ensures later { IfSome result (λ found. from ≤ found.0) }
         ensures in_range { IfSome result (λ found. found.0 < 2 ^ 81) }

@@ -53,11 +53,11 @@ fn put_at<I: RowIndex>(index: &mut I, before: Option<Key>, row: I::Row, spare: I
     ensures rows { I.content index.new ≡ with_row (I.period_of index.old) (I.Row.value row) (I.content index.old) }
     ensures period { I.period_of index.new ≡ I.period_of index.old }
 {
-    let key = row.as_row().key(index.period());
     let Some(old) = before else {
         index.insert(row, spare);
         return;
     };
+    let key = row.as_row().key(index.period());
     match order::compare(old, key) {
         Ordering::Equal => {
             let _ = index.replace(row);
