@@ -81,7 +81,7 @@ pub fn told<A: Allocator + Copy>(alloc: Global, rows: &[RowView<'_, A>]) -> Opti
     for row in rows {
         let (id, label, point) = (row.id().as_str(), row.label().text(), row.point());
         let (x, y, t) = (point.x(), point.y(), point.t());
-        write!(lines, "{id} {label} {x} {y} {t}{}\n", row.note().as_str()).ok()?;
+        write!(lines, "{id} {label} {x} {y} {t}{}\n", row.note()).ok()?;
     }
     Some(lines)
 }

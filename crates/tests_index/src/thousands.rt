@@ -197,18 +197,18 @@ fn sizes(alloc: Global, puts: Order, takes: Order) -> Option<(usize, usize, u64)
     sizes_of(alloc, &mut tree, puts, takes)
 }
 
-// The 33rd key splits the only page into 16 and 17, and then each 16th splits the last one. An inner node holds 32.
+// Each page is evened with the one before it once, and splits into 16 and 17 when it is full again. An inner node holds 32.
 #[test]
 fn put_in_rising_and_taken_out_in_falling_order(rt: HostRuntime) {
     let found = sizes(rt.alloc(), Order::Rising, Order::Falling);
-    assert!(rt; found == Some((124, 1, 0)));
+    assert!(rt; found == Some((83, 1, 0)));
 }
 
-// Here each 17th key splits the first page.
+// Here it is evened with the one behind it.
 #[test]
 fn put_in_falling_and_taken_out_in_rising_order(rt: HostRuntime) {
     let found = sizes(rt.alloc(), Order::Falling, Order::Rising);
-    assert!(rt; found == Some((117, 1, 0)));
+    assert!(rt; found == Some((80, 1, 0)));
 }
 
 #[test]

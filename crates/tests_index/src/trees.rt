@@ -35,27 +35,26 @@ fn bounds(alloc: Global, tree: &UbTree) -> Option<String> {
 
 const TWO: &str = "0:0 to 0:4095\n0:4096 to 32767:9223372036854775807\n";
 
-const FOUR: &str =
-    "0:0 to 0:4095\n0:4096 to 0:32767\n0:32768 to 0:36863\n0:36864 to 32767:9223372036854775807\n";
+const EVENED: &str = "0:0 to 0:4607\n0:4608 to 32767:9223372036854775807\n";
 
-const THREE: &str = "0:0 to 0:32767\n0:32768 to 0:36863\n0:36864 to 32767:9223372036854775807\n";
+const THREE: &str = "0:0 to 0:4607\n0:4608 to 0:33279\n0:33280 to 32767:9223372036854775807\n";
 
 // The bounds of a tree of so many rows.
 fn split(alloc: Global, count: u64) -> Option<String> {
     bounds(alloc, &filled(alloc, count)?)
 }
 
-// The bounds of a tree of 65 rows whose first was taken out.
+// The bounds of a tree of 57 rows of which the first of the second page was taken out.
 fn merged(alloc: Global) -> Option<String> {
-    let mut tree = filled(alloc, 65)?;
-    take_at(&mut tree, alloc, 0, ("a", ""))?;
+    let mut tree = filled(alloc, 57)?;
+    take_at(&mut tree, alloc, 24, ("a", ""))?;
     bounds(alloc, &tree)
 }
 
-// How many rows a tree of 65 rows has once the first is taken out.
+// How many rows a tree of 57 rows has once that one is taken out.
 fn len_of_merged(alloc: Global) -> Option<u64> {
-    let mut tree = filled(alloc, 65)?;
-    take_at(&mut tree, alloc, 0, ("a", ""))?;
+    let mut tree = filled(alloc, 57)?;
+    take_at(&mut tree, alloc, 24, ("a", ""))?;
     Some(tree.len())
 }
 
@@ -64,12 +63,15 @@ fn is_text(text: Option<String>, wanted: &str) -> bool {
     text.is_some_and(|text| text.as_str() == wanted)
 }
 
+// Pages of 16 and 17 keys; of 24 and 25, once the second was full and was evened with the first; of 24, 16 and 17, once it was
+// full and the first had no room; and of 24 and 32.
 #[test]
-fn pages_split_and_merge(rt: HostRuntime) {
+fn pages_are_split_evened_and_merged(rt: HostRuntime) {
     assert!(rt; is_text(split(rt.alloc(), 33), TWO));
-    assert!(rt; is_text(split(rt.alloc(), 65), FOUR));
-    assert!(rt; is_text(merged(rt.alloc()), THREE));
-    assert!(rt; len_of_merged(rt.alloc()) == Some(64));
+    assert!(rt; is_text(split(rt.alloc(), 49), EVENED));
+    assert!(rt; is_text(split(rt.alloc(), 57), THREE));
+    assert!(rt; is_text(merged(rt.alloc()), EVENED));
+    assert!(rt; len_of_merged(rt.alloc()) == Some(56));
 }
 
 // How many regions and rows a tree of 32 rows has once a further row of the first key is put in.
@@ -109,16 +111,17 @@ fn growths_of_each(heap: &Refusing<Global>) -> Option<[u64; 65]> {
     Some(counts)
 }
 
-// A row at a key of its own takes no growth but where pages are split: the 33rd row splits the only page, and puts a
+// A row at a key of its own takes no growth but where its page is full: the 33rd row splits the only page, and puts a
 // node over the halves, which takes a list for its nodes, one for its children, one for their labels' counts, one for their
-// first keys, two for their labels and marks, and a block for these three; the 49th and the 65th split the last page.
+// first keys, two for their labels and marks, a block for these three, and a list for the marks that stay where the node splits
+// another; for the 49th, which evens both pages, a page is prepared too; the 57th splits the last page.
 #[test]
 fn each_growth_refused(rt: HostRuntime) {
     let heap = Refusing::new(rt.alloc());
     let mut wanted = [0; 65];
-    wanted[32] = 8;
+    wanted[32] = 9;
     wanted[48] = 1;
-    wanted[64] = 1;
+    wanted[56] = 1;
     assert!(rt; growths_of_each(&heap) == Some(wanted));
 }
 

@@ -2,7 +2,7 @@
 
 use crate::putting::put_at;
 use st_box::Query;
-use st_index::{Fields, Judge, Leaf, Row, RowIndex};
+use st_index::{Fields, Judge, KeyRange, Leaf, Row, RowIndex};
 use st_key::{Key, Period};
 use st_plan::plan;
 use st_scan::Walk;
@@ -52,6 +52,17 @@ impl<I: RowIndex> RowIndex for Counted<I> {
         counts: &mut [u64],
     ) {
         self.index.count_fields(judge, fields, counts)
+    }
+
+    fn count_fields_at<J: Judge<I::Alloc>, F: Fields>(
+        &self,
+        from: Key,
+        key: Key,
+        judge: &mut J,
+        fields: &F,
+        counts: &mut [u64],
+    ) -> Option<KeyRange> {
+        self.index.count_fields_at(from, key, judge, fields, counts)
     }
 
     fn prepare(&self, row: &Row<I::Alloc>) -> Result<I::Spare, AllocError> {
