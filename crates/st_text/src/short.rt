@@ -76,14 +76,14 @@ impl ShortText {
         if self.len != other.len {
             return false;
         }
-        let mine = words(self.bytes);
-        let others = words(other.bytes);
+        let mine = words(&self.bytes);
+        let others = words(&other.bytes);
         mine.0 == others.0 && mine.1 == others.1
     }
 
     /// A number of 64 bits that depends on the length and on all bytes of the text. Equal texts have equal numbers.
     pub fn mixed(&self) -> u64 {
-        let (low, high) = words(self.bytes);
+        let (low, high) = words(&self.bytes);
         (low ^ high.rotate_left(29))
             .wrapping_add(self.len as u64)
             .wrapping_mul(FACTOR)
@@ -98,12 +98,12 @@ impl ShortText {
 }
 
 // The bytes as two numbers, which no other bytes have.
-fn words(bytes: [u8; MAX_SHORT]) -> (u64, u64)
-    ensures low { result.0 ≡ word (take 8 bytes) }
-    ensures high { result.1 ≡ word (drop 8 bytes ++ 0 ∷ 0 ∷ []) }
-    ensures bytes { (i : ℕ) → slice_index bytes i < 256 }
+fn words(bytes: &[u8; MAX_SHORT]) -> (u64, u64)
+    ensures low { result.0 ≡ word (take 8 bytes.now) }
+    ensures high { result.1 ≡ word (drop 8 bytes.now ++ 0 ∷ 0 ∷ []) }
+    ensures bytes { (i : ℕ) → slice_index bytes.now i < 256 }
 {
-    let [a, b, c, d, e, f, g, h, i, j, k, l, m, n] = bytes;
+    let [a, b, c, d, e, f, g, h, i, j, k, l, m, n] = *bytes;
     let low = u64::from_le_bytes([a, b, c, d, e, f, g, h]);
     let high = u64::from_le_bytes([i, j, k, l, m, n, 0, 0]);
     (low, high)

@@ -6,7 +6,7 @@ ghost use Rattle.st_ubtree.specs.inner.Sums.{CountsLess, CountsMore, found, tota
 
 use st_index::Judge;
 use st_label::Label;
-use st_text::MAX_SHORT;
+use st_text::{MAX_SHORT, ShortText};
 use std::alloc::{Allocator, Global};
 
 /// A label, and the number of rows under it.
@@ -23,13 +23,33 @@ pub fn is_same<A: Allocator + Copy>(one: &Label<A>, other: &Label<A>) -> bool
     one.is_same(other)
 }
 
-// The index of a label that is equal to this one.
 fn find<A: Allocator + Copy>(counts: &[LabelCount<A>], label: &Label<A>) -> Option<usize>
     ensures { IfSome result (λ at. (at < length counts.now)
         × ((c : LabelCountValue A) × (c ≡ slice_index_or counts.now at c) × (c.label ≡ label.now))) }
 {
+    match label.as_short() {
+        Some(short) => find_short(counts, short),
+        None => None,
+    }
+}
+
+/// Whether a label is this short text.
+pub fn is_short<A: Allocator + Copy>(label: &Label<A>, short: &ShortText) -> bool
+    ensures { IsTrue result → label.now ≡ short.now }
+{
+    match label.as_short() {
+        Some(own) => own.is_same(short),
+        None => false,
+    }
+}
+
+// The index of a label that is this short text.
+fn find_short<A: Allocator + Copy>(counts: &[LabelCount<A>], short: &ShortText) -> Option<usize>
+    ensures { IfSome result (λ at. (at < length counts.now)
+        × ((c : LabelCountValue A) × (c ≡ slice_index_or counts.now at c) × (c.label ≡ short.now))) }
+{
     for (at, count) in counts.iter().enumerate() {
-        if is_same(&count.label, label) {
+        if is_short(&count.label, short) {
             return Some(at);
         }
     }

@@ -2,9 +2,9 @@
 ghost use Rattle.std.specs.Prelude.{◌<◌, IfSome, IsTrue};
 ghost use Rattle.st_ubtree.specs.inner.Marks.{HasAt, Keeps};
 
-use crate::label_counts::is_same;
+use crate::label_counts::{is_same, is_short};
 use st_label::Label;
-use st_text::MAX_SHORT;
+use st_text::{MAX_SHORT, ShortText};
 use std::alloc::Allocator;
 
 /// The most labels of a node's pages that have numbers.
@@ -22,12 +22,21 @@ const STEPS: usize = 4;
 /// Stands for the number of a label that has none.
 pub const NO_NUMBER: u16 = u16::MAX - 1;
 
-// The index of a label that is equal to this one.
 fn find<A: Allocator + Copy>(labels: &[Label<A>], label: &Label<A>) -> Option<usize>
     ensures { IfSome result (λ at. HasAt labels.now at label.now) }
 {
+    match label.as_short() {
+        Some(short) => find_short(labels, short),
+        None => None,
+    }
+}
+
+// The index of a label that is this short text.
+fn find_short<A: Allocator + Copy>(labels: &[Label<A>], short: &ShortText) -> Option<usize>
+    ensures { IfSome result (λ at. HasAt labels.now at short.now) }
+{
     for (at, other) in labels.iter().enumerate() {
-        if is_same(other, label) {
+        if is_short(other, short) {
             return Some(at);
         }
     }

@@ -9,4 +9,4 @@ returns-clause-low c = search rules
 
 pub returns-clause-high : goal.returns-clause-high
 unfolding word
-returns-clause-high c = c.from_le_bytes-high.ensures ∙ ap word (last-six c.args.bytes (0 ∷ 0 ∷ []) (search rules))
+returns-clause-high c = c.from_le_bytes-high.ensures ∙ ap word (last-six c.args.bytes.now (0 ∷ 0 ∷ []) (search rules))
