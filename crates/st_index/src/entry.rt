@@ -1,18 +1,17 @@
 //! The rows of one key.
 ghost use Rattle.std.specs.Prelude.{◌≡◌, ◌+◌, ◌<◌, ◌≤◌, ◌==◌, ◌^◌, [], ◌∷◌, true, false, length, get_or, set, vec_capacity, IfSome, IfNone, IfOk, OnErr};
-ghost use Rattle.std.specs.List.{All, Contains, insert, remove};
+ghost use Rattle.std.specs.List.{All, insert, remove};
 ghost use Rattle.std.specs.List.Sorted.{IsSearchInRange, IsBinarySearchResult};
 ghost use Rattle.st_key.specs.declared.period.Period.{Period};
 ghost use Rattle.st_index.specs.declared.row.Row.{Row};
 ghost use Rattle.st_key.specs.Key.{rank};
-ghost use Rattle.st_index.specs.RowViews.{row_of_view, viewed};
+ghost use Rattle.st_index.specs.RowViews.{viewed};
 ghost use Rattle.st_index.specs.Rows.{name_cmp, name_of, NamesRise, rank_of};
 ghost use Rattle.st_index.specs.Index.{Adds, Swaps, IsAbsent};
 
 use crate::placing;
 use crate::room::overwrite;
 use crate::row::Row;
-use crate::row_view::RowView;
 use crate::rows_view::RowsView;
 use crate::storage::{self, Storage};
 use st_key::{Key, Period};
@@ -100,19 +99,6 @@ impl<A: Allocator + Copy> Entry<A> {
         match self.find(id, label) {
             Ok(_) => true,
             Err(_) => false,
-        }
-    }
-
-    /// The row of this name.
-    pub fn get(&self, id: &str, label: &str) -> Option<RowView<'_, A>>
-        ensures some { IfSome result (λ row. Contains self.now.rows (row_of_view row)
-            × ((name_of (row_of_view row)) ≡ record { id = id.now; label = label.now })) }
-        ensures absent { IfNone result (NamesRise self.now.rows
-            → All (λ (r : Row A). (name_of r) ≡ record { id = id.now; label = label.now } → ⊥) self.now.rows) }
-    {
-        match self.find(id, label) {
-            Ok(i) => Some(self.rows().at(i)),
-            Err(_) => None,
         }
     }
 

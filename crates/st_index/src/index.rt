@@ -129,6 +129,7 @@ pub trait RowIndex {
         ensures has_key { IfSome result (λ range. (rank range.first ≤ rank key) × (rank key ≤ rank range.last)) }
         ensures from { IfSome result (λ range. rank from ≤ rank range.first) }
         ensures within { IfSome result (λ range. rank range.last < key_end (period_of self.now)) }
+        ensures before { IfNone result (0 < rank from) }
         ensures none { IfNone result (counts.new ≡ counts.old) }
         ensures same { J.judges judge.new ≡ J.judges judge.old };
 

@@ -1,5 +1,5 @@
 //! Views of rows.
-ghost use Rattle.std.specs.Prelude.{◌≡◌, ◌==◌, ◌<◌, [], ◌∷◌, length, get_or, IfSome, IfNone};
+ghost use Rattle.std.specs.Prelude.{◌≡◌, ◌==◌, [], ◌∷◌, length, IfSome, IfNone};
 ghost use Rattle.st_index.specs.RowViews.{row_of_view, viewed};
 
 use crate::row::Row;
@@ -35,17 +35,6 @@ impl<'a, A: Allocator + Copy> RowsView<'a, A> {
                 let (row, rest) = rows.split_first()?;
                 Some((RowView::of(row), RowsView::Many(rest)))
             }
-        }
-    }
-
-    /// The row at an index.
-    pub fn at(self, index: usize) -> RowView<'a, A>
-        requires { index < length (viewed self) }
-        ensures { row_of_view result ≡ get_or (viewed self.entry) index (row_of_view result) }
-    {
-        match self {
-            RowsView::One(row) => row,
-            RowsView::Many(rows) => RowView::of(&rows[index]),
         }
     }
 }
