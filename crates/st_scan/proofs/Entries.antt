@@ -1,11 +1,14 @@
 -- Entries whose keys rise, and their rows.
-use Rattle.std.proofs.Common.{◌≡◌, ℕ, ◌+◌, ◌-◌, ◌<◌, ◌≤◌, List, [], ◌∷◌, ◌++◌, filter, length, get_or, take, drop, true, false, ltb, suc, zero, refl, sym, ap, subst, ◌∙◌, arith, append_assoc, IsTrue}
-use Rattle.std.proofs.lemmas.Bool.{ltb-true, ltb-false, lt-ltb}
+use Rattle.std.proofs.Common.{◌≡◌, ℕ, ◌+◌, ◌-◌, ◌<◌, ◌≤◌, List, [], ◌∷◌, ◌++◌, filter, length, get_or, take, drop, suc, zero, add-zero, refl, sym, ap, subst, ◌∙◌, arith, append_assoc, IsTrue}
 use Rattle.std.proofs.lemmas.Grind.{flat_map-append}
 use Rattle.std.proofs.lemmas.List.Elements.{All-append, All-cons, All-head, All-nil, All-tail, filter-append}
 use Rattle.std.proofs.lemmas.List.{get_or-drop, get_or-take, length-drop, length-take-le, take-append-drop, take_all}
 use Rattle.std.specs.List.{All}
-use Rattle.std.specs.List.Sorted.{IsPartitionedBy, IsPartitionPoint}
+use Rattle.std.specs.List.Sorted.{IsNonDecreasingBy, IsPartitionPoint}
+use Rattle.std.specs.declared.cmp.Ordering.TheVariants.{Less, Equal, Greater}
+use Rattle.std.specs.Ordering.{nat_cmp, ordering_index}
+use Rattle.st_index.proofs.Names.{nat_equal}
+use Rattle.st_index.proofs.Putting.{missing}
 use Rattle.st_key.specs.declared.period.Period.{Period}
 use Rattle.st_box.specs.declared.query.Query.{Query}
 use Rattle.st_index.specs.Rows.{EntryValue, IsEntry, Rises, rank_of, rows_of}
@@ -83,31 +86,47 @@ module _ {A : Type 0} (q : Query) where
   }
 
 module _ {A : Type 0} (period : Period) (start : ℕ) where
-  -- the keys before a place stand first
-  pub rises_parted : (lo hi : ℕ) (es : List (EntryValue A)) → Rises period lo hi es → IsPartitionedBy (λ (e : EntryValue A). ltb e.at start) es
-  rises_parted lo hi [] h i j d a b p = absurd (omega (arith, b))
-  rises_parted lo hi (e ∷ es) h zero zero d a b p = p
-  rises_parted lo hi (e ∷ es) h zero (suc j) d a b p =
-      let later = entries_from period (e.at + 1) hi es h.2 j d (omega (arith, b)) in
-      let low = ltb-true (get_or es j d).at start p in
-      lt-ltb e.at start (omega (arith, later, low))
-  rises_parted lo hi (e ∷ es) h (suc i) zero d a b p = absurd (omega (arith, a))
-  rises_parted lo hi (e ∷ es) h (suc i) (suc j) d a b p = rises_parted (e.at + 1) hi es h.2 i j d (omega (arith, a)) (omega (arith, b)) p
+  -- a later entry has a higher key
+  rises_order : (lo hi : ℕ) (es : List (EntryValue A)) → Rises period lo hi es → (i j : ℕ) (d : EntryValue A) → i < j → j < length es → (get_or es i d).at < (get_or es j d).at
+  rises_order lo hi [] h i j d a b = absurd (omega (arith, b))
+  rises_order lo hi (e ∷ es) h i zero d a b = absurd (omega (arith, a))
+  rises_order lo hi (e ∷ es) h zero (suc j) d a b = let later = entries_from period (e.at + 1) hi es h.2 j d (omega (arith, b)) in omega (arith, later)
+  rises_order lo hi (e ∷ es) h (suc i) (suc j) d a b = rises_order (e.at + 1) hi es h.2 i j d (omega (arith, a)) (omega (arith, b))
 
-  pub skips_found : (lo hi : ℕ) (es : List (EntryValue A)) (n : ℕ) → n ≤ length es → Rises period lo hi es → (IsPartitionedBy (λ (e : EntryValue A). ltb e.at start) es → IsPartitionPoint (λ (e : EntryValue A). ltb e.at start ≡ true) (λ (e : EntryValue A). ltb e.at start ≡ false) es n) → SkipsTo start es (take (length es - n) (drop n es))
-  skips_found lo hi es n le h found =
-      let at = found (rises_parted lo hi es h) in
-      let all : take (length es - n) (drop n es) ≡ drop n es = take_all (length es - n) (drop n es) (let e = length-drop n es in omega (arith, e)) in
-      subst (SkipsTo start es) (sym all) (record {
+  -- the entries from the place of a key on
+  pub skips_there : (lo hi : ℕ) (es : List (EntryValue A)) (n : ℕ) → n < length es → ((d : EntryValue A) → nat_cmp (get_or es n d).at start ≡ Equal) → Rises period lo hi es → SkipsTo start es (drop n es)
+  skips_there lo hi es n le here h = record {
+    skipped = take n es;
+    is = sym (take-append-drop n es);
+    before = λ k d l.
+        let short : k < n = let e = length-take-le n es (omega (arith, le)) in omega (arith, e, l) in
+        let at = nat_equal (get_or es n d).at start (here d) in
+        let order = rises_order lo hi es h k n d short le in
+        subst (λ (e : EntryValue A). e.at < start) (sym (get_or-take n es k d short)) (omega (arith, at, order));
+    after = λ k d l. subst (λ (e : EntryValue A). start ≤ e.at) (sym (get_or-drop n es k d)) (from k d (let e = length-drop n es in omega (arith, e, l)));
+  }
+    where
+      from : (k : ℕ) (d : EntryValue A) → n + k < length es → start ≤ (get_or es (n + k) d).at
+      from zero d l = let at = nat_equal (get_or es n d).at start (here d) in rw add-zero (omega (arith, at))
+      from (suc k) d l =
+          let at = nat_equal (get_or es n d).at start (here d) in
+          let order = rises_order lo hi es h n (n + suc k) d (omega arith) l in
+          omega (arith, at, order)
+
+  -- and from where it would stand
+  pub skips_missing : (lo hi : ℕ) (es : List (EntryValue A)) (n : ℕ) → (IsNonDecreasingBy (λ (e : EntryValue A). ordering_index (nat_cmp e.at start)) es → IsPartitionPoint (λ (e : EntryValue A). nat_cmp e.at start ≡ Less) (λ (e : EntryValue A). nat_cmp e.at start ≡ Greater) es n) → Rises period lo hi es → SkipsTo start es (drop n es)
+  skips_missing lo hi es n found h =
+      let m = missing period start es n lo hi h found in
+      record {
         skipped = take n es;
         is = sym (take-append-drop n es);
-        before = λ k d l.
-            let short : k < n = let e = length-take-le n es le in omega (arith, e, l) in
-            subst (λ (e : EntryValue A). e.at < start) (sym (get_or-take n es k d short)) (ltb-true _ start (at.0 k d (omega arith) short));
-        after = λ k d l.
-            let long : n + k < length es = let e = length-drop n es in omega (arith, e, l) in
-            subst (λ (e : EntryValue A). start ≤ e.at) (sym (get_or-drop n es k d)) (ltb-false _ start (at.1 (n + k) d (omega arith) long));
-      })
+        before = m.0;
+        after = λ k d l. let a = m.1 k d l in omega (arith, a);
+      }
+
+  -- as a slice of them
+  pub skips_slice : (es : List (EntryValue A)) (n : ℕ) → SkipsTo start es (drop n es) → SkipsTo start es (take (length es - n) (drop n es))
+  skips_slice es n h = subst (SkipsTo start es) (sym (take_all (length es - n) (drop n es) (let e = length-drop n es in omega (arith, e)))) h
 
 module _ {A : Type 0} (period : Period) where
   pub rises_right : (lo hi : ℕ) (xs ys : List (EntryValue A)) → Rises period lo hi (xs ++ ys) → Rises period lo hi ys

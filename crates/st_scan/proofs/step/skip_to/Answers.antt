@@ -1,11 +1,13 @@
-use Rattle.std.proofs.Common.{rules, ltb}
-use Rattle.std.proofs.lemmas.Fn.{always_returns_same}
 use Rattle.st_key.specs.Key.{rank}
-use Rattle.st_index.specs.Rows.{EntryValue}
-use Rattle.st_scan.proofs.Entries.{skips_found}
+use Rattle.st_scan.proofs.Entries.{skips_missing, skips_slice, skips_there}
 use Rattle.st_scan.proofs.step.skip_to.Goals as goal
+use Rattle.st_scan.proofs.step.skip_to.Goals.{in-Ok, in-Err}
 
 pub returns : goal.returns
 returns g c period lo hi rises =
-    skips_found period (rank c.args.from) lo hi c.args.entries.now _ c.partition_point-before.ensures.bound rises
-    (c.partition_point-before.ensures.partitioned (λ (e : EntryValue g.row.A.Denot). ltb e.at (rank c.args.from)) (always_returns_same _ _ _ (λ a r f called. search rules)))
+    let entries = c.args.entries.now in
+    let from = rank c.args.from in
+    elim c.match-find.branch [
+      | in-Ok w ↦ rw w.before-is (skips_slice period from entries w.in-Ok.place (skips_there period from lo hi entries w.in-Ok.place w.in-Ok.ensures.bound w.in-Ok.ensures.place rises))
+      | in-Err w ↦ rw w.before-is (skips_slice period from entries w.in-Err.place (skips_missing period from lo hi entries w.in-Err.place w.in-Err.ensures.place rises))
+    ]
