@@ -1,5 +1,5 @@
 -- The first keys of children, as these change.
-use Rattle.std.proofs.Common.{Bool, refl, ◌≡◌, ℕ, ◌<◌, ◌≤◌, List, ◌∷◌, ◌++◌, length, get_or, map, take, drop, sym, ap, subst, ◌∙◌, suc, arith, true, false, not, ltb, Vec, vec_capacity, Option, Some, None, Box}
+use Rattle.std.proofs.Common.{Bool, refl, ◌≡◌, ℕ, ◌<◌, ◌≤◌, List, ◌∷◌, ◌++◌, length, get_or, map, take, drop, sym, ap, subst, ◌∙◌, suc, arith, true, false, not, ltb, Vec, Option, Some, None, Box}
 use Rattle.std.proofs.Math.ListN.{set}
 use Rattle.std.proofs.Math.Seq.{map-set_same}
 use Rattle.std.proofs.lemmas.List.{get_or-map, length-map, map-append, take-map, take_all}
@@ -9,10 +9,10 @@ use Rattle.std.proofs.lemmas.Grind.{common_steps}
 use Rattle.std.proofs.lemmas.List.Sums.{fails_before_first, passes_at_first, prefix_len-le-length}
 use Rattle.std.specs.List.Sorted.{IsPartitionedBy, IsPartitionPoint}
 use Rattle.st_key.specs.Key.{rank}
-use Rattle.st_key.specs.declared.key.Key.{Key}
 use Rattle.st_ubtree.specs.declared.node.Kids.{Kids}
 use Rattle.st_ubtree.specs.declared.node.Kids.TheVariants.{Inner}
 use Rattle.st_ubtree.specs.declared.node.aside.Aside.{Aside}
+use Rattle.st_ubtree.specs.declared.node.firsts.First.{First}
 use Rattle.st_ubtree.specs.declared.node.firsts.Firsts.{Firsts}
 use Rattle.st_ubtree.specs.Pages.{NodeValue}
 use Rattle.st_ubtree.specs.inner.Firsts.{AreFirsts, AreFirstsUnder}
@@ -50,21 +50,25 @@ module _ {X : Type 0} (p : X → Bool) (xs : List X) where
       by true e absurd_then = e ∙ sym (absurd_then e)
       by false e absurd_then = e
 
+-- the number of a first key
+abbrev pub number : First → ℕ
+number k = rank k.key
+
 module _ {A : Type 0} where
   -- as many as there are children
   pub as_many : (f : Firsts A) (kids : List (NodeValue A)) → AreFirsts f kids → length f.keys.items ≡ length kids
-  as_many f kids h = sym (length-map f.keys.items rank) ∙ ap length h.same ∙ length-map kids (λ (v : NodeValue A). v.first)
+  as_many f kids h = sym (length-map f.keys.items number) ∙ ap length h ∙ length-map kids (λ (v : NodeValue A). v.first)
 
   -- what stands at a place
-  pub read_first : (f : Firsts A) (kids : List (NodeValue A)) (i : ℕ) (k : Key) (v : NodeValue A) → AreFirsts f kids → i < length kids → rank (get_or f.keys.items i k) ≡ (get_or kids i v).first
+  pub read_first : (f : Firsts A) (kids : List (NodeValue A)) (i : ℕ) (k : First) (v : NodeValue A) → AreFirsts f kids → i < length kids → number (get_or f.keys.items i k) ≡ (get_or kids i v).first
   read_first f kids i k v h l =
       let n = as_many f kids h in
-      sym (get_or-map rank f.keys.items i k (rank k) (omega (arith, n, l)))
-      ∙ ap (λ ns. get_or ns i (rank k)) h.same
-      ∙ get_or-map (λ (w : NodeValue A). w.first) kids i v (rank k) l
+      sym (get_or-map number f.keys.items i k (number k) (omega (arith, n, l)))
+      ∙ ap (λ ns. get_or ns i (number k)) h
+      ∙ get_or-map (λ (w : NodeValue A). w.first) kids i v (number k) l
 
   module _ (key : ℕ) (f : Firsts A) (kids : List (NodeValue A)) (h : AreFirsts f kids) where
-    parted : IsPartitionedBy (λ (v : NodeValue A). not (ltb key v.first)) kids → IsPartitionedBy (λ (k : Key). not (ltb key (rank k))) f.keys.items
+    parted : IsPartitionedBy (λ (v : NodeValue A). not (ltb key v.first)) kids → IsPartitionedBy (λ (k : First). not (ltb key (number k))) f.keys.items
     parted p i j d le l passes =
         let n = as_many f kids h in
         let within : j < length kids = omega (arith, n, l) in
@@ -74,7 +78,7 @@ module _ {A : Type 0} where
         ap (λ m. not (ltb key m)) before ∙ p i j v le within (ap (λ m. not (ltb key m)) (sym at) ∙ passes)
 
     -- a search among the first keys finds the place among the children
-    pub found_by : (n : ℕ) → n ≤ length f.keys.items → (IsPartitionedBy (λ (k : Key). not (ltb key (rank k))) f.keys.items → IsPartitionPoint (λ (k : Key). not (ltb key (rank k)) ≡ true) (λ (k : Key). not (ltb key (rank k)) ≡ false) f.keys.items n) → IsPartitionedBy (λ (v : NodeValue A). not (ltb key v.first)) kids → IsPartitionPoint (λ (v : NodeValue A). not (ltb key v.first) ≡ true) (λ (v : NodeValue A). not (ltb key v.first) ≡ false) kids n
+    pub found_by : (n : ℕ) → n ≤ length f.keys.items → (IsPartitionedBy (λ (k : First). not (ltb key (number k))) f.keys.items → IsPartitionPoint (λ (k : First). not (ltb key (number k)) ≡ true) (λ (k : First). not (ltb key (number k)) ≡ false) f.keys.items n) → IsPartitionedBy (λ (v : NodeValue A). not (ltb key v.first)) kids → IsPartitionPoint (λ (v : NodeValue A). not (ltb key v.first) ≡ true) (λ (v : NodeValue A). not (ltb key v.first) ≡ false) kids n
     found_by n bound found p =
         let q = found (parted p) in
         let len = as_many f kids h in (
@@ -89,10 +93,7 @@ module _ {A : Type 0} where
 
   -- one child is another one that begins where it did
   pub firsts_set : (f : Firsts A) (kids : List (NodeValue A)) (i : ℕ) (kid v : NodeValue A) → kid ≡ get_or kids i kid → v.first ≡ kid.first → AreFirsts f kids → AreFirsts f (set kids i v)
-  firsts_set f kids i kid v read same h = record {
-    same = h.same ∙ sym (map-set_same (λ (w : NodeValue A). w.first) kids i v kid (same ∙ ap (λ (w : NodeValue A). w.first) read));
-    room = h.room;
-  }
+  firsts_set f kids i kid v read same h = h ∙ sym (map-set_same (λ (w : NodeValue A). w.first) kids i v kid (same ∙ ap (λ (w : NodeValue A). w.first) read))
 
   -- those of a node's children, by its block
   module _ (k : Kids A) (kids : Vec (NodeValue A) A) (aside : Box (Aside A) A) (a : Aside A) (is : k ≡ Inner kids aside) (same : a ≡ aside.value) where
@@ -112,20 +113,13 @@ module _ {A : Type 0} where
   settled_take height count old new None s is = let n = ap length s.0 in take_all count old (omega (arith, n, is)) ∙ sym s.0
   settled_take height count old new (Some r) s is = ap (λ n. take n old) (is ∙ s.1) ∙ sym s.0
 
-  pub firsts_open : (f g : Firsts A) (kids : List (NodeValue A)) (i : ℕ) (k : Key) (v : NodeValue A) → g.keys.items ≡ insert f.keys.items i k → rank k ≡ v.first → vec_capacity f.keys ≤ vec_capacity g.keys → AreFirsts f kids → AreFirsts g (insert kids i v)
-  firsts_open f g kids i k v is first more h = record {
-    same = ap (map rank) is ∙ map_insert rank f.keys.items i k ∙ ap (λ ns. insert ns i (rank k)) h.same ∙ ap (insert (map (λ (w : NodeValue A). w.first) kids) i) first ∙ sym (map_insert (λ (w : NodeValue A). w.first) kids i v);
-    room = let room = h.room in omega (arith, more, room);
-  }
+  -- what an edit of the first keys makes of those of the children
+  module _ (keys new : List First) (kids : List (NodeValue A)) (i : ℕ) (h : map number keys ≡ map (λ (w : NodeValue A). w.first) kids) where
+    pub firsts_open : (k : First) (v : NodeValue A) → new ≡ insert keys i k → number k ≡ v.first → map number new ≡ map (λ (w : NodeValue A). w.first) (insert kids i v)
+    firsts_open k v is first = ap (map number) is ∙ map_insert number keys i k ∙ ap (λ ns. insert ns i (number k)) h ∙ ap (insert (map (λ (w : NodeValue A). w.first) kids) i) first ∙ sym (map_insert (λ (w : NodeValue A). w.first) kids i v)
 
-  pub firsts_close : (f g : Firsts A) (kids : List (NodeValue A)) (i : ℕ) → g.keys.items ≡ remove f.keys.items i → vec_capacity g.keys ≡ vec_capacity f.keys → AreFirsts f kids → AreFirsts g (remove kids i)
-  firsts_close f g kids i is same h = record {
-    same = ap (map rank) is ∙ map_remove rank f.keys.items i ∙ ap (λ ns. remove ns i) h.same ∙ sym (map_remove (λ (w : NodeValue A). w.first) kids i);
-    room = let room = h.room in omega (arith, same, room);
-  }
+    pub firsts_close : new ≡ remove keys i → map number new ≡ map (λ (w : NodeValue A). w.first) (remove kids i)
+    firsts_close is = ap (map number) is ∙ map_remove number keys i ∙ ap (λ ns. remove ns i) h ∙ sym (map_remove (λ (w : NodeValue A). w.first) kids i)
 
-  pub firsts_keep : (f g : Firsts A) (kids : List (NodeValue A)) (count : ℕ) → g.keys.items ≡ take count f.keys.items → vec_capacity g.keys ≡ vec_capacity f.keys → AreFirsts f kids → AreFirsts g (take count kids)
-  firsts_keep f g kids count is same h = record {
-    same = ap (map rank) is ∙ sym (take-map rank count f.keys.items) ∙ ap (take count) h.same ∙ take-map (λ (w : NodeValue A). w.first) count kids;
-    room = let room = h.room in omega (arith, same, room);
-  }
+    pub firsts_keep : new ≡ take i keys → map number new ≡ map (λ (w : NodeValue A). w.first) (take i kids)
+    firsts_keep is = ap (map number) is ∙ sym (take-map number i keys) ∙ ap (take i) h ∙ take-map (λ (w : NodeValue A). w.first) i kids

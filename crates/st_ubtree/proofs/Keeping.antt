@@ -1,15 +1,19 @@
 -- What stays summed up as rows come and go.
-use Rattle.std.proofs.Common.{◌≡◌, ℕ, ◌<◌, ◌≤◌, List, [], ◌∷◌, ◌++◌, Bool, false, cond, length, get_or, suc, zero, Option, Some, None, refl, sym, ap, subst, ◌∙◌, arith}
+use Rattle.std.proofs.Common.{◌≡◌, ℕ, ◌+◌, ◌<◌, ◌≤◌, List, [], ◌∷◌, ◌++◌, Bool, false, cond, length, get_or, take, suc, zero, Option, Some, None, refl, sym, ap, subst, ◌∙◌, arith}
 use Rattle.std.specs.Prelude.{Result, Ok, Err, IfSome, IfNone, IfOk, OnErr, MatchOption, is_some}
+use Rattle.std.proofs.lemmas.List.{append-nil}
 use Rattle.std.proofs.lemmas.List.Concat.{length-flat_map}
+use Rattle.std.proofs.lemmas.List.Elements.{All-append}
 use Rattle.std.proofs.lemmas.List.Sums.{get_or-le-sum_by}
-use Rattle.std.specs.List.{flat_map, sum_by}
+use Rattle.std.specs.List.{All, flat_map, sum_by}
+use Rattle.st_key.specs.declared.point.Point.{Point}
 use Rattle.st_text.specs.Texts.{Text}
 use Rattle.st_box.specs.declared.query.Query.{Query}
 use Rattle.st_index.specs.declared.row.Row.{Row}
 use Rattle.st_index.specs.Counting.{count_of, is_counted}
 use Rattle.st_index.specs.Rows.{EntryValue, Name, name_of}
 use Rattle.st_index.proofs.Sums.{sum_by-flat_map}
+use Rattle.st_ubtree.specs.declared.bounds.Bounds.{Bounds}
 use Rattle.st_ubtree.specs.declared.node.Kids.{Kids}
 use Rattle.st_ubtree.specs.declared.node.Kids.TheVariants.{Page, Inner}
 use Rattle.st_ubtree.specs.declared.summary.Summary.{Summary}
@@ -22,8 +26,9 @@ use Rattle.st_ubtree.specs.inner.Nodes.{pages_under, rows_under}
 use Rattle.st_ubtree.specs.inner.Sums.{IsWithin, Sums}
 use Rattle.st_ubtree.proofs.Inside.{rows_join}
 use Rattle.std.proofs.Math.ListN.{set}
+use Rattle.st_ubtree.proofs.Spanning.{pages-append}
 use Rattle.st_ubtree.proofs.Splitting.{one_rows, page}
-use Rattle.st_ubtree.proofs.Summing.{sums_added, sums_swapped, sums_taken}
+use Rattle.st_ubtree.proofs.Summing.{next_lists, sums_added, sums_swapped, sums_taken, wider}
 
 module _ {A : Type 0} where
   -- where no child has marks
@@ -35,6 +40,41 @@ module _ {A : Type 0} where
   pub rows_of_kids : (kids : List (NodeValue A)) → rows_of_pages (pages_of kids) ≡ flat_map (λ (v : NodeValue A). rows_of_pages v.pages) kids
   rows_of_kids [] = refl
   rows_of_kids (v ∷ vs) = rows_join v.pages (pages_of vs) ∙ ap (λ rows. rows_of_pages v.pages ++ rows) (rows_of_kids vs)
+
+  -- those of one node more
+  pub next_kid : (kids : List (NodeValue A)) (i : ℕ) (kid : NodeValue A) → i < length kids → kid ≡ get_or kids i kid
+      → rows_of_pages (pages_of (take i kids)) ++ rows_of_pages kid.pages ≡ rows_of_pages (pages_of (take (i + 1) kids))
+  next_kid kids i kid below read =
+      ap (λ rows. rows ++ rows_of_pages kid.pages) (rows_of_kids (take i kids))
+      ∙ next_lists (λ (v : NodeValue A). rows_of_pages v.pages) [] kids i kid below read
+      ∙ sym (rows_of_kids (take (i + 1) kids))
+
+  -- bounds of some rows and of those below one node more
+  pub next_bounds : (a b both : Bounds) (kids : List (NodeValue A)) (i : ℕ) (kid : NodeValue A) → i < length kids → kid ≡ get_or kids i kid
+      → ((p : Point) → IsWithin a p → IsWithin both p) → ((p : Point) → IsWithin b p → IsWithin both p)
+      → All (λ (r : Row A). IsWithin a r.point) (rows_of_pages (pages_of (take i kids))) → All (λ (r : Row A). IsWithin b r.point) (rows_of_pages kid.pages)
+      → All (λ (r : Row A). IsWithin both r.point) (rows_of_pages (pages_of (take (i + 1) kids)))
+  next_bounds a b both kids i kid below read own others before here =
+      let rows = rows_of_pages (pages_of (take i kids)) in
+      let P = λ (r : Row A). IsWithin both r.point in
+      subst (All P) (next_kid kids i kid below read) (All-append P rows (rows_of_pages kid.pages) (wider a both own rows before) (wider b both others (rows_of_pages kid.pages) here))
+
+  -- the rows below two lists of nodes
+  pub rows_of_both : (kids more : List (NodeValue A)) → rows_of_pages (pages_of (kids ++ more)) ≡ rows_of_pages (pages_of kids) ++ rows_of_pages (pages_of more)
+  rows_of_both kids more = ap rows_of_pages (pages-append kids more) ∙ rows_join (pages_of kids) (pages_of more)
+
+  -- and their summary, where nodes go over from one to the other
+  pub sums_shared : (s : Summary A) (old right new rest : List (NodeValue A)) → new ++ rest ≡ old ++ right
+      → Sums s (rows_of_pages (pages_of old) ++ rows_of_pages (pages_of right)) → Sums s (rows_of_pages (pages_of new) ++ rows_of_pages (pages_of rest))
+  sums_shared s old right new rest kept sums =
+      subst (Sums s) (sym (rows_of_both old right) ∙ ap (λ ks. rows_of_pages (pages_of ks)) (sym kept) ∙ rows_of_both new rest) sums
+
+  -- or all do
+  pub sums_whole : (s : Summary A) (old right new rest : List (NodeValue A)) → new ++ rest ≡ old ++ right → rest ≡ []
+      → Sums s (rows_of_pages (pages_of old) ++ rows_of_pages (pages_of right)) → Sums s (rows_of_pages (pages_of new))
+  sums_whole s old right new rest kept none sums =
+      let all : new ≡ old ++ right = sym (append-nil new) ∙ ap (λ ks. new ++ ks) (sym none) ∙ kept in
+      subst (Sums s) (sym (rows_of_both old right) ∙ ap (λ ks. rows_of_pages (pages_of ks)) (sym all)) sums
 
   pub count_of_kids : (q : Query) (judges : Text → Bool) (kids : List (NodeValue A))
       → count_of q judges (rows_of_pages (pages_of kids)) ≡ sum_by (λ (v : NodeValue A). count_of q judges (rows_of_pages v.pages)) kids

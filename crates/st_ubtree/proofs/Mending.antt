@@ -1,5 +1,5 @@
 -- A child that has 15 entries or children, evened with the one beside it.
-use Rattle.std.proofs.Common.{◌≡◌, ℕ, ◌+◌, ◌-◌, ◌<◌, ◌≤◌, min, List, [], ◌∷◌, ◌++◌, length, get_or, set, refl, sym, ap, subst, ◌∙◌, suc, arith, append_assoc, length-append, Option, Some, None}
+use Rattle.std.proofs.Common.{◌≡◌, ℕ, ◌+◌, ◌<◌, ◌≤◌, ◌⊎◌, inl, inr, List, [], ◌∷◌, ◌++◌, length, get_or, set, refl, sym, ap, subst, ◌∙◌, suc, arith, append_assoc, length-append, Option, Some, None}
 use Rattle.std.proofs.lemmas.List.Elements.{All-append, All-cons, All-head, All-tail}
 use Rattle.std.specs.List.{All, insert, remove}
 use Rattle.st_index.proofs.Climbing.{all_left, all_right}
@@ -57,11 +57,10 @@ module _ {A : Type 0} where
     pub two_worn : IsWorn below two
     pub both : one.width + two.width ≤ most
 
-  pair_by : (below at left : ℕ) (kids : List (NodeValue A)) (w : AreWorn below at kids) (back : List (NodeValue A)) (f : List (NodeValue A)) → back ≡ w.back → f ≡ w.front → w.kid.width < 16 → 2 ≤ length kids → left ≡ min at (length kids - 2) → Pair below left 47 kids
-  pair_by below at left kids w (b ∷ bs) f e q low two m =
-      let n = ap length w.is ∙ length-append w.front (w.kid ∷ w.back) in
+  pair_behind : (below at left : ℕ) (kids : List (NodeValue A)) (w : AreWorn below at kids) (back : List (NodeValue A)) → back ≡ w.back → w.kid.width < 16
+      → left + 1 < length kids → left ≡ at → Pair below left 47 kids
+  pair_behind below at left kids w (b ∷ bs) e low fits here =
       let s = w.stands in
-      let t = ap length e in
       let all = subst (All (IsKid below)) (sym e) w.behind in
       let k = All-head (IsKid below) b bs all in
       record {
@@ -70,22 +69,27 @@ module _ {A : Type 0} where
         two = b;
         back = bs;
         is = w.is ∙ ap (λ ks. w.front ++ w.kid ∷ ks) (sym e);
-        stands = omega (arith, n, s, t, m);
+        stands = s ∙ sym here;
         in_front = w.in_front;
         behind = All-tail (IsKid below) b bs all;
         one_worn = w.worn;
         two_worn = worn_kid below b k;
         both = let c = k.not_more in omega (arith, low, c);
       }
-  pair_by below at left kids w [] [] e q low two m =
-      let n = ap length w.is ∙ length-append w.front (w.kid ∷ w.back) in
-      let t = ap length e in
-      let u = ap length q in
-      absurd (omega (arith, n, t, u, two))
-  pair_by below at left kids w [] (x ∷ xs) e q low two m =
+  pair_behind below at left kids w [] e low fits here =
       let n = ap length w.is ∙ length-append w.front (w.kid ∷ w.back) in
       let s = w.stands in
       let t = ap length e in
+      absurd (omega (arith, n, s, t, fits, here))
+
+  pair_before : (below at left : ℕ) (kids : List (NodeValue A)) (w : AreWorn below at kids) (f : List (NodeValue A)) → f ≡ w.front → w.kid.width < 16
+      → left + 1 ≡ at → Pair below left 47 kids
+  pair_before below at left kids w [] q low there =
+      let s = w.stands in
+      let t = ap length q in
+      absurd (omega (arith, s, t, there))
+  pair_before below at left kids w (x ∷ xs) q low there =
+      let s = w.stands in
       let r = last_of x xs in
       let front_is : w.front ≡ r.front ++ r.last ∷ [] = sym q ∙ r.is in
       let u = ap length front_is ∙ length-append r.front (r.last ∷ []) in
@@ -95,18 +99,20 @@ module _ {A : Type 0} where
         front = r.front;
         one = r.last;
         two = w.kid;
-        back = [];
-        is = w.is ∙ ap (λ ks. w.front ++ w.kid ∷ ks) (sym e) ∙ ap (λ ks. ks ++ w.kid ∷ []) front_is ∙ append_assoc r.front (r.last ∷ []) (w.kid ∷ []);
-        stands = omega (arith, n, s, t, u, m);
+        back = w.back;
+        is = w.is ∙ ap (λ ks. ks ++ w.kid ∷ w.back) front_is ∙ append_assoc r.front (r.last ∷ []) (w.kid ∷ w.back);
+        stands = omega (arith, s, u, there);
         in_front = all_left (IsKid below) r.front (r.last ∷ []) all;
-        behind = λ k d l. absurd (omega (arith, l));
+        behind = w.behind;
         one_worn = worn_kid below r.last k;
         two_worn = w.worn;
         both = let c = k.not_more in omega (arith, low, c);
       }
 
-  pub pair_of : (below at left : ℕ) (kids : List (NodeValue A)) (w : AreWorn below at kids) → w.kid.width < 16 → 2 ≤ length kids → left ≡ min at (length kids - 2) → Pair below left 47 kids
-  pair_of below at left kids w low two m = pair_by below at left kids w w.back w.front refl refl low two m
+  pair_of : (below at left : ℕ) (kids : List (NodeValue A)) (w : AreWorn below at kids) → w.kid.width < 16 → left + 1 < length kids
+      → (left ≡ at) ⊎ (left + 1 ≡ at) → Pair below left 47 kids
+  pair_of below at left kids w low fits (inl here) = pair_behind below at left kids w w.back refl low fits here
+  pair_of below at left kids w low fits (inr there) = pair_before below at left kids w w.front refl low there
 
   abbrev pub list_of : Option (NodeValue A) → List (NodeValue A)
   list_of None = []
@@ -183,10 +189,11 @@ module _ {A : Type 0} where
         rest_is = rest_is;
       }
 
-  pub paired : (below at left : ℕ) (kids rest : List (NodeValue A)) (w : AreWorn below at kids) (first kid right : NodeValue A) → first ≡ get_or kids at first → first.width < 16 → 2 ≤ length kids → left ≡ min at (length kids - 2) → rest ≡ remove kids (left + 1) → right ≡ get_or kids (left + 1) right → kid ≡ get_or rest left kid → Paired below left 47 kids rest kid right
-  paired below at left kids rest w first kid right there low two m removed taken read =
+  pub paired : (below at left : ℕ) (kids rest : List (NodeValue A)) (w : AreWorn below at kids) (first kid right : NodeValue A) → first ≡ get_or kids at first → first.width < 16
+      → left + 1 < length kids → (left ≡ at) ⊎ (left + 1 ≡ at) → rest ≡ remove kids (left + 1) → right ≡ get_or kids (left + 1) right → kid ≡ get_or rest left kid → Paired below left 47 kids rest kid right
+  paired below at left kids rest w first kid right there low fits beside removed taken read =
       let e = ap (λ (v : NodeValue A). v.width) (worn_is below at kids w first there) in
-      let p = pair_of below at left kids w (omega (arith, e, low)) two m in
+      let p = pair_of below at left kids w (omega (arith, e, low)) fits beside in
       taken_pair below left kids rest kid right p removed taken read
 
   pub joins_pair : {most : ℕ} (below left : ℕ) (kids rest : List (NodeValue A)) (kid right v : NodeValue A) (r : Option (NodeValue A)) (q : Paired below left most kids rest kid right) → Joins kid.height kid right v r → Joins below q.pair.one q.pair.two v r
@@ -194,18 +201,37 @@ module _ {A : Type 0} where
       let e : kid.height ≡ below = ap (λ (n : NodeValue A). n.height) q.one_is ∙ q.pair.one_worn.same_height in
       subst (λ n. Joins n q.pair.one q.pair.two v r) e (subst (λ n. Joins kid.height n q.pair.two v r) q.one_is (subst (λ n. Joins kid.height kid n v r) q.two_is j))
 
+  -- the first of a pair is another one then
+  pub one_is_set : {most : ℕ} (below left : ℕ) (kids rest : List (NodeValue A)) (kid right v : NodeValue A) (q : Paired below left most kids rest kid right)
+      → set rest left v ≡ q.pair.front ++ v ∷ q.pair.back
+  one_is_set below left kids rest kid right v q =
+      let p = q.pair in
+      ap (λ ks. set ks left v) q.rest_is ∙ ap (λ n. set (p.front ++ p.one ∷ p.back) n v) (sym p.stands) ∙ set_at p.front p.one p.back v
+
   pub mends_alone : {most : ℕ} (below left : ℕ) (kids rest : List (NodeValue A)) (kid right v : NodeValue A) → Paired below left most kids rest kid right → Joins kid.height kid right v None → Mends below kids (set rest left v)
   mends_alone below left kids rest kid right v q j =
+      mends_pair below left kids (set rest left v) q.pair v None (joins_pair below left kids rest kid right v None q j)
+      (one_is_set below left kids rest kid right v q)
+
+  -- so it is where it becomes another one before the second is taken out
+  pub pair_closed : {most : ℕ} (below left : ℕ) (kids rest : List (NodeValue A)) (kid right v : NodeValue A) → Paired below left most kids rest kid right
+      → remove (set kids left v) (left + 1) ≡ set rest left v
+  pair_closed below left kids rest kid right v q =
       let p = q.pair in
-      mends_pair below left kids (set rest left v) p v None (joins_pair below left kids rest kid right v None q j)
-      (ap (λ ks. set ks left v) q.rest_is ∙ ap (λ n. set (p.front ++ p.one ∷ p.back) n v) (sym p.stands) ∙ set_at p.front p.one p.back v)
+      let t = p.stands in
+      let after : left + 1 ≡ suc (length p.front) = omega (arith, t) in
+      let one : set kids left v ≡ p.front ++ v ∷ p.two ∷ p.back =
+      ap (λ ks. set ks left v) p.is ∙ ap (λ n. set (p.front ++ p.one ∷ p.two ∷ p.back) n v) (sym p.stands) ∙ set_at p.front p.one (p.two ∷ p.back) v in
+      ap (λ ks. remove ks (left + 1)) one
+      ∙ ap (λ n. remove (p.front ++ v ∷ p.two ∷ p.back) n) after
+      ∙ remove_after p.front v p.two p.back
+      ∙ sym (one_is_set below left kids rest kid right v q)
 
   pub both_are : {most : ℕ} (below left : ℕ) (kids rest : List (NodeValue A)) (kid right v s : NodeValue A) (q : Paired below left most kids rest kid right) → insert (set rest left v) (left + 1) s ≡ q.pair.front ++ v ∷ s ∷ q.pair.back
   both_are below left kids rest kid right v s q =
       let p = q.pair in
       let t = p.stands in
-      let set_is : set rest left v ≡ p.front ++ v ∷ p.back = ap (λ ks. set ks left v) q.rest_is ∙ ap (λ n. set (p.front ++ p.one ∷ p.back) n v) (sym p.stands) ∙ set_at p.front p.one p.back v in
-      ap (λ ks. insert ks (left + 1) s) set_is ∙ insert_after p.front v p.back s (left + 1) (omega (arith, t))
+      ap (λ ks. insert ks (left + 1) s) (one_is_set below left kids rest kid right v q) ∙ insert_after p.front v p.back s (left + 1) (omega (arith, t))
 
   pub mends_both : {most : ℕ} (below left : ℕ) (kids rest : List (NodeValue A)) (kid right v s : NodeValue A) → Paired below left most kids rest kid right → Joins kid.height kid right v (Some s) → Mends below kids (insert (set rest left v) (left + 1) s)
   mends_both below left kids rest kid right v s q j =

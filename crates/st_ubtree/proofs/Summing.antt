@@ -75,19 +75,34 @@ module _ {A : Type 0} where
       sums_more old new rows more sums wide (wider other.bounds new.bounds wide_too more others.within)
       (λ h. let put = puts h in (put.0, λ judges. let n = put.1 judges in let m = others.counted (all h) judges in omega (arith, n, m)))
 
-  -- and the summary of some rows that of all but one
-  pub sums_less : (old new : Summary A) (rows : List (Row A)) (row : Row A) → Sums old (rows ++ row ∷ []) → new.bounds ≡ old.bounds
-      → CountsLess old.labels new.labels (λ judges. cond (judges row.label) 1 0)
+  -- and the summary of some rows that of the first of them
+  pub sums_fewer : (old new : Summary A) (rows more : List (Row A)) → Sums old (rows ++ more) → new.bounds ≡ old.bounds
+      → CountsLess old.labels new.labels (λ judges. labelled judges more)
       → Sums new rows
-  sums_less old new rows row sums same takes = record {
-    within = subst (λ b. All (λ (r : Row A). IsWithin b r.point) rows) (sym same) (all_left (λ (r : Row A). IsWithin old.bounds r.point) rows (row ∷ []) sums.within);
+  sums_fewer old new rows more sums same takes = record {
+    within = subst (λ b. All (λ (r : Row A). IsWithin b r.point) rows) (sym same) (all_left (λ (r : Row A). IsWithin old.bounds r.point) rows more sums.within);
     counted = λ h judges.
         let taken = takes h in
         let all = sums.counted taken.0 judges in
-        let apart = labelled-append judges rows (row ∷ []) in
+        let apart = labelled-append judges rows more in
         let less = taken.1 judges in
         omega (arith, all, apart, less);
   }
+
+  pub sums_less : (old new : Summary A) (rows : List (Row A)) (row : Row A) → Sums old (rows ++ row ∷ []) → new.bounds ≡ old.bounds
+      → CountsLess old.labels new.labels (λ judges. cond (judges row.label) 1 0)
+      → Sums new rows
+  sums_less old new rows row sums same takes =
+      sums_fewer old new rows (row ∷ []) sums same
+      (λ h. let taken = takes h in (taken.0, λ judges. let n = taken.1 judges in omega (arith, n)))
+
+  pub sums_all_less : (old new other : Summary A) (rows more : List (Row A)) → Sums old (rows ++ more) → Sums other more → new.bounds ≡ old.bounds
+      → CountsLess old.labels new.labels (λ judges. total judges other.labels.counts.items)
+      → (IsTrue new.labels.are_all → IsTrue other.labels.are_all)
+      → Sums new rows
+  sums_all_less old new other rows more sums others same takes all =
+      sums_fewer old new rows more sums same
+      (λ h. let taken = takes h in (taken.0, λ judges. let n = taken.1 judges in let m = others.counted (all h) judges in omega (arith, n, m)))
 
   -- rows may be summed up in any order
   pub sums_added : (s : Summary A) (row : Row A) (old new : List (Row A)) → Adds row old new → Sums s (old ++ row ∷ []) → Sums s new

@@ -1,10 +1,11 @@
 //! Labels, each with the number of rows under it.
-ghost use Rattle.std.specs.Prelude.{◌≡◌, ◌↔◌, ◌+◌, ◌<◌, ◌^◌, [], Bool, IfSome, IsTrue, cond, length, slice_index_or};
+ghost use Rattle.std.specs.Prelude.{◌≡◌, ◌↔◌, ◌+◌, ◌<◌, ◌≤◌, ◌^◌, [], Bool, IfSome, IsTrue, cond, length, slice_index_or};
 ghost use Rattle.st_text.specs.Texts.{Text};
 ghost use Rattle.st_ubtree.specs.declared.label_counts.LabelCount.{LabelCount as LabelCountValue};
-ghost use Rattle.st_ubtree.specs.inner.Sums.{CountsLess, CountsMore, found, total};
+ghost use Rattle.st_index.specs.Rows.{rows_of};
+ghost use Rattle.st_ubtree.specs.inner.Sums.{CountsLess, CountsMore, found, labelled, total};
 
-use st_index::Judge;
+use st_index::{Entry, Judge, Row, RowsView};
 use st_label::Label;
 use st_text::{MAX_SHORT, ShortText};
 use std::alloc::{Allocator, Global};
@@ -43,30 +44,72 @@ pub fn is_short<A: Allocator + Copy>(label: &Label<A>, short: &ShortText) -> boo
     }
 }
 
-// The index of a label that is this short text.
-fn find_short<A: Allocator + Copy>(counts: &[LabelCount<A>], short: &ShortText) -> Option<usize>
+// Where a search for a short text begins among so many labels: at a place that depends on its bytes.
+fn place_of(short: &ShortText, len: usize) -> usize
+    ensures { result ≤ len }
+{
+    ((short.mixed() >> 60) as usize).min(len)
+}
+
+// The index of a label that is this short text, from one index to another.
+fn find_between<A: Allocator + Copy>(
+    counts: &[LabelCount<A>],
+    short: &ShortText,
+    from: usize,
+    to: usize,
+) -> Option<usize>
+    requires { to ≤ length counts.now }
     ensures { IfSome result (λ at. (at < length counts.now)
         × ((c : LabelCountValue A) × (c ≡ slice_index_or counts.now at c) × (c.label ≡ short.now))) }
 {
-    for (at, count) in counts.iter().enumerate() {
-        if is_short(&count.label, short) {
+    for at in from..to {
+        if is_short(&counts[at].label, short) {
             return Some(at);
         }
     }
     None
 }
 
-// The index of a label under which there is no row.
-fn find_spare<A: Allocator + Copy>(counts: &[LabelCount<A>]) -> Option<usize>
+// The index of a label that is this short text. It is likely to be at its place, or right behind it.
+fn find_short<A: Allocator + Copy>(counts: &[LabelCount<A>], short: &ShortText) -> Option<usize>
+    ensures { IfSome result (λ at. (at < length counts.now)
+        × ((c : LabelCountValue A) × (c ≡ slice_index_or counts.now at c) × (c.label ≡ short.now))) }
+{
+    let place = place_of(short, counts.len());
+    if let Some(at) = find_between(counts, short, place, counts.len()) {
+        return Some(at);
+    }
+    find_between(counts, short, 0, place)
+}
+
+// The index of a label under which there is no row, from one index to another.
+fn spare_between<A: Allocator + Copy>(
+    counts: &[LabelCount<A>],
+    from: usize,
+    to: usize,
+) -> Option<usize>
+    requires { to ≤ length counts.now }
     ensures { IfSome result (λ at. (at < length counts.now)
         × ((c : LabelCountValue A) × (c ≡ slice_index_or counts.now at c) × (c.rows ≡ 0))) }
 {
-    for (at, count) in counts.iter().enumerate() {
-        if count.rows == 0 {
+    for at in from..to {
+        if counts[at].rows == 0 {
             return Some(at);
         }
     }
     None
+}
+
+// The index of a label under which there is no row, the first one from a place on.
+fn find_spare<A: Allocator + Copy>(counts: &[LabelCount<A>], place: usize) -> Option<usize>
+    requires { place ≤ length counts.now }
+    ensures { IfSome result (λ at. (at < length counts.now)
+        × ((c : LabelCountValue A) × (c ≡ slice_index_or counts.now at c) × (c.rows ≡ 0))) }
+{
+    if let Some(at) = spare_between(counts, place, counts.len()) {
+        return Some(at);
+    }
+    spare_between(counts, 0, place)
 }
 
 // The label with a number of rows, if it is as short as takes no memory.
@@ -82,18 +125,18 @@ fn count_of<A: Allocator + Copy>(label: &Label<A>, rows: u64) -> Option<LabelCou
     Some(LabelCount { label, rows })
 }
 
-// Puts a label behind the others, if their list has room for it. Says whether it did.
-fn push<A: Allocator + Copy>(counts: &mut Vec<LabelCount<A>, A>, count: LabelCount<A>) -> bool
-    ensures { IsTrue result → (judges : Text → Bool)
-        → total judges counts.new.items ≡ total judges counts.old.items + found judges count }
+// Fills a list with places for labels: each has this label, and no rows.
+fn fill<A: Allocator + Copy>(counts: &mut Vec<LabelCount<A>, A>, label: &Label<A>)
+    ensures { (judges : Text → Bool) → total judges counts.new.items ≡ total judges counts.old.items }
 {
-    if counts.len() >= counts.capacity() {
-        return false;
+    for _ in counts.len()..counts.capacity() {
+        let Some(count) = count_of(label, 0) else {
+            return;
+        };
+        let Ok(()) = counts.push(count) else {
+            return;
+        };
     }
-    let Ok(()) = counts.push(count) else {
-        return false;
-    };
-    true
 }
 
 // Lets a value lie where another did, which is let go.
@@ -103,8 +146,7 @@ fn overwrite<T: Drop>(at: &mut T, value: T)
     *at = value;
 }
 
-// Puts a label that is not among the others at a place where there are no rows, or behind the others if the list has room
-// for it. Says whether it did.
+// Puts a label that is not among the others at a place where there are no rows. Says whether it did.
 fn put_new<A: Allocator + Copy>(
     counts: &mut Vec<LabelCount<A>, A>,
     label: &Label<A>,
@@ -116,8 +158,13 @@ fn put_new<A: Allocator + Copy>(
     let Some(count) = count_of(label, rows) else {
         return false;
     };
-    let Some(at) = find_spare(counts.as_slice()) else {
-        return push(counts, count);
+    let Some(short) = label.as_short() else {
+        return false;
+    };
+    fill(counts, label);
+    let place = place_of(short, counts.len());
+    let Some(at) = find_spare(counts.as_slice(), place) else {
+        return false;
     };
     overwrite(&mut counts[at], count);
     true
@@ -139,16 +186,20 @@ fn put<A: Allocator + Copy>(counts: &mut Vec<LabelCount<A>, A>, label: &Label<A>
     true
 }
 
-// Counts one row less under a label. Says whether it did.
-fn take<A: Allocator + Copy>(counts: &mut Vec<LabelCount<A>, A>, label: &Label<A>) -> bool
+// Counts some rows less under a label. Says whether it did.
+fn take<A: Allocator + Copy>(
+    counts: &mut Vec<LabelCount<A>, A>,
+    label: &Label<A>,
+    rows: u64,
+) -> bool
     ensures { IsTrue result → (judges : Text → Bool)
-        → total judges counts.new.items + cond (judges label.now) 1 0 ≡ total judges counts.old.items }
+        → total judges counts.new.items + cond (judges label.now) rows 0 ≡ total judges counts.old.items }
 {
     let Some(at) = find(counts.as_slice(), label) else {
         return false;
     };
     let count = &mut counts[at];
-    let Some(less) = count.rows.checked_sub(1) else {
+    let Some(less) = count.rows.checked_sub(rows) else {
         return false;
     };
     count.rows = less;
@@ -160,7 +211,7 @@ fn found<A: Allocator + Copy, J: Judge<A>>(count: &LabelCount<A>, judge: &mut J)
     ensures value { result ≡ found (J.judges judge.old) count.now }
     ensures same { J.judges judge.new ≡ J.judges judge.old }
 {
-    if judge.finds_true(&count.label) {
+    if count.rows > 0 && judge.finds_true(&count.label) {
         count.rows
     } else {
         0
@@ -221,18 +272,64 @@ impl<A: Allocator + Copy> LabelCounts<A> {
             return;
         }
         for other in &others.counts {
-            self.put(&other.label, other.rows);
+            if other.rows > 0 {
+                self.put(&other.label, other.rows);
+            }
         }
     }
 
-    /// Counts one row less under a label.
-    pub fn take(&mut self, label: &Label<A>)
-        ensures { CountsLess self.old self.new (λ judges. cond (judges label.now) 1 0) }
+    // Counts rows under their labels.
+    fn put_rows(&mut self, rows: &[Row<A>])
+        ensures { CountsMore self.old self.new (λ judges. labelled judges rows.now) }
+    {
+        for row in rows {
+            self.put(&row.label, 1);
+        }
+    }
+
+    // Counts the rows of an entry under their labels.
+    fn put_entry(&mut self, entry: &Entry<A>)
+        ensures { CountsMore self.old self.new (λ judges. labelled judges entry.now.rows) }
+    {
+        match entry.rows() {
+            RowsView::One(row) => self.put(row.label(), 1),
+            RowsView::Many(rows) => self.put_rows(rows),
+        }
+    }
+
+    /// Counts the rows of some entries under their labels.
+    pub fn put_entries(&mut self, entries: &[Entry<A>])
+        ensures { CountsMore self.old self.new (λ judges. labelled judges (rows_of entries.now)) }
+    {
+        for entry in entries {
+            self.put_entry(entry);
+        }
+    }
+
+    /// Counts some rows less under a label.
+    pub fn take(&mut self, label: &Label<A>, rows: u64)
+        ensures { CountsLess self.old self.new (λ judges. cond (judges label.now) rows 0) }
     {
         if !self.are_all {
             return;
         }
-        self.are_all = take(&mut self.counts, label);
+        self.are_all = take(&mut self.counts, label, rows);
+    }
+
+    /// Counts the rows under other labels less.
+    pub fn take_all(&mut self, others: &LabelCounts<A>)
+        ensures counts { CountsLess self.old self.new (λ judges. total judges others.now.counts.items) }
+        ensures all { IsTrue self.new.are_all → IsTrue others.now.are_all }
+    {
+        if !others.are_all {
+            self.are_all = false;
+            return;
+        }
+        for other in &others.counts {
+            if other.rows > 0 {
+                self.take(&other.label, other.rows);
+            }
+        }
     }
 
     /// The rows under the labels that are found true.

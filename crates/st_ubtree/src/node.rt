@@ -37,7 +37,7 @@ use st_index::{Entry, Row};
 use st_key::{Key, Period};
 use std::alloc::{Allocator, Global};
 use std::marker::Model;
-use sums::{drop_row, renew, renew_if};
+use sums::{drop_row, renew_if};
 
 /// A page of entries, or a node over others.
 #[cycle(node)]
@@ -183,15 +183,13 @@ impl<A: Allocator + Copy> Node<A> {
             kids,
             ..
         } = right;
-        let rest = match (&mut self.kids, kids) {
-            (Kids::Page(left), Kids::Page(right)) => join_pages(left, right),
+        match (&mut self.kids, kids) {
+            (Kids::Page(left), Kids::Page(right)) => join_pages(&mut self.sum, left, right),
             (Kids::Inner(left, aside), Kids::Inner(right, other)) => {
-                join_kids(left, aside, right, other, height, sum)
+                join_kids(&mut self.sum, left, aside, sum, right, other, height)
             }
             _ => unreachable!(),
-        };
-        renew(&mut self.sum, &self.kids);
-        rest
+        }
     }
 
     /// Takes out the row of a key and a name. A page says where it stood.

@@ -103,12 +103,48 @@ impl<A: Allocator + Copy> Summary<A> {
         }
     }
 
+    /// Sums up the rows of a page's entries too. The page's own summary has their bounds.
+    pub fn add_page(&mut self, page: &Summary<A>, entries: &[Entry<A>])
+        requires { Sums page.now (rows_of entries.now) }
+        ensures { (rows : List (RowValue A)) → Sums self.old rows → Sums self.new (rows ++ rows_of entries.now) }
+    {
+        self.bounds = self.bounds.joined(page.bounds);
+        self.labels.put_entries(entries);
+    }
+
     /// Sums up one row less. The bounds stay as they are.
     pub fn take(&mut self, row: &Row<A>)
         ensures { (rows : List (RowValue A)) → Sums self.old (rows ++ row.now ∷ []) → Sums self.new rows }
     {
         self.removals = self.removals.saturating_add(1);
-        self.labels.take(&row.label);
+        self.labels.take(&row.label, 1);
+    }
+
+    /// Sums up the rows of another summary less, which are the last of these. The bounds stay as they are.
+    pub fn take_all(&mut self, other: &Summary<A>)
+        ensures { (rows more : List (RowValue A)) → Sums self.old (rows ++ more) → Sums other.now more → Sums self.new rows }
+    {
+        self.labels.take_all(&other.labels);
+    }
+
+    /// The bounds of the rows.
+    pub fn bounds(&self) -> Bounds
+        ensures { result ≡ self.now.bounds }
+    {
+        self.bounds
+    }
+
+    /// Takes other bounds, between which the same rows lie.
+    pub fn set_bounds(&mut self, bounds: Bounds)
+        ensures { (rows : List (RowValue A)) → Sums self.old rows → All (λ (row : RowValue A). IsWithin bounds row.point) rows
+            → Sums self.new rows }
+    {
+        self.bounds = bounds;
+    }
+
+    /// Whether the rows are counted under all their labels.
+    pub fn counts_labels(&self) -> bool {
+        self.labels.are_all()
     }
 
     /// Widens the bounds so that a point lies between them.

@@ -20,9 +20,9 @@ abbrev pub IsBlankPage : {A B : Type 0} → Option (Vec B A) → Type 0
 IsBlankPage None = ⊥
 IsBlankPage (Some v) = (v.items ≡ []) × (33 ≤ vec_capacity v)
 
--- an empty list of children with room, and room for their first keys
+-- an empty list of children with room
 abbrev pub IsBlank : {A : Type 0} → Blank A → Type 0
-IsBlank b = (b.kids.items ≡ []) × (33 ≤ vec_capacity b.kids) × (33 ≤ vec_capacity b.aside.value.firsts.keys)
+IsBlank b = (b.kids.items ≡ []) × (33 ≤ vec_capacity b.kids)
 
 abbrev pub AreBlank : {A : Type 0} → List (Blank A) → Type 0
 AreBlank bs = All IsBlank bs

@@ -1,5 +1,5 @@
 //! What a node over others keeps beside its children.
-ghost use Rattle.std.specs.Prelude.{◌≤◌, length, vec_capacity};
+ghost use Rattle.std.specs.Prelude.{◌≤◌, length};
 ghost use Rattle.st_ubtree.specs.inner.Firsts.{AreFirsts};
 ghost use Rattle.st_ubtree.specs.inner.Marks.{AreMarked};
 
@@ -21,7 +21,6 @@ impl<A: Allocator + Copy> Aside<A> {
     /// Takes the first keys of some children in their place, without marks.
     pub fn renew(&mut self, kids: &[Node<A>])
         requires few { length kids.now ≤ 33 }
-        requires room { 33 ≤ vec_capacity self.old.firsts.keys }
         ensures firsts { AreFirsts self.new.firsts kids.now }
         ensures marks { AreMarked self.new.marks kids.now }
     {
@@ -32,7 +31,6 @@ impl<A: Allocator + Copy> Aside<A> {
     /// Takes the first keys of some children, and the marks of those that are pages, in their place.
     pub fn fill(&mut self, kids: &[Node<A>])
         requires few { length kids.now ≤ 33 }
-        requires room { 33 ≤ vec_capacity self.old.firsts.keys }
         ensures firsts { AreFirsts self.new.firsts kids.now }
         ensures marks { AreMarked self.new.marks kids.now }
     {

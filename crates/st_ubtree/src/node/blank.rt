@@ -30,7 +30,7 @@ impl<A: Allocator + Copy> Blank<A> {
     {
         let kids = Vec::with_capacity(alloc, 33)?;
         let counts = Vec::with_capacity(alloc, MAX_LABELS)?;
-        let firsts = Firsts::new(Vec::with_capacity(alloc, 33)?);
+        let firsts = Firsts::none();
         let labels = Vec::with_capacity(alloc, FEW_NUMBERS)?;
         let marks = Marks::new(labels, Vec::with_capacity(alloc, places)?);
         Ok(Blank {

@@ -1,7 +1,8 @@
 //! The first keys of a node's children, which a search reads side by side.
-ghost use Rattle.std.specs.Prelude.{◌≡◌, ◌+◌, ◌<◌, ◌≤◌, List, length, take, ltb, not, true, false, vec_len, vec_capacity};
+ghost use Rattle.std.specs.Prelude.{◌≡◌, ◌+◌, ◌<◌, ◌≤◌, List, length, take, ltb, not, true, false, []};
 ghost use Rattle.std.specs.List.{insert, position, remove};
 ghost use Rattle.std.specs.List.Sorted.{IsPartitionPoint, IsPartitionedBy};
+ghost use Rattle.arrayvec.specs.ArrayVec.{array_vec_len};
 ghost use Rattle.st_key.specs.Key.{rank};
 ghost use Rattle.st_ubtree.specs.Pages.{NodeValue};
 ghost use Rattle.st_ubtree.specs.inner.Firsts.{AreFirsts};
@@ -9,30 +10,49 @@ ghost use Rattle.st_ubtree.specs.inner.Growing.{IsChosen};
 ghost use Rattle.st_ubtree.specs.inner.Marks.{HasAt};
 
 use super::Node;
+use arrayvec::ArrayVec;
 use st_index::order;
 use st_key::Key;
 use std::alloc::{Allocator, Global};
+use std::marker::PhantomData;
 
-/// The first keys of a node's children, in their order.
+// The first key of a child. By itself it is the first of all keys.
+#[derive(Clone, Copy, Drop)]
+struct First {
+    key: Key,
+}
+
+impl Default for First {
+    fn default() -> Self {
+        First { key: Key::FIRST }
+    }
+}
+
+/// The first keys of a node's children, in their order. The children's memory comes from `A`.
 #[derive(Drop)]
 pub struct Firsts<A: Allocator = Global> {
-    keys: Vec<Key, A>,
+    keys: ArrayVec<First, 33>,
+    memory: PhantomData<A>,
 }
 
 // The index of the first key after this one. The keys are looked at one by one: a processor fetches several at once, where a search
 // by halves would wait for one after the other.
-fn first_after(keys: &[Key], key: Key) -> Option<usize>
-    ensures { result ≡ position (λ k. ltb (rank key) (rank k)) keys.now }
+fn first_after(keys: &[First], key: Key) -> Option<usize>
+    ensures { result ≡ position (λ k. ltb (rank key) (rank k.key)) keys.now }
 {
-    keys.iter().position(|first| order::is_before(key, *first))
+    keys.iter()
+        .position(|first| order::is_before(key, first.key))
 }
 
 impl<A: Allocator + Copy> Firsts<A> {
-    /// A list of first keys.
-    pub fn new(keys: Vec<Key, A>) -> Firsts<A>
-        ensures { result.keys ≡ keys }
+    /// No first key.
+    pub fn none() -> Firsts<A>
+        ensures { result.keys.items ≡ [] }
     {
-        Firsts { keys }
+        Firsts {
+            keys: ArrayVec::new(),
+            memory: PhantomData,
+        }
     }
 
     /// How many children begin at or before the key.
@@ -56,11 +76,10 @@ impl<A: Allocator + Copy> Firsts<A> {
 
     /// The first key of a child.
     pub fn at(&self, at: usize) -> Key
-        requires { at < vec_len self.now.keys }
+        requires { at < array_vec_len self.now.keys }
         ensures { (kids : List (NodeValue A)) (v : NodeValue A) → AreFirsts self.now kids → HasAt kids at v → rank result ≡ v.first }
     {
-        let first = &self.keys[at];
-        *first
+        self.keys.as_slice()[at].key
     }
 
     /// Puts in that of a child that comes in at a place.
@@ -71,12 +90,10 @@ impl<A: Allocator + Copy> Firsts<A> {
         if at > self.keys.len() {
             return;
         }
-        if self.keys.len() >= self.keys.capacity() {
+        if self.keys.is_full() {
             return;
         }
-        let Ok(()) = self.keys.insert(at, kid.first) else {
-            unreachable!()
-        };
+        self.keys.insert(at, First { key: kid.first });
     }
 
     /// Lets go of that of a child that is taken out.
@@ -99,14 +116,11 @@ impl<A: Allocator + Copy> Firsts<A> {
     /// Takes those of some children in their place.
     pub fn renew(&mut self, kids: &[Node<A>])
         requires few { length kids.now ≤ 33 }
-        requires room { 33 ≤ vec_capacity self.old.keys }
         ensures { AreFirsts self.new kids.now }
     {
         self.keys.clear();
         for kid in kids {
-            let Ok(()) = self.keys.push(kid.first) else {
-                unreachable!()
-            };
+            self.keys.push(First { key: kid.first });
         }
     }
 }

@@ -52,7 +52,6 @@ impl<A: Allocator + Copy> Node<A> {
         requires kids { IsKid self.old.height self.old × IsKid self.old.height right }
         requires empty { blank.kids.items ≡ [] }
         requires room { 33 ≤ vec_capacity blank.kids }
-        requires firsts_room { 33 ≤ vec_capacity blank.aside.value.firsts.keys }
         requires height { self.old.height + 1 < 2 ^ 64 }
         ensures first { self.new.first ≡ self.old.first }
         ensures height { self.new.height ≡ self.old.height + 1 }

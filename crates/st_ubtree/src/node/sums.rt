@@ -1,23 +1,32 @@
 //! Summaries of what lies below nodes.
 ghost use Rattle.std.specs.Prelude.{◌≡◌, ◌++◌, [], ◌∷◌, List, MatchOption, IsFalse};
+ghost use Rattle.std.specs.List.{All};
 ghost use Rattle.st_index.specs.declared.row.Row.{Row as RowValue};
 ghost use Rattle.st_ubtree.specs.Pages.{rows_of_pages};
 ghost use Rattle.st_ubtree.specs.inner.Kids.{pages_of};
 ghost use Rattle.st_ubtree.specs.inner.Nodes.{rows_under};
-ghost use Rattle.st_ubtree.specs.inner.Sums.{Sums};
+ghost use Rattle.st_ubtree.specs.inner.Sums.{IsWithin, Sums};
 
 use super::{Kids, Node};
+use crate::bounds::Bounds;
 use crate::summary::Summary;
 use st_index::Row;
 use std::alloc::Allocator;
 
 impl<A: Allocator + Copy> Node<A> {
+    // The bounds of what lies below the node.
+    fn bounds(&self) -> Bounds
+        ensures { All (λ (row : RowValue A). IsWithin result row.point) (rows_of_pages self.now.pages) }
+    {
+        self.sum.bounds()
+    }
+
     // Adds what lies below the node to a summary.
     fn add_to(&self, sum: &mut Summary<A>)
         ensures { (rows : List (RowValue A)) → Sums sum.old rows → Sums sum.new (rows ++ rows_of_pages self.now.pages) }
     {
         match &self.kids {
-            Kids::Page(entries) => sum.add_entries(entries.as_slice()),
+            Kids::Page(entries) => sum.add_page(&self.sum, entries.as_slice()),
             Kids::Inner(..) => sum.add_all(&self.sum),
         }
     }
@@ -30,6 +39,40 @@ pub(super) fn add_kids<A: Allocator + Copy>(sum: &mut Summary<A>, kids: &[Node<A
     for kid in kids {
         kid.add_to(sum);
     }
+}
+
+// The bounds of what lies below some nodes.
+pub(super) fn bounds_of<A: Allocator + Copy>(kids: &[Node<A>]) -> Bounds
+    ensures { All (λ (row : RowValue A). IsWithin result row.point) (rows_of_pages (pages_of kids.now)) }
+{
+    let mut bounds = Bounds::NONE;
+    for kid in kids {
+        bounds = bounds.joined(kid.bounds());
+    }
+    bounds
+}
+
+// Parts the summary of two lists of nodes into one of each. The later nodes are counted, and the others are what is left: only where
+// labels are not counted, those are summed up too.
+pub(super) fn part<A: Allocator + Copy>(
+    sum: &mut Summary<A>,
+    kids: &[Node<A>],
+    later_sum: &mut Summary<A>,
+    later: &[Node<A>],
+)
+    requires { Sums sum.old (rows_of_pages (pages_of kids.now) ++ rows_of_pages (pages_of later.now)) }
+    ensures kids { Sums sum.new (rows_of_pages (pages_of kids.now)) }
+    ensures later { Sums later_sum.new (rows_of_pages (pages_of later.now)) }
+{
+    later_sum.clear();
+    add_kids(later_sum, later);
+    sum.take_all(later_sum);
+    if sum.counts_labels() {
+        sum.set_bounds(bounds_of(kids));
+        return;
+    }
+    sum.clear();
+    add_kids(sum, kids);
 }
 
 // Sums up what lies below a node again.

@@ -16,6 +16,6 @@ returns g c = λ yes judges.
     let new = record kid { rows = c.in-Some-checked_sub.less } in
     let some = c.in-Some-checked_sub.ensures.0 in
     let is = c.in-Some-checked_sub.ensures.1 in
-    let less : kid.rows ≡ c.in-Some-checked_sub.less + 1 = omega (arith, some, is) in
-    let sum = take_there judges counts i kid new low c.index_mut-count.ensures.value refl less in
-    subst (λ l. total judges (set counts i new) + cond (judges l) 1 0 ≡ total judges counts) label sum
+    let less : kid.rows ≡ c.in-Some-checked_sub.less + c.args.rows = omega (arith, some, is) in
+    let sum = take_there judges counts i kid new low c.index_mut-count.ensures.value c.args.rows refl less in
+    subst (λ l. total judges (set counts i new) + cond (judges l) c.args.rows 0 ≡ total judges counts) label sum

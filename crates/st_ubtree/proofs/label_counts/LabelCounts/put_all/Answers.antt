@@ -1,34 +1,30 @@
-use Rattle.std.proofs.Common.{◌<◌, length, ap, arith}
-use Rattle.std.proofs.lemmas.List.{take_all}
-use Rattle.st_index.proofs.Sums.{sum_one_more}
-use Rattle.st_ubtree.specs.inner.Sums.{found, total}
+use Rattle.std.proofs.Common.{◌<◌, Bool, length, sym, subst, arith}
+use Rattle.st_text.specs.Texts.{Text}
+use Rattle.st_ubtree.specs.declared.label_counts.LabelCount.{LabelCount}
+use Rattle.st_ubtree.specs.inner.Sums.{CountsMore, found, total}
+use Rattle.st_ubtree.proofs.Labels.{more_all, more_next, none_more}
 use Rattle.st_ubtree.proofs.label_counts.LabelCounts.put_all.Goals as goal
+use Rattle.st_ubtree.proofs.label_counts.LabelCounts.put_all.Goals.{then-other-gt0, else-other-gt0}
 
 pub loop-other-init : goal.loop-other-init
 loop-other-init g c = λ h. (h, λ judges. omega arith)
 
 pub loop-other-preserved : goal.loop-other-preserved
-loop-other-preserved g c = λ h.
-    let put = c.put.ensures h in
-    let was = c.loop-other.invariant put.0 in
+loop-other-preserved g c =
     let others = c.deref-other-items.result.now in
     let i = c.loop-other.other-index in
-    let below : i < length others = omega arith in (
-      was.0,
-      λ judges.
-          let one = put.1 judges in
-          let all = was.1 judges in
-          let more = sum_one_more (found judges) others i c.other-item.result below c.other-item.is in
-          omega (arith, one, all, more),
-    )
+    let below : i < length others = omega arith in
+    let before = c.loop-other.self in
+    let one : CountsMore before c.if-other-gt0.self (λ judges. found judges c.other-item.result) =
+    elim c.if-other-gt0.branch [
+      | then-other-gt0 w ↦ subst (λ s. CountsMore before s (λ judges. found judges c.other-item.result)) (sym w.self-is) w.put.ensures
+      | else-other-gt0 w ↦ subst (λ s. CountsMore before s (λ judges. found judges c.other-item.result)) (sym w.self-is) (none_more before c.other-item.result (omega arith))
+    ] in
+    more_next (λ (judges : Text → Bool) (o : LabelCount g.row.A.Denot). found judges o) others i c.other-item.result below c.other-item.is
+    c.args.self.now before c.if-other-gt0.self c.loop-other.invariant one
 
 pub returns-clause-counts : goal.returns-clause-counts
-returns-clause-counts g c = λ h.
-    let was = c.loop-other.invariant h in (
-      was.0,
-      λ judges.
-          let all = was.1 judges in
-          let last = ap (total judges) (take_all c.loop-other.other-index c.deref-other-items.result.now c.loop-other-test.false) in
-          let same = ap (total judges) c.deref-other-items.ensures.value in
-          omega (arith, all, last, same),
-    )
+returns-clause-counts g c =
+    let others = c.deref-other-items.result.now in
+    let all = more_all (λ (judges : Text → Bool) (o : LabelCount g.row.A.Denot). found judges o) others c.loop-other.other-index c.loop-other-test.false c.args.self.now c.loop-other.self c.loop-other.invariant in
+    subst (λ items. CountsMore c.args.self.now c.loop-other.self (λ judges. total judges items)) c.deref-other-items.ensures.value all

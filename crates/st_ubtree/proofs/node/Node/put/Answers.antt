@@ -30,9 +30,6 @@ raise-requires-clause-empty g c = (blank_last c.pop.new.self.items c.in-Some-pop
 pub raise-requires-clause-room : goal.raise-requires-clause-room
 raise-requires-clause-room g c = (blank_last c.pop.new.self.items c.in-Some-pop.blank (subst AreBlank c.in-Some-pop.ensures.items c.in-Some.ensures.blank)).1.1
 
-pub raise-requires-clause-firsts_room : goal.raise-requires-clause-firsts_room
-raise-requires-clause-firsts_room g c = (blank_last c.pop.new.self.items c.in-Some-pop.blank (subst AreBlank c.in-Some-pop.ensures.items c.in-Some.ensures.blank)).1.2
-
 pub raise-requires-clause-height : goal.raise-requires-clause-height
 raise-requires-clause-height g c =
     let split : splits c.args.self.now (rank c.args.key) ≡ c.args.self.now.height + 1 = c.in-Some.ensures.split in

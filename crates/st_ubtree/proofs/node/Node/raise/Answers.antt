@@ -8,7 +8,6 @@ use Rattle.std.proofs.lemmas.List.{append-nil}
 use Rattle.st_ubtree.specs.inner.Marks.{AreMarked}
 use Rattle.st_ubtree.specs.inner.Nodes.{AreMarkedUnder, IsNode, node_value, rows_under}
 use Rattle.st_ubtree.proofs.Lifting.{both}
-use Rattle.st_ubtree.specs.declared.node.aside.Aside.{Aside}
 use Rattle.st_ubtree.specs.inner.Firsts.{AreFirsts, AreFirstsUnder}
 use Rattle.st_ubtree.proofs.node.Node.raise.Goals as goal
 
@@ -81,14 +80,11 @@ invariant_of-left g c = (
   subst AreFirstsUnder (sym c.replace-kids.ensures.value) c.self.invariant.3,
 )
 
-pub fill-requires-clause-few : goal.fill-requires-clause-few
-fill-requires-clause-few g c =
+pub fill-requires : goal.fill-requires
+fill-requires g c =
     let left : NodeValue g.row.A.Denot = node_value (rank c.self.inside.first) c.self.inside.height c.replace-kids.result in
     let two = ap length (c.as_slice-2.ensures.value ∙ c.in-Ok-push.ensures.items ∙ ap (λ t. t ++ c.args.right ∷ []) (c.in-Ok.ensures.items ∙ ap (λ t. t ++ left ∷ []) c.requires.empty)) in
     omega (arith, two)
-
-pub fill-requires-clause-room : goal.fill-requires-clause-room
-fill-requires-clause-room g c = subst (λ (a : Aside g.row.A.Denot). 33 ≤ vec_capacity a.firsts.keys) (sym c.deref_mut.ensures.value) c.requires.firsts_room
 
 pub unreachable-unreachable : goal.unreachable-unreachable
 unreachable-unreachable g c = c.unreachable.result

@@ -1,4 +1,4 @@
-use Rattle.std.proofs.Common.{◌≡◌, ◌≤◌, [], length, vec_capacity, drop, refl, subst, sym, ap, ◌∙◌, arith}
+use Rattle.std.proofs.Common.{◌≡◌, [], length, drop, refl, subst, sym, ap, ◌∙◌, arith}
 use Rattle.std.proofs.lemmas.List.{length-take-le, length-drop}
 use Rattle.std.proofs.lemmas.List.Elements.{All-drop}
 use Rattle.st_key.specs.Key.{rank}
@@ -9,7 +9,6 @@ use Rattle.st_ubtree.specs.inner.Splits.{chains_of}
 use Rattle.st_ubtree.specs.inner.Growing.{AreBlank}
 use Rattle.st_ubtree.specs.inner.Marks.{AreMarked}
 use Rattle.st_ubtree.proofs.Settling.{blank_last, head_there, kids_start, kids_wide}
-use Rattle.st_ubtree.specs.declared.node.aside.Aside.{Aside}
 use Rattle.st_ubtree.specs.inner.Firsts.{AreFirsts}
 use Rattle.st_ubtree.proofs.node.grow.settle.Goals as goal
 
@@ -38,19 +37,14 @@ invariant_of-result g c =
       subst (AreFirsts c.fill.new.self.firsts) (c.as_slice-2.ensures.value ∙ c.split_at-upper.ensures.moved) c.fill.ensures.firsts,
     )
 
-pub fill-requires-clause-few : goal.fill-requires-clause-few
-fill-requires-clause-few g c =
+pub fill-requires : goal.fill-requires
+fill-requires g c =
     let kids = c.args.kids.now.items in
     let len = c.args.kids.now.ok.0 in
     let all : length kids ≡ 33 = let a = c.if-len-le32.false in let b = c.requires.not_more in omega (arith, len, a, b, c.len.ensures) in
     let moved : length (drop 16 kids) ≡ 17 = let d = length-drop 16 kids in omega (arith, all, d) in
     let same = ap length (c.as_slice-2.ensures.value ∙ c.split_at-upper.ensures.moved) in
     omega (arith, same, moved)
-
-pub fill-requires-clause-room : goal.fill-requires-clause-room
-fill-requires-clause-room g c =
-    let blank = (blank_last c.pop.new.self.items c.in-Some.blank (subst AreBlank c.in-Some.ensures.items c.requires.blank)).1 in
-    subst (λ (a : Aside g.row.A.Denot). 33 ≤ vec_capacity a.firsts.keys) (sym c.deref_mut.ensures.value) blank.2
 
 pub returns-clause-settles : goal.returns-clause-settles
 returns-clause-settles g c =

@@ -1,10 +1,11 @@
-use Rattle.std.proofs.Common.{◌≡◌, ◌≤◌, [], length, subst, sym, ap, refl, arith}
+use Rattle.std.proofs.Common.{◌≡◌, ◌≤◌, length, subst, sym, ap, refl, arith}
 use Rattle.std.specs.List.{All}
 use Rattle.st_key.specs.Key.{rank}
 use Rattle.st_index.proofs.Climbing.{all_right}
 use Rattle.st_ubtree.specs.Pages.{NodeValue, rows_of_pages}
 use Rattle.st_ubtree.specs.inner.Sums.{Sums}
 use Rattle.st_ubtree.specs.inner.Kids.{HeadAt, IsKid, pages_of}
+use Rattle.st_ubtree.proofs.Keeping.{sums_shared, sums_whole}
 use Rattle.st_ubtree.proofs.Settling.{head_there, held_at, kids_start, kids_wide}
 use Rattle.st_ubtree.specs.inner.Firsts.{AreFirsts}
 use Rattle.st_ubtree.specs.inner.Marks.{AreMarked}
@@ -27,13 +28,13 @@ invariant_of-result g c =
         not_more = wide.1;
         room = c.share-are_two.ensures.right_room;
       },
-      subst (λ ks. Sums c.add_kids.new.sum (rows_of_pages (pages_of ks))) c.as_slice-2.ensures.value (c.add_kids.ensures [] c.clear.ensures),
-      subst (AreMarked c.renew-2.new.self.marks) c.as_slice-3.ensures.value c.renew-2.ensures.marks,
-      subst (AreFirsts c.renew-2.new.self.firsts) c.as_slice-3.ensures.value c.renew-2.ensures.firsts,
+      subst (λ ks. Sums c.part.new.later_sum (rows_of_pages (pages_of ks))) c.as_slice-3.ensures.value c.part.ensures.later,
+      subst (AreMarked c.renew-2.new.self.marks) c.as_slice-4.ensures.value c.renew-2.ensures.marks,
+      subst (AreFirsts c.renew-2.new.self.firsts) c.as_slice-4.ensures.value c.renew-2.ensures.firsts,
     )
 
-pub renew-requires-clause-few : goal.renew-requires-clause-few
-renew-requires-clause-few g c =
+pub renew-requires : goal.renew-requires
+renew-requires g c =
     let few = c.share-are_two.ensures.left.1 in
     let same = ap length c.as_slice.ensures.value in
     omega (arith, few, same)
@@ -75,3 +76,23 @@ returns-then-not-are_two-clause-joins g c = record {
   not_more = c.share-are_two.ensures.left.1;
   beside = c.share-are_two.ensures.none c.if-not-are_two.true;
 }
+
+pub part-requires : goal.part-requires
+part-requires g c =
+    let old = c.args.left.now.items in
+    let left = c.share-are_two.new.left.items in
+    let rest = c.share-are_two.new.right.items in
+    let both = c.add_all.ensures (rows_of_pages (pages_of old)) (rows_of_pages (pages_of c.args.right.items)) c.requires.sum c.requires.right_sum in
+    let here = sums_shared c.add_all.new.self old c.args.right.items left rest c.share-are_two.ensures.kept both in
+    rw (c.as_slice-2.ensures.value, c.as_slice-3.ensures.value) here
+
+pub returns-clause-sum : goal.returns-clause-sum
+returns-clause-sum g c = subst (λ ks. Sums c.part.new.sum (rows_of_pages (pages_of ks))) c.as_slice-2.ensures.value c.part.ensures.kids
+
+pub returns-then-not-are_two-clause-sum : goal.returns-then-not-are_two-clause-sum
+returns-then-not-are_two-clause-sum g c =
+    let old = c.args.left.now.items in
+    let left = c.share-are_two.new.left.items in
+    let both = c.add_all.ensures (rows_of_pages (pages_of old)) (rows_of_pages (pages_of c.args.right.items)) c.requires.sum c.requires.right_sum in
+    let whole = sums_whole c.add_all.new.self old c.args.right.items left c.share-are_two.new.right.items c.share-are_two.ensures.kept (c.share-are_two.ensures.none c.if-not-are_two.true) both in
+    c.set_bounds.ensures (rows_of_pages (pages_of left)) whole (rw (← c.as_slice-then-not-are_two.ensures.value) c.bounds_of.ensures)

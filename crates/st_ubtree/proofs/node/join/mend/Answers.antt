@@ -1,68 +1,76 @@
-use Rattle.std.proofs.Common.{◌≡◌, ◌+◌, ◌-◌, ◌<◌, ◌≤◌, min, set, length, length-set, sym, ap, subst, ◌∙◌, arith}
+use Rattle.std.proofs.Common.{◌+◌, ◌<◌, set, length, length-set, sym, ap, subst, ◌∙◌, arith}
 use Rattle.std.proofs.lemmas.List.Edits.{length-remove}
 use Rattle.st_ubtree.specs.Pages.{NodeValue}
-use Rattle.st_ubtree.specs.inner.Marks.{ClosesAt, OpensAt}
-use Rattle.st_ubtree.proofs.Placing.{closes_remove, differ_set, opens_insert}
-use Rattle.st_ubtree.proofs.Mending.{joins_worn, mends_alone, mends_both, mends_none, paired, worn_is}
 use Rattle.st_ubtree.specs.inner.Firsts.{AreFirsts}
+use Rattle.st_ubtree.specs.inner.Marks.{AreMarked, ClosesAt}
+use Rattle.st_ubtree.proofs.Evening.{pair_set}
 use Rattle.st_ubtree.proofs.Firsts.{firsts_set}
+use Rattle.st_ubtree.proofs.Mending.{joins_worn, mends_alone, mends_both, mends_none, pair_closed, paired, worn_is}
+use Rattle.st_ubtree.proofs.Placing.{closes_remove, differ_set}
 use Rattle.st_ubtree.proofs.node.join.mend.Goals as goal
 
 pub returns-in_default-clause-mends : goal.returns-in_default-clause-mends
 returns-in_default-clause-mends g c = λ below w.
     let kids = c.args.kids.now.items in
-    let left = c.min-left.result in
-    let m : left ≡ min c.args.at (length kids - 2) = c.min-left.ensures ∙ ap (λ n. min c.args.at (n - 2)) (c.len.ensures ∙ c.args.kids.now.ok.0) in
+    let left = c.pair_of-left.result in
+    let fits : left + 1 < length kids = subst (λ ks. left + 1 < length ks) c.as_slice.ensures.value c.pair_of-left.ensures.within in
     let low : c.index-kid.result.now.width < 16 = let a = c.if-width-ge16.false in omega (arith, a, c.width.ensures) in
     let rest = c.remove-right.new.self.items in
-    let q = paired below c.args.at left kids rest w c.index-kid.result.now c.index_mut-kid.result.now c.remove-right.result c.index-kid.ensures low c.requires.two m c.remove-right.ensures.items c.remove-right.ensures.value c.index_mut-kid.ensures.value in
-    mends_alone below left kids rest c.index_mut-kid.result.now c.remove-right.result c.join.new.self q c.in_default.ensures.joins
+    let kid = c.index_mut-kid.result.now in
+    let right = c.remove-right.result in
+    let q = paired below c.args.at left kids rest w c.index-kid.result.now kid right c.index-kid.ensures low fits c.pair_of-left.ensures.beside c.remove-right.ensures.items c.remove-right.ensures.value c.index_mut-kid.ensures.value in
+    mends_alone below left kids rest kid right c.join.new.self q c.in_default.ensures.joins
 
 pub returns-clause-mends : goal.returns-clause-mends
 returns-clause-mends g c = λ below w.
     let kids = c.args.kids.now.items in
-    let left = c.min-left.result in
-    let m : left ≡ min c.args.at (length kids - 2) = c.min-left.ensures ∙ ap (λ n. min c.args.at (n - 2)) (c.len.ensures ∙ c.args.kids.now.ok.0) in
+    let left = c.pair_of-left.result in
+    let fits : left + 1 < length kids = subst (λ ks. left + 1 < length ks) c.as_slice.ensures.value c.pair_of-left.ensures.within in
     let low : c.index-kid.result.now.width < 16 = let a = c.if-width-ge16.false in omega (arith, a, c.width.ensures) in
     let rest = c.remove-right.new.self.items in
-    let q = paired below c.args.at left kids rest w c.index-kid.result.now c.index_mut-kid.result.now c.remove-right.result c.index-kid.ensures low c.requires.two m c.remove-right.ensures.items c.remove-right.ensures.value c.index_mut-kid.ensures.value in
-    rw c.in-Ok.ensures.items (mends_both below left kids rest c.index_mut-kid.result.now c.remove-right.result c.join.new.self c.in-Some.right q c.in-Some.ensures.joins)
+    let kid = c.index_mut-kid.result.now in
+    let right = c.remove-right.result in
+    let q = paired below c.args.at left kids rest w c.index-kid.result.now kid right c.index-kid.ensures low fits c.pair_of-left.ensures.beside c.remove-right.ensures.items c.remove-right.ensures.value c.index_mut-kid.ensures.value in
+    rw c.in-Ok.ensures.items (mends_both below left kids rest kid right c.join.new.self c.in-Some.right q c.in-Some.ensures.joins)
 
 pub join-requires-clause-worn : goal.join-requires-clause-worn
 join-requires-clause-worn g c =
     let below = c.requires.worn.0 in
-    let w = c.requires.worn.1 in
     let kids = c.args.kids.now.items in
-    let left = c.min-left.result in
-    let m : left ≡ min c.args.at (length kids - 2) = c.min-left.ensures ∙ ap (λ n. min c.args.at (n - 2)) (c.len.ensures ∙ c.args.kids.now.ok.0) in
+    let left = c.pair_of-left.result in
+    let fits : left + 1 < length kids = subst (λ ks. left + 1 < length ks) c.as_slice.ensures.value c.pair_of-left.ensures.within in
     let low : c.index-kid.result.now.width < 16 = let a = c.if-width-ge16.false in omega (arith, a, c.width.ensures) in
     let rest = c.remove-right.new.self.items in
-    let q = paired below c.args.at left kids rest w c.index-kid.result.now c.index_mut-kid.result.now c.remove-right.result c.index-kid.ensures low c.requires.two m c.remove-right.ensures.items c.remove-right.ensures.value c.index_mut-kid.ensures.value in
-    (joins_worn below left kids rest c.index_mut-kid.result.now c.remove-right.result q).0
+    let kid = c.index_mut-kid.result.now in
+    let right = c.remove-right.result in
+    let q = paired below c.args.at left kids rest c.requires.worn.1 c.index-kid.result.now kid right c.index-kid.ensures low fits c.pair_of-left.ensures.beside c.remove-right.ensures.items c.remove-right.ensures.value c.index_mut-kid.ensures.value in
+    (joins_worn below left kids rest kid right q).0
 
 pub join-requires-clause-right : goal.join-requires-clause-right
 join-requires-clause-right g c =
     let below = c.requires.worn.0 in
-    let w = c.requires.worn.1 in
     let kids = c.args.kids.now.items in
-    let left = c.min-left.result in
-    let m : left ≡ min c.args.at (length kids - 2) = c.min-left.ensures ∙ ap (λ n. min c.args.at (n - 2)) (c.len.ensures ∙ c.args.kids.now.ok.0) in
+    let left = c.pair_of-left.result in
+    let fits : left + 1 < length kids = subst (λ ks. left + 1 < length ks) c.as_slice.ensures.value c.pair_of-left.ensures.within in
     let low : c.index-kid.result.now.width < 16 = let a = c.if-width-ge16.false in omega (arith, a, c.width.ensures) in
     let rest = c.remove-right.new.self.items in
-    let q = paired below c.args.at left kids rest w c.index-kid.result.now c.index_mut-kid.result.now c.remove-right.result c.index-kid.ensures low c.requires.two m c.remove-right.ensures.items c.remove-right.ensures.value c.index_mut-kid.ensures.value in
-    (joins_worn below left kids rest c.index_mut-kid.result.now c.remove-right.result q).1
+    let kid = c.index_mut-kid.result.now in
+    let right = c.remove-right.result in
+    let q = paired below c.args.at left kids rest c.requires.worn.1 c.index-kid.result.now kid right c.index-kid.ensures low fits c.pair_of-left.ensures.beside c.remove-right.ensures.items c.remove-right.ensures.value c.index_mut-kid.ensures.value in
+    (joins_worn below left kids rest kid right q).1
 
 pub join-requires-clause-both : goal.join-requires-clause-both
 join-requires-clause-both g c =
     let below = c.requires.worn.0 in
-    let w = c.requires.worn.1 in
     let kids = c.args.kids.now.items in
-    let left = c.min-left.result in
-    let m : left ≡ min c.args.at (length kids - 2) = c.min-left.ensures ∙ ap (λ n. min c.args.at (n - 2)) (c.len.ensures ∙ c.args.kids.now.ok.0) in
+    let left = c.pair_of-left.result in
+    let fits : left + 1 < length kids = subst (λ ks. left + 1 < length ks) c.as_slice.ensures.value c.pair_of-left.ensures.within in
     let low : c.index-kid.result.now.width < 16 = let a = c.if-width-ge16.false in omega (arith, a, c.width.ensures) in
     let rest = c.remove-right.new.self.items in
-    let q = paired below c.args.at left kids rest w c.index-kid.result.now c.index_mut-kid.result.now c.remove-right.result c.index-kid.ensures low c.requires.two m c.remove-right.ensures.items c.remove-right.ensures.value c.index_mut-kid.ensures.value in
-    (joins_worn below left kids rest c.index_mut-kid.result.now c.remove-right.result q).2
+    let kid = c.index_mut-kid.result.now in
+    let right = c.remove-right.result in
+    let q = paired below c.args.at left kids rest c.requires.worn.1 c.index-kid.result.now kid right c.index-kid.ensures low fits c.pair_of-left.ensures.beside c.remove-right.ensures.items c.remove-right.ensures.value c.index_mut-kid.ensures.value in
+    (joins_worn below left kids rest kid right q).2
 
 pub returns-then-width-ge16-clause-mends : goal.returns-then-width-ge16-clause-mends
 returns-then-width-ge16-clause-mends g c = λ below w.
@@ -73,50 +81,54 @@ returns-then-width-ge16-clause-mends g c = λ below w.
 
 pub returns-in_default-clause-marks : goal.returns-in_default-clause-marks
 returns-in_default-clause-marks g c = λ marked.
+    let below = c.requires.worn.0 in
     let kids = c.args.kids.now.items in
-    let left = c.min-left.result in
-    let m : left ≡ min c.args.at (length kids - 2) = c.min-left.ensures ∙ ap (λ n. min c.args.at (n - 2)) (c.len.ensures ∙ c.args.kids.now.ok.0) in
-    let two = c.requires.two in
-    let fits : left + 1 < length kids = omega (arith, m, two) in
+    let left = c.pair_of-left.result in
+    let fits : left + 1 < length kids = subst (λ ks. left + 1 < length ks) c.as_slice.ensures.value c.pair_of-left.ensures.within in
+    let low : c.index-kid.result.now.width < 16 = let a = c.if-width-ge16.false in omega (arith, a, c.width.ensures) in
     let rest = c.remove-right.new.self.items in
-    let kid = c.join.new.self in
-    let closes = subst (ClosesAt (left + 1) kids) (sym c.remove-right.ensures.items) (closes_remove kids (left + 1) fits) in
-    c.clear_page.ensures rest (set rest left kid) (differ_set rest left kid) (c.close.ensures kids rest closes marked)
+    let kid = c.index_mut-kid.result.now in
+    let right = c.remove-right.result in
+    let q = paired below c.args.at left kids rest c.requires.worn.1 c.index-kid.result.now kid right c.index-kid.ensures low fits c.pair_of-left.ensures.beside c.remove-right.ensures.items c.remove-right.ensures.value c.index_mut-kid.ensures.value in
+    let v = c.join.new.self in
+    let mid = set kids left v in
+    let there : left + 1 < length mid = let n = length-set kids left v in omega (arith, fits, n) in
+    let closes = subst (ClosesAt (left + 1) mid) (pair_closed below left kids rest kid right v q) (closes_remove mid (left + 1) there) in
+    c.close.ensures mid (set rest left v) closes (c.clear_page.ensures kids mid (differ_set kids left v) marked)
 
 pub returns-clause-marks : goal.returns-clause-marks
 returns-clause-marks g c = λ marked.
+    let below = c.requires.worn.0 in
     let kids = c.args.kids.now.items in
-    let left = c.min-left.result in
-    let m : left ≡ min c.args.at (length kids - 2) = c.min-left.ensures ∙ ap (λ n. min c.args.at (n - 2)) (c.len.ensures ∙ c.args.kids.now.ok.0) in
-    let two = c.requires.two in
-    let fits : left + 1 < length kids = omega (arith, m, two) in
+    let left = c.pair_of-left.result in
+    let fits : left + 1 < length kids = subst (λ ks. left + 1 < length ks) c.as_slice.ensures.value c.pair_of-left.ensures.within in
+    let low : c.index-kid.result.now.width < 16 = let a = c.if-width-ge16.false in omega (arith, a, c.width.ensures) in
     let rest = c.remove-right.new.self.items in
-    let kid = c.join.new.self in
-    let closes = subst (ClosesAt (left + 1) kids) (sym c.remove-right.ensures.items) (closes_remove kids (left + 1) fits) in
-    let fewer = length-remove kids (left + 1) fits in
-    let count = ap length c.remove-right.ensures.items in
-    let past : left + 1 ≤ length (set rest left kid) = let n = length-set rest left kid in omega (arith, fits, fewer, count, n) in
-    let opens = subst (OpensAt (left + 1) (set rest left kid)) (sym c.in-Ok.ensures.items) (opens_insert (set rest left kid) (left + 1) c.in-Some.right past) in
-    c.open.ensures (set rest left kid) c.insert.new.self.items opens (c.clear_page.ensures rest (set rest left kid) (differ_set rest left kid) (c.close.ensures kids rest closes marked))
+    let kid = c.index_mut-kid.result.now in
+    let right = c.remove-right.result in
+    let q = paired below c.args.at left kids rest c.requires.worn.1 c.index-kid.result.now kid right c.index-kid.ensures low fits c.pair_of-left.ensures.beside c.remove-right.ensures.items c.remove-right.ensures.value c.index_mut-kid.ensures.value in
+    let v = c.join.new.self in
+    let s = c.in-Some.right in
+    let mid = set kids left v in
+    let both = set mid (left + 1) s in
+    let one = c.clear_page.ensures kids mid (differ_set kids left v) marked in
+    let two = c.clear_page-2.ensures mid both (differ_set mid (left + 1) s) one in
+    subst (AreMarked c.shift.new.self) (pair_set below left kids rest kid right v s q ∙ sym c.in-Ok.ensures.items) (c.shift.ensures both two)
 
 pub returns-in_default-clause-firsts : goal.returns-in_default-clause-firsts
 returns-in_default-clause-firsts g c = λ h.
     let kids = c.args.kids.now.items in
-    let left = c.min-left.result in
-    let m : left ≡ min c.args.at (length kids - 2) = c.min-left.ensures ∙ ap (λ n. min c.args.at (n - 2)) (c.len.ensures ∙ c.args.kids.now.ok.0) in
-    let two = c.requires.two in
-    let fits : left + 1 < length kids = omega (arith, m, two) in
+    let left = c.pair_of-left.result in
+    let fits : left + 1 < length kids = subst (λ ks. left + 1 < length ks) c.as_slice.ensures.value c.pair_of-left.ensures.within in
     let firsts = subst (AreFirsts c.remove_at.new.self) (sym c.remove-right.ensures.items) (c.remove_at.ensures kids fits h) in
     firsts_set c.remove_at.new.self c.remove-right.new.self.items left c.index_mut-kid.result.now c.join.new.self c.index_mut-kid.ensures.value c.in_default.ensures.joins.first firsts
 
 pub returns-clause-firsts : goal.returns-clause-firsts
 returns-clause-firsts g c = λ h.
     let kids = c.args.kids.now.items in
-    let left = c.min-left.result in
-    let m : left ≡ min c.args.at (length kids - 2) = c.min-left.ensures ∙ ap (λ n. min c.args.at (n - 2)) (c.len.ensures ∙ c.args.kids.now.ok.0) in
-    let two = c.requires.two in
+    let left = c.pair_of-left.result in
+    let fits : left + 1 < length kids = subst (λ ks. left + 1 < length ks) c.as_slice.ensures.value c.pair_of-left.ensures.within in
     let most = c.requires.not_more in
-    let fits : left + 1 < length kids = omega (arith, m, two) in
     let rest = c.remove-right.new.self.items in
     let fewer = length-remove kids (left + 1) fits in
     let count = ap length c.remove-right.ensures.items in

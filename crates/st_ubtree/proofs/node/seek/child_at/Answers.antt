@@ -15,7 +15,7 @@ pub at-requires : goal.at-requires
 at-requires g c =
     let len = as_many c.args.firsts.now c.args.kids.now c.requires.firsts in
     let before = c.if-after-kids.true in
-    omega (arith, len, before, c.args.firsts.now.keys.ok.0)
+    omega (arith, len, before)
 
 pub returns-clause-part : goal.returns-clause-part
 returns-clause-part g c = λ below each.

@@ -1,5 +1,5 @@
 use Rattle.std.proofs.Common.{◌≡◌, ◌+◌, ◌<◌, ◌≤◌, length, sym, subst, ◌∙◌, arith}
-use Rattle.std.proofs.lemmas.Bool.{ltb-false}
+use Rattle.std.proofs.lemmas.Bool.{ltb-false, ltb-true}
 use Rattle.st_key.specs.Key.{rank}
 use Rattle.st_index.specs.Fields.{CanAdd}
 use Rattle.st_index.specs.Index.{rows_from}
@@ -56,3 +56,6 @@ returns-clause-within g c =
     let end : rank c.last.result + 1 ≡ key_end p = c.last.ensures.rank in
     let part : IsPartIn (rank c.args.key) c.self.inside.root.pages (rank c.last.result) node.first (rank c.lowest_at.result.1) node.pages = c.lowest_at.ensures in
     rw (← c.self.view_is) (part_within p (rank c.args.key) (rank c.last.result) node.first (rank c.lowest_at.result.1) c.self.inside.root.pages node.pages part c.self.invariant.spans end)
+
+pub returns-then-is_before-clause-before : goal.returns-then-is_before-clause-before
+returns-then-is_before-clause-before g c = let early = ltb-true (rank c.first-first.result) (rank c.args.from) (sym c.is_before.ensures ∙ c.if-is_before.true) in omega (arith, early)

@@ -1,7 +1,10 @@
-use Rattle.std.proofs.Common.{sym, ap, ◌∙◌}
-use Rattle.st_key.specs.Key.{rank}
-use Rattle.st_ubtree.proofs.Firsts.{read_first}
+use Rattle.std.proofs.Common.{sym, ap, get_or, ◌∙◌}
+use Rattle.st_ubtree.proofs.Firsts.{number, read_first}
 use Rattle.st_ubtree.proofs.node.firsts.Firsts.at.Goals as goal
 
 pub returns : goal.returns
-returns g c = λ kids v h at. ap rank c.index-first.ensures ∙ read_first c.args.self.now kids c.args.at c.index-first.result.now v h at.0 ∙ sym (ap (λ w. w.first) at.1)
+returns g c = λ kids v h at.
+    let first = c.index-as_slice-at.result in
+    ap (λ keys. number (get_or keys c.args.at first)) c.as_slice.ensures.value
+    ∙ read_first c.args.self.now kids c.args.at first v h at.0
+    ∙ sym (ap (λ w. w.first) at.1)

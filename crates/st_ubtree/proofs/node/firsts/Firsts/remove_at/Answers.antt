@@ -2,4 +2,4 @@ use Rattle.st_ubtree.proofs.Firsts.{firsts_close}
 use Rattle.st_ubtree.proofs.node.firsts.Firsts.remove_at.Goals as goal
 
 pub returns : goal.returns
-returns g c = λ kids l h. firsts_close c.args.self.now (record { keys = c.remove-first.new.self }) kids c.args.at c.remove-first.ensures.items c.remove-first.ensures.capacity h
+returns g c = λ kids l h. firsts_close c.args.self.now.keys.items c.remove-first.new.self.items kids c.args.at h c.remove-first.ensures.items
