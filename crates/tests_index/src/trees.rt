@@ -112,14 +112,14 @@ fn growths_of_each(heap: &Refusing<Global>) -> Option<[u64; 65]> {
 }
 
 // A row at a key of its own takes no growth but where its page is full: the 33rd row splits the only page, and puts a
-// node over the halves, which takes a list for its nodes, one for its children, one for their labels' counts, one for their
-// first keys, two for their labels and marks, a block for these three, and a list for the marks that stay where the node splits
-// another; for the 49th, which evens both pages, a page is prepared too; the 57th splits the last page.
+// node over the halves, which takes a list for its nodes, one for its children, one for their labels' counts, two for their
+// labels and marks, a block for these two and the first keys, and a list for the marks that stay where the node splits another;
+// for the 49th, which evens both pages, a page is prepared too; the 57th splits the last page.
 #[test]
 fn each_growth_refused(rt: HostRuntime) {
     let heap = Refusing::new(rt.alloc());
     let mut wanted = [0; 65];
-    wanted[32] = 9;
+    wanted[32] = 8;
     wanted[48] = 1;
     wanted[56] = 1;
     assert!(rt; growths_of_each(&heap) == Some(wanted));
