@@ -1,20 +1,20 @@
 //! Labels, each with the number of rows under it.
-ghost use Rattle.std.specs.Prelude.{◌≡◌, ◌↔◌, ◌+◌, ◌<◌, ◌≤◌, ◌^◌, [], Bool, IfSome, IsTrue, cond, length, slice_index_or};
+ghost use Rattle.std.specs.Prelude.{◌≡◌, ◌↔◌, ◌+◌, ◌<◌, ◌^◌, [], Bool, IfSome, IsTrue, cond};
 ghost use Rattle.st_text.specs.Texts.{Text};
-ghost use Rattle.st_ubtree.specs.declared.label_counts.LabelCount.{LabelCount as LabelCountValue};
 ghost use Rattle.st_index.specs.Rows.{rows_of};
 ghost use Rattle.st_ubtree.specs.inner.Sums.{CountsLess, CountsMore, found, labelled, total};
 
+use crate::label_places::{find, find_spare, place_of};
 use st_index::{Entry, Judge, Row, RowsView};
 use st_label::Label;
-use st_text::{MAX_SHORT, ShortText};
+use st_text::MAX_SHORT;
 use std::alloc::{Allocator, Global};
 
 /// A label, and the number of rows under it.
 #[derive(Drop)]
 pub struct LabelCount<A: Allocator = Global> {
-    label: Label<A>,
-    rows: u64,
+    pub(crate) label: Label<A>,
+    pub(crate) rows: u64,
 }
 
 /// Whether two labels are equal.
@@ -22,94 +22,6 @@ pub fn is_same<A: Allocator + Copy>(one: &Label<A>, other: &Label<A>) -> bool
     ensures { IsTrue result ↔ (one.now ≡ other.now) }
 {
     one.is_same(other)
-}
-
-fn find<A: Allocator + Copy>(counts: &[LabelCount<A>], label: &Label<A>) -> Option<usize>
-    ensures { IfSome result (λ at. (at < length counts.now)
-        × ((c : LabelCountValue A) × (c ≡ slice_index_or counts.now at c) × (c.label ≡ label.now))) }
-{
-    match label.as_short() {
-        Some(short) => find_short(counts, short),
-        None => None,
-    }
-}
-
-/// Whether a label is this short text.
-pub fn is_short<A: Allocator + Copy>(label: &Label<A>, short: &ShortText) -> bool
-    ensures { IsTrue result → label.now ≡ short.now }
-{
-    match label.as_short() {
-        Some(own) => own.is_same(short),
-        None => false,
-    }
-}
-
-// Where a search for a short text begins among so many labels: at a place that depends on its bytes.
-fn place_of(short: &ShortText, len: usize) -> usize
-    ensures { result ≤ len }
-{
-    ((short.mixed() >> 60) as usize).min(len)
-}
-
-// The index of a label that is this short text, from one index to another.
-fn find_between<A: Allocator + Copy>(
-    counts: &[LabelCount<A>],
-    short: &ShortText,
-    from: usize,
-    to: usize,
-) -> Option<usize>
-    requires { to ≤ length counts.now }
-    ensures { IfSome result (λ at. (at < length counts.now)
-        × ((c : LabelCountValue A) × (c ≡ slice_index_or counts.now at c) × (c.label ≡ short.now))) }
-{
-    for at in from..to {
-        if is_short(&counts[at].label, short) {
-            return Some(at);
-        }
-    }
-    None
-}
-
-// The index of a label that is this short text. It is likely to be at its place, or right behind it.
-fn find_short<A: Allocator + Copy>(counts: &[LabelCount<A>], short: &ShortText) -> Option<usize>
-    ensures { IfSome result (λ at. (at < length counts.now)
-        × ((c : LabelCountValue A) × (c ≡ slice_index_or counts.now at c) × (c.label ≡ short.now))) }
-{
-    let place = place_of(short, counts.len());
-    if let Some(at) = find_between(counts, short, place, counts.len()) {
-        return Some(at);
-    }
-    find_between(counts, short, 0, place)
-}
-
-// The index of a label under which there is no row, from one index to another.
-fn spare_between<A: Allocator + Copy>(
-    counts: &[LabelCount<A>],
-    from: usize,
-    to: usize,
-) -> Option<usize>
-    requires { to ≤ length counts.now }
-    ensures { IfSome result (λ at. (at < length counts.now)
-        × ((c : LabelCountValue A) × (c ≡ slice_index_or counts.now at c) × (c.rows ≡ 0))) }
-{
-    for at in from..to {
-        if counts[at].rows == 0 {
-            return Some(at);
-        }
-    }
-    None
-}
-
-// The index of a label under which there is no row, the first one from a place on.
-fn find_spare<A: Allocator + Copy>(counts: &[LabelCount<A>], place: usize) -> Option<usize>
-    requires { place ≤ length counts.now }
-    ensures { IfSome result (λ at. (at < length counts.now)
-        × ((c : LabelCountValue A) × (c ≡ slice_index_or counts.now at c) × (c.rows ≡ 0))) }
-{
-    if let Some(at) = spare_between(counts, place, counts.len()) {
-        return Some(at);
-    }
-    spare_between(counts, 0, place)
 }
 
 // The label with a number of rows, if it is as short as takes no memory.

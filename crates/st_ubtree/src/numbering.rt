@@ -2,7 +2,8 @@
 ghost use Rattle.std.specs.Prelude.{◌<◌, IfSome, IsTrue};
 ghost use Rattle.st_ubtree.specs.inner.Marks.{HasAt, Keeps};
 
-use crate::label_counts::{is_same, is_short};
+use crate::label_counts::is_same;
+use crate::label_places::is_short;
 use st_label::Label;
 use st_text::{MAX_SHORT, ShortText};
 use std::alloc::Allocator;
@@ -22,6 +23,7 @@ const STEPS: usize = 4;
 /// Stands for the number of a label that has none.
 pub const NO_NUMBER: u16 = u16::MAX - 1;
 
+// The index of a label that is equal to this one.
 fn find<A: Allocator + Copy>(labels: &[Label<A>], label: &Label<A>) -> Option<usize>
     ensures { IfSome result (λ at. HasAt labels.now at label.now) }
 {
