@@ -1,12 +1,16 @@
-use Rattle.std.proofs.Common.{◌<◌, ◌≤◌, length, sym, subst, ◌∙◌, arith, Bor}
+use Rattle.std.proofs.Common.{◌≡◌, ℕ, ◌+◌, ◌<◌, ◌≤◌, get_or, length, refl, sym, subst, ◌∙◌, arith, Bor}
 use Rattle.st_index.specs.Fields.{Counts}
 use Rattle.st_index.specs.Rows.{EntryValue}
 use Rattle.st_index.proofs.Tallying.{far_all, far_fits, far_next}
 use Rattle.st_ubtree.specs.declared.marks.Marks.{Marks}
 use Rattle.st_ubtree.specs.inner.Marks.{AreMarks}
+use Rattle.st_ubtree.specs.inner.Spots.{IsBoxOf}
 use Rattle.st_ubtree.proofs.Placing.{there_is}
 use Rattle.st_ubtree.proofs.Tallied.{known_by}
 use Rattle.st_ubtree.proofs.field_marked.count_marked.Goals as goal
+
+plus_zero : (n : ℕ) → n ≡ n + 0
+plus_zero n = omega arith
 
 pub count_at-requires-clause-marked : goal.count_at-requires-clause-marked
 count_at-requires-clause-marked g c =
@@ -44,3 +48,9 @@ returns-clause-counts g c =
     let over : length c.args.entries.now ≤ c.loop-at.at = omega (arith, c.loop-at-test.false, c.loop-at.auto.at-end) in
     far_all (g.F.Fields.query c.args.fields.now) (g.J.Judge.judges c.args.judge.now) (g.F.Fields.field_of c.args.fields.now) (λ (e : EntryValue g.row.A.Denot). e.rows) c.args.entries.now c.loop-at.at c.args.counts.now c.loop-at.counts
     c.loop-at.invariant.far over
+
+pub count_at-requires-clause-bounds : goal.count_at-requires-clause-bounds
+count_at-requires-clause-bounds g c = subst (λ q. IsBoxOf q c.args.marks.now.week c.new-bounds.result) c.query.ensures c.new-bounds.ensures
+
+pub loop-at-init : goal.loop-at-init
+loop-at-init g c = record { far = λ field. plus_zero (get_or c.args.counts.now field 0); marks = refl; known = c.requires.known; same = refl }

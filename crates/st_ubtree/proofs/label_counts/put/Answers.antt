@@ -18,3 +18,6 @@ returns g c = λ yes judges.
     let more : c.in-Some-checked_add.more ≡ kid.rows + c.args.rows = omega (arith, is) in
     let sum = put_there judges counts i kid new low c.index_mut-count.ensures.value c.args.rows refl more in
     subst (λ l. total judges (set counts i new) ≡ total judges counts + cond (judges l) c.args.rows 0) label sum
+
+pub returns-in_default : goal.returns-in_default
+returns-in_default g c = c.put_new.ensures

@@ -17,3 +17,6 @@ returns g c = λ old closes are _.
     marks_closed labels old entries p q at closes (λ i. p.week)
     (closes_copied p.numbers q.numbers at (length entries) there (omega (arith, few, numbers)) c.copy_within.ensures.len c.copy_within.ensures.by_index.0 c.copy_within.ensures.by_index.1)
     (closes_copied p.spots q.spots at (length entries) there (omega (arith, few, spots)) c.copy_within-2.ensures.len c.copy_within-2.ensures.by_index.0 c.copy_within-2.ensures.by_index.1) are
+
+pub returns-then-at-count : goal.returns-then-at-count
+returns-then-at-count g c = λ old closes marks known. absurd (cc known)

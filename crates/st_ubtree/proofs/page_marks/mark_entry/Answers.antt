@@ -1,8 +1,8 @@
-use Rattle.std.proofs.Common.{◌≡◌, ◌<◌, length, sym, ap, subst, ◌∙◌, arith, rules}
+use Rattle.std.proofs.Common.{◌≡◌, ◌<◌, length, refl, sym, ap, subst, ◌∙◌, arith, rules}
 use Rattle.st_index.specs.RowViews.{row_of_view, viewed}
 use Rattle.st_ubtree.specs.inner.Marks.{HasAt}
 use Rattle.st_ubtree.specs.inner.Spots.{IsSpotOf}
-use Rattle.st_ubtree.proofs.Placing.{at_changed}
+use Rattle.st_ubtree.proofs.Placing.{at_changed, at_other}
 use Rattle.st_ubtree.proofs.page_marks.mark_entry.Goals as goal
 
 pub returns-clause-mark : goal.returns-clause-mark
@@ -19,3 +19,6 @@ returns-clause-mark g c = λ number spot a b few.
           (subst (IsSpotOf page.week c.in-Some.spot) c.point.ensures c.in-Some.ensures),
       λ low. subst (λ m. HasAt c.number_of.new.labels.items m row.label) (sym same) (subst (λ l. HasAt c.number_of.new.labels.items c.number_of.result l) c.label.ensures (c.number_of.ensures.number (subst (λ m. m < 512) same low))),
     )
+
+pub returns-2-clause-others : goal.returns-2-clause-others
+returns-2-clause-others g c = (λ i x ne h. at_other c.args.page.now.numbers c.args.at i 65535 x ne h, λ i x ne h. h, refl)

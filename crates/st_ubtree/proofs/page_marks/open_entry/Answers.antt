@@ -19,3 +19,6 @@ returns-clause-marks g c = λ old opens are _.
     (opens_copied p.spots q.spots at (length entries) there (omega (arith, few, spots)) c.copy_within-2.ensures.len c.copy_within-2.ensures.by_index.0 c.copy_within-2.ensures.by_index.1) are in
     marks_whole labels c.mark_entry.new.labels.items entries q c.mark_entry.new.page at c.index-entries-at.result c.mark_entry.ensures.keeps
     (there, c.index-entries-at.is) c.mark_entry.ensures.mark c.mark_entry.ensures.others moved
+
+pub returns-then-at-count-clause-marks : goal.returns-then-at-count-clause-marks
+returns-then-at-count-clause-marks g c = λ old opens marks known. absurd (cc known)

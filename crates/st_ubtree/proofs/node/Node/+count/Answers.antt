@@ -65,7 +65,7 @@ count-sum-requires g t c κs within =
     let fewer = fewer_in_kid xs i kid below c.kid-item.is in
     let same = ap length all in
     let few : length (rows_of_pages kid.pages) < 18446744073709551616 = let r = c.requires in omega (arith, fewer, same, r) in
-    (search (rules, lower), (search (rules, within), (search (rules, within), few)))
+    (search (rules, lower), (within.0, (within.1, few)))
 
 pub overflow_add-sum : goal.overflow_add-sum
 overflow_add-sum g t c =

@@ -1,9 +1,10 @@
 use Rattle.std.proofs.Common.{◌≡◌, ℕ, ◌+◌, ◌<◌, List, IsTrue, cond, nat_eq, get_or, length, refl, sym, ap, subst, ◌∙◌, arith, rules, vec_capacity}
+use Rattle.std.proofs.lemmas.List.Sums.{count_by-le-length}
 use Rattle.std.specs.List.{All, flat_map}
 use Rattle.st_key.specs.Key.{rank}
 use Rattle.st_box.specs.Query.{is_inside}
 use Rattle.st_index.specs.declared.row.Row.{Row}
-use Rattle.st_index.specs.Counting.{count_of}
+use Rattle.st_index.specs.Counting.{count_of, is_counted}
 use Rattle.st_index.specs.Fields.{CanAdd, Counts}
 use Rattle.st_index.specs.Rows.{rows_of}
 use Rattle.st_index.proofs.Tallying.{counts_in_one, counts_none, far_all, far_fits, far_next}
@@ -136,4 +137,10 @@ count_fields-requires g t c κs within =
     far_fits q (g.J.Judge.judges c.args.judge.now) field_of (λ (v : NodeValue g.row.A.Denot). rows_of_pages v.pages) xs i kid c.args.counts.now c.loop-kid.counts
     c.loop-kid.invariant.far below c.kid-item.is (subst (λ (rs : List (Row g.row.A.Denot)). CanAdd (length rs) c.args.counts.now) all c.requires.fits) in
     let long : length c.loop-kid.counts ≡ g.F.Fields.count c.args.fields.now = c.loop-kid.auto.counts ∙ c.requires.long in
-    (search (rules, lower), (search (rules, within), (search (rules, within), (search (rules, within), (long, fits)))))
+    (search (rules, lower), (within.0, (within.1.0, (within.1.1, (long, fits)))))
+
+pub add-requires-clause-fits : goal.add-requires-clause-fits
+add-requires-clause-fits g t c =
+    let can = c.requires.fits c.in-Some.field in
+    let most = count_by-le-length (is_counted c.query-query.result.now (g.J.Judge.judges c.args.judge.now)) (rows_of_pages c.args.self.now.pages) in
+    omega (arith, can, most, c.count-rows.ensures.count)

@@ -25,7 +25,7 @@ even-requires g t c κs within =
     let is = that_kid good.below kids i kid chosen.within c.index_mut-kid.ensures.value good.each in
     let tall : c.args.self.now.height ≡ c.self.inside.height = ap (λ (v : NodeValue g.row.A.Denot). v.height) (sym c.self.view_is) in
     let lower = lower_kid kid.height good.below c.self.inside.height c.args.self.now.height is.same_height good.higher tall in
-    (search (rules, lower), search (rules, within))
+    (search (rules, lower), within)
 
 pub even_at-requires-clause-pages : goal.even_at-requires-clause-pages
 even_at-requires-clause-pages g t c =

@@ -63,7 +63,7 @@ insert-requires g t c κs within =
     let enough = fewer_split (splits kid (rank c.args.key)) _ _ (vec_len c.args.inners.now + 1) less (same ∙ some) c.requires.enough in
     let lower = lower_kid kid.height good.below c.self.inside.height c.args.self.now.height low good.higher tall in
     let page = λ (s : 1 ≤ splits kid (rank c.args.key)). c.requires.page (some_split (splits kid (rank c.args.key)) _ _ less (same ∙ some) s) in
-    (search (rules, lower), (search (rules, within), (c.requires.key, (room, (kid_around (rank c.args.key) good.below kids i chosen.upto kid good.each chosen.found chosen.is l read o, (page, (c.requires.blank, enough)))))))
+    (search (rules, lower), (within, (c.requires.key, (room, (kid_around (rank c.args.key) good.below kids i chosen.upto kid good.each chosen.found chosen.is l read o, (page, (c.requires.blank, enough)))))))
 
 pub invariant_of-self-in_default : goal.invariant_of-self-in_default
 invariant_of-self-in_default g t c =
@@ -397,3 +397,10 @@ returns-clause-change g t c = none_so c.settle-split.result (λ low.
 
 pub put_in_page-split-requires-clause-key : goal.put_in_page-split-requires-clause-key
 put_in_page-split-requires-clause-key g t c = c.requires.key
+
+pub returns-in_default-clause-change : goal.returns-in_default-clause-change
+returns-in_default-clause-change g t c = λ low.
+    let good : IsInnerNode (rank c.self.inside.first) c.self.inside.height c.in-Inner.kids.items (vec_capacity c.in-Inner.kids) = subst (IsNode (rank c.self.inside.first) c.self.inside.height) c.in-Inner.is c.self.invariant.0 in
+    let tall : c.args.self.now.height ≡ c.self.inside.height = ap (λ (v : NodeValue g.row.A.Denot). v.height) (sym c.self.view_is) in
+    let higher = good.higher in
+    absurd (omega (arith, low, tall, higher))

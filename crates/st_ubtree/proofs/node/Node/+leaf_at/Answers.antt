@@ -1,4 +1,4 @@
-use Rattle.std.proofs.Common.{◌≡◌, [], ◌∷◌, subst, sym, ap, refl, ◌∙◌, rules, vec_capacity}
+use Rattle.std.proofs.Common.{◌≡◌, [], ◌∷◌, subst, sym, ap, refl, ◌∙◌, arith, length, rules, vec_capacity}
 use Rattle.std.specs.List.{All}
 use Rattle.st_key.specs.Key.{rank}
 use Rattle.st_ubtree.specs.Pages.{NodeValue}
@@ -17,7 +17,7 @@ leaf_at-requires g t c κs within =
     let each : All (IsKid good.below) c.as_slice-in-Inner.result.now = subst (All (IsKid good.below)) (sym c.as_slice-in-Inner.ensures.value) good.each in
     let tall : c.args.self.now.height ≡ c.self.inside.height = ap (λ (v : NodeValue g.row.A.Denot). v.height) (sym c.self.view_is) in
     let lower = lower_kid kid.height good.below c.self.inside.height c.args.self.now.height (c.child_at.ensures.lower good.below each) good.higher tall in
-    (search (rules, lower), search (rules, within))
+    (search (rules, lower), within)
 
 pub returns-in-Page : goal.returns-in-Page
 returns-in-Page g t c =
@@ -35,3 +35,10 @@ returns-in-Inner g t c =
     let leaf = page (rank c.leaf_at.result.first) c.leaf_at.result.entries.now ∷ [] in
     rw pages (part_of_part (rank c.args.key) (rank c.args.last) kid.first (rank c.child_at.result.1) (rank c.leaf_at.result.first) (rank c.leaf_at.result.last) (pages_of xs) kid.pages leaf
     (c.child_at.ensures.part good.below each) c.leaf_at.ensures)
+
+pub child_at-requires-clause-some : goal.child_at-requires-clause-some
+child_at-requires-clause-some g t c =
+    let good : IsInnerNode (rank c.self.inside.first) c.self.inside.height c.in-Inner.kids.items (vec_capacity c.in-Inner.kids) = subst (IsNode (rank c.self.inside.first) c.self.inside.height) c.in-Inner.is c.self.invariant.0 in
+    let some = good.not_less in
+    let same = ap length c.as_slice-in-Inner.ensures.value in
+    omega (arith, some, same)

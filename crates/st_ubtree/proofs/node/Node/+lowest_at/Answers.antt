@@ -1,4 +1,4 @@
-use Rattle.std.proofs.Common.{◌≡◌, subst, sym, ap, ◌∙◌, rules, vec_capacity}
+use Rattle.std.proofs.Common.{◌≡◌, subst, sym, ap, ◌∙◌, arith, length, rules, vec_capacity}
 use Rattle.std.specs.List.{All}
 use Rattle.st_key.specs.Key.{rank}
 use Rattle.st_ubtree.specs.Pages.{NodeValue}
@@ -16,7 +16,7 @@ lowest_at-requires g t c κs within =
     let each : All (IsKid good.below) c.as_slice.result.now = subst (All (IsKid good.below)) (sym c.as_slice.ensures.value) good.each in
     let tall : c.args.self.now.height ≡ c.self.inside.height = ap (λ (v : NodeValue g.row.A.Denot). v.height) (sym c.self.view_is) in
     let lower = lower_kid kid.height good.below c.self.inside.height c.args.self.now.height (c.child_at.ensures.lower good.below each) good.higher tall in
-    (search (rules, lower), search (rules, within))
+    (search (rules, lower), within)
 
 pub returns-in-Inner : goal.returns-in-Inner
 returns-in-Inner g t c =
@@ -34,3 +34,10 @@ pub returns-in_default : goal.returns-in_default
 returns-in_default g t c =
     let starts : StartsAt c.args.self.now.first c.args.self.now.pages = subst (λ (v : NodeValue g.row.A.Denot). StartsAt v.first v.pages) c.self.view_is (node_starts (rank c.self.inside.first) c.self.inside.height c.self.inside.kids c.self.invariant.0) in
     part_all (rank c.args.key) (rank c.args.last) c.args.self.now.first c.args.self.now.pages starts
+
+pub child_at-requires-clause-some : goal.child_at-requires-clause-some
+child_at-requires-clause-some g t c =
+    let good : IsInnerNode (rank c.self.inside.first) c.self.inside.height c.in-Inner.kids.items (vec_capacity c.in-Inner.kids) = subst (IsNode (rank c.self.inside.first) c.self.inside.height) c.in-Inner.is c.self.invariant.0 in
+    let some = good.not_less in
+    let same = ap length c.as_slice.ensures.value in
+    omega (arith, some, same)

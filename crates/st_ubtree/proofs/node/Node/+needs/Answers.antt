@@ -29,7 +29,7 @@ needs-needs-requires g t c κs within =
     let low : kid.height ≡ good.below = (that_kid good.below kids i kid l read good.each).same_height in
     let o = subst (AreAround (rank c.args.key)) pages c.requires in
     let lower = lower_kid kid.height good.below c.self.inside.height c.args.self.now.height low good.higher tall in
-    (search (rules, lower), (search (rules, within), kid_around (rank c.args.key) good.below kids i chosen.upto kid good.each chosen.found chosen.is l read o))
+    (search (rules, lower), (within, kid_around (rank c.args.key) good.below kids i chosen.upto kid good.each chosen.found chosen.is l read o))
 
 pub count_node-requires : goal.count_node-requires
 count_node-requires g t c =

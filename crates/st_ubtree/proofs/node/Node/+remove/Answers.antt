@@ -179,7 +179,7 @@ remove-requires g t c κs within =
     let is = that_kid good.below kids i kid l read good.each in
     let tall : c.args.self.now.height ≡ c.self.inside.height = ap (λ (v : NodeValue g.row.A.Denot). v.height) (sym c.self.view_is) in
     let lower = lower_kid kid.height good.below c.self.inside.height c.args.self.now.height is.same_height good.higher tall in
-    (search (rules, lower), (search (rules, within), λ tall. let wide = is.not_less in omega (arith, wide)))
+    (search (rules, lower), (within, λ tall. let wide = is.not_less in omega (arith, wide)))
 
 pub returns-in_err-row-in-Inner-clause-none : goal.returns-in_err-row-in-Inner-clause-none
 returns-in_err-row-in-Inner-clause-none g t c =

@@ -188,7 +188,7 @@ replace-out-requires g t c κs within =
     let is = that_kid good.below kids i kid l c.index_mut-kid.ensures.value good.each in
     let tall : c.args.self.now.height ≡ c.self.inside.height = ap (λ (v : NodeValue g.row.A.Denot). v.height) (sym c.self.view_is) in
     let lower = lower_kid kid.height good.below c.self.inside.height c.args.self.now.height is.same_height good.higher tall in
-    search (rules, lower, within)
+    (search (rules, lower), (within, c.requires))
 
 pub returns-in-Page-clause-change : goal.returns-in-Page-clause-change
 returns-in-Page-clause-change g t c =

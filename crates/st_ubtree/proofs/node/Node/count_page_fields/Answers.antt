@@ -1,16 +1,18 @@
 use Rattle.std.proofs.Common.{◌≡◌, ℕ, ◌+◌, List, IsTrue, cond, nat_eq, get_or, length, refl, sym, ap, subst, ◌∙◌, arith}
 use Rattle.std.proofs.lemmas.List.{append-nil}
+use Rattle.std.proofs.lemmas.List.Sums.{count_by-le-length}
 use Rattle.std.specs.List.{All}
 use Rattle.st_key.specs.Key.{rank}
 use Rattle.st_box.specs.Query.{is_inside}
 use Rattle.st_index.specs.declared.row.Row.{Row}
-use Rattle.st_index.specs.Counting.{count_of}
+use Rattle.st_index.specs.Counting.{count_of, is_counted}
 use Rattle.st_index.specs.Fields.{CanAdd}
 use Rattle.st_index.specs.Rows.{rows_of}
 use Rattle.st_index.proofs.Tallying.{counts_in_one, counts_none}
 use Rattle.st_ubtree.specs.Pages.{NodeValue, rows_of_pages, entries_of_pages}
 use Rattle.st_ubtree.specs.inner.Marks.{AreMarks}
-use Rattle.st_ubtree.specs.inner.Nodes.{pages_under, rows_under}
+use Rattle.st_ubtree.specs.inner.Nodes.{pages_under, rows_under, width_of}
+use Rattle.st_ubtree.proofs.Counting.{node_fits}
 use Rattle.st_ubtree.proofs.Fielding.{all_in_one, counts_by}
 use Rattle.st_ubtree.proofs.Keeping.{rows_are}
 use Rattle.st_ubtree.proofs.node.Node.count_page_fields.Goals as goal
@@ -78,3 +80,16 @@ returns-2-clause-counts g c =
     let field_of = g.F.Fields.field_of c.args.fields.now in
     counts_by q field_of c.args.counts.now c.count_marked.new.counts judges judges (rows_of c.as_slice-entries.result.now) (rows_of_pages c.args.self.now.pages) refl
     (sym (rows ∙ ap rows_under c.in-Page.is ∙ ap rows_of (sym c.as_slice-entries.ensures.value))) c.count_marked.ensures.counts
+
+pub count_marked-requires-clause-not_more : goal.count_marked-requires-clause-not_more
+count_marked-requires-clause-not_more g c =
+    let fits = node_fits (rank c.self.inside.first) c.self.inside.height c.self.inside.kids c.self.invariant.0 in
+    let same = ap width_of c.in-Page.is in
+    let here = ap length c.as_slice-entries.ensures.value in
+    omega (arith, fits, same, here)
+
+pub add-requires-clause-fits : goal.add-requires-clause-fits
+add-requires-clause-fits g c =
+    let can = c.requires.fits c.in-Some.field in
+    let most = count_by-le-length (is_counted c.query-query.result.now (g.J.Judge.judges c.args.judge.now)) (rows_of_pages c.args.self.now.pages) in
+    omega (arith, can, most, c.count_page-rows.ensures.count)

@@ -1,12 +1,17 @@
-use Rattle.std.proofs.Common.{◌≡◌, ◌∷◌, [], sym, ap, subst, ◌∙◌, vec_capacity, length, Some}
+use Rattle.std.proofs.Common.{◌≡◌, ◌∷◌, [], sym, ap, subst, ◌∙◌, vec_capacity, length, Some, arith, ◌+◌, ◌≤◌, ℕ, Vec, vec_len}
 use Rattle.st_key.specs.Key.{rank}
 use Rattle.st_ubtree.specs.Pages.{NodeValue, page_node}
-use Rattle.st_ubtree.specs.inner.Nodes.{IsNode, IsPageNode, node_value, pages_under}
+use Rattle.st_ubtree.specs.inner.Nodes.{IsInnerNode, IsNode, IsPageNode, node_value, pages_under, width_of}
 use Rattle.st_ubtree.specs.inner.Shrinking.{Joins}
 use Rattle.st_ubtree.proofs.Joining.{join_of_pages}
 use Rattle.st_ubtree.proofs.Needing.{page_short, splits_alone}
 use Rattle.st_ubtree.proofs.Splitting.{page}
 use Rattle.st_ubtree.proofs.node.Node.halve.Goals as goal
+use Rattle.st_ubtree.proofs.node.Node.halve.Goals.{in_default-via-in-Page+in_default, in_default-via-in_default}
+
+held_full : {X Z : Type 0} (v w : Vec X Z) (one two : ℕ) → one ≡ length v.items → two ≡ length w.items → 16 ≤ one → 16 ≤ two → one + two ≤ 62
+    → (32 ≤ vec_len v + vec_len w) × (vec_len v + vec_len w ≤ 62)
+held_full v w one two is other least also both = (omega (arith, v.ok.0, w.ok.0, is, other, least, also), omega (arith, v.ok.0, w.ok.0, is, other, both))
 
 pub returns-clause-joins : goal.returns-clause-joins
 returns-clause-joins g c =
@@ -27,3 +32,42 @@ pub returns-clause-left : goal.returns-clause-left
 returns-clause-left g c = λ key.
     let new = c.halve_pages-right.new.left.items in
     splits_alone key (rank c.self.inside.first) c.self.inside.height new ∙ page_short key new c.halve_pages-right.ensures.left
+
+pub unreachable-requires : goal.unreachable-requires
+unreachable-requires g c =
+    elim c.in_default.branch [
+      | in_default-via-in-Page+in_default w ↦
+          let good : IsInnerNode (rank c.right.inside.first) c.right.inside.height w.in_default.field-0-1.items (vec_capacity w.in_default.field-0-1) = subst (IsNode (rank c.right.inside.first) c.right.inside.height) w.in_default.is-1 c.right.invariant.0 in
+          let height = ap (λ (v : NodeValue g.row.A.Denot). v.height) c.right.view_is ∙ c.requires.right.same_height in
+          let higher = good.higher in
+          omega (arith, height, higher)
+      | in_default-via-in_default w ↦
+          let good : IsInnerNode (rank c.self.inside.first) c.self.inside.height w.in_default.field-0-0.items (vec_capacity w.in_default.field-0-0) = subst (IsNode (rank c.self.inside.first) c.self.inside.height) w.in_default.is-0 c.self.invariant.0 in
+          let height = ap (λ (v : NodeValue g.row.A.Denot). v.height) c.self.view_is ∙ c.requires.left.same_height in
+          let higher = good.higher in
+          omega (arith, height, higher)
+    ]
+
+pub invariant_of-self : goal.invariant_of-self
+invariant_of-self g c =
+    let good : IsPageNode c.self.inside.height (length c.in-Page-Page.left.items) (vec_capacity c.in-Page-Page.left) = subst (IsNode (rank c.self.inside.first) c.self.inside.height) c.in-Page-Page.is-0 c.self.invariant.0 in
+    (record { lowest = good.lowest; not_more = c.halve_pages-right.ensures.joins.not_more; room = c.halve_pages-right.ensures.room }, c.renew.ensures, tt, tt)
+
+pub halve_pages-right-requires-clause-right_room : goal.halve_pages-right-requires-clause-right_room
+halve_pages-right-requires-clause-right_room g c =
+    let good : IsPageNode c.right.inside.height (length c.in-Page-Page.right.items) (vec_capacity c.in-Page-Page.right) = subst (IsNode (rank c.right.inside.first) c.right.inside.height) c.in-Page-Page.is-1 c.right.invariant.0 in
+    good.room
+
+pub halve_pages-right-requires-clause-left_room : goal.halve_pages-right-requires-clause-left_room
+halve_pages-right-requires-clause-left_room g c =
+    let good : IsPageNode c.self.inside.height (length c.in-Page-Page.left.items) (vec_capacity c.in-Page-Page.left) = subst (IsNode (rank c.self.inside.first) c.self.inside.height) c.in-Page-Page.is-0 c.self.invariant.0 in
+    good.room
+
+pub halve_pages-right-requires-clause-both : goal.halve_pages-right-requires-clause-both
+halve_pages-right-requires-clause-both g c =
+    let left = ap (λ (v : NodeValue g.row.A.Denot). v.width) (sym c.self.view_is) ∙ ap width_of c.in-Page-Page.is-0 in
+    let right = ap (λ (v : NodeValue g.row.A.Denot). v.width) (sym c.right.view_is) ∙ ap width_of c.in-Page-Page.is-1 in
+    held_full c.in-Page-Page.left c.in-Page-Page.right _ _ left right c.requires.left.not_less c.requires.right.not_less c.requires.both
+
+pub returns-clause-right : goal.returns-clause-right
+returns-clause-right g c = c.halve_pages-right.ensures.right

@@ -9,6 +9,7 @@ use Rattle.st_ubtree.specs.inner.Sums.{Sums}
 use Rattle.st_ubtree.proofs.Joining.{both_kids, join_of_kids, join_of_pages, joined_each, joined_head, held_both, held_worn}
 use Rattle.st_ubtree.proofs.Splitting.{page}
 use Rattle.st_ubtree.proofs.node.Node.join.Goals as goal
+use Rattle.st_ubtree.proofs.node.Node.join.Goals.{in_default-via-in-Page+in_default, in_default-via-in-Inner+in_default}
 
 pub join_kids-requires-clause-kids : goal.join_kids-requires-clause-kids
 join_kids-requires-clause-kids g c =
@@ -135,3 +136,19 @@ pub join_kids-requires-clause-right_room : goal.join_kids-requires-clause-right_
 join_kids-requires-clause-right_room g c =
     let good : IsInnerNode (rank c.right.inside.first) c.right.inside.height c.in-Inner-Inner.right.items (vec_capacity c.in-Inner-Inner.right) = subst (IsNode (rank c.right.inside.first) c.right.inside.height) c.in-Inner-Inner.is-1 c.right.invariant.0 in
     good.room
+
+pub unreachable-requires : goal.unreachable-requires
+unreachable-requires g c =
+    let same : c.right.inside.height ≡ c.self.inside.height = ap (λ (v : NodeValue g.row.A.Denot). v.height) c.right.view_is ∙ c.requires.right.same_height ∙ ap (λ (v : NodeValue g.row.A.Denot). v.height) (sym c.self.view_is) in
+    elim c.in_default.branch [
+      | in_default-via-in-Page+in_default w ↦
+          let page : IsPageNode c.self.inside.height (length w.in_default.field-0-0.items) (vec_capacity w.in_default.field-0-0) = subst (IsNode (rank c.self.inside.first) c.self.inside.height) w.in_default.is-0 c.self.invariant.0 in
+          let inner : IsInnerNode (rank c.right.inside.first) c.right.inside.height w.in_default.field-0-1.items (vec_capacity w.in_default.field-0-1) = subst (IsNode (rank c.right.inside.first) c.right.inside.height) w.in_default.is-1 c.right.invariant.0 in
+          let lowest = page.lowest in let higher = inner.higher in
+          omega (arith, same, lowest, higher)
+      | in_default-via-in-Inner+in_default w ↦
+          let inner : IsInnerNode (rank c.self.inside.first) c.self.inside.height w.in_default.field-0-0.items (vec_capacity w.in_default.field-0-0) = subst (IsNode (rank c.self.inside.first) c.self.inside.height) w.in_default.is-0 c.self.invariant.0 in
+          let page : IsPageNode c.right.inside.height (length w.in_default.field-0-1.items) (vec_capacity w.in_default.field-0-1) = subst (IsNode (rank c.right.inside.first) c.right.inside.height) w.in_default.is-1 c.right.invariant.0 in
+          let lowest = page.lowest in let higher = inner.higher in
+          omega (arith, same, lowest, higher)
+    ]

@@ -1,9 +1,10 @@
-use Rattle.std.proofs.Common.{subst, ap, arith, vec_capacity}
+use Rattle.std.proofs.Common.{subst, sym, ap, ◌∙◌, arith, rules, vec_capacity}
 use Rattle.st_key.specs.Key.{rank}
 use Rattle.st_ubtree.specs.Pages.{NodeValue}
-use Rattle.st_ubtree.specs.inner.Nodes.{IsInnerNode, IsNode}
+use Rattle.st_ubtree.specs.inner.Nodes.{IsInnerNode, IsNode, pages_under}
 use Rattle.st_ubtree.proofs.Settling.{last_kid}
 use Rattle.st_ubtree.proofs.node.Node.lower.Goals as goal
+use Rattle.st_ubtree.proofs.node.Node.lower.Goals.{in_default-via-in-Page-1, in_default-via-in-Inner+else-len-eq1}
 
 pub returns-in-Some-clause-wide : goal.returns-in-Some-clause-wide
 returns-in-Some-clause-wide g c =
@@ -24,3 +25,38 @@ returns-in-Some-clause-lower g c =
     let below = kid.same_height in
     let higher = good.higher in
     omega (arith, top, same, below, higher)
+
+pub returns-in_default-clause-wide : goal.returns-in_default-clause-wide
+returns-in_default-clause-wide g c =
+    elim c.in_default.branch [
+      | in_default-via-in-Page-1 w ↦ search rules
+      | in_default-via-in-Inner+else-len-eq1 w ↦
+          let good : IsInnerNode (rank c.self.inside.first) c.self.inside.height w.in-Inner.kids.items (vec_capacity w.in-Inner.kids) = subst (IsNode (rank c.self.inside.first) c.self.inside.height) w.in-Inner.is c.self.invariant.0 in
+          let some = good.not_less in
+          let width = ap (λ (v : NodeValue g.row.A.Denot). v.width) w.self-is in
+          λ tall. omega (arith, some, width, w.len.ensures, w.if-len-eq1.false)
+    ]
+
+pub returns-in_default-clause-first : goal.returns-in_default-clause-first
+returns-in_default-clause-first g c =
+    let old = ap (λ (v : NodeValue g.row.A.Denot). v.first) c.self.view_is in
+    elim c.in_default.branch [
+      | in_default-via-in-Page-1 w ↦ ap (λ (v : NodeValue g.row.A.Denot). v.first) w.self-is ∙ old
+      | in_default-via-in-Inner+else-len-eq1 w ↦ ap (λ (v : NodeValue g.row.A.Denot). v.first) w.self-is ∙ old
+    ]
+
+pub returns-in_default-clause-lower : goal.returns-in_default-clause-lower
+returns-in_default-clause-lower g c =
+    let old = ap (λ (v : NodeValue g.row.A.Denot). v.height) c.self.view_is in
+    elim c.in_default.branch [
+      | in_default-via-in-Page-1 w ↦ let new = ap (λ (v : NodeValue g.row.A.Denot). v.height) w.self-is in omega (arith, old, new)
+      | in_default-via-in-Inner+else-len-eq1 w ↦ let new = ap (λ (v : NodeValue g.row.A.Denot). v.height) w.self-is in omega (arith, old, new)
+    ]
+
+pub returns-in_default-clause-pages : goal.returns-in_default-clause-pages
+returns-in_default-clause-pages g c =
+    let old = ap (λ (v : NodeValue g.row.A.Denot). v.pages) c.self.view_is in
+    elim c.in_default.branch [
+      | in_default-via-in-Page-1 w ↦ ap (λ (v : NodeValue g.row.A.Denot). v.pages) w.self-is ∙ old
+      | in_default-via-in-Inner+else-len-eq1 w ↦ ap (λ (v : NodeValue g.row.A.Denot). v.pages) w.self-is ∙ ap (pages_under (rank c.self.inside.first)) (sym w.in-Inner.is) ∙ old
+    ]

@@ -1,9 +1,11 @@
 use Rattle.std.proofs.Common.{◌+◌, length, length-set, set, sym, ap, subst, ◌∙◌, arith}
 use Rattle.std.proofs.lemmas.List.Edits.{length-remove}
+use Rattle.std.specs.List.{All}
 use Rattle.st_ubtree.specs.inner.Firsts.{AreFirsts}
+use Rattle.st_ubtree.specs.inner.Kids.{IsKid}
 use Rattle.st_ubtree.specs.inner.Marks.{AreMarked}
 use Rattle.st_ubtree.specs.inner.Evening.{HasPairAt}
-use Rattle.st_ubtree.proofs.Evening.{any_pair, kids_even_pair, pair_fits, pair_joins, pair_set}
+use Rattle.st_ubtree.proofs.Evening.{any_pair, kids_even_pair, pair_fits, pair_joins, pair_kids, pair_set}
 use Rattle.st_ubtree.proofs.Firsts.{firsts_set}
 use Rattle.st_ubtree.proofs.Mending.{taken_pair}
 use Rattle.st_ubtree.proofs.Placing.{differ_set}
@@ -62,3 +64,35 @@ returns-clause-firsts g c = λ h.
     let firsts = subst (AreFirsts c.remove_at.new.self) (sym c.remove-right.ensures.items) (c.remove_at.ensures kids fits.0 h) in
     let kept = firsts_set c.remove_at.new.self rest left c.index_mut-kid.result.now v c.index_mut-kid.ensures.value c.halve-right.ensures.joins.first firsts in
     subst (AreFirsts c.insert_at.new.self) (sym c.in-Ok.ensures.items) (c.insert_at.ensures (set rest left v) (omega (arith, fits.0, fewer, count, same)) (omega (arith, most, fewer, count, same)) kept)
+
+pub halve-right-requires-clause-right : goal.halve-right-requires-clause-right
+halve-right-requires-clause-right g c =
+    let kids = c.args.kids.now.items in
+    let left = c.in-Some.left in
+    let rest = c.remove-right.new.self.items in
+    let kid = c.index_mut-kid.result.now in
+    let right = c.remove-right.result in
+    let fits : HasPairAt kids left = subst (λ ks. HasPairAt ks left) c.as_slice.ensures.value c.in-Some.ensures in
+    let q = taken_pair 0 left kids rest kid right (any_pair 0 left kids c.requires.pages fits.0) c.remove-right.ensures.items c.remove-right.ensures.value c.index_mut-kid.ensures.value in
+    (pair_kids 0 left kids rest kid right q c.requires.pages).1
+
+pub halve-right-requires-clause-left : goal.halve-right-requires-clause-left
+halve-right-requires-clause-left g c =
+    let kids = c.args.kids.now.items in
+    let left = c.in-Some.left in
+    let rest = c.remove-right.new.self.items in
+    let kid = c.index_mut-kid.result.now in
+    let right = c.remove-right.result in
+    let fits : HasPairAt kids left = subst (λ ks. HasPairAt ks left) c.as_slice.ensures.value c.in-Some.ensures in
+    let q = taken_pair 0 left kids rest kid right (any_pair 0 left kids c.requires.pages fits.0) c.remove-right.ensures.items c.remove-right.ensures.value c.index_mut-kid.ensures.value in
+    (pair_kids 0 left kids rest kid right q c.requires.pages).0
+
+pub pair_for-requires-clause-pages : goal.pair_for-requires-clause-pages
+pair_for-requires-clause-pages g c = subst (All (IsKid 0)) (sym c.as_slice.ensures.value) c.requires.pages
+
+pub unreachable-requires : goal.unreachable-requires
+unreachable-requires g c =
+    let full = c.in_default-insert.ensures.full in
+    let len = c.remove-right.ensures.len in
+    let capacity = c.remove-right.ensures.capacity in
+    omega (arith, full, len, capacity, c.requires.room, c.requires.not_more, c.args.kids.now.ok.0)

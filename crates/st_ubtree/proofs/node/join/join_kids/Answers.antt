@@ -96,3 +96,9 @@ returns-then-not-are_two-clause-sum g c =
     let both = c.add_all.ensures (rows_of_pages (pages_of old)) (rows_of_pages (pages_of c.args.right.items)) c.requires.sum c.requires.right_sum in
     let whole = sums_whole c.add_all.new.self old c.args.right.items left c.share-are_two.new.right.items c.share-are_two.ensures.kept (c.share-are_two.ensures.none c.if-not-are_two.true) both in
     c.set_bounds.ensures (rows_of_pages (pages_of left)) whole (rw (← c.as_slice-then-not-are_two.ensures.value) c.bounds_of.ensures)
+
+pub renew-requires-2 : goal.renew-requires-2
+renew-requires-2 g c =
+    let few = (c.share-are_two.ensures.some c.if-not-are_two.false).1 in
+    let same = ap length c.as_slice-4.ensures.value in
+    omega (arith, few, same)

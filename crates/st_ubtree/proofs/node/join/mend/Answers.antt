@@ -1,4 +1,4 @@
-use Rattle.std.proofs.Common.{◌+◌, ◌<◌, set, length, length-set, sym, ap, subst, ◌∙◌, arith}
+use Rattle.std.proofs.Common.{◌+◌, ◌<◌, ◌∷◌, set, length, length-append, length-set, sym, ap, subst, ◌∙◌, arith}
 use Rattle.std.proofs.lemmas.List.Edits.{length-remove}
 use Rattle.st_ubtree.specs.Pages.{NodeValue}
 use Rattle.st_ubtree.specs.inner.Firsts.{AreFirsts}
@@ -136,3 +136,10 @@ returns-clause-firsts g c = λ h.
     let firsts = subst (AreFirsts c.remove_at.new.self) (sym c.remove-right.ensures.items) (c.remove_at.ensures kids fits h) in
     let kept = firsts_set c.remove_at.new.self rest left c.index_mut-kid.result.now c.join.new.self c.index_mut-kid.ensures.value c.in-Some.ensures.joins.first firsts in
     subst (AreFirsts c.insert_at.new.self) (sym c.in-Ok.ensures.items) (c.insert_at.ensures (set rest left c.join.new.self) (omega (arith, fits, fewer, count, same)) (omega (arith, most, fewer, count, same)) kept)
+
+pub pair_of-left-requires-clause-at : goal.pair_of-left-requires-clause-at
+pair_of-left-requires-clause-at g c =
+    let w = c.requires.worn.1 in
+    let count = ap length (c.as_slice.ensures.value ∙ w.is) ∙ length-append w.front (w.kid ∷ w.back) in
+    let stands = w.stands in
+    omega (arith, count, stands)

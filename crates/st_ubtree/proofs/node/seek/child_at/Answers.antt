@@ -48,3 +48,16 @@ returns-clause-lower g c = λ below each.
     let i = c.child_for-at.result in
     let chosen : IsChosen (rank c.args.key) kids i = c.child_for-at.ensures kids c.requires.some c.requires.firsts in
     (that_kid below kids i c.index-kids-at.result chosen.within c.index-kids-at.is each).same_height
+
+pub overflow_add-after : goal.overflow_add-after
+overflow_add-after g c =
+    let l = (c.child_for-at.ensures c.args.kids.now c.requires.some c.requires.firsts).within in
+    omega (arith, l)
+
+pub bounds-kids-at : goal.bounds-kids-at
+bounds-kids-at g c = (c.child_for-at.ensures c.args.kids.now c.requires.some c.requires.firsts).within
+
+pub offset_bounds-kids-at : goal.offset_bounds-kids-at
+offset_bounds-kids-at g c =
+    let l = (c.child_for-at.ensures c.args.kids.now c.requires.some c.requires.firsts).within in
+    omega (arith, l)

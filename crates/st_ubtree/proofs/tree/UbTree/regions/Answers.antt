@@ -1,4 +1,4 @@
-use Rattle.std.proofs.Common.{◌≡◌, map, subst, ap}
+use Rattle.std.proofs.Common.{◌≡◌, ◌<◌, map, subst, ap, arith}
 use Rattle.st_key.specs.Key.{rank}
 use Rattle.st_index.specs.Rows.{key_end}
 use Rattle.st_index.proofs.Listing.{some_keys}
@@ -43,3 +43,9 @@ returns g c =
     let hi = key_end c.args.self.now.period in
     let all = regions_of hi c.args.self.now.root.pages in
     subst (Walks hi all (map region_in c.loop-next.ranges.items)) c.in_default.is c.loop-next.invariant
+
+pub after-next-requires : goal.after-next-requires
+after-next-requires g c =
+    let same : c.self.inside.period ≡ c.args.self.now.period = ap (λ (t : TreeValue g.row.A.Denot). t.period) c.self.view_is in
+    let within : rank c.leaf_at-leaf.result.last < key_end c.self.inside.period = rw same c.leaf_at-leaf.ensures.leaf.within in
+    omega (arith, within)

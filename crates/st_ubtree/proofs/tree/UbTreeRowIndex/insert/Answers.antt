@@ -62,3 +62,9 @@ overflow_add-self g c =
     let held = c.self.invariant.counted in
     let room = rw (← c.self.view_is) at c.requires.room.count in
     omega (arith, held, room)
+
+pub returns-clause-adds : goal.returns-clause-adds
+returns-clause-adds g c =
+    let evens : Evens c.self.inside.root c.even_if.new.self = rw c.widen_if.ensures at c.even_if.ensures in
+    let grows = reshaped_grows (rank c.key-key.result) c.args.row c.self.inside.root.pages c.even_if.new.self.pages c.put.new.self.pages evens.by c.put.ensures.grows in
+    rw (← c.self.view_is, c.widen_if-2.ensures) grows.adds

@@ -1,4 +1,4 @@
-use Rattle.std.proofs.Common.{arith}
+use Rattle.std.proofs.Common.{◌∙◌, arith}
 use Rattle.st_key.specs.Key.{rank}
 use Rattle.st_index.specs.Rows.{key_end, name_of, rank_of}
 use Rattle.st_index.specs.Index.{Holds}
@@ -29,3 +29,11 @@ invariant_of-self g c =
     let broad = keeps.width in
     let wide = c.self.invariant.wide in
     tree_trades c.self.inside.period (rank c.key-key.result) c.args.row c.self.inside.root c.replace.new.self c.self.inside.len c.self.invariant (λ tall. let two = wide (omega (arith, same, tall)) in omega (arith, broad, two)) c.count_keys.ensures.keys c.in-Ok.out c.in-Ok.ensures.ok c.key-key.ensures.value
+
+pub returns-clause-swaps : goal.returns-clause-swaps
+returns-clause-swaps g c = rw (← c.self.view_is) c.in-Ok.ensures.ok.swaps
+
+pub returns-clause-placed : goal.returns-clause-placed
+returns-clause-placed g c =
+    let p = c.self.inside.period in
+    rw (← c.self.view_is) (c.in-Ok.ensures.ok.placed p 0 (key_end p) c.self.invariant.spans ∙ c.key-key.ensures.value)
