@@ -3,6 +3,7 @@
 
 mod auths;
 mod long_labels;
+mod long_text;
 mod set_verdicts;
 mod short_labels;
 mod table;

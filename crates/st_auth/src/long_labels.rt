@@ -3,15 +3,15 @@ ghost use Rattle.std.specs.Prelude.{◌≡◌, List};
 ghost use Rattle.std.specs.Map.{lookup};
 ghost use Rattle.st_label.specs.Reading.{is_true};
 ghost use Rattle.st_text.specs.Texts.{Text, is_among};
-ghost use Rattle.st_auth.specs.inner.Remembered.{AreOf, AreHeld, AreKnown, has_text, itself};
+ghost use Rattle.st_auth.specs.inner.Remembered.{AreOf, AreHeld, AreKnown, has_text, kept_text};
 ghost use Rattle.lru.specs.LruCache.{lru_cache, promoted};
 
 use crate::auths::Auths;
+use crate::long_text::LongText;
 use crate::table::{Kept, Table};
 use crate::truth::satisfies;
 use lru::{DefaultHasher, LruCache};
 use st_label::Label;
-use st_text::Words;
 use std::alloc::Allocator;
 use std::num::NonZeroUsize;
 
@@ -29,7 +29,7 @@ type Cache<A> = LruCache<String<A>, bool, DefaultHasher, A>;
 pub struct LongLabels<A: Allocator> {
     alloc: A,
     pub capacity: NonZeroUsize,
-    table: Table<Words<A>, A>,
+    table: Table<LongText<A>, A>,
     cache: Option<Cache<A>>,
 }
 
@@ -37,7 +37,7 @@ impl<A: Allocator + Copy> LongLabels<A> {
     /// An empty cache with room for `capacity` labels that the table has no place for.
     pub fn new(alloc: A, capacity: NonZeroUsize) -> LongLabels<A>
         ensures capacity { result.capacity ≡ capacity }
-        ensures known { (names : List Text) → AreKnown itself names result.table.known.items }
+        ensures known { (names : List Text) → AreKnown kept_text names result.table.known.items }
         ensures held { (names : List Text) → AreHeld names result.cache }
     {
         LongLabels {
@@ -51,7 +51,7 @@ impl<A: Allocator + Copy> LongLabels<A> {
     /// Forgets all labels.
     pub fn forget(&mut self)
         ensures capacity { self.new.capacity ≡ self.old.capacity }
-        ensures known { (names : List Text) → AreKnown itself names self.new.table.known.items }
+        ensures known { (names : List Text) → AreKnown kept_text names self.new.table.known.items }
         ensures held { (names : List Text) → AreHeld names self.new.cache }
     {
         self.table.forget();
@@ -60,10 +60,10 @@ impl<A: Allocator + Copy> LongLabels<A> {
 
     /// Whether the label is true for the set. When out of memory it remembers nothing.
     pub fn ask<B: Allocator, C: Allocator>(&mut self, label: &Label<B>, auths: &Auths<C>) -> bool
-        requires known { AreKnown itself auths.now self.old.table.known.items }
+        requires known { AreKnown kept_text auths.now self.old.table.known.items }
         requires held { AreHeld auths.now self.old.cache }
         ensures value { result ≡ is_true (is_among auths.now) label.now }
-        ensures known { AreKnown itself auths.now self.new.table.known.items }
+        ensures known { AreKnown kept_text auths.now self.new.table.known.items }
         ensures held { AreHeld auths.now self.new.cache }
         ensures capacity { self.new.capacity ≡ self.old.capacity }
     {
@@ -74,7 +74,7 @@ impl<A: Allocator + Copy> LongLabels<A> {
             return self.ask_cache(label, auths);
         }
         let verdict = satisfies(label, auths);
-        if let Ok(text) = Words::new(self.alloc, label.text()) {
+        if let Ok(text) = LongText::new(self.alloc, label.text()) {
             self.table.keep(text, verdict);
         }
         verdict
@@ -97,8 +97,8 @@ impl<A: Allocator + Copy> LongLabels<A> {
     }
 }
 
-impl<A: Allocator> Kept for Words<A> {
-    ghost text = { λ t. t };
+impl<A: Allocator> Kept for LongText<A> {
+    ghost text = { kept_text };
 
     fn hash(&self) -> usize {
         hash_of(self.as_str())

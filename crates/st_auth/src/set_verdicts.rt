@@ -32,12 +32,12 @@ impl<'s, A: Allocator, B: Allocator> Model for SetVerdicts<'s, A, B> {
 
     ghost Value = { List (List ℕ) };
 
-    ghost use Rattle.st_auth.specs.inner.Remembered.{AreHeld, AreKnown, itself};
+    ghost use Rattle.st_auth.specs.inner.Remembered.{AreHeld, AreKnown, itself, kept_text};
 
     ghost view = { λ v. v.auths.now };
 
     ghost invariant = { λ v. AreHeld v.auths.now v.long.cache × AreKnown itself v.auths.now v.short.table.known.items
-        × AreKnown itself v.auths.now v.long.table.known.items };
+        × AreKnown kept_text v.auths.now v.long.table.known.items };
 }
 
 impl<'s, A: Allocator + Copy, B: Allocator> SetVerdicts<'s, A, B> {

@@ -30,12 +30,12 @@ impl<A: Allocator> Model for Verdicts<A> {
 
     ghost Value = { ℕ };
 
-    ghost use Rattle.st_auth.specs.inner.Remembered.{AreHeld, AreKnown, itself};
+    ghost use Rattle.st_auth.specs.inner.Remembered.{AreHeld, AreKnown, itself, kept_text};
 
     ghost view = { λ v. non_zero_usize_get v.long.capacity };
 
     ghost invariant = { λ v. AreHeld v.auths v.long.cache × AreKnown itself v.auths v.short.table.known.items
-        × AreKnown itself v.auths v.long.table.known.items };
+        × AreKnown kept_text v.auths v.long.table.known.items };
 }
 
 impl<A: Allocator + Copy> Verdicts<A> {

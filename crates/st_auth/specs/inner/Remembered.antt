@@ -3,6 +3,7 @@ use Rattle.std.specs.Prelude.{◌≡◌, ℕ, List, Bool, Contains, String, stri
 use Rattle.std.specs.List.{All}
 use Rattle.st_label.specs.Reading.{is_true}
 use Rattle.st_text.specs.Texts.{Text, is_among}
+use Rattle.st_auth.specs.declared.long_text.LongText.{LongText}
 use Rattle.st_auth.specs.declared.table.Known.{Known}
 use Rattle.lru.specs.LruCache.{LruCache}
 
@@ -27,3 +28,8 @@ AreKnown {T} text names known = All (λ (k : Known T). k.verdict ≡ is_true (is
 -- what is kept of a label is its text itself
 abbrev pub itself : Text → Text
 itself text = text
+
+-- of a long label it stands inline or on the heap
+abbrev pub kept_text : {A : Type 0} → LongText A → Text
+kept_text (LongText.Inline text) = text
+kept_text (LongText.Heap text) = text

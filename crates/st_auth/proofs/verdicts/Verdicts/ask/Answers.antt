@@ -1,5 +1,5 @@
 use Rattle.std.proofs.Common.{rules}
-use Rattle.st_auth.specs.inner.Remembered.{AreHeld, AreKnown, itself}
+use Rattle.st_auth.specs.inner.Remembered.{AreHeld, AreKnown, kept_text}
 use Rattle.st_auth.proofs.verdicts.Verdicts.ask.Goals as goal
 use Rattle.st_auth.proofs.verdicts.Verdicts.ask.Goals.{then-not-is_same+in-Ok, else-not-is_same}
 
@@ -9,7 +9,7 @@ invariant_of-self g c =
       | then-not-is_same+in-Ok w ↦ rw w.self-inside-is (w.forget-then-not-is_same.ensures.held w.in-Ok.copy)
       | else-not-is_same w ↦ rw w.self-inside-is c.self.invariant.0
     ] in
-    let known : AreKnown itself c.if-not-is_same.self-inside.auths c.if-not-is_same.self-inside.long.table.known.items = elim c.if-not-is_same.branch [
+    let known : AreKnown kept_text c.if-not-is_same.self-inside.auths c.if-not-is_same.self-inside.long.table.known.items = elim c.if-not-is_same.branch [
       | then-not-is_same+in-Ok w ↦ rw w.self-inside-is (w.forget-then-not-is_same.ensures.known w.in-Ok.copy)
       | else-not-is_same w ↦ rw w.self-inside-is c.self.invariant.2
     ] in
@@ -21,7 +21,7 @@ ask-requires-in-None g c =
       | then-not-is_same+in-Ok w ↦ rw w.self-inside-is (w.forget-then-not-is_same.ensures.held w.in-Ok.copy)
       | else-not-is_same w ↦ rw w.self-inside-is c.self.invariant.0
     ] in
-    let known : AreKnown itself c.if-not-is_same.self-inside.auths c.if-not-is_same.self-inside.long.table.known.items = elim c.if-not-is_same.branch [
+    let known : AreKnown kept_text c.if-not-is_same.self-inside.auths c.if-not-is_same.self-inside.long.table.known.items = elim c.if-not-is_same.branch [
       | then-not-is_same+in-Ok w ↦ rw w.self-inside-is (w.forget-then-not-is_same.ensures.known w.in-Ok.copy)
       | else-not-is_same w ↦ rw w.self-inside-is c.self.invariant.2
     ] in
