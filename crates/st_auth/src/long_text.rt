@@ -8,8 +8,8 @@ use std::alloc::{AllocError, Allocator};
 // The greatest length of a text that is stored in the value itself, in bytes.
 const MAX_INLINE: usize = 48;
 
-/// The text of a label: in the value itself up to 48 bytes, else on the heap. A table of such texts is one block of memory, where a
-/// block for each would leave thousands of small ones behind, which a later allocation has to join.
+/// The text of a label: in the value itself up to 48 bytes, else on the heap. So a table of such texts is one block of memory, and
+/// not one more for each.
 #[derive(Drop)]
 pub enum LongText<A: Allocator> {
     Inline(Text<MAX_INLINE>),
