@@ -3,8 +3,8 @@
 
 usage: scan_table.py FOLDER
 
-Of each box the quickest asking counts, and of its first askings the quickest; of each class the mean over its boxes. Times are
-in microseconds."""
+Of each box the quickest asking counts, and of its first askings the quickest; of each class the mean over its boxes. Pages are asked
+for after all counts and grids. Times are in microseconds."""
 from __future__ import annotations
 
 import pathlib
@@ -12,7 +12,7 @@ import sys
 from collections import defaultdict
 from collections.abc import Iterator
 
-# A box is a class and a number; a turn has the words of its askings in order.
+# A box is a class and a number; a turn has the words of its askings in order. Those for a page are of a class of their own.
 Turn = dict[tuple[str, int], list[list[int]]]
 # How many boxes a class has.
 BOXES = {"world": 1}
@@ -23,8 +23,10 @@ def askings(lines: list[str]) -> Turn:
     turn: Turn = defaultdict(list)
     seen: dict[str, int] = defaultdict(int)
     for line in lines:
-        name, *numbers = line.split()
-        turn[name, seen[name] % BOXES.get(name, 20)].append([int(number) for number in numbers])
+        words = line.split()
+        named = 2 if words[0] == "page" else 1
+        name = " ".join(words[:named])
+        turn[name, seen[name] % BOXES.get(words[named - 1], 20)].append([int(word) for word in words[named:]])
         seen[name] += 1
     return turn
 
@@ -52,7 +54,7 @@ def lines(array: list[Turn], shown: list[Turn], took: list[Turn]) -> Iterator[st
         for at, first in ((0, False), (0, True), (1, False)):
             own, plain = mean(took, name, at, first), mean(array, name, at + 2, first)
             text += f"{own:>12,.1f}{plain:>11,.1f}{own / plain:>7.2f}"
-        yield text + f"{mean(took, name, 2):>9,.1f}"
+        yield text + f"{mean(took, f'page {name}', 0):>9,.1f}"
 
 
 def main() -> None:

@@ -1,6 +1,7 @@
 //! Times puts, counts, grids, pages and deletes of a table over the UB-tree: `bench_scan POINTS BOXES`, two files as
-//! `bench/scan_data.py` writes them. For each box a line goes to standard output, with its class and the rows that a count, a grid
-//! and a page show, and a line to standard error, with its class and what they take, in nanoseconds.
+//! `bench/scan_data.py` writes them. For each box a line goes to standard output, with its class and the rows that a count and a grid
+//! show, and a line to standard error, with its class and what they take, in nanoseconds; then, for each box again, lines that say
+//! the same of a page.
 #![tactic(auto)]
 
 mod boxes;
@@ -38,24 +39,39 @@ fn empty(rt: &HostRuntime, bench: &mut Bench, points: &str) -> io::Result<()> {
     eprintln!(rt; "delete {}", nanoseconds / count)
 }
 
-// Prints what reads of a box show and take.
-fn print_reads(rt: &HostRuntime, bench: &Bench, asked: &Asked<'_>) -> io::Result<()> {
+// Prints what a count and a grid of a box show and take.
+fn print_sums(rt: &HostRuntime, bench: &Bench, asked: &Asked<'_>) -> io::Result<()> {
     let count = bench.count(rt, &asked.query)?;
     let grid = bench.grid(rt, &asked.query)?;
-    let page = bench.page(rt, &asked.query)?;
     let class = asked.class;
-    println!(rt; "{class} {} {} {}", count.rows, grid.rows, page.rows)?;
-    eprintln!(rt;
-        "{class} {} {} {}",
-        count.nanoseconds, grid.nanoseconds, page.nanoseconds
-    )
+    println!(rt; "{class} {} {}", count.rows, grid.rows)?;
+    eprintln!(rt; "{class} {} {}", count.nanoseconds, grid.nanoseconds)
 }
 
-// Prints what reads of the boxes of a text's lines show and take.
-fn print_all(rt: &HostRuntime, bench: &Bench, boxes: &str) -> io::Result<()> {
+// Prints what a page of a box shows and takes.
+fn print_page(rt: &HostRuntime, bench: &Bench, asked: &Asked<'_>) -> io::Result<()> {
+    let page = bench.page(rt, &asked.query)?;
+    let class = asked.class;
+    println!(rt; "page {class} {}", page.rows)?;
+    eprintln!(rt; "page {class} {}", page.nanoseconds)
+}
+
+// What the boxes are asked for in turn. A user asks for a page without a count before it, which would fetch into the caches what the
+// page reads, so pages have a turn of their own.
+#[derive(Clone, Copy)]
+enum Turn {
+    Sums,
+    Pages,
+}
+
+// Prints what the boxes of a text's lines are asked for in a turn, and what that takes.
+fn print_turn(rt: &HostRuntime, bench: &Bench, boxes: &str, turn: Turn) -> io::Result<()> {
     for line in boxes.lines() {
         if let Some(asked) = box_in(line) {
-            print_reads(rt, bench, &asked)?;
+            match turn {
+                Turn::Sums => print_sums(rt, bench, &asked)?,
+                Turn::Pages => print_page(rt, bench, &asked)?,
+            }
         }
     }
     Ok(())
@@ -65,7 +81,8 @@ fn print_all(rt: &HostRuntime, bench: &Bench, boxes: &str) -> io::Result<()> {
 fn time(rt: &HostRuntime, points: &str, boxes: &str) -> io::Result<()> {
     let mut bench = Bench::new(rt.alloc())?;
     fill(rt, &mut bench, points)?;
-    print_all(rt, &bench, boxes)?;
+    print_turn(rt, &bench, boxes, Turn::Sums)?;
+    print_turn(rt, &bench, boxes, Turn::Pages)?;
     empty(rt, &mut bench, points)
 }
 

@@ -12,7 +12,8 @@ use Rattle.st_key.proofs.MortonLemmas.{joined-lt}
 use Rattle.st_key.proofs.PointLemmas.{same_point}
 use Rattle.st_index.specs.declared.row.Row.{Row}
 use Rattle.st_index.specs.Rows.{rank_of}
-use Rattle.st_index.specs.inner.KeyPoints.{IsPointKey, point_of_key}
+use Rattle.st_index.specs.KeyPoints.{point_of_key}
+use Rattle.st_index.specs.inner.KeyPoints.{IsPointKey}
 
 -- the rank of a row's key, by the key's parts
 pub ranked : {A : Type 0} (period : Period) (r : Row A) (b a : ℕ) → b ≡ r.point.t / seconds_of period → a ≡ address_of r.point.x r.point.y (r.point.t % seconds_of period) → b * 2 ^ 63 + a ≡ rank_of period r

@@ -6,5 +6,6 @@ pub mod Index
 pub mod Counting
 pub mod Fields
 pub mod ListValue
+pub mod KeyPoints
 pub mod RowViews
 pub mod inner

@@ -17,6 +17,7 @@ pub mod order;
 mod placing;
 mod room;
 mod row;
+mod row_point;
 mod row_view;
 mod rows_view;
 mod storage;

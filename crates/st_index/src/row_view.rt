@@ -1,7 +1,7 @@
 //! Views of single rows.
 ghost use Rattle.std.specs.Prelude.{◌≡◌, ◌<◌, IfOk};
 ghost use Rattle.st_index.specs.Notes.{lent_bytes};
-ghost use Rattle.st_index.specs.RowViews.{row_of_view};
+ghost use Rattle.st_index.specs.RowViews.{point_in, row_of_view};
 ghost use Rattle.st_index.specs.Rows.{key_end, name_cmp, name_of, rank_of};
 ghost use Rattle.st_index.specs.Texts.{IsNote};
 ghost use Rattle.st_key.specs.Key.{rank};
@@ -10,6 +10,7 @@ use crate::id::Id;
 use crate::naming::cmp_names;
 use crate::note::{Note, NoteText, lent_text};
 use crate::row::Row;
+use crate::row_point::RowPoint;
 use st_key::{Key, Period, Point};
 use st_label::Label;
 use std::alloc::{AllocError, Allocator, Global};
@@ -18,7 +19,7 @@ use std::cmp::Ordering;
 /// A row by reference, wherever its parts lie.
 #[derive_where(Clone, Copy)]
 pub struct RowView<'a, A: Allocator = Global> {
-    point: Point,
+    point: RowPoint,
     id: &'a Id<A>,
     label: &'a Label<A>,
     note: Option<&'a NoteText<A>>,
@@ -27,12 +28,12 @@ pub struct RowView<'a, A: Allocator = Global> {
 impl<'a, A: Allocator> RowView<'a, A> {
     // The row of these parts. Where there is no note, its text is empty.
     pub(crate) fn new(
-        point: Point,
+        point: RowPoint,
         id: &'a Id<A>,
         label: &'a Label<A>,
         note: Option<&'a NoteText<A>>,
     ) -> Self
-        ensures { row_of_view result ≡ record { id = id.now; point = point; label = label.now; note = lent_bytes note.entry } }
+        ensures { row_of_view result ≡ record { id = id.now; point = point_in point; label = label.now; note = lent_bytes note.entry } }
     {
         RowView {
             point,
@@ -46,7 +47,12 @@ impl<'a, A: Allocator> RowView<'a, A> {
     pub fn of(row: &'a Row<A>) -> Self
         ensures { row_of_view result ≡ row.now }
     {
-        RowView::new(row.point, &row.id, &row.label, row.note.lend())
+        RowView::new(
+            RowPoint::Given(row.point),
+            &row.id,
+            &row.label,
+            row.note.lend(),
+        )
     }
 
     /// The row's id.
@@ -60,7 +66,7 @@ impl<'a, A: Allocator> RowView<'a, A> {
     pub fn point(self) -> Point
         ensures { result ≡ (row_of_view self.entry).point }
     {
-        self.point
+        self.point.point()
     }
 
     /// Who may see it.
@@ -86,7 +92,7 @@ impl<A: Allocator + Copy> RowView<'_, A> {
     {
         Ok(Row {
             id: self.id.copy()?,
-            point: self.point,
+            point: self.point(),
             label: self.label.copy()?,
             note: Note::fitting(self.id.alloc(), self.note())?,
         })
@@ -97,7 +103,7 @@ impl<A: Allocator + Copy> RowView<'_, A> {
         ensures value { rank result ≡ rank_of period (row_of_view self.entry) }
         ensures in_period { rank result < key_end period }
     {
-        Key::of(&self.point, period)
+        self.point.key(period)
     }
 
     /// The order of the row's name and that of an id and a label: by the id's bytes, then by the label's.

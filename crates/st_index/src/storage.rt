@@ -3,19 +3,21 @@ ghost use Rattle.std.specs.Prelude.{◌≡◌, ◌+◌, ◌<◌, ◌^◌, [], �
 ghost use Rattle.std.specs.List.Sorted.{IsSearchInRange, IsBinarySearchResult};
 ghost use Rattle.st_key.specs.Key.{rank};
 ghost use Rattle.st_index.specs.declared.row.Row.{Row};
+ghost use Rattle.st_index.specs.KeyPoints.{point_of_key};
 ghost use Rattle.st_index.specs.Notes.{noted_bytes};
 ghost use Rattle.st_index.specs.RowViews.{viewed};
 ghost use Rattle.st_index.specs.Rows.{name_cmp, name_of, rank_of};
-ghost use Rattle.st_index.specs.inner.KeyPoints.{IsKey, IsPointKey, point_of_key};
+ghost use Rattle.st_index.specs.inner.KeyPoints.{IsKey, IsPointKey};
 ghost use Rattle.st_index.specs.inner.Storages.{IsStored, owned_rows, stored_at, stored_rows};
 
 use crate::id::Id;
 use crate::naming::{find_beside, find_name};
 use crate::note::{Note, NoteText};
 use crate::row::Row;
+use crate::row_point::RowPoint;
 use crate::row_view::RowView;
 use crate::rows_view::RowsView;
-use st_key::{Key, Period, Point};
+use st_key::{Key, Period};
 use st_label::Label;
 use std::alloc::Allocator;
 
@@ -142,18 +144,6 @@ pub(crate) fn key_of<A: Allocator>(place: &Storage<A>) -> Key
     }
 }
 
-// The point that the parts of a key tell.
-fn point_of(period: Period, bin: u32, address: u64) -> Point
-    requires key { IsKey bin address }
-    requires point { IsPointKey period bin address }
-    ensures { result ≡ point_of_key period bin address }
-{
-    let Some(point) = Key::at(bin, address).point(period) else {
-        unreachable!()
-    };
-    point
-}
-
 // The row that is alone at the key of these parts.
 fn lone<A: Allocator + Copy>(
     period: Period,
@@ -170,7 +160,7 @@ fn lone<A: Allocator + Copy>(
     let note = Note::of(id.alloc(), text);
     Row {
         id,
-        point: point_of(period, bin, address),
+        point: RowPoint::keyed(period, bin, address).point(),
         label,
         note,
     }
@@ -228,7 +218,10 @@ pub(crate) fn rows_in<A: Allocator>(place: &Storage<A>) -> RowsView<'_, A>
             address,
             id,
             label,
-        } => RowsView::One(RowView::new(point_of(*period, *bin, *address), id, label, None)),
+        } => {
+            let point = RowPoint::keyed(*period, *bin, *address);
+            RowsView::One(RowView::new(point, id, label, None))
+        }
         Storage::Noted {
             period,
             bin,
@@ -236,7 +229,7 @@ pub(crate) fn rows_in<A: Allocator>(place: &Storage<A>) -> RowsView<'_, A>
             id,
             text,
         } => {
-            let point = point_of(*period, *bin, *address);
+            let point = RowPoint::keyed(*period, *bin, *address);
             RowsView::One(RowView::new(point, id, text.label(), Some(text)))
         }
         Storage::Heap { rows, .. } => RowsView::Many(rows.as_slice()),

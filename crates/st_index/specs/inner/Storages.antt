@@ -6,7 +6,8 @@ use Rattle.st_index.specs.declared.storage.OwnedRows.{OwnedRows}
 use Rattle.st_index.specs.declared.storage.OwnedRows.TheVariants.{One, Many}
 use Rattle.st_index.specs.declared.storage.Storage.{Storage}
 use Rattle.st_index.specs.declared.storage.Storage.TheVariants.{Nowhere, Inline, Noted, Heap}
-use Rattle.st_index.specs.inner.KeyPoints.{IsKey, IsPointKey, point_of_key}
+use Rattle.st_index.specs.KeyPoints.{point_of_key}
+use Rattle.st_index.specs.inner.KeyPoints.{IsKey, IsPointKey}
 
 -- the rank of the key
 abbrev pub stored_at : {A : Type 0} → Storage A → ℕ

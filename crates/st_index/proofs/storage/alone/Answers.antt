@@ -6,7 +6,8 @@ use Rattle.st_key.specs.Key.{rank}
 use Rattle.st_index.specs.declared.row.Row.{Row}
 use Rattle.st_index.specs.Notes.{NoteValue}
 use Rattle.st_index.specs.Rows.{rank_of}
-use Rattle.st_index.specs.inner.KeyPoints.{IsPointKey, point_of_key}
+use Rattle.st_index.specs.KeyPoints.{point_of_key}
+use Rattle.st_index.specs.inner.KeyPoints.{IsPointKey}
 use Rattle.st_index.proofs.KeyPoints.{told, is_told}
 use Rattle.st_index.proofs.storage.alone.Goals as goal
 
