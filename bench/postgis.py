@@ -129,8 +129,7 @@ def in_table(points: Path, boxes: Boxes, folder: Path) -> Found:
     asked.write_text("\n".join(lines) + "\n")
     words = [PROGRAM, points, asked]
     done = subprocess.run(words, capture_output=True, text=True, check=True)
-    shown = [line.split() for line in done.stdout.splitlines()]
-    took = [line.split() for line in done.stderr.splitlines() if line.split()[0] in boxes]
+    shown, took = ([line.split() for line in text.splitlines() if line.split()[0] in boxes] for text in (done.stdout, done.stderr))
     found = {}
     for name, of_class in boxes.items():
         pairs = [(int(one[1]), int(two[1]) / 1000) for one, two in zip(shown, took, strict=True) if one[0] == name]
