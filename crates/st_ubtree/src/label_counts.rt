@@ -4,10 +4,10 @@ ghost use Rattle.st_text.specs.Texts.{Text};
 ghost use Rattle.st_index.specs.Rows.{rows_of};
 ghost use Rattle.st_ubtree.specs.inner.Sums.{CountsLess, CountsMore, found, labelled, total};
 
-use crate::label_places::{find, find_spare, place_of};
+use crate::label_places::{find, find_near, find_spare, likely_place, place_of};
 use st_index::{Entry, Judge, Row, RowsView};
 use st_label::Label;
-use st_text::MAX_SHORT;
+use st_text::{MAX_SHORT, ShortText};
 use std::alloc::{Allocator, Global};
 
 /// A label, and the number of rows under it.
@@ -98,16 +98,17 @@ fn put<A: Allocator + Copy>(counts: &mut Vec<LabelCount<A>, A>, label: &Label<A>
     true
 }
 
-// Counts some rows less under a label. Says whether it did.
+// Counts some rows less under a label, which is likely to stand at a place. Says whether it did.
 fn take<A: Allocator + Copy>(
     counts: &mut Vec<LabelCount<A>, A>,
     label: &Label<A>,
     rows: u64,
+    likely: usize,
 ) -> bool
     ensures { IsTrue result → (judges : Text → Bool)
         → total judges counts.new.items + cond (judges label.now) rows 0 ≡ total judges counts.old.items }
 {
-    let Some(at) = find(counts.as_slice(), label) else {
+    let Some(at) = find_near(counts.as_slice(), label, likely) else {
         return false;
     };
     let count = &mut counts[at];
@@ -218,14 +219,22 @@ impl<A: Allocator + Copy> LabelCounts<A> {
         }
     }
 
-    /// Counts some rows less under a label.
-    pub fn take(&mut self, label: &Label<A>, rows: u64)
+    /// Where a label of these bytes is likely to stand.
+    pub fn likely_place(&self, label: &Option<ShortText>) -> usize {
+        if !self.are_all {
+            return 0;
+        }
+        likely_place(self.counts.as_slice(), label)
+    }
+
+    /// Counts some rows less under a label, which is likely to stand at a place.
+    pub fn take(&mut self, label: &Label<A>, rows: u64, likely: usize)
         ensures { CountsLess self.old self.new (λ judges. cond (judges label.now) rows 0) }
     {
         if !self.are_all {
             return;
         }
-        self.are_all = take(&mut self.counts, label, rows);
+        self.are_all = take(&mut self.counts, label, rows, likely);
     }
 
     /// Counts the rows under other labels less.
@@ -239,7 +248,7 @@ impl<A: Allocator + Copy> LabelCounts<A> {
         }
         for other in &others.counts {
             if other.rows > 0 {
-                self.take(&other.label, other.rows);
+                self.take(&other.label, other.rows, 0);
             }
         }
     }

@@ -66,6 +66,43 @@ pub fn find<A: Allocator + Copy>(counts: &[LabelCount<A>], label: &Label<A>) -> 
     }
 }
 
+/// Where a label of these bytes is likely to stand. To ask before a label is looked for fetches the place into the caches.
+pub fn likely_place<A: Allocator + Copy>(
+    counts: &[LabelCount<A>],
+    label: &Option<ShortText>,
+) -> usize {
+    match label {
+        Some(short) => find_short(counts, short).unwrap_or(0),
+        None => 0,
+    }
+}
+
+// Whether a label stands at an index.
+fn is_there<A: Allocator + Copy>(counts: &[LabelCount<A>], label: &Label<A>, at: usize) -> bool
+    ensures { IsTrue result → (at < length counts.now)
+        × ((c : LabelCountValue A) × (c ≡ slice_index_or counts.now at c) × (c.label ≡ label.now)) }
+{
+    if at >= counts.len() {
+        return false;
+    }
+    counts[at].label.is_same(label)
+}
+
+/// The index of a label that is equal to this one, which is likely to be this index.
+pub fn find_near<A: Allocator + Copy>(
+    counts: &[LabelCount<A>],
+    label: &Label<A>,
+    likely: usize,
+) -> Option<usize>
+    ensures { IfSome result (λ at. (at < length counts.now)
+        × ((c : LabelCountValue A) × (c ≡ slice_index_or counts.now at c) × (c.label ≡ label.now))) }
+{
+    if is_there(counts, label, likely) {
+        return Some(likely);
+    }
+    find(counts, label)
+}
+
 // The index of a label under which there is no row, from one index to another.
 fn spare_between<A: Allocator + Copy>(
     counts: &[LabelCount<A>],

@@ -35,6 +35,7 @@ use marking::{mark_changed, mark_due, mark_if, mark_swapped};
 use st_index::entries::{self, Change};
 use st_index::{Entry, Row};
 use st_key::{Key, Period};
+use st_text::ShortText;
 use std::alloc::{Allocator, Global};
 use std::marker::Model;
 use sums::{drop_row, renew_if};
@@ -193,7 +194,14 @@ impl<A: Allocator + Copy> Node<A> {
     }
 
     /// Takes out the row of a key and a name. A page says where it stood.
-    pub fn remove(&mut self, key: Key, id: &str, label: &str, change: &mut Change) -> Option<Row<A>>
+    pub fn remove(
+        &mut self,
+        key: Key,
+        id: &str,
+        label: &str,
+        short: &Option<ShortText>,
+        change: &mut Change,
+    ) -> Option<Row<A>>
         requires wide { 1 ≤ self.old.height → 2 ≤ self.old.width }
         ensures some { IfSome result (λ row. Shrinks (rank key) row self.old self.new) }
         ensures named { IfSome result (λ row. name_of row ≡ record { id = id.now; label = label.now }) }
@@ -202,20 +210,21 @@ impl<A: Allocator + Copy> Node<A> {
         ensures change { IfSome result (λ _. self.old.height ≡ 0
             → IsChange change.new (entries_of_pages self.old.pages) (entries_of_pages self.new.pages)) }
     {
+        let likely = self.sum.likely_place(short);
         let taken = match &mut self.kids {
             Kids::Page(entries) => entries::take(entries, key, id, label, change),
             Kids::Inner(kids, aside) => {
                 let aside = &mut **aside;
                 let at = aside.firsts.child_for(key);
                 let kid = &mut kids[at];
-                let row = kid.remove(key, id, label, change)?;
+                let row = kid.remove(key, id, label, short, change)?;
                 kids[at].mark_change(at, *change, &mut aside.marks);
                 mend(kids, at, aside);
                 mark_if(self.sum.is_time(), &mut aside.marks, kids);
                 Some(row)
             }
         };
-        drop_row(&mut self.sum, &taken);
+        drop_row(&mut self.sum, &taken, likely);
         renew_if(self.sum.is_due(), &mut self.sum, &self.kids);
         taken
     }

@@ -14,6 +14,7 @@ use crate::label_counts::{LabelCount, LabelCounts};
 use st_box::Query;
 use st_index::{Entry, Fields, Judge, Row, RowView, RowsView};
 use st_key::Point;
+use st_text::ShortText;
 use std::alloc::{Allocator, Global};
 
 /// The most labels whose rows a node counts.
@@ -112,12 +113,17 @@ impl<A: Allocator + Copy> Summary<A> {
         self.labels.put_entries(entries);
     }
 
-    /// Sums up one row less. The bounds stay as they are.
-    pub fn take(&mut self, row: &Row<A>)
+    /// Where a label of these bytes is likely to stand among those that are counted.
+    pub fn likely_place(&self, label: &Option<ShortText>) -> usize {
+        self.labels.likely_place(label)
+    }
+
+    /// Sums up one row less, whose label is likely to stand at a place. The bounds stay as they are.
+    pub fn take(&mut self, row: &Row<A>, likely: usize)
         ensures { (rows : List (RowValue A)) → Sums self.old (rows ++ row.now ∷ []) → Sums self.new rows }
     {
         self.removals = self.removals.saturating_add(1);
-        self.labels.take(&row.label, 1);
+        self.labels.take(&row.label, 1, likely);
     }
 
     /// Sums up the rows of another summary less, which are the last of these. The bounds stay as they are.

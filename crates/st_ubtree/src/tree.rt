@@ -15,6 +15,7 @@ use st_box::Query;
 use st_index::entries::{self, Change};
 use st_index::{Entry, Fields, Judge, KeyRange, Leaf, Row, RowIndex, order};
 use st_key::{Key, Period};
+use st_text::ShortText;
 use std::alloc::{AllocError, Allocator, Global};
 use std::marker::Model;
 
@@ -240,7 +241,8 @@ impl<A: Allocator + Copy> RowIndex for UbTree<A> {
 
     fn remove(&mut self, key: Key, id: &str, label: &str) -> Option<Row<A>> {
         let mut change = Change::Altered(0);
-        let row = self.root.remove(key, id, label, &mut change)?;
+        let short = ShortText::new(label);
+        let row = self.root.remove(key, id, label, &short, &mut change)?;
         self.root.lower();
         self.root.count_keys();
         self.len -= 1;

@@ -1,10 +1,15 @@
 //! What the tests ask, and the halls in which they ask.
 ghost use Rattle.std.specs.Prelude.{◌≡◌, IfSome};
 
-use crate::words::SEED;
-use st_core::Store;
+use st_core::{Seed, Store};
 use st_hall::Gate;
 use std::alloc::Global;
+
+// What the hashes of ids begin with. Any would do.
+const SEED: Seed = Seed {
+    first: 1,
+    second: 2,
+};
 
 // The SHA-256 of 32 zero bytes, which are root's secret.
 const DIGEST: [u8; 32] = [

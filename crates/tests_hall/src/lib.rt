@@ -1,5 +1,5 @@
-//! Tests of two copies, a clerk and desks, of the stations at these desks: messages that they answer, and connections that
-//! fail; and of what the two programs do by the words of their command lines.
+//! Tests of two copies, a clerk and desks, and of the stations at these desks: messages that they answer, and connections that
+//! fail; and of a hall whose changes are kept in groups.
 #![tactic(auto)]
 
 #[cfg(test)]
@@ -13,22 +13,24 @@ mod faults;
 #[cfg(test)]
 mod fronts;
 #[cfg(test)]
+mod groups;
+#[cfg(test)]
 mod halls;
+#[cfg(test)]
+mod journals;
+#[cfg(test)]
+mod kept_puts;
 #[cfg(test)]
 mod messages;
 #[cfg(test)]
 mod pending;
 #[cfg(test)]
+mod pipelines;
+#[cfg(test)]
 mod puts;
-#[cfg(test)]
-mod runs;
-#[cfg(test)]
-mod servers;
 #[cfg(test)]
 mod strangers;
 #[cfg(test)]
 mod taken_back;
-#[cfg(test)]
-mod words;
 #[cfg(test)]
 mod workers;

@@ -97,13 +97,17 @@ pub(super) fn renew_if<A: Allocator + Copy>(due: bool, sum: &mut Summary<A>, kid
     renew(sum, kids);
 }
 
-// Takes a row out of a summary, if there is one.
-pub(super) fn drop_row<A: Allocator + Copy>(sum: &mut Summary<A>, taken: &Option<Row<A>>)
+// Takes a row out of a summary, if there is one. Its label is likely to stand at a place.
+pub(super) fn drop_row<A: Allocator + Copy>(
+    sum: &mut Summary<A>,
+    taken: &Option<Row<A>>,
+    likely: usize,
+)
     ensures { (rows : List (RowValue A)) → MatchOption taken.now (Sums sum.old rows → Sums sum.new rows)
         (λ row. Sums sum.old (rows ++ row ∷ []) → Sums sum.new rows) }
 {
     let Some(row) = taken else {
         return;
     };
-    sum.take(row);
+    sum.take(row, likely);
 }

@@ -1,4 +1,4 @@
-use Rattle.tests_durable_hall.proofs.pipelines.tried.Given as goal
+use Rattle.tests_hall.proofs.pipelines.tried.Given as goal
 
 -- the hall that is opened here
 abbrev pub ghosts-told_by-H-HallName : goal.ghosts-told_by-H-HallName

@@ -2,7 +2,7 @@ use denote.Param.Send.{sendable, given_sync}
 use Rattle.std.proofs.Crossing.{crosses}
 use Rattle.st_hall.proofs.Crossing.{desk}
 use Rattle.st_durable_hall.proofs.Crossing.{durable_hall}
-use Rattle.tests_durable_hall.proofs.groups.put_at_each.Goals as goal
+use Rattle.tests_hall.proofs.groups.put_at_each.Goals as goal
 
 pub for_each_mut-requires-send-T : goal.for_each_mut-requires-send-T
 for_each_mut-requires-send-T g c κs within = search (sendable, crosses, desk) depth 60 fits 100000

@@ -1,4 +1,4 @@
-use Rattle.tests_durable_hall.proofs.groups.tried.Given as goal
+use Rattle.tests_hall.proofs.groups.tried.Given as goal
 
 -- the hall that is opened here
 abbrev pub ghosts-put_by_all-H-HallName : goal.ghosts-put_by_all-H-HallName

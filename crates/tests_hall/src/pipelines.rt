@@ -1,9 +1,9 @@
 //! Puts that a client sends together.
 ghost use Rattle.std.specs.Prelude.{◌≡◌, ◌<◌};
 
-use crate::groups::stores;
+use crate::halls::stores;
 use crate::journals::SlowJournal;
-use crate::puts::{id_of, push_text};
+use crate::kept_puts::{id_of, push_text};
 use st_connection::{Ended, FromRead, FromWrite};
 use st_core::Store;
 use st_durable::Beginning;
@@ -77,7 +77,7 @@ fn told_by<B: Beginning, H: HallName, R: Wait + Clock>(
 }
 
 fn tried<R: Wait + Clock>(rt: &R, alloc: Global, limit: u64) -> Option<(Told, u64)> {
-    let both = stores(alloc)?;
+    let both = stores(alloc, &[])?;
     told_by::<Brand, Brand, _>(rt, alloc, UnnamedFor::of(1), both, limit)
 }
 

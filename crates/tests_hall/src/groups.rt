@@ -1,9 +1,10 @@
 //! Puts at up to sixteen desks, each by a thread of its own, into a journal whose appends take time.
-ghost use Rattle.std.specs.Prelude.{◌≡◌, ◌<◌, IfSome};
+ghost use Rattle.std.specs.Prelude.{◌≡◌, ◌<◌};
 
+use crate::halls::stores;
 use crate::journals::SlowJournal;
-use crate::puts::{id_of, put};
-use st_core::{Seed, Store};
+use crate::kept_puts::{id_of, put};
+use st_core::Store;
 use st_durable::Beginning;
 use st_durable_hall::DurableHall;
 use st_hall::{Desk, Hall, HallName, UnnamedFor};
@@ -17,17 +18,6 @@ use std::thread::{Threads, for_each_mut};
 use std::time::Clock;
 
 const EACH: u8 = 50;
-
-// What the hashes of ids begin with. Any would do.
-const SEED: Seed = Seed {
-    first: 1,
-    second: 2,
-};
-
-const DIGEST: [u8; 32] = [
-    0x66, 0x68, 0x7a, 0xad, 0xf8, 0x62, 0xbd, 0x77, 0x6c, 0x8f, 0xc1, 0x8b, 0x8e, 0x9f, 0x8e, 0x20,
-    0x08, 0x97, 0x14, 0x85, 0x6e, 0xe2, 0x33, 0xb3, 0x90, 0x2a, 0x59, 0x1d, 0x0d, 0x5f, 0x29, 0x25,
-];
 
 // What is found after the puts.
 #[derive(Drop)]
@@ -138,20 +128,6 @@ fn put_by_all<
     Some(found_in(publisher.journal(), workers, told))
 }
 
-/// Two stores of one state.
-pub fn stores(alloc: Global) -> Option<(Store, Store)>
-    ensures { IfSome result (λ both. both.0 ≡ both.1) }
-{
-    let first = Store::open(alloc, SEED, DIGEST, &[]).ok()?;
-    match Store::open(alloc, SEED, DIGEST, &[]) {
-        Ok(second) => Some((first, second)),
-        Err(_) => {
-            drop(first);
-            None
-        }
-    }
-}
-
 // A hall is opened with so many desks.
 fn tried<R: Threads + Wait + Clock + Sync>(
     rt: &R,
@@ -161,7 +137,7 @@ fn tried<R: Threads + Wait + Clock + Sync>(
 ) -> Option<Found>
     requires { 0 < workers }
 {
-    let both = stores(alloc)?;
+    let both = stores(alloc, &[])?;
     put_by_all::<Brand, Brand, _>(rt, alloc, UnnamedFor::of(workers), both, workers, limit)
 }
 
