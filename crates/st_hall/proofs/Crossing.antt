@@ -16,9 +16,9 @@ use Rattle.st_index.specs.contracts.note.NoteText as NoteText
 use Rattle.st_index.specs.contracts.row.Row as Row
 use Rattle.st_index.specs.contracts.entry.Entry as Entry
 use Rattle.st_ubtree.specs.contracts.tree.UbTree as UbTree
-use Rattle.st_ubtree.specs.contracts.label_counts.LabelCount as LabelCount
-use Rattle.st_ubtree.specs.contracts.label_counts.LabelCounts as LabelCounts
-use Rattle.st_ubtree.specs.contracts.summary.Summary as Summary
+use Rattle.st_tally.specs.contracts.label_counts.LabelCount as LabelCount
+use Rattle.st_tally.specs.contracts.label_counts.LabelCounts as LabelCounts
+use Rattle.st_tally.specs.contracts.summary.Summary as Summary
 use Rattle.st_ubtree.specs.contracts.node.aside.Aside as Aside
 use Rattle.st_ubtree.specs.contracts.node.Node as Node
 use Rattle.st_ubtree.specs.contracts.node.Node.TheKnot as knot

@@ -10,7 +10,7 @@ use Rattle.st_index.specs.Index.{Adds, IsAbsent}
 use Rattle.st_index.specs.Rows.{name_of, rows_of}
 use Rattle.st_index.proofs.Climbing.{all_left, all_right}
 use Rattle.st_index.proofs.Putting.{split_read}
-use Rattle.st_ubtree.specs.Pages.{PageValue, NodeValue, entries_of_pages, rows_of_pages}
+use Rattle.st_tally.specs.Pages.{PageValue, NodeValue, entries_of_pages, rows_of_pages}
 use Rattle.st_ubtree.specs.inner.Evening.{Evens, HasPairAt, KidsEven, SplitsNone}
 use Rattle.st_ubtree.specs.inner.Growing.{AreAround, IsRoomFor}
 use Rattle.st_ubtree.specs.inner.Kids.{GrowsBy, HeadAt, IsKid, Spans, pages_of}

@@ -14,12 +14,12 @@ use Rattle.st_ubtree.specs.declared.node.Kids.TheVariants.{Inner}
 use Rattle.st_ubtree.specs.declared.node.aside.Aside.{Aside}
 use Rattle.st_ubtree.specs.declared.node.firsts.First.{First}
 use Rattle.st_ubtree.specs.declared.node.firsts.Firsts.{Firsts}
-use Rattle.st_ubtree.specs.Pages.{NodeValue}
+use Rattle.st_tally.specs.Pages.{NodeValue}
 use Rattle.st_ubtree.specs.inner.Firsts.{AreFirsts, AreFirstsUnder}
 use Rattle.st_ubtree.specs.inner.Growing.{IsChosen, Settles}
-use Rattle.st_ubtree.specs.inner.Marks.{AreMarked}
+use Rattle.st_tally.specs.inner.Marks.{AreMarked}
 use Rattle.st_ubtree.specs.inner.Nodes.{AreMarkedUnder, IsNode}
-use Rattle.st_ubtree.proofs.Placing.{there_is}
+use Rattle.st_tally.proofs.Placing.{there_is}
 
 map_insert : {X : Type 0} (n : X → ℕ) (xs : List X) (i : ℕ) (x : X) → map n (insert xs i x) ≡ insert (map n xs) i (n x)
 map_insert n xs i x = map-append n (take i xs) (x ∷ drop i xs) ∙ ap (λ front. front ++ n x ∷ map n (drop i xs)) (sym (take-map n i xs)) ∙ ap (λ back. take i (map n xs) ++ n x ∷ back) (sym (drop-map n i xs))

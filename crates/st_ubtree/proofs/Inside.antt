@@ -6,7 +6,7 @@ use Rattle.st_index.specs.Rows.{name_of, rank_of, rows_of}
 use Rattle.st_index.specs.Index.{Adds}
 use Rattle.st_index.proofs.Climbing.{all_left, all_right}
 use Rattle.st_index.proofs.Putting.{rows-append, adds_inside}
-use Rattle.st_ubtree.specs.Pages.{PageValue, NodeValue, entries_of_pages, rows_of_pages}
+use Rattle.st_tally.specs.Pages.{PageValue, NodeValue, entries_of_pages, rows_of_pages}
 use Rattle.st_ubtree.specs.inner.Kids.{GrowsBy, IsKid, pages_of}
 use Rattle.st_ubtree.proofs.Spanning.{found_kid, pages_split, spans_join, entries-append}
 use Rattle.st_index.specs.declared.row.Row.{Row}

@@ -8,8 +8,8 @@ use Rattle.st_index.proofs.Climbing.{all_left}
 use Rattle.st_index.proofs.Putting.{split_read}
 use Rattle.st_index.proofs.Rising.{rises_around, rises_bounds, rises_join}
 use Rattle.st_ubtree.specs.inner.Nodes.{IsInnerNode, inner_node}
-use Rattle.st_ubtree.specs.Pages.{page_node}
-use Rattle.st_ubtree.specs.Pages.{PageValue, NodeValue, entries_of_pages}
+use Rattle.st_tally.specs.Pages.{page_node}
+use Rattle.st_tally.specs.Pages.{PageValue, NodeValue, entries_of_pages}
 use Rattle.st_ubtree.specs.inner.Kids.{HeadAt, IsKid, Spans, pages_of}
 use Rattle.st_ubtree.specs.inner.Shrinking.{IsNodeOf, IsPageOf, IsKidBeside, Joins, KidsJoin, PagesJoin, Reshapes, pages_beside}
 use Rattle.st_ubtree.proofs.Settling.{kids_start, kids_wide}

@@ -13,22 +13,22 @@ use Rattle.st_index.specs.declared.row.Row.{Row}
 use Rattle.st_index.specs.Counting.{count_of, is_counted}
 use Rattle.st_index.specs.Rows.{EntryValue, Name, name_of}
 use Rattle.st_index.proofs.Sums.{sum_by-flat_map}
-use Rattle.st_ubtree.specs.declared.bounds.Bounds.{Bounds}
+use Rattle.st_tally.specs.declared.bounds.Bounds.{Bounds}
 use Rattle.st_ubtree.specs.declared.node.Kids.{Kids}
 use Rattle.st_ubtree.specs.declared.node.Kids.TheVariants.{Page, Inner}
-use Rattle.st_ubtree.specs.declared.summary.Summary.{Summary}
-use Rattle.st_ubtree.specs.Pages.{NodeValue, rows_of_pages}
+use Rattle.st_tally.specs.declared.summary.Summary.{Summary}
+use Rattle.st_tally.specs.Pages.{NodeValue, rows_of_pages}
 use Rattle.st_ubtree.specs.inner.Kids.{pages_of}
 use Rattle.st_ubtree.specs.inner.Growing.{Grows, Settles}
 use Rattle.st_ubtree.specs.inner.Shrinking.{Shrinks}
 use Rattle.st_ubtree.specs.inner.Trading.{TradesIn}
 use Rattle.st_ubtree.specs.inner.Nodes.{pages_under, rows_under}
-use Rattle.st_ubtree.specs.inner.Sums.{IsWithin, Sums}
+use Rattle.st_tally.specs.inner.Sums.{IsWithin, Sums}
 use Rattle.st_ubtree.proofs.Inside.{rows_join}
 use Rattle.std.proofs.Math.ListN.{set}
 use Rattle.st_ubtree.proofs.Spanning.{pages-append}
 use Rattle.st_ubtree.proofs.Splitting.{one_rows, page}
-use Rattle.st_ubtree.proofs.Summing.{next_lists, sums_added, sums_swapped, sums_taken, wider}
+use Rattle.st_tally.proofs.Summing.{next_lists, sums_added, sums_swapped, sums_taken, wider}
 
 module _ {A : Type 0} where
   -- where no child has marks

@@ -11,10 +11,10 @@ use Rattle.st_ubtree.specs.inner.Shrinking.{DropsFrom}
 use Rattle.st_index.proofs.Rising.{rises_join}
 use Rattle.st_index.proofs.Scanning.{scan_rises}
 use Rattle.st_ubtree.specs.inner.Growing.{AreAround, IsLeafIn}
-use Rattle.st_ubtree.specs.Pages.{PageValue, NodeValue, IsFilled, entries_of_pages, rows_of_pages}
+use Rattle.st_tally.specs.Pages.{PageValue, NodeValue, IsFilled, entries_of_pages, rows_of_pages}
 use Rattle.st_ubtree.specs.inner.Kids.{GrowsBy, Spans}
 use Rattle.st_ubtree.specs.inner.Trading.{TradesIn}
-use Rattle.st_ubtree.specs.Pages.{AreFilled}
+use Rattle.st_tally.specs.Pages.{AreFilled}
 use Rattle.st_ubtree.specs.Trees.{regions_of}
 use Rattle.st_ubtree.specs.inner.Tree.{IsTree}
 use Rattle.st_ubtree.proofs.Inside.{rows_join, rows_three}

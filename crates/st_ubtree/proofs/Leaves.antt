@@ -5,7 +5,7 @@ use Rattle.std.specs.List.{All}
 use Rattle.std.specs.List.Sorted.{IsPartitionedBy, IsPartitionPoint}
 use Rattle.st_ubtree.specs.declared.node.Kids.{Kids}
 use Rattle.st_ubtree.specs.declared.node.Kids.TheVariants.{Page, Inner}
-use Rattle.st_ubtree.specs.Pages.{PageValue, NodeValue}
+use Rattle.st_tally.specs.Pages.{PageValue, NodeValue}
 use Rattle.st_ubtree.specs.inner.Kids.{Spans, StartsAt, IsKid, pages_of}
 use Rattle.st_ubtree.specs.inner.Nodes.{IsNode, pages_under}
 use Rattle.st_ubtree.specs.inner.Growing.{IsPartIn}

@@ -2,7 +2,6 @@ pub mod Spanning
 pub mod Leaves
 pub mod Inside
 pub mod Splitting
-pub mod Spotting
 pub mod Settling
 pub mod Lifting
 pub mod Joining
@@ -15,13 +14,5 @@ pub mod Evening
 pub mod Counting
 pub mod Lawful
 pub mod Walking
-pub mod Summing
-pub mod Bounding
 pub mod Keeping
-pub mod Labels
-pub mod Placing
-pub mod Marking
-pub mod ByMarks
-pub mod Fielding
-pub mod Tallied
 pub mod Firsts

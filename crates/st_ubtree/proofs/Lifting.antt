@@ -9,7 +9,7 @@ use Rattle.st_index.specs.declared.row.Row.{Row}
 use Rattle.st_index.specs.Rows.{EntryValue}
 use Rattle.st_index.proofs.Climbing.{all_left, all_right}
 use Rattle.st_index.proofs.Putting.{split_read}
-use Rattle.st_ubtree.specs.Pages.{NodeValue, entries_of_pages}
+use Rattle.st_tally.specs.Pages.{NodeValue, entries_of_pages}
 use Rattle.st_ubtree.specs.inner.Kids.{GrowsBy, HeadAt, IsKid, pages_of}
 use Rattle.st_ubtree.specs.inner.Growing.{Grows, IsRoomFor, Settles}
 use Rattle.st_ubtree.specs.inner.Nodes.{IsInnerNode, inner_node}
@@ -23,9 +23,6 @@ insert_after xs v ys s j e = ap (λ n. insert (xs ++ v ∷ ys) n s) e ∙ at xs
     at : (zs : List _) → insert (zs ++ v ∷ ys) (suc (length zs)) s ≡ zs ++ v ∷ s ∷ ys
     at [] = refl
     at (z ∷ zs) = ap (λ t. z ∷ t) (at zs)
-
-pub set_read : {X : Type 0} (xs : List X) (i : ℕ) (old new : X) → i < length xs → old ≡ get_or xs i old → new ≡ old → set xs i new ≡ xs
-set_read xs i old new l read same = ap (set xs i) same ∙ set_split xs i old l ∙ sym (split_read xs i old l read)
 
 module _ {A : Type 0} where
   pub kid_stays : (key : ℕ) (row : Row A) (below : ℕ) (kid v : NodeValue A) → IsKid below kid → Grows key row kid v None → IsKid below v

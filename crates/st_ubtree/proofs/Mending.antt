@@ -3,7 +3,7 @@ use Rattle.std.proofs.Common.{◌≡◌, ℕ, ◌+◌, ◌<◌, ◌≤◌, ◌�
 use Rattle.std.proofs.lemmas.List.Elements.{All-append, All-cons, All-head, All-tail}
 use Rattle.std.specs.List.{All, insert, remove}
 use Rattle.st_index.proofs.Climbing.{all_left, all_right}
-use Rattle.st_ubtree.specs.Pages.{PageValue, NodeValue}
+use Rattle.st_tally.specs.Pages.{PageValue, NodeValue}
 use Rattle.st_ubtree.specs.inner.Kids.{HeadAt, IsKid, pages_of}
 use Rattle.st_ubtree.specs.inner.Shrinking.{AreWorn, IsKidBeside, IsWorn, Joins, Mends, Reshapes, pages_beside}
 use Rattle.st_ubtree.proofs.Joining.{reshapes_inside, reshapes_same}

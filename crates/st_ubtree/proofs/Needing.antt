@@ -9,9 +9,9 @@ use Rattle.st_key.specs.declared.period.Period.{Period}
 use Rattle.st_index.specs.Rows.{EntryValue, Rises}
 use Rattle.st_index.proofs.Rising.{rises_bounds, rises_all}
 use Rattle.st_ubtree.specs.inner.Growing.{AreAround, DoRise}
-use Rattle.st_ubtree.specs.Pages.{PageValue, NodeValue, entries_of_pages}
+use Rattle.st_tally.specs.Pages.{PageValue, NodeValue, entries_of_pages}
 use Rattle.st_ubtree.specs.inner.Kids.{IsKid, Spans, pages_of}
-use Rattle.st_ubtree.specs.Pages.{page_node}
+use Rattle.st_tally.specs.Pages.{page_node}
 use Rattle.st_ubtree.specs.inner.Splits.{chains_of, chains_over, has_key, made_nodes, splits, splits_in, splits_page, splits_with}
 use Rattle.st_ubtree.proofs.Settling.{chains_length}
 use Rattle.st_index.proofs.Climbing.{all_left, all_right}

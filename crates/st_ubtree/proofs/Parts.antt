@@ -4,7 +4,7 @@ use Rattle.st_key.specs.declared.period.Period.{Period}
 use Rattle.st_index.specs.Rows.{key_end}
 use Rattle.st_index.specs.Index.{rows_between, rows_from}
 use Rattle.st_index.proofs.Ranges.{between_middle, from_middle}
-use Rattle.st_ubtree.specs.Pages.{PageValue, rows_of_pages}
+use Rattle.st_tally.specs.Pages.{PageValue, rows_of_pages}
 use Rattle.st_ubtree.specs.inner.Kids.{Spans}
 use Rattle.st_ubtree.specs.inner.Growing.{IsPartIn}
 use Rattle.st_ubtree.proofs.Inside.{rows_three}

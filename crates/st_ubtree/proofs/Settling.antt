@@ -4,7 +4,7 @@ use Rattle.std.proofs.lemmas.List.{length-map}
 use Rattle.std.proofs.lemmas.List.Elements.{All-append, All-cons, All-head, All-tail}
 use Rattle.std.specs.List.{All}
 use Rattle.st_index.proofs.Climbing.{all_left, all_right}
-use Rattle.st_ubtree.specs.Pages.{PageValue, NodeValue, IsFilled, IsWide}
+use Rattle.st_tally.specs.Pages.{PageValue, NodeValue, IsFilled, IsWide}
 use Rattle.st_ubtree.specs.inner.Kids.{AreWide, IsKid, Starts, StartsAt, HeadAt, pages_of, widths_of}
 use Rattle.st_ubtree.specs.inner.Splits.{chains_of, chains_over, splits_with}
 use Rattle.st_ubtree.specs.declared.node.blank.Blank.{Blank}

@@ -13,8 +13,8 @@ use Rattle.st_index.proofs.Climbing.{all_left, all_right}
 use Rattle.st_index.proofs.Putting.{adds_inside, split_read}
 use Rattle.st_index.proofs.Taking.{absent_high, absent_join, absent_low, rows_below, rows_from}
 use Rattle.st_ubtree.specs.inner.Nodes.{IsInnerNode, inner_node}
-use Rattle.st_ubtree.specs.Pages.{page_node}
-use Rattle.st_ubtree.specs.Pages.{PageValue, NodeValue, rows_of_pages}
+use Rattle.st_tally.specs.Pages.{page_node}
+use Rattle.st_tally.specs.Pages.{PageValue, NodeValue, rows_of_pages}
 use Rattle.st_ubtree.specs.inner.Kids.{HeadAt, IsKid, Spans, pages_of}
 use Rattle.st_ubtree.specs.inner.Shrinking.{AreWorn, DropsFrom, HasNone, IsWorn, Mends, Reshapes, Shrinks}
 use Rattle.st_ubtree.proofs.Inside.{rows_join, rows_three}

@@ -6,7 +6,7 @@ use Rattle.std.proofs.lemmas.List.{get_or-drop, length-drop}
 use Rattle.std.specs.List.{All, AllWithin}
 use Rattle.std.specs.List.Sorted.{IsPartitionedBy, IsPartitionPoint}
 use Rattle.st_index.proofs.Putting.{split_read}
-use Rattle.st_ubtree.specs.Pages.{PageValue, NodeValue, entries_of_pages}
+use Rattle.st_tally.specs.Pages.{PageValue, NodeValue, entries_of_pages}
 use Rattle.st_ubtree.specs.inner.Kids.{Spans, IsKid, StartsAt, pages_of}
 use Rattle.st_key.specs.declared.period.Period.{Period}
 

@@ -6,10 +6,10 @@ use Rattle.st_index.specs.Rows.{name_of, EntryValue, Rises, rank_of, rows_of}
 use Rattle.st_index.specs.Index.{Adds, IsAbsent}
 use Rattle.st_index.proofs.Putting.{split_read}
 use Rattle.st_index.proofs.Rising.{rises_bounds, rises_around}
-use Rattle.st_ubtree.specs.Pages.{PageValue, NodeValue, IsFilled, rows_of_pages}
+use Rattle.st_tally.specs.Pages.{PageValue, NodeValue, IsFilled, rows_of_pages}
 use Rattle.st_ubtree.specs.inner.Kids.{Spans, GrowsBy, AreWide, IsKid}
 use Rattle.st_ubtree.specs.inner.Growing.{PageGrows, Grows}
-use Rattle.st_ubtree.specs.Pages.{page_node}
+use Rattle.st_tally.specs.Pages.{page_node}
 use Rattle.st_key.specs.declared.period.Period.{Period}
 use Rattle.st_index.specs.declared.row.Row.{Row}
 

@@ -10,8 +10,8 @@ use Rattle.st_index.specs.declared.row.Row.{Row}
 use Rattle.st_index.specs.Rows.{EntryValue, Name, Rises, name_of, rank_of, rows_of}
 use Rattle.st_index.specs.Index.{IsAbsent, Swaps}
 use Rattle.st_ubtree.specs.inner.Nodes.{IsInnerNode, inner_node}
-use Rattle.st_ubtree.specs.Pages.{page_node}
-use Rattle.st_ubtree.specs.Pages.{NodeValue, IsFilled, rows_of_pages}
+use Rattle.st_tally.specs.Pages.{page_node}
+use Rattle.st_tally.specs.Pages.{NodeValue, IsFilled, rows_of_pages}
 use Rattle.st_ubtree.specs.inner.Kids.{HeadAt, IsKid, pages_of}
 use Rattle.st_ubtree.specs.inner.Shrinking.{HasNone}
 use Rattle.st_ubtree.specs.inner.Trading.{Keeps, TradesIn}

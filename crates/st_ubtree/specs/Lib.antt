@@ -1,4 +1,3 @@
-pub mod Pages
 pub mod Trees
 pub mod Ranges
 pub mod inner

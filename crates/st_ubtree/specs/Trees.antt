@@ -2,7 +2,7 @@
 use Rattle.std.specs.Prelude.{ℕ, ◌-◌, List, [], ◌∷◌}
 use Rattle.st_key.specs.declared.period.Period.{Period}
 use Rattle.st_index.specs.Index.{Region, region}
-use Rattle.st_ubtree.specs.Pages.{PageValue, NodeValue}
+use Rattle.st_tally.specs.Pages.{PageValue, NodeValue}
 
 pub record TreeValue (A : Type 0) : Type 0 where
   pub period : Period

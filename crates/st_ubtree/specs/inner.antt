@@ -1,7 +1,4 @@
 -- Invariants of representations and stages of the code, which no reader has to believe.
-pub mod Sums
-pub mod Spots
-pub mod Marks
 pub mod Kids
 pub mod Tree
 pub mod Growing

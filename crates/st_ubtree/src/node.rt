@@ -4,7 +4,7 @@ ghost use Rattle.std.specs.List.{All};
 ghost use Rattle.st_key.specs.Key.{rank};
 ghost use Rattle.st_index.specs.Rows.{name_of, rank_of};
 ghost use Rattle.st_index.specs.inner.Changes.{IsChange};
-ghost use Rattle.st_ubtree.specs.Pages.{IsWide, NodeValue, entries_of_pages, AreFilled, page_node};
+ghost use Rattle.st_tally.specs.Pages.{IsWide, NodeValue, entries_of_pages, AreFilled, page_node};
 ghost use Rattle.st_ubtree.specs.inner.Trading.{Keeps, TradesIn};
 ghost use Rattle.st_ubtree.specs.inner.Shrinking.{HasNone, IsWorn, Joins, Shrinks};
 ghost use Rattle.st_ubtree.specs.inner.Growing.{AreAround, AreBlank, Grows, IsBlank, IsBlankPage, IsRoomFor};
@@ -26,7 +26,6 @@ mod seek;
 mod sums;
 mod widening;
 
-use crate::summary::Summary;
 use aside::Aside;
 pub use blank::Blank;
 use grow::{put_in_page, settle};
@@ -35,6 +34,7 @@ use marking::{mark_changed, mark_due, mark_if, mark_swapped};
 use st_index::entries::{self, Change};
 use st_index::{Entry, Row};
 use st_key::{Key, Period};
+use st_tally::summary::Summary;
 use st_text::ShortText;
 use std::alloc::{Allocator, Global};
 use std::marker::Model;
@@ -60,12 +60,12 @@ enum Kids<A: Allocator = Global> {
 impl<A: Allocator> Model for Node<A> {
     ghost use Rattle.std.specs.Prelude.{◌≡◌};
     ghost use Rattle.st_key.specs.Key.{rank};
-    ghost use Rattle.st_ubtree.specs.Pages.{NodeValue};
+    ghost use Rattle.st_tally.specs.Pages.{NodeValue};
 
     ghost Value = { NodeValue A };
 
     ghost use Rattle.st_ubtree.specs.inner.Nodes.{node_value, IsNode, rows_under};
-    ghost use Rattle.st_ubtree.specs.inner.Sums.{Sums};
+    ghost use Rattle.st_tally.specs.inner.Sums.{Sums};
     ghost use Rattle.st_ubtree.specs.inner.Firsts.{AreFirstsUnder};
     ghost use Rattle.st_ubtree.specs.inner.Nodes.{AreMarkedUnder};
 

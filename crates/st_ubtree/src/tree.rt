@@ -3,18 +3,18 @@ ghost use Rattle.std.specs.Prelude.{◌≡◌, ◌+◌, ◌<◌, ◌≤◌, [], 
 ghost use Rattle.std.specs.List.{All};
 ghost use Rattle.st_index.specs.Rows.{key_end};
 ghost use Rattle.st_ubtree.specs.inner.Growing.{AreBlank, IsBlankPage};
-ghost use Rattle.st_ubtree.specs.Pages.{page_node, IsWide, rows_of_pages, AreFilled};
+ghost use Rattle.st_tally.specs.Pages.{page_node, IsWide, rows_of_pages, AreFilled};
 ghost use Rattle.st_ubtree.specs.inner.Splits.{made_nodes, split_nodes};
 ghost use Rattle.st_ubtree.specs.Trees.{regions_of};
 ghost use Rattle.st_ubtree.specs.inner.Tree.{HasTreeRoom};
 ghost use Rattle.st_ubtree.specs.Ranges.{region_in};
 
-use crate::marks::{FEW_PAGES, Room};
 use crate::node::{Blank, Node};
 use st_box::Query;
 use st_index::entries::{self, Change};
 use st_index::{Entry, Fields, Judge, KeyRange, Leaf, Row, RowIndex, order};
 use st_key::{Key, Period};
+use st_tally::marks::{FEW_PAGES, Room};
 use st_text::ShortText;
 use std::alloc::{AllocError, Allocator, Global};
 use std::marker::Model;

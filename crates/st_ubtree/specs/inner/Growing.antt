@@ -7,7 +7,7 @@ use Rattle.st_key.specs.declared.period.Period.{Period}
 use Rattle.st_index.specs.declared.row.Row.{Row}
 use Rattle.st_index.specs.Rows.{EntryValue, Rises}
 use Rattle.st_ubtree.specs.declared.node.blank.Blank.{Blank}
-use Rattle.st_ubtree.specs.Pages.{PageValue, NodeValue}
+use Rattle.st_tally.specs.Pages.{PageValue, NodeValue}
 use Rattle.st_ubtree.specs.inner.Kids.{Spans, GrowsBy, AreWide, IsKid, Starts, pages_of}
 
 -- an empty list of rows that can hold one more than the key's, if it has some

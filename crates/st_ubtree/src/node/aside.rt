@@ -1,12 +1,12 @@
 //! What a node over others keeps beside its children.
 ghost use Rattle.std.specs.Prelude.{◌≤◌, length};
 ghost use Rattle.st_ubtree.specs.inner.Firsts.{AreFirsts};
-ghost use Rattle.st_ubtree.specs.inner.Marks.{AreMarked};
+ghost use Rattle.st_tally.specs.inner.Marks.{AreMarked};
 
 use super::Node;
 use super::firsts::Firsts;
 use super::marking::mark_kids;
-use crate::marks::Marks;
+use st_tally::marks::Marks;
 use std::alloc::{Allocator, Global};
 
 /// The first keys of a node's children, and the marks of those that are pages. Pages have neither, so these lie in a block of

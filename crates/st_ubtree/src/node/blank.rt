@@ -5,11 +5,11 @@ ghost use Rattle.st_ubtree.specs.inner.Growing.{IsBlank};
 use super::Node;
 use super::aside::Aside;
 use super::firsts::Firsts;
-use crate::label_counts::LabelCount;
-use crate::marks::Marks;
-use crate::numbering::FEW_NUMBERS;
-use crate::page_marks::PageMarks;
-use crate::summary::MAX_LABELS;
+use st_tally::label_counts::LabelCount;
+use st_tally::marks::Marks;
+use st_tally::numbering::FEW_NUMBERS;
+use st_tally::page_marks::PageMarks;
+use st_tally::summary::MAX_LABELS;
 use std::alloc::{AllocError, Allocator, Global};
 
 /// Lists for the children of a new node and for their labels, what stands beside the children, and a list for the marks of the

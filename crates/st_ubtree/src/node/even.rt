@@ -4,7 +4,7 @@ ghost use Rattle.std.specs.List.{All};
 ghost use Rattle.st_ubtree.specs.inner.Evening.{Evens, HasPairAt, HasRoomAt, KidsEven, SplitsNone};
 ghost use Rattle.st_ubtree.specs.inner.Firsts.{AreFirsts};
 ghost use Rattle.st_ubtree.specs.inner.Kids.{IsKid};
-ghost use Rattle.st_ubtree.specs.inner.Marks.{AreMarked};
+ghost use Rattle.st_tally.specs.inner.Marks.{AreMarked};
 ghost use Rattle.st_ubtree.specs.inner.Shrinking.{Joins, PagesJoin};
 
 use super::aside::Aside;

@@ -2,15 +2,15 @@
 ghost use Rattle.std.specs.Prelude.{◌≡◌, List, length};
 ghost use Rattle.std.specs.List.{All};
 ghost use Rattle.st_index.specs.Fields.{CanAdd, Counts};
-ghost use Rattle.st_ubtree.specs.Pages.{NodeValue, rows_of_pages};
+ghost use Rattle.st_tally.specs.Pages.{NodeValue, rows_of_pages};
 ghost use Rattle.st_ubtree.specs.inner.Kids.{pages_of};
-ghost use Rattle.st_ubtree.specs.inner.Marks.{AreKnown, AreMarked, HasAt};
+ghost use Rattle.st_tally.specs.inner.Marks.{AreKnown, AreMarked, HasAt};
 
 use super::{Kids, Node};
-use crate::field_marked::count_marked;
-use crate::marks::Marks;
-use crate::verdicts::Verdicts;
 use st_index::{Fields, Judge, field_counting};
+use st_tally::field_marked::count_marked;
+use st_tally::marks::Marks;
+use st_tally::verdicts::Verdicts;
 use std::alloc::Allocator;
 
 impl<A: Allocator + Copy> Node<A> {

@@ -8,12 +8,12 @@ ghost use Rattle.st_ubtree.specs.inner.Splits.{splits_page};
 
 use super::sums::add_kids;
 use super::{Blank, Kids, Node};
-use crate::marks::Marks;
 use crate::split::split_at;
-use crate::summary::Summary;
 use st_index::entries::{self, Change};
 use st_index::{Entry, Row};
 use st_key::{Key, Period};
+use st_tally::marks::Marks;
+use st_tally::summary::Summary;
 use std::alloc::Allocator;
 
 // Puts a row into a page's entries, and says where. Of 33 entries the upper 17 are handed back as a page of their own.

@@ -3,18 +3,18 @@ ghost use Rattle.std.specs.Prelude.{◌≡◌, ◌+◌, ◌<◌, ◌≤◌, ◌+
 ghost use Rattle.st_index.specs.Rows.{rows_of};
 ghost use Rattle.st_ubtree.specs.inner.Shrinking.{AreWorn, KidsJoin, Mends, PagesJoin};
 ghost use Rattle.st_ubtree.specs.inner.Growing.{AreKids};
-ghost use Rattle.st_ubtree.specs.Pages.{rows_of_pages};
+ghost use Rattle.st_tally.specs.Pages.{rows_of_pages};
 ghost use Rattle.st_ubtree.specs.inner.Firsts.{AreFirsts};
 ghost use Rattle.st_ubtree.specs.inner.Kids.{pages_of};
-ghost use Rattle.st_ubtree.specs.inner.Marks.{AreMarked};
-ghost use Rattle.st_ubtree.specs.inner.Sums.{Sums};
+ghost use Rattle.st_tally.specs.inner.Marks.{AreMarked};
+ghost use Rattle.st_tally.specs.inner.Sums.{Sums};
 
 use super::aside::Aside;
 use super::sums::{bounds_of, part};
 use super::{Kids, Node};
 use crate::split::share;
-use crate::summary::Summary;
 use st_index::Entry;
+use st_tally::summary::Summary;
 use std::alloc::Allocator;
 
 // Evens the entries of two pages, and sums up those of the first one. What does not go into it is handed back as a page.

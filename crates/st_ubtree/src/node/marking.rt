@@ -1,13 +1,13 @@
 //! The marks of pages' entries, which their parents keep.
 ghost use Rattle.std.specs.Prelude.{◌≡◌, IfOk, IsFalse, List};
 ghost use Rattle.st_index.specs.inner.Changes.{IsChange};
-ghost use Rattle.st_ubtree.specs.Pages.{NodeValue, entries_of_pages};
-ghost use Rattle.st_ubtree.specs.inner.Marks.{AreMarked, DifferAt, HasAt};
+ghost use Rattle.st_tally.specs.Pages.{NodeValue, entries_of_pages};
+ghost use Rattle.st_tally.specs.inner.Marks.{AreMarked, DifferAt, HasAt};
 
 use super::{Kids, Node};
-use crate::marks::Marks;
 use st_index::Row;
 use st_index::entries::Change;
+use st_tally::marks::Marks;
 use std::alloc::Allocator;
 
 impl<A: Allocator + Copy> Node<A> {

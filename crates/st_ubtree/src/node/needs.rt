@@ -3,14 +3,14 @@ ghost use Rattle.std.specs.Prelude.{◌≡◌, ◌+◌, ◌-◌, ◌<◌, ◌≤
 ghost use Rattle.std.specs.List.{All};
 ghost use Rattle.st_key.specs.Key.{rank};
 ghost use Rattle.st_index.specs.Rows.{EntryValue};
-ghost use Rattle.st_ubtree.specs.Pages.{entries_of_pages};
+ghost use Rattle.st_tally.specs.Pages.{entries_of_pages};
 ghost use Rattle.st_ubtree.specs.inner.Growing.{AreAround, DoRise};
 ghost use Rattle.st_ubtree.specs.inner.Splits.{split_nodes, splits, splits_page, splits_with};
 
 use super::{Kids, Node};
-use crate::marks::Marks;
 use st_index::{Entry, entries};
 use st_key::Key;
+use st_tally::marks::Marks;
 use std::alloc::Allocator;
 
 /// What a new row of a key takes: how many rows the key has, and, where its page is to be split, how many

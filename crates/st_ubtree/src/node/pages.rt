@@ -2,17 +2,17 @@
 ghost use Rattle.std.specs.Prelude.{◌≡◌, ◌+◌, ◌<◌, ◌≤◌, ◌^◌, List, length, sum};
 ghost use Rattle.std.specs.List.{All};
 ghost use Rattle.st_index.specs.Counting.{count_of};
-ghost use Rattle.st_ubtree.specs.Pages.{NodeValue, rows_of_pages};
+ghost use Rattle.st_tally.specs.Pages.{NodeValue, rows_of_pages};
 ghost use Rattle.st_ubtree.specs.inner.Kids.{pages_of};
-ghost use Rattle.st_ubtree.specs.inner.Marks.{AreKnown, AreMarked, HasAt, MakeUp};
+ghost use Rattle.st_tally.specs.inner.Marks.{AreKnown, AreMarked, HasAt, MakeUp};
 
 use super::{Kids, Node};
-use crate::marked::{count_inside, count_marked};
-use crate::marks::Marks;
-use crate::numbering::{FEW_NUMBERS, MAX_NUMBERS};
-use crate::verdicts::Verdicts;
 use st_box::Query;
 use st_index::{Judge, counting};
+use st_tally::marked::{count_inside, count_marked};
+use st_tally::marks::Marks;
+use st_tally::numbering::{FEW_NUMBERS, MAX_NUMBERS};
+use st_tally::verdicts::Verdicts;
 use std::alloc::Allocator;
 
 impl<A: Allocator + Copy> Node<A> {

@@ -2,17 +2,17 @@
 ghost use Rattle.std.specs.Prelude.{◌≡◌, ◌+◌, ◌<◌, ◌≤◌, ◌++◌, [], ◌^◌, vec_len, vec_capacity};
 ghost use Rattle.st_key.specs.Key.{rank};
 ghost use Rattle.st_index.specs.Rows.{rank_of};
-ghost use Rattle.st_ubtree.specs.Pages.{entries_of_pages};
+ghost use Rattle.st_tally.specs.Pages.{entries_of_pages};
 ghost use Rattle.st_ubtree.specs.inner.Kids.{GrowsBy, IsKid};
 ghost use Rattle.st_ubtree.specs.inner.Growing.{AreAround, AreBlank, IsBlankPage, IsRoomFor};
 ghost use Rattle.st_ubtree.specs.inner.Splits.{made_nodes, splits};
 
 use super::sums::add_kids;
 use super::{Blank, Kids, Node};
-use crate::summary::Summary;
 use st_index::entries::Change;
 use st_index::{Entry, Row};
 use st_key::{Key, Period};
+use st_tally::summary::Summary;
 use std::alloc::Allocator;
 use std::mem;
 

@@ -2,15 +2,15 @@
 ghost use Rattle.std.specs.Prelude.{◌≡◌, ◌++◌, [], ◌∷◌, List, MatchOption, IsFalse};
 ghost use Rattle.std.specs.List.{All};
 ghost use Rattle.st_index.specs.declared.row.Row.{Row as RowValue};
-ghost use Rattle.st_ubtree.specs.Pages.{rows_of_pages};
+ghost use Rattle.st_tally.specs.Pages.{rows_of_pages};
 ghost use Rattle.st_ubtree.specs.inner.Kids.{pages_of};
 ghost use Rattle.st_ubtree.specs.inner.Nodes.{rows_under};
-ghost use Rattle.st_ubtree.specs.inner.Sums.{IsWithin, Sums};
+ghost use Rattle.st_tally.specs.inner.Sums.{IsWithin, Sums};
 
 use super::{Kids, Node};
-use crate::bounds::Bounds;
-use crate::summary::Summary;
 use st_index::Row;
+use st_tally::bounds::Bounds;
+use st_tally::summary::Summary;
 use std::alloc::Allocator;
 
 impl<A: Allocator + Copy> Node<A> {

@@ -3,8 +3,8 @@ ghost use Rattle.std.specs.Prelude.{◌≡◌};
 
 use super::marking::mark_if;
 use super::{Kids, Node};
-use crate::marks::Room;
 use st_key::Key;
+use st_tally::marks::Room;
 use std::alloc::Allocator;
 
 impl<A: Allocator + Copy> Node<A> {

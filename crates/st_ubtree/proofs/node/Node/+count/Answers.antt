@@ -4,10 +4,10 @@ use Rattle.st_key.specs.Key.{rank}
 use Rattle.st_index.specs.Counting.{count_of, is_counted}
 use Rattle.st_index.specs.Rows.{rows_of}
 use Rattle.st_index.proofs.Sums.{sum_all, sum_one_more}
-use Rattle.st_ubtree.specs.Pages.{NodeValue, rows_of_pages}
+use Rattle.st_tally.specs.Pages.{NodeValue, rows_of_pages}
 use Rattle.st_ubtree.specs.inner.Kids.{pages_of}
 use Rattle.std.specs.List.{All}
-use Rattle.st_ubtree.specs.inner.Marks.{AreMarked}
+use Rattle.st_tally.specs.inner.Marks.{AreMarked}
 use Rattle.st_ubtree.specs.inner.Nodes.{IsInnerNode, IsNode, rows_under}
 use Rattle.st_ubtree.proofs.Keeping.{count_of_kids, fewer_in_kid, rows_are}
 use Rattle.st_ubtree.proofs.Firsts.{marks_in}

@@ -8,11 +8,11 @@ use Rattle.st_index.specs.Counting.{count_of, is_counted}
 use Rattle.st_index.specs.Fields.{CanAdd, Counts}
 use Rattle.st_index.specs.Rows.{rows_of}
 use Rattle.st_index.proofs.Tallying.{counts_in_one, counts_none, far_all, far_fits, far_next}
-use Rattle.st_ubtree.specs.Pages.{NodeValue, rows_of_pages}
+use Rattle.st_tally.specs.Pages.{NodeValue, rows_of_pages}
 use Rattle.st_ubtree.specs.inner.Kids.{pages_of}
-use Rattle.st_ubtree.specs.inner.Marks.{AreMarked}
+use Rattle.st_tally.specs.inner.Marks.{AreMarked}
 use Rattle.st_ubtree.specs.inner.Nodes.{IsInnerNode, IsNode, rows_under}
-use Rattle.st_ubtree.proofs.Fielding.{all_in_one, counts_by}
+use Rattle.st_tally.proofs.Fielding.{all_in_one, counts_by}
 use Rattle.st_ubtree.proofs.Keeping.{rows_are, rows_of_kids}
 use Rattle.st_ubtree.proofs.Firsts.{marks_in}
 use Rattle.st_ubtree.proofs.Lifting.{that_kid}

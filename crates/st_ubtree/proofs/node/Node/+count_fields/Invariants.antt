@@ -1,6 +1,6 @@
 use Rattle.std.proofs.Common.{◌≡◌}
 use Rattle.st_index.proofs.Tallying.{SoFar}
-use Rattle.st_ubtree.specs.Pages.{NodeValue, rows_of_pages}
+use Rattle.st_tally.specs.Pages.{NodeValue, rows_of_pages}
 use Rattle.st_ubtree.proofs.node.Node.+count_fields.Given as goal
 
 abbrev pub decreases-count_fields : goal.decreases-count_fields

@@ -2,17 +2,17 @@ use Rattle.std.proofs.Common.{◌≡◌, subst, sym, ap, ◌∙◌, arith, rules
 use Rattle.std.proofs.Math.ListN.{set}
 use Rattle.std.specs.List.{All}
 use Rattle.st_key.specs.Key.{rank}
-use Rattle.st_ubtree.specs.Pages.{NodeValue, rows_of_pages}
+use Rattle.st_tally.specs.Pages.{NodeValue, rows_of_pages}
 use Rattle.st_ubtree.specs.inner.Evening.{Evens, KidsEven}
 use Rattle.st_ubtree.specs.inner.Growing.{IsChosen}
 use Rattle.st_ubtree.specs.inner.Kids.{IsKid, pages_of}
 use Rattle.st_ubtree.specs.inner.Nodes.{IsInnerNode, IsNode, inner_node, node_value, rows_under}
-use Rattle.st_ubtree.specs.inner.Sums.{Sums}
+use Rattle.st_tally.specs.inner.Sums.{Sums}
 use Rattle.st_ubtree.proofs.Evening.{inner_evens, inner_stays, kids_even_one, node_same, rows_stay}
 use Rattle.st_ubtree.proofs.Firsts.{chosen_in, firsts_in, firsts_set, marks_in}
 use Rattle.st_ubtree.proofs.Lifting.{that_kid}
 use Rattle.st_ubtree.proofs.Needing.{lower_kid}
-use Rattle.st_ubtree.proofs.Placing.{differ_set}
+use Rattle.st_tally.proofs.Placing.{differ_set}
 use Rattle.st_ubtree.proofs.node.Node.+even.Goals as goal
 
 pub even-requires : goal.even-requires

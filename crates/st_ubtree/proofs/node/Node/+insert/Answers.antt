@@ -1,13 +1,13 @@
 use Rattle.std.proofs.Common.{rules, ◌≡◌, ◌+◌, ◌≤◌, [], length, vec_len, vec_capacity, ◌∷◌, ◌++◌}
 use Rattle.std.specs.List.{All}
 use Rattle.st_key.specs.Key.{rank}
-use Rattle.st_ubtree.specs.Pages.{NodeValue, entries_of_pages}
+use Rattle.st_tally.specs.Pages.{NodeValue, entries_of_pages}
 use Rattle.st_ubtree.specs.inner.Kids.{HeadAt, IsKid, pages_of}
 use Rattle.std.proofs.Common.{subst, sym, ap, ◌∙◌, take, drop, suc, set, arith, length-set}
 use Rattle.std.proofs.lemmas.List.{append-nil, set_split}
 use Rattle.st_ubtree.proofs.Lifting.{alone, both, each_with, grows_alone, grows_settled, head_same, inserted, kid_splits, kid_stays, length-inserted, room_for_kid, settled_inner, that_kid}
 use Rattle.st_ubtree.specs.inner.Nodes.{IsNode, IsInnerNode, IsPageNode, inner_node, node_value, pages_under}
-use Rattle.st_ubtree.specs.Pages.{page_node}
+use Rattle.st_tally.specs.Pages.{page_node}
 use Rattle.st_ubtree.proofs.Splitting.{page, page_fits, page_node_grows}
 use Rattle.st_ubtree.specs.inner.Growing.{AreAround, IsChosen, IsRoomFor}
 use Rattle.st_ubtree.specs.inner.Splits.{chains_of, splits, splits_in, splits_page}
@@ -16,17 +16,17 @@ use Rattle.st_ubtree.proofs.Settling.{held_at}
 use Rattle.st_ubtree.proofs.Lifting.{settled_split}
 use Rattle.st_index.specs.Rows.{rows_of}
 use Rattle.st_index.specs.inner.Changes.{IsChange}
-use Rattle.st_ubtree.specs.Pages.{rows_of_pages}
+use Rattle.st_tally.specs.Pages.{rows_of_pages}
 use Rattle.st_ubtree.specs.inner.Nodes.{rows_under}
-use Rattle.st_ubtree.specs.inner.Sums.{Sums}
+use Rattle.st_tally.specs.inner.Sums.{Sums}
 use Rattle.st_ubtree.proofs.Keeping.{kept_sums}
 use Rattle.std.proofs.lemmas.List.{get_or-set_same}
-use Rattle.st_ubtree.proofs.Marking.{none_holds, none_so}
-use Rattle.st_ubtree.proofs.Placing.{differ_set, opens_insert}
+use Rattle.st_tally.proofs.Marking.{none_holds, none_so}
+use Rattle.st_tally.proofs.Placing.{differ_set, opens_insert}
 use Rattle.st_ubtree.proofs.Keeping.{settled_same}
-use Rattle.st_ubtree.specs.inner.Marks.{AreMarked, HasAt, OpensAt}
+use Rattle.st_tally.specs.inner.Marks.{AreMarked, HasAt, OpensAt}
 use Rattle.st_ubtree.proofs.Splitting.{one_rows}
-use Rattle.st_ubtree.proofs.Summing.{sums_added}
+use Rattle.st_tally.proofs.Summing.{sums_added}
 use Rattle.st_ubtree.proofs.Firsts.{chosen_in, firsts_in, firsts_set, marks_in, settled_take}
 use Rattle.st_ubtree.specs.inner.Firsts.{AreFirsts}
 use Rattle.st_ubtree.proofs.node.Node.+insert.Goals as goal

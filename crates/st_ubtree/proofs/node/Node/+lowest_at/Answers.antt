@@ -1,7 +1,7 @@
 use Rattle.std.proofs.Common.{◌≡◌, subst, sym, ap, ◌∙◌, arith, length, rules, vec_capacity}
 use Rattle.std.specs.List.{All}
 use Rattle.st_key.specs.Key.{rank}
-use Rattle.st_ubtree.specs.Pages.{NodeValue}
+use Rattle.st_tally.specs.Pages.{NodeValue}
 use Rattle.st_ubtree.specs.inner.Kids.{IsKid, StartsAt, pages_of}
 use Rattle.st_ubtree.specs.inner.Nodes.{IsNode, IsInnerNode, pages_under}
 use Rattle.st_ubtree.proofs.Leaves.{node_starts, part_all, part_of_part}

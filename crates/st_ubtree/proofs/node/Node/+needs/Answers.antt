@@ -5,7 +5,7 @@ use Rattle.st_index.specs.Rows.{EntryValue}
 use Rattle.st_index.proofs.Climbing.{all_left}
 use Rattle.st_ubtree.specs.inner.Growing.{AreAround, DoRise, IsChosen}
 use Rattle.st_ubtree.specs.inner.Nodes.{IsNode, IsInnerNode, node_value, pages_under}
-use Rattle.st_ubtree.specs.Pages.{NodeValue}
+use Rattle.st_tally.specs.Pages.{NodeValue}
 use Rattle.st_ubtree.specs.inner.Kids.{pages_of}
 use Rattle.st_ubtree.specs.inner.Splits.{chains_of, split_nodes, splits, splits_in, splits_page, splits_with}
 use Rattle.st_ubtree.proofs.Lifting.{that_kid}

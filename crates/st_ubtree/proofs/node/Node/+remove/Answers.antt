@@ -1,26 +1,26 @@
 use Rattle.std.proofs.Common.{◌≡◌, ◌≤◌, ◌∷◌, [], length, subst, sym, ap, ◌∙◌, arith, rules, length-set, vec_capacity}
 use Rattle.st_key.specs.Key.{rank}
 use Rattle.st_ubtree.specs.inner.Growing.{IsChosen}
-use Rattle.st_ubtree.specs.Pages.{NodeValue, entries_of_pages}
+use Rattle.st_tally.specs.Pages.{NodeValue, entries_of_pages}
 use Rattle.std.proofs.lemmas.List.{append-nil}
 use Rattle.st_ubtree.specs.inner.Kids.{pages_of}
 use Rattle.st_ubtree.specs.inner.Nodes.{IsNode, IsInnerNode, IsPageNode, inner_node, node_value, width_of, pages_under}
-use Rattle.st_ubtree.specs.Pages.{page_node}
-use Rattle.st_ubtree.proofs.Lifting.{set_read, that_kid}
+use Rattle.st_tally.specs.Pages.{page_node}
+use Rattle.st_ubtree.proofs.Lifting.{that_kid}
 use Rattle.st_ubtree.proofs.Needing.{lower_kid}
 use Rattle.st_ubtree.proofs.Shrinking.{are_worn, none_in_kids, page_kept, page_named, page_taken, page_without, shrinks_inner, shrunk_inner}
 use Rattle.st_ubtree.proofs.Settling.{held_at}
 use Rattle.st_ubtree.proofs.Splitting.{page}
 use Rattle.std.specs.Prelude.{Some}
 use Rattle.st_index.specs.Rows.{Name}
-use Rattle.st_ubtree.specs.Pages.{rows_of_pages}
-use Rattle.st_ubtree.specs.inner.Marks.{AreMarked}
+use Rattle.st_tally.specs.Pages.{rows_of_pages}
+use Rattle.st_tally.specs.inner.Marks.{AreMarked}
 use Rattle.st_ubtree.specs.inner.Nodes.{rows_under}
 use Rattle.std.proofs.Math.ListN.{set}
-use Rattle.st_ubtree.specs.inner.Sums.{Sums}
+use Rattle.st_tally.specs.inner.Sums.{Sums}
 use Rattle.st_ubtree.proofs.Keeping.{kept_taken}
-use Rattle.st_ubtree.proofs.Marking.{changed_kid, page_changed}
-use Rattle.st_ubtree.proofs.Placing.{differ_set}
+use Rattle.st_tally.proofs.Marking.{changed_kid, page_changed}
+use Rattle.st_tally.proofs.Placing.{differ_set, set_read}
 use Rattle.st_ubtree.proofs.Splitting.{one_rows}
 use Rattle.st_ubtree.proofs.node.Node.+remove.Goals as goal
 use Rattle.st_ubtree.proofs.Firsts.{chosen_in, firsts_in, firsts_set, marks_in}

@@ -4,23 +4,23 @@ use Rattle.st_index.specs.Rows.{name_of, rows_of}
 use Rattle.st_ubtree.specs.inner.Growing.{IsChosen}
 use Rattle.std.proofs.lemmas.List.{append-nil, get_or-set_same}
 use Rattle.st_index.specs.inner.Changes.{IsChange}
-use Rattle.st_ubtree.specs.Pages.{NodeValue, entries_of_pages}
+use Rattle.st_tally.specs.Pages.{NodeValue, entries_of_pages}
 use Rattle.st_ubtree.specs.inner.Kids.{pages_of}
 use Rattle.st_ubtree.specs.inner.Nodes.{IsNode, IsInnerNode, IsPageNode, inner_node, node_value, pages_under}
-use Rattle.st_ubtree.specs.Pages.{page_node}
+use Rattle.st_tally.specs.Pages.{page_node}
 use Rattle.st_ubtree.proofs.Lifting.{that_kid}
 use Rattle.st_ubtree.proofs.Needing.{lower_kid}
 use Rattle.st_ubtree.proofs.Settling.{held_at}
 use Rattle.st_ubtree.proofs.Splitting.{page}
 use Rattle.st_ubtree.proofs.Trading.{kept_inner, kid_trades, kids_keep, kids_lack, page_keeps, page_lacks, page_named, page_trades}
 use Rattle.std.proofs.Math.ListN.{set}
-use Rattle.st_ubtree.specs.Pages.{rows_of_pages}
-use Rattle.st_ubtree.specs.inner.Marks.{HasAt}
+use Rattle.st_tally.specs.Pages.{rows_of_pages}
+use Rattle.st_tally.specs.inner.Marks.{HasAt}
 use Rattle.st_ubtree.specs.inner.Nodes.{rows_under}
-use Rattle.st_ubtree.specs.inner.Sums.{Sums}
+use Rattle.st_tally.specs.inner.Sums.{Sums}
 use Rattle.st_ubtree.proofs.Keeping.{kept_traded, kid_stays_so, page_stays}
-use Rattle.st_ubtree.proofs.Marking.{ok_so, ok_then}
-use Rattle.st_ubtree.proofs.Placing.{differ_set}
+use Rattle.st_tally.proofs.Marking.{ok_so, ok_then}
+use Rattle.st_tally.proofs.Placing.{differ_set}
 use Rattle.st_ubtree.proofs.Splitting.{one_rows}
 use Rattle.st_ubtree.proofs.Firsts.{chosen_in, firsts_in, firsts_set, marks_in}
 use Rattle.st_ubtree.proofs.node.Node.+replace.Goals as goal

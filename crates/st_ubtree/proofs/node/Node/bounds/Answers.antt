@@ -2,9 +2,9 @@ use Rattle.std.proofs.Common.{◌≡◌, sym, ap, subst, ◌∙◌}
 use Rattle.std.specs.List.{All}
 use Rattle.st_key.specs.Key.{rank}
 use Rattle.st_index.specs.declared.row.Row.{Row}
-use Rattle.st_ubtree.specs.Pages.{NodeValue, rows_of_pages}
+use Rattle.st_tally.specs.Pages.{NodeValue, rows_of_pages}
 use Rattle.st_ubtree.specs.inner.Nodes.{rows_under}
-use Rattle.st_ubtree.specs.inner.Sums.{IsWithin}
+use Rattle.st_tally.specs.inner.Sums.{IsWithin}
 use Rattle.st_ubtree.proofs.Keeping.{rows_are}
 use Rattle.st_ubtree.proofs.node.Node.bounds.Goals as goal
 

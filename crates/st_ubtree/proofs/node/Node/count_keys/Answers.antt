@@ -1,8 +1,8 @@
 use Rattle.std.proofs.Common.{◌≤◌, ap, subst}
 use Rattle.std.specs.List.{All}
 use Rattle.st_key.specs.Key.{rank}
-use Rattle.st_ubtree.specs.Pages.{IsWide, NodeValue}
-use Rattle.st_ubtree.specs.Pages.{AreFilled}
+use Rattle.st_tally.specs.Pages.{IsWide, NodeValue}
+use Rattle.st_tally.specs.Pages.{AreFilled}
 use Rattle.st_ubtree.proofs.Counting.{node_fits, node_filled, node_wide}
 use Rattle.st_ubtree.proofs.node.Node.count_keys.Goals as goal
 

@@ -1,8 +1,8 @@
 use Rattle.std.proofs.Common.{replicate, arith}
 use Rattle.std.proofs.lemmas.List.Sums.{count_by-le-length}
 use Rattle.st_index.specs.Counting.{count_of, is_counted}
-use Rattle.st_ubtree.specs.Pages.{rows_of_pages}
-use Rattle.st_ubtree.proofs.Tallied.{no_sum, whole}
+use Rattle.st_tally.specs.Pages.{rows_of_pages}
+use Rattle.st_tally.proofs.Tallied.{no_sum, whole}
 use Rattle.st_ubtree.proofs.node.Node.count_page.Goals as goal
 
 pub total-requires-clause-fits : goal.total-requires-clause-fits

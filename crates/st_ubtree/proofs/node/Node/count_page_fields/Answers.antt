@@ -9,11 +9,11 @@ use Rattle.st_index.specs.Counting.{count_of, is_counted}
 use Rattle.st_index.specs.Fields.{CanAdd}
 use Rattle.st_index.specs.Rows.{rows_of}
 use Rattle.st_index.proofs.Tallying.{counts_in_one, counts_none}
-use Rattle.st_ubtree.specs.Pages.{NodeValue, rows_of_pages, entries_of_pages}
-use Rattle.st_ubtree.specs.inner.Marks.{AreMarks}
+use Rattle.st_tally.specs.Pages.{NodeValue, rows_of_pages, entries_of_pages}
+use Rattle.st_tally.specs.inner.Marks.{AreMarks}
 use Rattle.st_ubtree.specs.inner.Nodes.{pages_under, rows_under, width_of}
 use Rattle.st_ubtree.proofs.Counting.{node_fits}
-use Rattle.st_ubtree.proofs.Fielding.{all_in_one, counts_by}
+use Rattle.st_tally.proofs.Fielding.{all_in_one, counts_by}
 use Rattle.st_ubtree.proofs.Keeping.{rows_are}
 use Rattle.st_ubtree.proofs.node.Node.count_page_fields.Goals as goal
 

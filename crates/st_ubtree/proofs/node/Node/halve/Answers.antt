@@ -1,6 +1,6 @@
 use Rattle.std.proofs.Common.{◌≡◌, ◌∷◌, [], sym, ap, subst, ◌∙◌, vec_capacity, length, Some, arith, ◌+◌, ◌≤◌, ℕ, Vec, vec_len}
 use Rattle.st_key.specs.Key.{rank}
-use Rattle.st_ubtree.specs.Pages.{NodeValue, page_node}
+use Rattle.st_tally.specs.Pages.{NodeValue, page_node}
 use Rattle.st_ubtree.specs.inner.Nodes.{IsInnerNode, IsNode, IsPageNode, node_value, pages_under, width_of}
 use Rattle.st_ubtree.specs.inner.Shrinking.{Joins}
 use Rattle.st_ubtree.proofs.Joining.{join_of_pages}

@@ -1,11 +1,11 @@
 use Rattle.std.proofs.Common.{◌≡◌, ◌∷◌, [], length, subst, sym, ap, ◌∙◌, arith, vec_capacity}
 use Rattle.st_key.specs.Key.{rank}
-use Rattle.st_ubtree.specs.Pages.{NodeValue}
+use Rattle.st_tally.specs.Pages.{NodeValue}
 use Rattle.st_ubtree.specs.inner.Kids.{pages_of}
 use Rattle.st_ubtree.specs.inner.Nodes.{IsNode, IsInnerNode, IsPageNode, inner_node, node_value, pages_under, rows_under, width_of}
-use Rattle.st_ubtree.specs.Pages.{page_node}
+use Rattle.st_tally.specs.Pages.{page_node}
 use Rattle.st_ubtree.specs.inner.Shrinking.{KidsJoin}
-use Rattle.st_ubtree.specs.inner.Sums.{Sums}
+use Rattle.st_tally.specs.inner.Sums.{Sums}
 use Rattle.st_ubtree.proofs.Joining.{both_kids, join_of_kids, join_of_pages, joined_each, joined_head, held_both, held_worn}
 use Rattle.st_ubtree.proofs.Splitting.{page}
 use Rattle.st_ubtree.proofs.node.Node.join.Goals as goal

@@ -1,6 +1,6 @@
 use Rattle.std.proofs.Common.{subst, sym, ap, ◌∙◌, arith, rules, vec_capacity}
 use Rattle.st_key.specs.Key.{rank}
-use Rattle.st_ubtree.specs.Pages.{NodeValue}
+use Rattle.st_tally.specs.Pages.{NodeValue}
 use Rattle.st_ubtree.specs.inner.Nodes.{IsInnerNode, IsNode, pages_under}
 use Rattle.st_ubtree.proofs.Settling.{last_kid}
 use Rattle.st_ubtree.proofs.node.Node.lower.Goals as goal

@@ -2,9 +2,9 @@ use Rattle.std.proofs.Common.{◌≡◌, ◌≤◌, length, sym, ap, subst, ◌�
 use Rattle.std.proofs.lemmas.List.{append-nil}
 use Rattle.st_key.specs.Key.{rank}
 use Rattle.st_index.specs.inner.Changes.{IsChange}
-use Rattle.st_ubtree.specs.Pages.{NodeValue, entries_of_pages}
+use Rattle.st_tally.specs.Pages.{NodeValue, entries_of_pages}
 use Rattle.st_ubtree.specs.inner.Nodes.{IsNode, IsPageNode, pages_under}
-use Rattle.st_ubtree.proofs.Placing.{same_at}
+use Rattle.st_tally.proofs.Placing.{same_at}
 use Rattle.st_ubtree.proofs.node.Node.mark_change.Goals as goal
 
 pub follow-requires : goal.follow-requires

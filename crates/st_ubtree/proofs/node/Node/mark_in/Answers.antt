@@ -1,9 +1,9 @@
 use Rattle.std.proofs.Common.{◌≡◌, ◌≤◌, length, sym, ap, subst, ◌∙◌, vec_capacity}
 use Rattle.std.proofs.lemmas.List.{append-nil}
 use Rattle.st_key.specs.Key.{rank}
-use Rattle.st_ubtree.specs.Pages.{NodeValue, entries_of_pages}
+use Rattle.st_tally.specs.Pages.{NodeValue, entries_of_pages}
 use Rattle.st_ubtree.specs.inner.Nodes.{IsNode, IsPageNode, pages_under}
-use Rattle.st_ubtree.proofs.Placing.{same_at}
+use Rattle.st_tally.proofs.Placing.{same_at}
 use Rattle.st_ubtree.proofs.node.Node.mark_in.Goals as goal
 
 pub mark-requires : goal.mark-requires

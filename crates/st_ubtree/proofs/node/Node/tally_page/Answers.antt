@@ -4,10 +4,10 @@ use Rattle.std.specs.List.{sum}
 use Rattle.st_key.specs.Key.{rank}
 use Rattle.st_index.specs.Counting.{count_of}
 use Rattle.st_index.specs.Rows.{rows_of}
-use Rattle.st_ubtree.specs.Pages.{NodeValue, rows_of_pages, entries_of_pages}
-use Rattle.st_ubtree.specs.inner.Marks.{AreMarks}
+use Rattle.st_tally.specs.Pages.{NodeValue, rows_of_pages, entries_of_pages}
+use Rattle.st_tally.specs.inner.Marks.{AreMarks}
 use Rattle.st_ubtree.specs.inner.Nodes.{IsNode, IsPageNode, pages_under, rows_under}
-use Rattle.st_ubtree.specs.inner.Sums.{AreInside}
+use Rattle.st_tally.specs.inner.Sums.{AreInside}
 use Rattle.st_ubtree.proofs.Counting.{lowest_page}
 use Rattle.st_ubtree.proofs.Keeping.{rows_are}
 use Rattle.st_ubtree.proofs.node.Node.tally_page.Goals as goal

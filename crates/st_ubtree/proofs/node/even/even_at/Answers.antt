@@ -3,12 +3,12 @@ use Rattle.std.proofs.lemmas.List.Edits.{length-remove}
 use Rattle.std.specs.List.{All}
 use Rattle.st_ubtree.specs.inner.Firsts.{AreFirsts}
 use Rattle.st_ubtree.specs.inner.Kids.{IsKid}
-use Rattle.st_ubtree.specs.inner.Marks.{AreMarked}
+use Rattle.st_tally.specs.inner.Marks.{AreMarked}
 use Rattle.st_ubtree.specs.inner.Evening.{HasPairAt}
 use Rattle.st_ubtree.proofs.Evening.{any_pair, kids_even_pair, pair_fits, pair_joins, pair_kids, pair_set}
 use Rattle.st_ubtree.proofs.Firsts.{firsts_set}
 use Rattle.st_ubtree.proofs.Mending.{taken_pair}
-use Rattle.st_ubtree.proofs.Placing.{differ_set}
+use Rattle.st_tally.proofs.Placing.{differ_set}
 use Rattle.st_ubtree.proofs.node.even.even_at.Goals as goal
 
 pub halve-right-requires-clause-both : goal.halve-right-requires-clause-both

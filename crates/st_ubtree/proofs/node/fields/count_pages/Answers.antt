@@ -2,11 +2,11 @@ use Rattle.std.proofs.Common.{◌<◌, ◌≤◌, List, length, refl, sym, ap, s
 use Rattle.st_index.specs.declared.row.Row.{Row}
 use Rattle.st_index.specs.Fields.{CanAdd, Counts}
 use Rattle.st_index.proofs.Tallying.{far_all, far_fits, far_next, far_none}
-use Rattle.st_ubtree.specs.Pages.{NodeValue, rows_of_pages}
-use Rattle.st_ubtree.specs.declared.marks.Marks.{Marks}
-use Rattle.st_ubtree.specs.inner.Marks.{AreMarked}
+use Rattle.st_tally.specs.Pages.{NodeValue, rows_of_pages}
+use Rattle.st_tally.specs.declared.marks.Marks.{Marks}
+use Rattle.st_tally.specs.inner.Marks.{AreMarked}
 use Rattle.st_ubtree.proofs.Keeping.{rows_of_kids}
-use Rattle.st_ubtree.proofs.Tallied.{known_by}
+use Rattle.st_tally.proofs.Tallied.{known_by}
 use Rattle.st_ubtree.proofs.node.fields.count_pages.Goals as goal
 
 pub count_page_fields-requires-clause-lowest : goal.count_page_fields-requires-clause-lowest

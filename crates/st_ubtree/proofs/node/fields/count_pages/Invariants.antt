@@ -1,7 +1,7 @@
 use Rattle.std.proofs.Common.{◌≡◌}
 use Rattle.st_index.proofs.Tallying.{SoFar}
-use Rattle.st_ubtree.specs.Pages.{NodeValue, rows_of_pages}
-use Rattle.st_ubtree.specs.inner.Marks.{AreKnown}
+use Rattle.st_tally.specs.Pages.{NodeValue, rows_of_pages}
+use Rattle.st_tally.specs.inner.Marks.{AreKnown}
 use Rattle.st_ubtree.proofs.node.fields.count_pages.Given as goal
 
 abbrev pub invariant-loop-at : goal.invariant-loop-at

@@ -1,7 +1,7 @@
 use Rattle.std.proofs.Common.{◌≡◌, ◌<◌, length, drop, take, subst, sym, ap, ◌∙◌, vec_len, arith, Some}
 use Rattle.std.proofs.lemmas.List.{length-drop}
 use Rattle.st_key.specs.Key.{rank}
-use Rattle.st_ubtree.specs.Pages.{page_node}
+use Rattle.st_tally.specs.Pages.{page_node}
 use Rattle.st_ubtree.specs.inner.Growing.{IsBlankPage, PageGrows}
 use Rattle.st_ubtree.proofs.Splitting.{held_full, page_cut, page_grows}
 use Rattle.st_ubtree.proofs.Needing.{page_filled, page_overfull}

@@ -2,13 +2,13 @@ use Rattle.std.proofs.Common.{◌≡◌, ◌≤◌, length, subst, sym, ap, refl
 use Rattle.std.specs.List.{All}
 use Rattle.st_key.specs.Key.{rank}
 use Rattle.st_index.proofs.Climbing.{all_right}
-use Rattle.st_ubtree.specs.Pages.{NodeValue, rows_of_pages}
-use Rattle.st_ubtree.specs.inner.Sums.{Sums}
+use Rattle.st_tally.specs.Pages.{NodeValue, rows_of_pages}
+use Rattle.st_tally.specs.inner.Sums.{Sums}
 use Rattle.st_ubtree.specs.inner.Kids.{HeadAt, IsKid, pages_of}
 use Rattle.st_ubtree.proofs.Keeping.{sums_shared, sums_whole}
 use Rattle.st_ubtree.proofs.Settling.{head_there, held_at, kids_start, kids_wide}
 use Rattle.st_ubtree.specs.inner.Firsts.{AreFirsts}
-use Rattle.st_ubtree.specs.inner.Marks.{AreMarked}
+use Rattle.st_tally.specs.inner.Marks.{AreMarked}
 use Rattle.st_ubtree.proofs.node.join.join_kids.Goals as goal
 
 pub invariant_of-result : goal.invariant_of-result

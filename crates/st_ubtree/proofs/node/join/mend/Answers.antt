@@ -1,12 +1,12 @@
 use Rattle.std.proofs.Common.{◌+◌, ◌<◌, ◌∷◌, set, length, length-append, length-set, sym, ap, subst, ◌∙◌, arith}
 use Rattle.std.proofs.lemmas.List.Edits.{length-remove}
-use Rattle.st_ubtree.specs.Pages.{NodeValue}
+use Rattle.st_tally.specs.Pages.{NodeValue}
 use Rattle.st_ubtree.specs.inner.Firsts.{AreFirsts}
-use Rattle.st_ubtree.specs.inner.Marks.{AreMarked, ClosesAt}
+use Rattle.st_tally.specs.inner.Marks.{AreMarked, ClosesAt}
 use Rattle.st_ubtree.proofs.Evening.{pair_set}
 use Rattle.st_ubtree.proofs.Firsts.{firsts_set}
 use Rattle.st_ubtree.proofs.Mending.{joins_worn, mends_alone, mends_both, mends_none, pair_closed, paired, worn_is}
-use Rattle.st_ubtree.proofs.Placing.{closes_remove, differ_set}
+use Rattle.st_tally.proofs.Placing.{closes_remove, differ_set}
 use Rattle.st_ubtree.proofs.node.join.mend.Goals as goal
 
 pub returns-in_default-clause-mends : goal.returns-in_default-clause-mends

@@ -1,8 +1,8 @@
 use Rattle.std.proofs.Common.{◌≡◌, ◌<◌, length, sym, ap, subst, ◌∙◌, arith}
 use Rattle.st_index.specs.inner.Changes.{IsChange}
-use Rattle.st_ubtree.specs.Pages.{NodeValue, entries_of_pages}
-use Rattle.st_ubtree.specs.inner.Marks.{AreMarked, DifferAt, HasAt}
-use Rattle.st_ubtree.proofs.Placing.{same_at}
+use Rattle.st_tally.specs.Pages.{NodeValue, entries_of_pages}
+use Rattle.st_tally.specs.inner.Marks.{AreMarked, DifferAt, HasAt}
+use Rattle.st_tally.proofs.Placing.{same_at}
 use Rattle.st_ubtree.proofs.node.marking.mark_changed.Goals as goal
 
 pub returns : goal.returns

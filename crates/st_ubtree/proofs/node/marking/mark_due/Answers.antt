@@ -1,5 +1,5 @@
 use Rattle.std.proofs.Common.{sym, subst}
-use Rattle.st_ubtree.specs.inner.Marks.{AreMarked}
+use Rattle.st_tally.specs.inner.Marks.{AreMarked}
 use Rattle.st_ubtree.proofs.node.marking.mark_due.Goals as goal
 
 pub returns : goal.returns

@@ -1,4 +1,4 @@
-use Rattle.st_ubtree.specs.inner.Marks.{AreMarked}
+use Rattle.st_tally.specs.inner.Marks.{AreMarked}
 use Rattle.st_ubtree.proofs.node.marking.mark_kids.Given as goal
 
 abbrev pub invariant-loop-at : goal.invariant-loop-at

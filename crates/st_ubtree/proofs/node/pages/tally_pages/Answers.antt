@@ -2,10 +2,10 @@ use Rattle.std.proofs.Common.{◌+◌, ◌<◌, ◌≤◌, length, ap, subst, �
 use Rattle.std.proofs.lemmas.List.Sums.{count_by-le-length}
 use Rattle.std.specs.List.{flat_map, sum}
 use Rattle.st_index.specs.Counting.{count_of, is_counted}
-use Rattle.st_ubtree.specs.Pages.{NodeValue, rows_of_pages}
-use Rattle.st_ubtree.specs.inner.Marks.{MakeUp}
+use Rattle.st_tally.specs.Pages.{NodeValue, rows_of_pages}
+use Rattle.st_tally.specs.inner.Marks.{MakeUp}
 use Rattle.st_ubtree.proofs.Keeping.{rows_of_kids}
-use Rattle.st_ubtree.proofs.Tallied.{counted_all, counted_fits, counted_next, most_fits, most_next, whole}
+use Rattle.st_tally.proofs.Tallied.{counted_all, counted_fits, counted_next, most_fits, most_next, whole}
 use Rattle.st_ubtree.proofs.node.pages.tally_pages.Goals as goal
 
 pub tally_page-rest-requires-clause-lowest : goal.tally_page-rest-requires-clause-lowest

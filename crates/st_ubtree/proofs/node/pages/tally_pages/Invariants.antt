@@ -1,8 +1,8 @@
 use Rattle.std.proofs.Common.{◌≡◌, ◌+◌, ◌≤◌, length, take}
 use Rattle.std.specs.List.{sum, sum_by}
 use Rattle.st_index.specs.Counting.{count_of}
-use Rattle.st_ubtree.specs.Pages.{NodeValue, rows_of_pages}
-use Rattle.st_ubtree.specs.inner.Marks.{MakeUp}
+use Rattle.st_tally.specs.Pages.{NodeValue, rows_of_pages}
+use Rattle.st_tally.specs.inner.Marks.{MakeUp}
 use Rattle.st_ubtree.proofs.node.pages.tally_pages.Given as goal
 
 abbrev pub invariant-loop-at : goal.invariant-loop-at

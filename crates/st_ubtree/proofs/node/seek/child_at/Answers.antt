@@ -2,11 +2,11 @@ use Rattle.std.proofs.Common.{◌≡◌, ℕ, ◌+◌, ◌-◌, ◌<◌, length,
 use Rattle.st_key.specs.declared.period.Period.{Period}
 use Rattle.st_key.specs.Key.{rank}
 use Rattle.st_ubtree.specs.inner.Growing.{IsChosen}
-use Rattle.st_ubtree.specs.inner.Marks.{HasAt}
+use Rattle.st_tally.specs.inner.Marks.{HasAt}
 use Rattle.st_ubtree.proofs.Firsts.{as_many}
 use Rattle.st_ubtree.proofs.Leaves.{part_kid, ends_next, ends_last}
 use Rattle.st_ubtree.proofs.Lifting.{that_kid}
-use Rattle.st_ubtree.proofs.Placing.{any_default}
+use Rattle.st_tally.proofs.Placing.{any_default}
 use Rattle.st_ubtree.proofs.Spanning.{Found}
 use Rattle.st_ubtree.proofs.node.seek.child_at.Goals as goal
 use Rattle.st_ubtree.proofs.node.seek.child_at.Goals.{then-after-kids, else-after-kids}

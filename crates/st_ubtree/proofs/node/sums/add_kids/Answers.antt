@@ -1,10 +1,10 @@
 use Rattle.std.proofs.Common.{◌+◌, ◌<◌, ◌++◌, length, take, sym, ap, subst, arith, ◌∙◌}
 use Rattle.std.proofs.lemmas.List.{append-nil, take_all}
-use Rattle.st_ubtree.specs.Pages.{NodeValue, rows_of_pages}
+use Rattle.st_tally.specs.Pages.{NodeValue, rows_of_pages}
 use Rattle.st_ubtree.specs.inner.Kids.{pages_of}
-use Rattle.st_ubtree.specs.inner.Sums.{Sums}
+use Rattle.st_tally.specs.inner.Sums.{Sums}
 use Rattle.st_ubtree.proofs.Keeping.{rows_of_kids}
-use Rattle.st_ubtree.proofs.Summing.{next_lists}
+use Rattle.st_tally.proofs.Summing.{next_lists}
 use Rattle.st_ubtree.proofs.node.sums.add_kids.Goals as goal
 
 pub loop-kid-init : goal.loop-kid-init

@@ -1,9 +1,9 @@
 use Rattle.std.proofs.Common.{take}
 use Rattle.std.specs.List.{All}
 use Rattle.st_index.specs.declared.row.Row.{Row}
-use Rattle.st_ubtree.specs.Pages.{rows_of_pages}
+use Rattle.st_tally.specs.Pages.{rows_of_pages}
 use Rattle.st_ubtree.specs.inner.Kids.{pages_of}
-use Rattle.st_ubtree.specs.inner.Sums.{IsWithin}
+use Rattle.st_tally.specs.inner.Sums.{IsWithin}
 use Rattle.st_ubtree.proofs.node.sums.bounds_of.Given as goal
 
 abbrev pub invariant-loop-kid : goal.invariant-loop-kid

@@ -4,7 +4,7 @@ use Rattle.st_key.specs.Key.{rank}
 use Rattle.st_index.specs.Fields.{CanAdd}
 use Rattle.st_index.specs.Index.{rows_from}
 use Rattle.st_index.specs.Rows.{key_end}
-use Rattle.st_ubtree.specs.Pages.{NodeValue, rows_of_pages}
+use Rattle.st_tally.specs.Pages.{NodeValue, rows_of_pages}
 use Rattle.st_ubtree.specs.inner.Growing.{IsPartIn}
 use Rattle.st_ubtree.proofs.Parts.{part_few, part_from, part_rows, part_to, part_within}
 use Rattle.st_ubtree.proofs.tree.UbTreeRowIndex.count_fields_at.Goals as goal

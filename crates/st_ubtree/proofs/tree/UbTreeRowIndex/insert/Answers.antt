@@ -2,7 +2,7 @@ use Rattle.std.proofs.Common.{◌+◌, ◌≤◌, ap, arith}
 use Rattle.st_key.specs.Key.{rank}
 use Rattle.st_index.specs.Rows.{name_of}
 use Rattle.st_index.specs.Index.{IsAbsent}
-use Rattle.st_ubtree.specs.Pages.{rows_of_pages}
+use Rattle.st_tally.specs.Pages.{rows_of_pages}
 use Rattle.st_ubtree.specs.inner.Evening.{Evens}
 use Rattle.st_ubtree.specs.inner.Growing.{IsBlankPage}
 use Rattle.st_ubtree.specs.inner.Splits.{made_nodes, splits}

@@ -4,7 +4,7 @@ use Rattle.st_key.specs.Key.{rank}
 use Rattle.st_index.specs.Rows.{key_end}
 use Rattle.st_index.specs.Index.{IsAbsent}
 use Rattle.st_index.proofs.Listing.{adds_length}
-use Rattle.st_ubtree.specs.Pages.{rows_of_pages}
+use Rattle.st_tally.specs.Pages.{rows_of_pages}
 use Rattle.st_ubtree.specs.inner.Shrinking.{DropsFrom}
 use Rattle.st_ubtree.proofs.Lawful.{absent_past, lawful_tree, tree_shrinks}
 use Rattle.st_ubtree.proofs.tree.UbTreeRowIndex.remove.Goals as goal

@@ -3,7 +3,7 @@ use Rattle.st_key.specs.Key.{rank}
 use Rattle.st_index.specs.Rows.{key_end, name_of, rank_of}
 use Rattle.st_index.specs.Index.{Holds}
 use Rattle.st_index.proofs.Taking.{absent_held}
-use Rattle.st_ubtree.specs.Pages.{rows_of_pages}
+use Rattle.st_tally.specs.Pages.{rows_of_pages}
 use Rattle.st_ubtree.proofs.Lawful.{lawful_tree, tree_trades}
 use Rattle.st_ubtree.proofs.tree.UbTreeRowIndex.replace.Goals as goal
 

@@ -1,5 +1,5 @@
 use Rattle.std.proofs.Common.{ap}
-use Rattle.st_ubtree.specs.Pages.{NodeValue}
+use Rattle.st_tally.specs.Pages.{NodeValue}
 use Rattle.st_ubtree.proofs.Firsts.{firsts_open}
 use Rattle.st_ubtree.proofs.node.firsts.Firsts.insert_at.Goals as goal
 

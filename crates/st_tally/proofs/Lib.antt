@@ -1,0 +1,9 @@
+pub mod Bounding
+pub mod ByMarks
+pub mod Fielding
+pub mod Labels
+pub mod Marking
+pub mod Placing
+pub mod Spotting
+pub mod Summing
+pub mod Tallied

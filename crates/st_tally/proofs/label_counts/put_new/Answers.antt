@@ -1,0 +1,23 @@
+use Rattle.std.proofs.Common.{◌≡◌, ◌<◌, length, cond, get_or, subst, ap, ◌∙◌, arith}
+use Rattle.st_tally.specs.declared.label_counts.LabelCount.{LabelCount}
+use Rattle.st_tally.specs.inner.Sums.{found}
+use Rattle.st_tally.proofs.Labels.{put_spare, same_read}
+use Rattle.st_tally.proofs.label_counts.put_new.Goals as goal
+
+pub returns : goal.returns
+returns g c = λ yes judges.
+    let counts = c.fill.new.counts.items in
+    let i = c.in-Some-find_spare.at in
+    let held = c.in-Some-find_spare.ensures.1 in
+    let low : i < length counts = subst (λ xs. i < length xs) c.as_slice.ensures.value c.in-Some-find_spare.ensures.0 in
+    let kid = c.index_mut.result.now in
+    let same = same_read counts i kid held.0 low c.index_mut.ensures.value (subst (λ xs. held.0 ≡ get_or xs i held.0) c.as_slice.ensures.value held.1) in
+    let none : kid.rows ≡ 0 = ap (λ (x : LabelCount g.row.A.Denot). x.rows) same ∙ held.2 in
+    let sum = put_spare judges counts i kid c.overwrite.new.at low c.index_mut.ensures.value none in
+    let filled = c.fill.ensures judges in
+    let put = c.in-Some.ensures in
+    let new : found judges c.overwrite.new.at ≡ cond (judges c.args.label.now) c.args.rows 0 =
+    ap (found judges) c.overwrite.ensures
+    ∙ ap (λ l. cond (judges l) c.in-Some.count.rows 0) put.0
+    ∙ ap (λ k. cond (judges c.args.label.now) k 0) put.1 in
+    omega (arith, sum, filled, new)

@@ -1,0 +1,4 @@
+-- Invariants of representations, which no reader has to believe.
+pub mod Sums
+pub mod Spots
+pub mod Marks

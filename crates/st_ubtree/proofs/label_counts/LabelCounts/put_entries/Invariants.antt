@@ -1,8 +1,0 @@
-use Rattle.std.proofs.Common.{take}
-use Rattle.std.specs.List.{sum_by}
-use Rattle.st_index.specs.Rows.{EntryValue}
-use Rattle.st_ubtree.specs.inner.Sums.{CountsMore, labelled}
-use Rattle.st_ubtree.proofs.label_counts.LabelCounts.put_entries.Given as goal
-
-abbrev pub invariant-loop-entry : goal.invariant-loop-entry
-invariant-loop-entry g l = CountsMore l.initial.self l.self (λ judges. sum_by (λ (e : EntryValue g.row.A.Denot). labelled judges e.rows) (take l.entry-index l.entries))

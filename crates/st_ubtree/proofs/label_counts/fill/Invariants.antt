@@ -1,7 +1,0 @@
-use Rattle.std.proofs.Common.{◌≡◌, Bool}
-use Rattle.st_text.specs.Texts.{Text}
-use Rattle.st_ubtree.specs.inner.Sums.{total}
-use Rattle.st_ubtree.proofs.label_counts.fill.Given as goal
-
-abbrev pub invariant-loop : goal.invariant-loop
-invariant-loop g l = (judges : Text → Bool) → total judges l.counts.items ≡ total judges l.initial.counts.items

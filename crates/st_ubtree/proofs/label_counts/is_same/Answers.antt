@@ -1,5 +1,0 @@
-use Rattle.std.proofs.Common.{rules}
-use Rattle.st_ubtree.proofs.label_counts.is_same.Goals as goal
-
-pub returns : goal.returns
-returns g c = search rules

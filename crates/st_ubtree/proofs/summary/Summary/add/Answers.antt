@@ -1,6 +1,0 @@
-use Rattle.std.proofs.Common.{[], ◌∷◌, ◌++◌, subst}
-use Rattle.st_ubtree.specs.inner.Sums.{Sums}
-use Rattle.st_ubtree.proofs.summary.Summary.add.Goals as goal
-
-pub returns : goal.returns
-returns g c = λ rows sums. subst (λ r. Sums c.add_view.new.self (rows ++ r ∷ [])) c.of.ensures (c.add_view.ensures rows sums)
