@@ -1,5 +1,6 @@
 """One life of each built program: the bytes that go in and come out, what it tells, how it ends; and what it refuses before it serves."""
 import ctypes
+import errno
 import os
 import socket
 import stat
@@ -73,6 +74,8 @@ def shut_listener(server: int) -> None:
         if not stat.S_ISSOCK(os.stat(f"/proc/{server}/fd/{number}").st_mode):
             continue
         copy = ctypes.CDLL(None, use_errno=True).syscall(PIDFD_GETFD, its_process, int(number), 0)
+        if copy < 0 and ctypes.get_errno() == errno.EPERM:
+            pytest.skip("this machine lets no process take a socket of another one")
         assert copy >= 0, os.strerror(ctypes.get_errno())
         with socket.socket(fileno=copy) as it:
             if it.getsockopt(socket.SOL_SOCKET, socket.SO_ACCEPTCONN):
