@@ -13,10 +13,10 @@ use std::marker::Model;
 use std::num::NonZeroUsize;
 
 // So many labels are judged before any is remembered.
-const FEW: u8 = 8;
+const FEW: u8 = 16;
 
 /// A cache of the verdicts on labels for one set of authorizations. Unlike [`crate::Verdicts`] it
-/// borrows the set, and never compares it. It remembers nothing of the first 8 labels, so that few labels
+/// borrows the set, and never compares it. It remembers nothing of the first 16 labels, so that few labels
 /// take no memory.
 #[derive(Drop)]
 pub struct SetVerdicts<'s, A: Allocator = Global, B: Allocator = Global> {
@@ -42,7 +42,7 @@ impl<'s, A: Allocator, B: Allocator> Model for SetVerdicts<'s, A, B> {
 
 impl<'s, A: Allocator + Copy, B: Allocator> SetVerdicts<'s, A, B> {
     /// An empty cache with room for 4,096 labels longer than [`st_text::MAX_SHORT`] bytes in its table, and for `capacity` more
-    /// beside it. It allocates with the ninth label that is asked for, or later.
+    /// beside it. It allocates with the seventeenth label that is asked for, or later.
     pub fn new(alloc: A, capacity: NonZeroUsize, auths: &'s Auths<B>) -> SetVerdicts<'s, A, B>
         ensures { result ≡ auths.now }
     {

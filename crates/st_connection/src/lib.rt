@@ -1,6 +1,7 @@
 //! Serves connections, by whatever answers their messages.
 #![tactic(auto)]
 
+mod attend;
 pub mod connection;
 pub mod constant;
 pub mod law;
@@ -10,6 +11,7 @@ mod server;
 pub mod streams;
 mod telling;
 
+pub use attend::Attend;
 pub use connection::{Ended, IoFault};
 pub use server::Server;
 pub use streams::{Failed, FromRead, FromWrite, Sink, Source};

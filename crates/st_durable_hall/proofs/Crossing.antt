@@ -3,11 +3,11 @@
 use denote.RattleType.{RattleType}
 use denote.Param.Send.{IsSend, IsSync, sendable}
 use Rattle.std.proofs.Crossing.{crosses}
-use Rattle.st_hall.specs.contracts.front.Front as Front
-use Rattle.st_hall.specs.contracts.press.Press as Press
+use Rattle.st_press.specs.contracts.front.Front as Front
+use Rattle.st_press.specs.contracts.press.Press as Press
 use Rattle.st_hall.specs.contracts.scribe.Scribe as Scribe
 use Rattle.st_hall.proofs.Crossing.{front, press, scribe}
-use Rattle.st_hall.proofs.edition.Queued.TheSendSync as QueuedCross
+use Rattle.st_press.proofs.edition.Queued.TheSendSync as QueuedCross
 use Rattle.st_durable_hall.specs.contracts.board.Board as Board
 use Rattle.st_durable_hall.specs.contracts.draft.Draft as Draft
 use Rattle.st_durable_hall.specs.contracts.publisher.Publisher as Publisher

@@ -8,8 +8,8 @@ use Rattle.st_journal.specs.declared.record.Record.{Record}
 use Rattle.st_journal.specs.Replays.{Replays}
 use Rattle.st_durable.specs.Applying.{Applies, Notes}
 use Rattle.st_hall.specs.Steps.{Ask, State, state_after}
-use Rattle.st_hall.proofs.Following.{after_none}
-use Rattle.st_hall.proofs.Fronts.{prefix_self, prefix_trans}
+use Rattle.st_press.proofs.Following.{after_none}
+use Rattle.st_press.proofs.Fronts.{prefix_self, prefix_trans}
 use Rattle.st_durable_hall.specs.Rolls.{KeptRoll, LeadPast, LeadToOne, WasKept}
 use Rattle.st_durable_hall.specs.inner.Sound.{IsSound}
 use Rattle.st_durable_hall.proofs.Batches.{kept_all, left_by_all, lost_all, notes_more, opened, roll, whole}

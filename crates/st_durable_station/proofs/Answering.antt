@@ -8,8 +8,8 @@ use Rattle.st_connection.specs.Render.{busy_text}
 use Rattle.st_service.specs.Answers.{AsksBy, IsFound, TellsOrBusy, token_from, token_in}
 use Rattle.st_hall.specs.Steps.{Ask, State, Told, reply_of, state_after}
 use Rattle.st_hall.specs.Views.{Seat, EndsAfter, IsStranger}
-use Rattle.st_hall.specs.declared.fault.AskFault.{AskFault}
-use Rattle.st_hall.proofs.Fronts.{prefix_trans}
+use Rattle.st_press.specs.declared.fault.AskFault.{AskFault}
+use Rattle.st_press.proofs.Fronts.{prefix_trans}
 use Rattle.st_station.specs.Replies.{SeatReplies}
 use Rattle.st_station.specs.Seats.{Moves, no_token}
 use Rattle.st_station.proofs.Seated.{seated, seated_later}

@@ -1,2 +1,4 @@
 pub mod Standings
 pub mod Answering
+pub mod Lasting
+pub mod Crossing

@@ -2,6 +2,7 @@
 #![tactic(auto)]
 
 mod answerer;
+mod attend;
 pub mod law;
 mod settled;
 mod station;

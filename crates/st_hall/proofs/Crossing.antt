@@ -23,18 +23,18 @@ use Rattle.st_ubtree.specs.contracts.node.aside.Aside as Aside
 use Rattle.st_ubtree.specs.contracts.node.Node as Node
 use Rattle.st_ubtree.specs.contracts.node.Node.TheKnot as knot
 use Rattle.st_ubtree.specs.declared.node.Node.TheDeep.{the_members, member-Node}
-use Rattle.st_hall.specs.contracts.edition.Edition as Edition
-use Rattle.st_hall.specs.contracts.edition.Queued as Queued
-use Rattle.st_hall.specs.contracts.front.Front as Front
+use Rattle.st_press.specs.contracts.edition.Edition as Edition
+use Rattle.st_press.specs.contracts.edition.Queued as Queued
+use Rattle.st_press.specs.contracts.front.Front as Front
 use Rattle.st_hall.specs.contracts.desk.Desk as Desk
 use Rattle.st_hall.specs.contracts.clerk.Clerk as Clerk
-use Rattle.st_hall.specs.contracts.press.Press as Press
+use Rattle.st_press.specs.contracts.press.Press as Press
 use Rattle.st_hall.specs.contracts.scribe.Scribe as Scribe
 use Rattle.st_hall.specs.contracts.worker.Worker as Worker
-use Rattle.st_hall.specs.declared.name.HallName as hall
-use Rattle.st_hall.proofs.front.Front.TheSendSync as FrontCross
-use Rattle.st_hall.proofs.history.Head.TheSendSync as HeadCross
-use Rattle.st_hall.proofs.edition.Queued.TheSendSync as QueuedCross
+use Rattle.st_press.specs.declared.name.HallName as hall
+use Rattle.st_press.proofs.front.Front.TheSendSync as FrontCross
+use Rattle.st_press.proofs.history.Head.TheSendSync as HeadCross
+use Rattle.st_press.proofs.edition.Queued.TheSendSync as QueuedCross
 use Rattle.core.specs.declared.ledger.Ledger as ledger
 use Rattle.core.proofs.ledger.Book.TheSendSync as BookCross
 use Rattle.core.proofs.ledger.Share.TheSendSync as ShareCross

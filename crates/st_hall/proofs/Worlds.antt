@@ -10,8 +10,8 @@ use Rattle.st_core.specs.Step.{asks_for_change, step, after}
 use Rattle.st_core.specs.Worlds.{moments, Sight, ever, NeverSystem, names, stays, kept, keep, replies_to}
 use Rattle.st_core.proofs.Steps.{read_leaves}
 use Rattle.st_core.proofs.Kept.{told_the_same}
-use Rattle.st_hall.specs.Steps.{Ask, State, reply_of, state_after}
-use Rattle.st_hall.specs.Views.{EndsWith}
+use Rattle.st_press.specs.Steps.{Ask, State, reply_of, state_after}
+use Rattle.st_press.specs.Views.{EndsWith}
 
 -- a read adds no moment that was not there
 never_more : (f : Directory Global → Bool) (s : State) (xs : List Ask) (a : Ask) → asks_for_change a ≡ false

@@ -2,21 +2,19 @@
 ghost use Rattle.std.specs.Prelude.{◌≡◌, ◌+◌, ◌<◌, [], ◌∷◌, ◌++◌, length, true, is_some, Err, None, IfOk, OnOk, MatchOption, MatchResult};
 ghost use mathlib.Core.List.{IsPrefix};
 ghost use Rattle.st_core.specs.Step.{asker_of, asks_for_change};
-ghost use Rattle.st_hall.specs.Steps.{reply_of, state_after};
-ghost use Rattle.st_hall.specs.Views.{Beside, IsStranger, receipts};
-ghost use Rattle.st_hall.specs.declared.fault.AskFault.TheVariants.{Stranger};
+ghost use Rattle.st_press.specs.Steps.{reply_of, state_after};
+ghost use Rattle.st_press.specs.Views.{Beside, IsStranger, receipts};
+ghost use Rattle.st_press.specs.declared.fault.AskFault.TheVariants.{Stranger};
 
 use crate::desk::Desk;
-use crate::edition::{Edition, Queued};
-use crate::fault::AskFault;
-use crate::front::Front;
-use crate::name::HallName;
-use crate::press::Press;
 use crate::receipt::{Receipt, receipt_of};
 use crate::scribe::Scribe;
 use left_right::Absorb;
 use st_core::{Asked, Reply, Store};
 use st_dir::Directory;
+use st_press::edition::{Edition, Queued};
+use st_press::front::Front;
+use st_press::{AskFault, HallName, Press};
 use std::alloc::AllocError;
 use std::marker::Model;
 use std::sync::Wait;
@@ -36,7 +34,7 @@ where
     Edition<H>: Absorb<Queued<H>, State = Edition<H>>,
 {
     ghost use Rattle.std.specs.Prelude.{◌≡◌};
-    ghost use Rattle.st_hall.specs.Views.{Roll};
+    ghost use Rattle.st_press.specs.Views.{Roll};
 
     ghost Value = { Roll };
 

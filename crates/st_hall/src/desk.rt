@@ -4,16 +4,16 @@ ghost use mathlib.Core.List.{IsPrefix};
 ghost use Rattle.st_core.specs.Step.{asker_of, asks_for_change};
 ghost use Rattle.st_policy.specs.declared.refusal.Refusal.TheVariants.{Json};
 ghost use Rattle.st_core.specs.declared.asked.Call.TheVariants.{Bad};
-ghost use Rattle.st_hall.specs.Steps.{Ask, State, reply_of, state_after};
-ghost use Rattle.st_hall.specs.inner.Editions.{Agrees};
+ghost use Rattle.st_press.specs.Steps.{Ask, State, reply_of, state_after};
+ghost use Rattle.st_press.specs.inner.Editions.{Agrees};
 
-use crate::edition::{Agreeing, Consistent, Edition};
-use crate::front::Front;
-use crate::name::HallName;
-use crate::steps::answer;
 use core::mem::replace_with;
 use left_right::reader::Reader;
 use st_core::{Asked, Call, Denial, Refusal, Reply, Token};
+use st_press::HallName;
+use st_press::edition::{Agreeing, Consistent, Edition};
+use st_press::front::Front;
+use st_press::steps::answer;
 use std::alloc::AllocError;
 use std::marker::Model;
 use std::sync::ledger::Share;
@@ -31,7 +31,7 @@ pub struct Desk<H: HallName> {
 
 impl<H: HallName> Model for Desk<H> {
     ghost use Rattle.std.specs.Prelude.{◌≡◌};
-    ghost use Rattle.st_hall.specs.Views.{Seat};
+    ghost use Rattle.st_press.specs.Views.{Seat};
 
     ghost Value = { Seat };
 

@@ -3,8 +3,8 @@ ghost use Rattle.std.specs.Prelude.{◌≡◌, ◌++◌, ◌∷◌, [], true, fa
 ghost use Rattle.st_text.specs.Texts.{Text};
 ghost use Rattle.st_core.specs.Step.{asks_for_change};
 ghost use Rattle.st_core.specs.Worlds.{NeverSystem, names, keep};
-ghost use Rattle.st_hall.specs.Steps.{Ask, State, reply_of, state_after};
-ghost use Rattle.st_hall.specs.Views.{EndsWith};
+ghost use Rattle.st_press.specs.Steps.{Ask, State, reply_of, state_after};
+ghost use Rattle.st_press.specs.Views.{EndsWith};
 
 /// What a user may not see cannot be noticed at a desk. Let a user hold SYSTEM at no moment of the changes that a desk has seen.
 /// Then the desk's reply to a read of that user is the last reply of the run without those of the changes that were refused or

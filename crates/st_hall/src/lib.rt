@@ -3,28 +3,19 @@
 
 mod clerk;
 mod desk;
-mod edition;
-mod fault;
-mod front;
 mod hall;
-mod history;
 pub mod law;
-mod name;
-mod press;
-mod queue;
 mod receipt;
 mod scribe;
-mod steps;
 mod worker;
 
 pub use clerk::Clerk;
 pub use desk::Desk;
-pub use edition::{Agreeing, Consistent, Edition, Queued};
-pub use fault::{AskFault, HallFault};
-pub use front::Front;
 pub use hall::Hall;
-pub use name::{HallName, Unnamed, UnnamedFor};
-pub use press::Press;
 pub use receipt::Receipt;
 pub use scribe::Scribe;
+pub use st_press::{
+    Agreeing, AskFault, Consistent, Edition, Front, HallFault, HallName, Press, Queued, Unnamed,
+    UnnamedFor,
+};
 pub use worker::{Gate, Worker};

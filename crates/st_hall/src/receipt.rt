@@ -1,10 +1,9 @@
 //! What a change is answered.
 ghost use Rattle.std.specs.Prelude.{◌≡◌, Ok, Err, MatchResult};
 
-use crate::fault::AskFault;
-use crate::front::Front;
-use crate::name::HallName;
 use st_core::{Asked, Reply};
+use st_press::front::Front;
+use st_press::{AskFault, HallName};
 
 /// What a change is answered: the change itself, its reply, and the list that ends with it, where it was published at once.
 #[derive(Drop)]

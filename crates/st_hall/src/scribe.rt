@@ -3,20 +3,19 @@ ghost use Rattle.std.specs.Prelude.{◌≡◌, ◌+◌, ◌^◌, ◌<◌, [], �
 ghost use mathlib.Core.List.{IsPrefix};
 ghost use Rattle.st_core.specs.Judging.{judgement};
 ghost use Rattle.st_core.specs.Step.{asker_of, asks_for_change};
-ghost use Rattle.st_hall.specs.Steps.{judged_in, reply_of, state_after};
-ghost use Rattle.st_hall.specs.Views.{Beside, IsNext, IsStranger, receipts};
-ghost use Rattle.st_hall.specs.declared.fault.AskFault.TheVariants.{Stranger};
+ghost use Rattle.st_press.specs.Steps.{judged_in, reply_of, state_after};
+ghost use Rattle.st_press.specs.Views.{Beside, IsNext, IsStranger, receipts};
+ghost use Rattle.st_press.specs.declared.fault.AskFault.TheVariants.{Stranger};
 
 use crate::desk::Desk;
-use crate::edition::Queued;
-use crate::fault::AskFault;
-use crate::front::Front;
-use crate::history::Head;
-use crate::name::HallName;
-use crate::queue::enter;
-use crate::steps::{decide, replace};
 use st_core::{Asked, Decision, JudgedRef, Reply};
 use st_dir::Directory;
+use st_press::edition::Queued;
+use st_press::front::Front;
+use st_press::history::Head;
+use st_press::queue::enter;
+use st_press::steps::{decide, replace};
+use st_press::{AskFault, HallName};
 use std::marker::Model;
 use std::sync::ledger::{Book, Share};
 
@@ -32,7 +31,7 @@ pub struct Scribe<H: HallName> {
 
 impl<H: HallName> Model for Scribe<H> {
     ghost use Rattle.std.specs.Prelude.{◌≡◌, List, length};
-    ghost use Rattle.st_hall.specs.Steps.{Ask, state_after};
+    ghost use Rattle.st_press.specs.Steps.{Ask, state_after};
 
     ghost Value = { List Ask };
 
@@ -94,7 +93,7 @@ fn adopt(directory: &mut Directory, decision: Decision) -> Reply
 }
 
 impl<H: HallName> Scribe<H> {
-    #[tactic(auto, using(crate::proofs::Following::after_none))]
+    #[tactic(auto, using(st_press::proofs::Following::after_none))]
     pub(crate) fn new(
         head: Head<H>,
         front: Front<H>,

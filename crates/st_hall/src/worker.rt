@@ -2,18 +2,17 @@
 ghost use Rattle.std.specs.Prelude.{◌≡◌, ◌+◌, ◌-◌, ◌^◌, ◌⊎◌, true, false, min, List, Some, is_some, Err, IfOk, IfSome, OnErr, MatchResult};
 ghost use mathlib.Core.List.{IsPrefix};
 ghost use Rattle.st_core.specs.Step.{asker_of, asks_for_change};
-ghost use Rattle.st_hall.specs.Steps.{Ask, reply_of, state_after};
-ghost use Rattle.st_hall.specs.Views.{EndsAfter, EndsWith, IsStranger, Learns};
-ghost use Rattle.st_hall.specs.declared.fault.AskFault.TheVariants.{NoMemory, Stranger};
+ghost use Rattle.st_press.specs.Steps.{Ask, reply_of, state_after};
+ghost use Rattle.st_press.specs.Views.{EndsAfter, EndsWith, IsStranger, Learns};
+ghost use Rattle.st_press.specs.declared.fault.AskFault.TheVariants.{NoMemory, Stranger};
 
 use crate::clerk::Clerk;
 use crate::desk::Desk;
-use crate::fault::AskFault;
-use crate::front::Front;
 use crate::hall::Hall;
-use crate::name::HallName;
 use crate::receipt::Receipt;
 use st_core::{Asked, Reply, Token};
+use st_press::front::Front;
+use st_press::{AskFault, HallName};
 use std::alloc::AllocError;
 use std::marker::Model;
 use std::sync::{Mutex, Wait};
@@ -46,7 +45,7 @@ pub struct Worker<'a, H: HallName, R: Wait + Drop, G: Gate> {
 
 impl<'a, H: HallName, R: Wait + Drop, G: Gate> Model for Worker<'a, H, R, G> {
     ghost use mathlib.Core.List.{IsPrefix};
-    ghost use Rattle.st_hall.specs.Views.{Post};
+    ghost use Rattle.st_press.specs.Views.{Post};
 
     ghost Value = { Post };
 

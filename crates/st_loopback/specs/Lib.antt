@@ -1,4 +1,1 @@
-pub mod Telling
-pub mod Keeping
 pub mod Serving
-pub mod inner

@@ -1,34 +1,9 @@
 -- What a run does and tells, by the status that it gives.
-use Rattle.std.specs.Prelude.{◌≡◌, ◌⊎◌, ℕ, Option, None, Result, List, map}
-use Rattle.std.specs.declared.alloc.Global.{Global}
+use Rattle.std.specs.Prelude.{◌⊎◌, ℕ, Option, List}
 use Rattle.st_text.specs.Texts.{Text}
-use Rattle.st_core.specs.State.{State}
 use Rattle.st_journal.specs.declared.record.Record.{Record}
-use Rattle.st_command_line.specs.declared.fault.Fault.{Fault}
-use Rattle.st_command.specs.Opening.{Opens}
-use Rattle.st_command_line.specs.declared.served_arguments.ServedArguments.{ServedArguments}
-use Rattle.st_command_line.specs.ServedArguments.{SaysServed, RefusesServedWords, store_of}
-use Rattle.st_command_line.specs.Status.{exit_status_of, exit_status_after}
-use Rattle.st_loopback.specs.Keeping.{IsKept}
-use Rattle.st_loopback.specs.Telling.{Tells}
-
--- the words name no store, they open a state, and are served by
-pub record IsServed (words : List Text) (old new : Option (List ℕ)) (status : ℕ) : Type 0 where
-  pub said : ServedArguments
-  pub says : SaysServed words said
-  pub in_memory : store_of said ≡ None
-  pub state : State Global
-  pub opens : Opens said.digest.now (map (λ name. name.now) said.names.items) state
-  pub ended : Result Unit Fault
-  pub tells : Tells said.port said.connections old new ended
-  pub status_is : status ≡ exit_status_after ended
-
--- the words are refused, and nothing was told
-pub record IsRefused (words : List Text) (old new : Option (List ℕ)) (status : ℕ) : Type 0 where
-  pub fault : Fault
-  pub why : RefusesServedWords words fault
-  pub status_is : status ≡ exit_status_of fault
-  pub untold : new ≡ old
+use Rattle.st_server.specs.Keeping.{IsKept}
+use Rattle.st_server.specs.Serving.{IsRefused, IsServed}
 
 abbrev pub Ran : {J : Type 0} → (List ℕ → List Record → Type 0) → (J → List Record) → (J → ℕ) → List Text → Option (List ℕ)
     → Option (List ℕ) → ℕ → Type 0

@@ -1,16 +1,6 @@
-//! A server at a port: workers over two copies of a store.
+//! A server at a port, by the words of a command line.
 #![tactic(auto)]
 
-mod attend;
-mod connection;
-mod copying;
-mod door;
-mod kept;
-mod listening;
 mod served;
-mod workers;
 
-pub use attend::Attend;
-pub use connection::{Limits, Open};
 pub use served::serve_words;
-pub use workers::serve_all;

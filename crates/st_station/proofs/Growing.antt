@@ -6,7 +6,7 @@ use Rattle.st_http.specs.First.{First}
 use Rattle.st_connection.specs.Connection.{Answering, Run, Told}
 use Rattle.st_hall.specs.Steps.{Ask, State}
 use Rattle.st_hall.specs.Views.{Seat, Post, Learns}
-use Rattle.st_hall.proofs.Fronts.{prefix_self, prefix_trans}
+use Rattle.st_press.proofs.Fronts.{prefix_self, prefix_trans}
 use Rattle.st_station.specs.Seats.{Moves, SeatAnswers, read, made, stranger, untold, busy, unrouted, faulty}
 use Rattle.st_station.specs.Posts.{Answers}
 

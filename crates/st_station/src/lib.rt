@@ -1,6 +1,7 @@
 //! Serves the requests of connections at a desk of a hall.
 #![tactic(auto)]
 
+mod attend;
 pub mod law;
 mod station;
 

@@ -4,7 +4,7 @@ ghost use mathlib.Core.Logic.{inl};
 ghost use Rattle.st_connection.specs.Connection.{EndsOn, Served};
 ghost use Rattle.st_connection.specs.Render.{busy_text};
 ghost use Rattle.st_hall.specs.Views.{IsStranger, Learns};
-ghost use Rattle.st_hall.specs.declared.fault.AskFault.TheVariants.{NoMemory, Stranger};
+ghost use Rattle.st_press.specs.declared.fault.AskFault.TheVariants.{NoMemory, Stranger};
 ghost use Rattle.st_service.specs.Answers.{IsFound, TellsOrBusy, token_from, token_in};
 ghost use Rattle.st_service.specs.Bytes.{bytes_of};
 ghost use Rattle.st_station.specs.Posts.{Answers};

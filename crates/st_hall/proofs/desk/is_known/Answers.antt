@@ -1,5 +1,5 @@
 use Rattle.std.proofs.Common.{rules}
-use Rattle.st_hall.proofs.Unheard.{refused_for_token, told_otherwise}
+use Rattle.st_press.proofs.Unheard.{refused_for_token, told_otherwise}
 use Rattle.st_hall.proofs.desk.is_known.Goals as goal
 
 pub returns-in-Refused-Denied-Token : goal.returns-in-Refused-Denied-Token

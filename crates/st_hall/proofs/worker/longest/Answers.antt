@@ -1,7 +1,7 @@
 use Rattle.std.proofs.Common.{List, subst, sym}
 use mathlib.Core.List.{IsPrefix}
-use Rattle.st_hall.specs.Steps.{Ask}
-use Rattle.st_hall.proofs.Fronts.{prefix_self}
+use Rattle.st_press.specs.Steps.{Ask}
+use Rattle.st_press.proofs.Fronts.{prefix_self}
 use Rattle.st_hall.proofs.worker.longest.Goals as goal
 
 pub returns-in_default-clause-this : goal.returns-in_default-clause-this

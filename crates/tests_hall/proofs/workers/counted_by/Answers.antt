@@ -1,7 +1,7 @@
 use denote.Param.Send.{sendable, given_sync}
 use Rattle.std.proofs.Crossing.{crosses}
 use Rattle.st_hall.proofs.Crossing.{clerk}
-use Rattle.st_loopback.proofs.Crossing.{station}
+use Rattle.st_station.proofs.Crossing.{station}
 use Rattle.tests_hall.proofs.workers.Turns.TheSendSync as TurnsCross
 use Rattle.tests_hall.proofs.workers.counted_by.Goals as goal
 

@@ -1,5 +1,5 @@
-use Rattle.st_hall.proofs.Following.{ends, front_ends}
-use Rattle.st_hall.proofs.Unheard.{heard_after}
+use Rattle.st_press.proofs.Following.{ends, front_ends}
+use Rattle.st_press.proofs.Unheard.{heard_after}
 use Rattle.st_hall.proofs.hall.Hall.change.Goals as goal
 
 pub returns-clause-reply : goal.returns-clause-reply

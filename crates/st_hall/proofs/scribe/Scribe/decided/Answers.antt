@@ -1,8 +1,8 @@
 use Rattle.std.proofs.Common.{◌≡◌, ◌++◌, [], ◌∷◌, true, None, is_some, unwrap_or, IfOk, OnOk, sym, subst}
 use Rattle.st_core.specs.Judging.{judgement}
 use Rattle.st_core.specs.Step.{asker_of}
-use Rattle.st_hall.specs.Steps.{reply_of, state_after, next, judged_in}
-use Rattle.st_hall.proofs.Following.{at_state, after_snoc}
+use Rattle.st_press.specs.Steps.{reply_of, state_after, next, judged_in}
+use Rattle.st_press.proofs.Following.{at_state, after_snoc}
 use Rattle.st_hall.proofs.scribe.Scribe.decided.Goals as goal
 
 pub returns-clause-judged : goal.returns-clause-judged

@@ -1,7 +1,7 @@
 use Rattle.std.proofs.Common.{inl, ap}
-use Rattle.st_hall.specs.Views.{Post}
-use Rattle.st_hall.proofs.Fronts.{learns_change, prefix_trans}
-use Rattle.st_hall.proofs.Following.{all_ended}
+use Rattle.st_press.specs.Views.{Post}
+use Rattle.st_press.proofs.Fronts.{learns_change, prefix_trans}
+use Rattle.st_press.proofs.Following.{all_ended}
 use Rattle.st_hall.proofs.worker.Worker.ask.Goals as goal
 
 pub returns-then-is_change-clause-changed : goal.returns-then-is_change-clause-changed

@@ -1,8 +1,8 @@
 use Rattle.std.proofs.Common.{subst, sym, List}
 use mathlib.Core.List.{IsPrefix}
-use Rattle.st_hall.specs.Steps.{Ask, Told}
-use Rattle.st_hall.specs.Views.{EndsAfter}
-use Rattle.st_hall.proofs.Fronts.{learns_front}
+use Rattle.st_press.specs.Steps.{Ask, Told}
+use Rattle.st_press.specs.Views.{EndsAfter}
+use Rattle.st_press.proofs.Fronts.{learns_front}
 use Rattle.st_hall.proofs.worker.Worker.change.Goals as goal
 
 pub returns-clause-seen : goal.returns-clause-seen

@@ -1,6 +1,6 @@
 use Rattle.std.proofs.Common.{◌≡◌, refl, inr, ◌∙◌, subst}
 use Rattle.st_hall.specs.Views.{Seat}
-use Rattle.st_hall.proofs.Fronts.{learns_from}
+use Rattle.st_press.proofs.Fronts.{learns_from}
 use Rattle.st_service.specs.Bytes.{bytes_of}
 use Rattle.st_station.specs.Replies.{SeatReplies}
 use Rattle.st_station.proofs.station.AnswererReplies.reply.Goals as goal

@@ -1,6 +1,6 @@
 use denote.Param.Send.{sendable, given_sync}
 use Rattle.std.proofs.Crossing.{crosses}
-use Rattle.st_loopback.proofs.Crossing.{station}
+use Rattle.st_station.proofs.Crossing.{station}
 use Rattle.tests_hall.proofs.workers.Turns.TheSendSync as TurnsCross
 use Rattle.tests_hall.proofs.workers.fn.counted_by.join+arg3.Goals as goal
 

@@ -1,0 +1,38 @@
+-- A station of a hall whose changes are kept may go to another thread, since a desk and the table of routes may, and threads may share
+-- such a hall.
+use denote.RattleType.{RattleType}
+use denote.Ref.{NamedLft}
+use denote.Param.Send.{IsSend, IsSync, sendable}
+use Rattle.std.proofs.Crossing.{crosses}
+use Rattle.st_hall.proofs.Crossing.{desk, front}
+use Rattle.st_hall.specs.contracts.desk.Desk as Desk
+use Rattle.st_press.specs.contracts.front.Front as Front
+use Rattle.st_station.proofs.Crossing.{held_routes}
+use Rattle.st_durable_hall.proofs.Crossing.{board, draft, publisher}
+use Rattle.st_durable_hall.specs.contracts.board.Board as Board
+use Rattle.st_durable_hall.specs.contracts.draft.Draft as Draft
+use Rattle.st_durable_hall.specs.contracts.publisher.Publisher as Publisher
+use Rattle.st_durable_hall.specs.contracts.hall.DurableHall as DurableHall
+use Rattle.st_durable_station.specs.contracts.station.DurableStation as DurableStation
+
+held_desk : (H : RattleType) (h : _) (l : _) → IsSend (Desk.the_field H h l).row
+held_desk H h l = desk H h l
+
+held_front : (H : RattleType) (h : _) (l : _) → IsSend (Front.the_field H h l).row
+held_front H h l = front H h l
+
+held_draft : (H : RattleType) (h : _) (l : _) → IsSend (Draft.the_field H h l).row
+held_draft H h l = draft H h l
+
+held_publisher : (B H R J : RattleType) (b : _) (h : _) (l : _) (j : _) → IsSend R → IsSend J → IsSend (Publisher.the_field B H R J b h l j).row
+held_publisher B H R J b h l j s t = publisher B H R J b h l j s t
+
+held_board : (B H J : RattleType) (b : _) (h : _) (l : _) (j : _) → IsSend J → IsSend (Board.the_field B H J b h l j).row
+held_board B H J b h l j t = board B H J b h l j t
+
+held_hall : (B H R J : RattleType) (b : _) (h : _) (l : _) (j : _) → IsSend R → IsSend J → IsSync (DurableHall.the_field B H R J b h l j).row
+held_hall B H R J b h l j s t = search (sendable, crosses, held_draft, held_publisher, held_board) depth 60 fits 100000
+
+pub durable_station : (a : NamedLft) (B H R J C W : RattleType) (b : _) (h : _) (l : _) (j : _) → IsSend R → IsSend J → IsSync C → IsSync W
+    → IsSend (DurableStation.the_row a B H R J C W b h l j)
+durable_station a B H R J C W b h l j s t x y = search (sendable, crosses, held_routes, held_desk, held_front, held_hall) depth 60 fits 100000

@@ -1,4 +1,0 @@
-pub mod Crossing
-pub mod Lasting
-pub mod Telling
-pub mod Widening

@@ -1,0 +1,4 @@
+pub mod Fronts
+pub mod Adding
+pub mod Following
+pub mod Unheard

@@ -1,0 +1,56 @@
+-- What a server whose store a journal keeps does and tells, by the status that it gives.
+use Rattle.std.specs.Prelude.{◌≡◌, ◌⊎◌, ℕ, Option, Some, Result, Ok, Err, List, codes, map}
+use Rattle.std.specs.declared.alloc.Global.{Global}
+use Rattle.std.specs.Io.KnownBytes.{Appends}
+use Rattle.st_text.specs.Texts.{Text}
+use Rattle.st_core.specs.State.{State}
+use Rattle.st_journal.specs.declared.record.Record.{Record}
+use Rattle.st_journal.specs.Replays.{Replays}
+use Rattle.st_durable.specs.Applying.{Applies}
+use Rattle.st_command_line.specs.declared.fault.Fault.{Fault}
+use Rattle.st_command_line.specs.declared.fault.Fault.TheVariants.{StoreLost}
+use Rattle.st_command_line.specs.declared.served_arguments.ServedArguments.{ServedArguments}
+use Rattle.st_command_line.specs.ServedArguments.{SaysServed, store_of}
+use Rattle.st_command_line.specs.Status.{exit_status_of, exit_status_after}
+use Rattle.st_command.specs.Opening.{IsOfStore, OpensWith}
+use Rattle.st_workers.specs.Telling.{Tells, line}
+
+-- What is told of it: as of any server, and it may end since its store is lost, which is said on standard error.
+abbrev pub TellsKept : ℕ → Option ℕ → Option (List ℕ) → Option (List ℕ) → Result Unit Fault → Type 0
+TellsKept port connections old new (Err StoreLost) = Appends old new (line (codes "listening") port)
+TellsKept port connections old new ended = Tells port connections old new ended
+
+-- a journal was opened, and connections were served from the state after its changes
+pub record IsOpened {J : Type 0} (holds : List ℕ → List Record → Type 0) (list : J → List Record) (misreads : J → ℕ)
+    (opening : List ℕ) (first : State Global) (said : ServedArguments) (old new : Option (List ℕ)) (status : ℕ) : Type 0 where
+  pub journal : J
+  pub before : State Global
+  pub found : misreads journal ≡ 0 → holds opening (list journal)
+  pub made : misreads journal ≡ 0 → Replays Applies first (list journal) before
+  pub ended : Result Unit Fault
+  pub tells : TellsKept said.port said.connections old new ended
+  pub status_is : status ≡ exit_status_after ended
+
+-- no journal was opened, and nothing was told
+pub record IsUnopened (old new : Option (List ℕ)) (status : ℕ) : Type 0 where
+  pub fault : Fault
+  pub why : IsOfStore fault
+  pub status_is : status ≡ exit_status_of fault
+  pub untold : new ≡ old
+
+abbrev pub EndsKept : {J : Type 0} → (List ℕ → List Record → Type 0) → (J → List Record) → (J → ℕ) → List ℕ → State Global
+    → ServedArguments → Option (List ℕ) → Option (List ℕ) → ℕ → Type 0
+EndsKept holds list misreads opening first said old new status =
+    IsOpened holds list misreads opening first said old new status ⊎ IsUnopened old new status
+
+-- the words name a store, and open the state that its changes lead on from
+pub record IsKept {J : Type 0} (holds : List ℕ → List Record → Type 0) (list : J → List Record) (misreads : J → ℕ)
+    (words : List Text) (old new : Option (List ℕ)) (status : ℕ) : Type 0 where
+  pub said : ServedArguments
+  pub says : SaysServed words said
+  pub path : Text
+  pub named : store_of said ≡ Some path
+  pub first : State Global
+  pub opening : Text
+  pub opens : OpensWith said.digest.now (map (λ name. name.now) said.names.items) first opening
+  pub ends : EndsKept holds list misreads opening first said old new status

@@ -1,0 +1,178 @@
+//! A copy that follows the store of a server while that serves.
+ghost use Rattle.std.specs.Prelude.{◌≡◌, IfOk, IfErr, Some};
+ghost use Rattle.std.specs.Thread.{IsSend, IsSync};
+ghost use Rattle.st_workers.specs.Telling.{Stops};
+
+use st_command_line::{Fault, ServedArguments};
+use st_connection::Attend;
+use st_copy::{Copier, CopyFault, Source};
+use st_durable::Beginning;
+use st_durable_hall::DurableHall;
+use st_hall::HallName;
+use st_journal::{ReadBack, ReadError, Record};
+use st_workers::{PROGRAM, attend};
+use std::alloc::Global;
+use std::io::Eprint;
+use std::net::{Net, TcpListener, TcpStream};
+use std::sync::{Condvar, CondvarTimeouts, Mutex, Wait};
+use std::thread;
+use std::thread::Threads;
+use std::time::{Clock, Duration};
+
+// What ends the waits of the thread that copies.
+#[derive(Drop)]
+struct Bell {
+    has_rung: Mutex<bool>,
+    rings: Condvar,
+}
+
+impl Bell {
+    // One that has not rung.
+    fn new() -> Bell {
+        Bell {
+            has_rung: Mutex::new(false),
+            rings: Condvar::new(),
+        }
+    }
+
+    // Rings it, once and for all.
+    fn ring<R: Wait>(&self, rt: &R) {
+        *self.has_rung.lock(rt) = true;
+        self.rings.notify_all();
+    }
+
+    // Waits until it rings, and so long at most: whether it has rung.
+    fn wait<R: Wait + Clock>(&self, rt: &R, longest: Duration) -> bool {
+        let guard = self.has_rung.lock(rt);
+        let (has_rung, _) = self
+            .rings
+            .wait_timeout_while(rt, guard, longest, |has_rung| !*has_rung);
+        *has_rung
+    }
+}
+
+// The list that a hall's journal keeps.
+#[derive(Drop)]
+struct KeptList<'a, B: Beginning, H: HallName, C: Wait + Drop, J: ReadBack + Drop, R: Wait> {
+    hall: &'a DurableHall<B, H, C, J>,
+    rt: &'a R,
+}
+
+impl<B: Beginning, H: HallName, C: Wait + Drop, J: ReadBack + Drop, R: Wait> Source
+    for KeptList<'_, B, H, C, J, R> {
+    ghost use Rattle.st_durable_hall.specs.Rolls.{WasRead};
+
+    ghost gives = { λ _ from most records. WasRead J.Journal.list J.Journal.misreads B.first H.start from most records };
+
+    fn read(&mut self, from: u64, most: usize) -> Result<Vec<Record>, ReadError> {
+        self.hall.read(self.rt, from, most)
+    }
+}
+
+// Where a copy stands, what its store was opened with, and what makes it.
+#[derive(Drop)]
+pub(crate) struct Copying<'a, K> {
+    pub(crate) copier: K,
+    pub(crate) path: &'a str,
+    pub(crate) opening: &'a str,
+}
+
+// Says on standard error whether the copy is written, where that has changed: whether a fault was said last.
+fn tell<R: Eprint>(rt: &R, was_faulty: bool, turn: Result<(), CopyFault>) -> bool {
+    match turn {
+        Ok(()) => {
+            if was_faulty {
+                let _told = rt.eprintln(format_args!("{PROGRAM}: copying again"));
+            }
+            false
+        }
+        Err(fault) => {
+            if !was_faulty {
+                let _told = rt.eprintln(format_args!("{PROGRAM}: no copy: {fault}; trying again"));
+            }
+            true
+        }
+    }
+}
+
+// Takes turns until the bell rings, and a last one then; none more once the store is lost.
+fn follow<
+    'a,
+    B: Beginning,
+    H: HallName,
+    C: Wait + Drop,
+    J: ReadBack + Drop,
+    K: Copier + Drop,
+    R: Wait + Clock + Eprint,
+>(
+    rt: &'a R,
+    hall: &'a DurableHall<B, H, C, J>,
+    copying: Copying<'_, K>,
+    bell: &Bell,
+    period: Duration,
+) {
+    let Copying {
+        mut copier,
+        path,
+        opening,
+    } = copying;
+    let mut list = KeptList { hall, rt };
+    let mut was_faulty = false;
+    let mut is_last = false;
+    for _ in rt.forever() {
+        let turn = copier.take_turn(path, opening, &mut list);
+        if let Err(CopyFault::Lost) = turn {
+            return;
+        }
+        was_faulty = tell(rt, was_faulty, turn);
+        if is_last {
+            return;
+        }
+        is_last = bell.wait(rt, period);
+    }
+}
+
+// Serves connections as `attend` does, with a copy that follows the hall's journal where one is wanted.
+pub(crate) fn attend_and_copy<
+    T: Attend + Send + Drop,
+    B: Beginning + Send + Sync,
+    H: HallName + Send + Sync,
+    C: Wait + Drop + Send,
+    J: ReadBack + Drop + Send,
+    K: Copier + Drop + Send,
+    R: Net<Listener = TcpListener, Stream = TcpStream> + Threads + Wait + Clock + Eprint + Sync,
+>(
+    rt: &R,
+    alloc: Global,
+    listener: &TcpListener,
+    said: &ServedArguments<'_>,
+    hall: &DurableHall<B, H, C, J>,
+    copying: Option<Copying<'_, K>>,
+    attendants: Vec<T>,
+) -> Result<u16, Fault>
+    ensures ok { IfOk result (λ number. said.now.connections ≡ Some number) }
+    ensures err { IfErr result Stops }
+{
+    let Some(copying) = copying else {
+        return attend(rt, alloc, listener, said, attendants);
+    };
+    let period = said.copy_period();
+    let bell = Bell::new();
+    let bell = &bell;
+    thread::scope(
+        thread::scope_env(),
+        rt,
+        |scope| -> Result<u16, Fault>
+            requires { IsSync R.row × (IsSend C.row × (IsSend J.row × IsSend K.row)) }
+            ensures { IfOk result (λ number. said.entry.now.connections ≡ Some number) × IfErr result Stops }
+        {
+            let thread = scope.spawn(move || follow(rt, hall, copying, bell, period));
+            if thread.is_err() {
+                let _told = rt.eprintln(format_args!("{PROGRAM}: no copy: no thread"));
+            }
+            let attended = attend(rt, alloc, listener, said, attendants);
+            bell.ring(rt);
+            attended
+        },
+    )
+}

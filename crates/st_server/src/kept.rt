@@ -1,0 +1,232 @@
+//! A server at a port whose store a journal keeps.
+ghost use Rattle.std.specs.Prelude.{◌≡◌, ◌<◌, ◌⊎◌, Some, List, string_bytes};
+ghost use Rattle.st_text.specs.Texts.{Text};
+ghost use Rattle.st_journal.specs.Replays.{Replays};
+ghost use Rattle.st_durable.specs.Applying.{Applies};
+ghost use Rattle.st_server.specs.Keeping.{EndsKept, IsKept, TellsKept};
+ghost use Rattle.st_server.specs.Serving.{IsRefused};
+ghost use Rattle.st_command_line.specs.ServedArguments.{SaysServed, store_of};
+ghost use Rattle.st_command_line.specs.Status.{exit_status_after};
+
+use crate::copying::{Copying, attend_and_copy};
+use st_command::{Keeper, stores_and_opening_for};
+use st_command_line::{Fault, ServedArguments};
+use st_connection::Attend;
+use st_copy::Copier;
+use st_core::{Seed, Store};
+use st_durable::{Beginning, ReplayedCopies};
+use st_durable_hall::DurableHall;
+use st_durable_station::DurableStation;
+use st_hall::{Desk, Hall, HallFault, HallName, UnnamedFor};
+use st_journal::{Journal, ReadBack};
+use st_workers::{begin, tell};
+use std::alloc::{AllocError, Global};
+use std::io::{Eprint, Write};
+use std::marker::Brand;
+use std::net::{Net, TcpListener, TcpStream};
+use std::sync::Wait;
+use std::sync::atomic::{AtomicBool, Ordering};
+use std::thread::Threads;
+use std::time::Clock;
+
+// Where a store is kept, and what it is opened with.
+#[derive(Drop)]
+struct Place<'a> {
+    path: &'a str,
+    opening: String,
+}
+
+// Tells that the server listens, serves connections, and tells how many were served, or that the store is lost.
+fn announce<
+    T: Attend + Send + Drop,
+    B: Beginning + Send + Sync,
+    H: HallName + Send + Sync,
+    C: Wait + Drop + Send,
+    J: ReadBack + Drop + Send,
+    K: Copier + Drop + Send,
+    R: Net<Listener = TcpListener, Stream = TcpStream> + Threads + Wait + Clock + Eprint + Sync,
+    O: Write,
+>(
+    rt: &R,
+    alloc: Global,
+    said: &ServedArguments<'_>,
+    hall: &DurableHall<B, H, C, J>,
+    copying: Option<Copying<'_, K>>,
+    alarm: &AtomicBool,
+    attendants: Vec<T>,
+    output: &mut O,
+) -> Result<(), Fault>
+    ensures { TellsKept said.now.port said.now.connections (O.contents output.old) (O.contents output.new) result }
+{
+    let listener = match begin(rt, alloc, said, output) {
+        Ok(listener) => listener,
+        Err(fault) => {
+            drop(attendants);
+            return Err(fault);
+        }
+    };
+    let attended = attend_and_copy(rt, alloc, &listener, said, hall, copying, attendants);
+    if alarm.load(Ordering::SeqCst) {
+        return Err(Fault::StoreLost);
+    }
+    tell(alloc, output, "served", attended?)
+}
+
+// A station at each desk.
+fn stations_at<'a, B: Beginning, H: HallName, C: Wait + Drop, J: Journal + Drop, R: Wait + Clock>(
+    rt: &'a R,
+    alloc: Global,
+    hall: &'a DurableHall<B, H, C, J>,
+    alarm: &'a AtomicBool,
+    desks: Vec<Desk<H>>,
+) -> Result<Vec<DurableStation<'a, B, H, C, J, R, R>>, AllocError> {
+    let mut stations: Vec<DurableStation<'a, B, H, C, J, R, R>> = Vec::with_capacity(
+        alloc,
+        desks.len(),
+    )?;
+    for desk in desks {
+        let station = DurableStation::new(rt, alloc, rt, desk, hall, alarm)?;
+        stations.push(station).map_err(|_| AllocError)?;
+    }
+    Ok(stations)
+}
+
+// Makes a station at each desk, and serves at them.
+fn seat_workers<
+    B: Beginning + Send + Sync,
+    H: HallName + Send + Sync,
+    C: Wait + Drop + Send,
+    J: ReadBack + Drop + Send,
+    K: Copier + Drop + Send,
+    R: Net<Listener = TcpListener, Stream = TcpStream> + Threads + Wait + Clock + Eprint + Sync,
+    O: Write,
+>(
+    rt: &R,
+    alloc: Global,
+    said: &ServedArguments<'_>,
+    hall: &DurableHall<B, H, C, J>,
+    copying: Option<Copying<'_, K>>,
+    desks: Vec<Desk<H>>,
+    output: &mut O,
+) -> Result<(), Fault>
+    ensures { TellsKept said.now.port said.now.connections (O.contents output.old) (O.contents output.new) result }
+{
+    let alarm = AtomicBool::new(false);
+    let stations = stations_at(rt, alloc, hall, &alarm, desks)?;
+    announce(rt, alloc, said, hall, copying, &alarm, stations, output)
+}
+
+// Opens a hall over the two stores, with a desk for each worker, and serves at its desks.
+fn open_hall<
+    B: Beginning + Send + Sync,
+    H: HallName + Send + Sync,
+    J: ReadBack + Drop + Send,
+    K: Copier + Drop + Send,
+    R: Net<Listener = TcpListener, Stream = TcpStream> + Threads + Wait + Clock + Eprint + Sync,
+    O: Write,
+>(
+    rt: &R,
+    alloc: Global,
+    name: UnnamedFor,
+    both: (Store, Store),
+    journal: J,
+    said: &ServedArguments<'_>,
+    copying: Option<Copying<'_, K>>,
+    workers: u16,
+    output: &mut O,
+) -> Result<(), Fault>
+    requires named { (name.seen.book ≡ H.book) × (name.blank.name ≡ H.name) }
+    requires workers { (name.blank.parts ≡ workers) × (H.parts ≡ workers) × (0 < workers) }
+    requires alike { (both.0 ≡ H.start) × (both.1 ≡ H.start) }
+    requires ready { J.Journal.is_ready journal }
+    requires stands { J.Journal.misreads journal ≡ 0 → Replays Applies B.first (J.Journal.list journal) H.start }
+    ensures { TellsKept said.now.port said.now.connections (O.contents output.old) (O.contents output.new) result }
+{
+    match Hall::<H>::open_for(rt, alloc, name, both.0, both.1, workers) {
+        Ok((clerk, desks)) => {
+            let hall = DurableHall::<B, H, &R, J>::new(alloc, clerk, journal);
+            seat_workers(rt, alloc, said, &hall, copying, desks, output)
+        }
+        Err(HallFault::NoPlace) => Err(Fault::NoPlace),
+        Err(HallFault::NoMemory) => Err(Fault::NoMemory),
+    }
+}
+
+// What copies the store, where the arguments name a copy.
+fn copying_for<'a, K: Copier + Drop>(
+    said: &ServedArguments<'a>,
+    copier: K,
+    place: &'a Place<'_>,
+) -> Option<Copying<'a, K>> {
+    match said.copy {
+        Some(path) => Some(Copying {
+            copier,
+            path,
+            opening: place.opening.as_str(),
+        }),
+        None => {
+            drop(copier);
+            None
+        }
+    }
+}
+
+// Opens the journal over two copies of the state that its changes lead on from, and serves.
+fn serve_kept<
+    B: Beginning + Send + Sync,
+    J: ReadBack + Drop + Send,
+    K: Keeper<J>,
+    L: Copier + Drop + Send,
+    R: Net<Listener = TcpListener, Stream = TcpStream> + Threads + Wait + Clock + Eprint + Sync,
+    O: Write,
+>(
+    rt: &R,
+    alloc: Global,
+    keeper: K,
+    copier: L,
+    place: &Place<'_>,
+    mut copies: ReplayedCopies,
+    said: &ServedArguments<'_>,
+    output: &mut O,
+) -> Result<(), Fault>
+    requires first { copies ≡ B.first }
+    ensures { EndsKept (K.holds keeper) J.Journal.list J.Journal.misreads (string_bytes place.now.opening) B.first said.now
+        (O.contents output.old) (O.contents output.new) (exit_status_after result) }
+{
+    let journal = keeper.open(place.path, place.opening.as_str(), &mut copies)?;
+    let both = copies.into_stores()?;
+    let workers = said.worker_count();
+    let name = UnnamedFor::of(workers);
+    let copying = copying_for(said, copier, place);
+    open_hall::<B, Brand, J, L, R, O>(
+        rt, alloc, name, both, journal, said, copying, workers, output,
+    )
+}
+
+/// Serves from the store at a path, which the keeper opens, as the words say. A copier that they name a copy for follows it.
+pub fn run_kept<
+    J: ReadBack + Drop + Send,
+    K: Keeper<J> + Drop,
+    L: Copier + Drop + Send,
+    R: Net<Listener = TcpListener, Stream = TcpStream> + Threads + Wait + Clock + Eprint + Sync,
+    O: Write,
+>(
+    rt: &R,
+    alloc: Global,
+    seed: Seed,
+    keeper: K,
+    copier: L,
+    said: &ServedArguments<'_>,
+    path: &str,
+    output: &mut O,
+) -> Result<(), Fault>
+    requires named { store_of said.now ≡ Some path.now }
+    ensures { (words : List Text) → SaysServed words said.now
+        → IsRefused words (O.contents output.old) (O.contents output.new) (exit_status_after result)
+        ⊎ IsKept (K.holds keeper) J.Journal.list J.Journal.misreads words (O.contents output.old) (O.contents output.new) (exit_status_after result) }
+{
+    let (first, second, opening) = stores_and_opening_for(alloc, seed, said.digest, &said.names)?;
+    let place = Place { path, opening };
+    let copies = ReplayedCopies::new(alloc, first, second);
+    serve_kept::<Brand, J, K, L, R, O>(rt, alloc, keeper, copier, &place, copies, said, output)
+}
