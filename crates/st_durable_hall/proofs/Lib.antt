@@ -1,4 +1,1 @@
-pub mod Batches
 pub mod Crossing
-pub mod Grouping
-mod Backs

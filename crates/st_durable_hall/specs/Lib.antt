@@ -1,3 +1,3 @@
-pub mod Drafts
-pub mod Rolls
+pub use Rattle.st_publisher.specs.Drafts
+pub use Rattle.st_publisher.specs.Rolls
 pub mod inner

@@ -1,7 +1,7 @@
 //! What threads that wait for their changes look at.
 ghost use Rattle.std.specs.Prelude.{◌≡◌, ◌<◌, length, true, false};
 ghost use mathlib.Core.List.{IsPrefix};
-ghost use Rattle.st_durable_hall.specs.Rolls.{WasKept};
+ghost use Rattle.st_publisher.specs.Rolls.{WasKept};
 ghost use Rattle.st_durable_hall.specs.inner.Boards.{Written};
 
 use st_durable::Beginning;
@@ -22,7 +22,7 @@ pub(crate) struct Board<B: Beginning, H: HallName, J: Journal + Drop> {
 }
 
 impl<B: Beginning, H: HallName, J: Journal + Drop> Model for Board<B, H, J> {
-    ghost use Rattle.st_durable_hall.specs.Rolls.{WasKept};
+    ghost use Rattle.st_publisher.specs.Rolls.{WasKept};
     ghost use Rattle.st_durable_hall.specs.inner.Boards.{Written};
 
     ghost Value = { Written };

@@ -5,7 +5,7 @@ ghost use Rattle.st_journal.specs.declared.record.Record.{Record};
 ghost use Rattle.st_journal.specs.Replays.{Replays};
 ghost use Rattle.st_durable.specs.Applying.{Applies};
 ghost use Rattle.st_hall.specs.Steps.{Ask, State, state_after};
-ghost use Rattle.st_durable_hall.specs.Rolls.{LeadPast};
+ghost use Rattle.st_publisher.specs.Rolls.{LeadPast};
 
 /// What is made again from what was left is the state after a beginning of the list of changes, with at least all that was kept.
 pub fn opens_again()

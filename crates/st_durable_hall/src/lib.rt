@@ -2,14 +2,8 @@
 #![tactic(auto)]
 
 mod board;
-mod draft;
-mod fault;
 mod hall;
-mod keeping;
 pub mod law;
-mod publisher;
 
-pub use draft::{Batch, Draft};
-pub use fault::{ChangeError, Lost};
 pub use hall::DurableHall;
-pub use publisher::Publisher;
+pub use st_publisher::{Batch, ChangeError, Draft, Lost, Publisher};

@@ -13,7 +13,7 @@ use Rattle.st_press.proofs.Fronts.{prefix_trans}
 use Rattle.st_station.specs.Replies.{SeatReplies}
 use Rattle.st_station.specs.Seats.{Moves, no_token}
 use Rattle.st_station.proofs.Seated.{seated, seated_later}
-use Rattle.st_durable_hall.specs.declared.fault.ChangeError.{ChangeError}
+use Rattle.st_publisher.specs.declared.fault.ChangeError.{ChangeError}
 use Rattle.st_durable_station.specs.Standing.{IsOwed, OwesOn, RepliesAt, RepliesKept, Standing}
 
 -- What was owed begins the list that is owed.

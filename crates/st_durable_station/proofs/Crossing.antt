@@ -8,10 +8,9 @@ use Rattle.st_hall.proofs.Crossing.{desk, front}
 use Rattle.st_hall.specs.contracts.desk.Desk as Desk
 use Rattle.st_press.specs.contracts.front.Front as Front
 use Rattle.st_station.proofs.Crossing.{held_routes}
-use Rattle.st_durable_hall.proofs.Crossing.{board, draft, publisher}
+use Rattle.st_publisher.proofs.Crossing.{held_draft, held_publisher}
+use Rattle.st_durable_hall.proofs.Crossing.{board}
 use Rattle.st_durable_hall.specs.contracts.board.Board as Board
-use Rattle.st_durable_hall.specs.contracts.draft.Draft as Draft
-use Rattle.st_durable_hall.specs.contracts.publisher.Publisher as Publisher
 use Rattle.st_durable_hall.specs.contracts.hall.DurableHall as DurableHall
 use Rattle.st_durable_station.specs.contracts.station.DurableStation as DurableStation
 
@@ -20,12 +19,6 @@ held_desk H h l = desk H h l
 
 held_front : (H : RattleType) (h : _) (l : _) → IsSend (Front.the_field H h l).row
 held_front H h l = front H h l
-
-held_draft : (H : RattleType) (h : _) (l : _) → IsSend (Draft.the_field H h l).row
-held_draft H h l = draft H h l
-
-held_publisher : (B H R J : RattleType) (b : _) (h : _) (l : _) (j : _) → IsSend R → IsSend J → IsSend (Publisher.the_field B H R J b h l j).row
-held_publisher B H R J b h l j s t = publisher B H R J b h l j s t
 
 held_board : (B H J : RattleType) (b : _) (h : _) (l : _) (j : _) → IsSend J → IsSend (Board.the_field B H J b h l j).row
 held_board B H J b h l j t = board B H J b h l j t

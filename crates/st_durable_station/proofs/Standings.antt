@@ -11,7 +11,7 @@ use Rattle.st_journal.specs.declared.record.Record.{Record}
 use Rattle.st_hall.specs.Steps.{Ask, State}
 use Rattle.st_press.proofs.Fronts.{prefix_trans}
 use Rattle.st_station.specs.Seats.{SeatAnswers}
-use Rattle.st_durable_hall.specs.Rolls.{WasKept}
+use Rattle.st_publisher.specs.Rolls.{WasKept}
 use Rattle.st_durable_station.specs.Standing.{AnswersAt, AnswersKept, IsOwed, KeptAnswers, OutKept, OwesOn, ServesKept, Standing, Station}
 
 -- What begins a list that was kept was kept.

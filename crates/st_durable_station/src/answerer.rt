@@ -8,8 +8,8 @@ ghost use Rattle.st_service.specs.Bytes.{bytes_of};
 ghost use Rattle.st_hall.specs.Steps.{Ask, reply_of, state_after};
 ghost use Rattle.st_hall.specs.Views.{EndsAfter, IsStranger};
 ghost use Rattle.st_station.specs.Seats.{no_token};
-ghost use Rattle.st_durable_hall.specs.Rolls.{WasKept};
-ghost use Rattle.st_durable_hall.specs.declared.fault.ChangeError.TheVariants.{Lost as WasLost, NoMemory, Stranger};
+ghost use Rattle.st_publisher.specs.Rolls.{WasKept};
+ghost use Rattle.st_publisher.specs.declared.fault.ChangeError.TheVariants.{Lost as WasLost, NoMemory, Stranger};
 ghost use Rattle.st_durable_station.specs.Standing.{AnswersAt, IsOwed, OwesOn, RepliesAt};
 ghost use Rattle.st_durable_station.specs.inner.Shown.{faults, shown};
 
@@ -61,7 +61,7 @@ pub(crate) struct Answerer<
 impl<'a, B: Beginning, H: HallName, R: Wait + Drop, J: Journal + Drop, C: Clock, W: Wait> Model
     for Answerer<'a, B, H, R, J, C, W> {
     ghost use Rattle.std.specs.Prelude.{◌≡◌, false, IfSome};
-    ghost use Rattle.st_durable_hall.specs.Rolls.{WasKept};
+    ghost use Rattle.st_publisher.specs.Rolls.{WasKept};
     ghost use Rattle.st_durable_station.specs.Standing.{Station};
 
     ghost Value = { Station };

@@ -13,7 +13,7 @@ impl<B: Beginning, H: HallName, R: Wait + Drop, J: Journal + Drop, C: Clock, W: 
     ghost use Rattle.std.specs.Prelude.{◌≤◌};
     ghost use mathlib.Core.List.{IsPrefix};
     ghost use Rattle.st_station.specs.inner.Growing.{same_seat};
-    ghost use Rattle.st_durable_hall.specs.Rolls.{WasKept};
+    ghost use Rattle.st_publisher.specs.Rolls.{WasKept};
     ghost use Rattle.st_durable_station.specs.Standing.{ServesKept};
     ghost use Rattle.st_durable_station.specs.declared.station.TheConstants.{HOLD};
 

@@ -2,7 +2,7 @@
 ghost use Rattle.std.specs.Prelude.{IfSome, List, ℕ};
 ghost use Rattle.st_http.specs.First.{First};
 ghost use Rattle.st_connection.specs.Connection.{KeptPast, Run, Told};
-ghost use Rattle.st_durable_hall.specs.Rolls.{WasKept};
+ghost use Rattle.st_publisher.specs.Rolls.{WasKept};
 ghost use Rattle.st_durable_station.specs.Standing.{AnswersAt, KeptAnswers, OutKept, Standing};
 
 use st_durable::Beginning;

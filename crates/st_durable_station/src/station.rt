@@ -1,7 +1,7 @@
 //! A station of a hall whose changes are kept.
 ghost use Rattle.std.specs.Prelude.{◌≡◌, None, false, IfOk};
 ghost use Rattle.st_connection.specs.Connection.{EndsOn};
-ghost use Rattle.st_durable_hall.specs.Rolls.{WasKept};
+ghost use Rattle.st_publisher.specs.Rolls.{WasKept};
 ghost use Rattle.st_durable_station.specs.Standing.{ServesKept};
 
 use crate::answerer::Answerer;

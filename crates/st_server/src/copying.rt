@@ -60,7 +60,7 @@ struct KeptList<'a, B: Beginning, H: HallName, C: Wait + Drop, J: ReadBack + Dro
 
 impl<B: Beginning, H: HallName, C: Wait + Drop, J: ReadBack + Drop, R: Wait> Source
     for KeptList<'_, B, H, C, J, R> {
-    ghost use Rattle.st_durable_hall.specs.Rolls.{WasRead};
+    ghost use Rattle.st_publisher.specs.Rolls.{WasRead};
 
     ghost gives = { λ _ from most records. WasRead J.Journal.list J.Journal.misreads B.first H.start from most records };
 

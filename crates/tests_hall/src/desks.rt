@@ -1,14 +1,15 @@
 //! Puts at any number of desks, each by a thread of its own.
-ghost use Rattle.std.specs.Prelude.{◌≡◌, ◌<◌, ◌^◌, length, vec_len};
+ghost use Rattle.std.specs.Prelude.{◌≡◌, ◌<◌, ◌^◌, true, IfSome, length, vec_len};
 ghost use Rattle.std.specs.Thread.{IsSync};
+ghost use Rattle.st_core.specs.Step.{asks_for_change};
 
-use crate::asks::{entries, rows};
+use crate::asks::{entries, front_of, put, rows};
 use crate::halls::stores;
-use crate::puts::put_one;
-use st_core::Store;
-use st_hall::{Clerk, Desk, Hall, HallName, UnnamedFor};
+use st_core::{Asked, Store};
+use st_hall::{Clerk, Desk, Front, Hall, HallName, UnnamedFor};
 use std::alloc::Global;
 use std::marker::Brand;
+use std::str::from_utf8;
 use std::sync::{Mutex, Wait};
 use std::test::*;
 use std::thread::{Threads, for_each_mut};
@@ -17,6 +18,37 @@ const EACH: u8 = 100;
 
 // Whether each desk made its puts, the length of the list, and the rows and the entries that the last desk tells.
 type Found = (bool, u64, Option<(u64, usize)>);
+
+// A put of a row whose id is the letter, and the number behind it where each row has its own id.
+fn nth(alloc: Global, letter: u8, number: u8, is_own: bool) -> Option<Asked>
+    ensures { IfSome result (λ asked. asks_for_change asked ≡ true) }
+{
+    if !is_own {
+        return put(alloc, "p");
+    }
+    let id = [
+        letter,
+        b'0' + number / 100,
+        b'0' + number / 10 % 10,
+        b'0' + number % 10,
+    ];
+    put(alloc, from_utf8(&id).ok()?)
+}
+
+// The front of a put.
+fn put_one<H: HallName, R: Wait>(
+    rt: &R,
+    alloc: Global,
+    clerk: &Mutex<Clerk<H, &R>>,
+    desk: &mut Desk<H>,
+    (letter, number, is_own): (u8, u8, bool),
+) -> Option<Front<H>> {
+    let asked = nth(alloc, letter, number, is_own)?;
+    let mut told = Hall::change(rt, clerk, desk, asked);
+    let front = front_of(&mut told);
+    drop(told);
+    front
+}
 
 // The first letter of the ids of a desk's rows.
 fn letter_of(place: usize) -> u8 {
@@ -121,6 +153,7 @@ fn each_own_put_is_made_once_at_any_number_of_desks(rt: HostRuntime) {
 }
 
 #[test]
-fn each_equal_put_is_made_once_at_eight_desks(rt: HostRuntime) {
+fn each_equal_put_is_made_once_at_any_number_of_desks(rt: HostRuntime) {
+    assert!(rt; found(&rt, rt.alloc(), 2, false) == Some((true, 200, Some((1, 200)))));
     assert!(rt; found(&rt, rt.alloc(), 8, false) == Some((true, 800, Some((1, 800)))));
 }

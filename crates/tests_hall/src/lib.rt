@@ -27,8 +27,6 @@ mod pending;
 #[cfg(test)]
 mod pipelines;
 #[cfg(test)]
-mod puts;
-#[cfg(test)]
 mod strangers;
 #[cfg(test)]
 mod taken_back;

@@ -13,14 +13,6 @@ mod endless;
 #[cfg(test)]
 mod faults;
 #[cfg(test)]
-mod growths;
-#[cfg(test)]
-mod growths_rows;
-#[cfg(test)]
-mod growths_tables;
-#[cfg(test)]
-mod growths_users;
-#[cfg(test)]
 mod heads;
 #[cfg(test)]
 mod json_replies;

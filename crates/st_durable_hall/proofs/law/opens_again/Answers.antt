@@ -1,4 +1,4 @@
-use Rattle.st_durable_hall.proofs.Batches.{again}
+use Rattle.st_publisher.proofs.Batches.{again}
 use Rattle.st_durable_hall.proofs.law.opens_again.Goals as goal
 
 pub returns : goal.returns

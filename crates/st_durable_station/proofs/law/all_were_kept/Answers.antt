@@ -1,4 +1,4 @@
-use Rattle.st_durable_hall.specs.Rolls.{WasKept}
+use Rattle.st_publisher.specs.Rolls.{WasKept}
 use Rattle.st_durable_station.proofs.Standings.{all_kept, kept_before}
 use Rattle.st_durable_station.proofs.law.all_were_kept.Goals as goal
 

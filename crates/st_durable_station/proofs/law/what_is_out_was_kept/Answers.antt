@@ -1,4 +1,4 @@
-use Rattle.st_durable_hall.specs.Rolls.{WasKept}
+use Rattle.st_publisher.specs.Rolls.{WasKept}
 use Rattle.st_durable_station.proofs.Standings.{kept_before, out_kept}
 use Rattle.st_durable_station.proofs.law.what_is_out_was_kept.Goals as goal
 

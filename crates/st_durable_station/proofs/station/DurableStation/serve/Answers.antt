@@ -1,5 +1,5 @@
 use Rattle.std.proofs.Common.{◌≡◌, false, length, ap, sym, ◌∙◌}
-use Rattle.st_durable_hall.specs.Rolls.{WasKept}
+use Rattle.st_publisher.specs.Rolls.{WasKept}
 use Rattle.st_durable_station.specs.declared.station.TheConstants.{HOLD}
 use Rattle.st_durable_station.proofs.Standings.{kept_before, serves_kept}
 use Rattle.st_durable_station.proofs.station.DurableStation.serve.Goals as goal

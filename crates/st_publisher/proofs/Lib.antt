@@ -1,0 +1,4 @@
+pub mod Batches
+pub mod Crossing
+pub mod Grouping
+mod Backs
