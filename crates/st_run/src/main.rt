@@ -6,8 +6,8 @@ mod sqlite;
 use sqlite::run_files;
 use sqlite_std_file::Unknown;
 use st_command_line::{give_up, show_run, words_of};
-use st_compact_file::shorten_for_run;
 use st_connection::{FromRead, FromWrite};
+use st_store_file::shorten_for_run;
 use std::process::ExitCode;
 
 fn main(rt: HostRuntime) -> ExitCode {

@@ -7,7 +7,7 @@ mod sqlite;
 use sqlite::serve_files;
 use sqlite_std_file::Unknown;
 use st_command_line::{give_up, show_served, words_of};
-use st_compact_file::shorten_for_served;
+use st_store_file::shorten_for_served;
 use std::process::ExitCode;
 
 fn main(rt: HostRuntime) -> ExitCode {

@@ -5,12 +5,11 @@ ghost use Rattle.st_loopback.specs.Serving.{Ran};
 ghost use Rattle.st_store_file.specs.Holding.{HoldStore};
 
 use sqlite_std_file::{FileFrom, Start};
-use st_copy_file::SqliteCopier;
 use st_core::Seed;
 use st_journal::Journal;
 use st_journal_file::FileJournal;
 use st_loopback::serve_words;
-use st_store_file::SqliteKeeper;
+use st_store_file::{SqliteCopier, SqliteKeeper};
 use std::io::{Eprint, Write};
 use std::net::{Net, TcpListener, TcpStream};
 use std::sync::Wait;

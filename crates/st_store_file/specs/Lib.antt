@@ -1,1 +1,5 @@
 pub mod Holding
+pub mod Copying
+pub mod Shortened
+pub mod Asking
+pub mod inner

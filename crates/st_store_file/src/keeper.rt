@@ -2,10 +2,10 @@
 ghost use Rattle.std.specs.Prelude.{◌≡◌};
 ghost use Rattle.st_command.specs.Opening.{IsOfStore};
 
+use crate::time::milliseconds;
 use sqlite_std_file::{FileFrom, Start};
 use st_command::Keeper;
 use st_command_line::Fault;
-use st_copy_file::milliseconds;
 use st_journal::Replay;
 use st_journal_file::{FileJournal, OpenError};
 

@@ -1,3 +1,0 @@
-pub mod Shortened
-pub mod Asking
-pub mod inner

@@ -1,0 +1,49 @@
+-- What the words of a command line ask of the list of a store, and what was done.
+use Rattle.std.specs.Prelude.{◌≡◌, ℕ, List, [], Option, None, Some, codes, true, false}
+use Rattle.std.specs.declared.alloc.Global.{Global}
+use Rattle.clap.specs.Words.{App, fault_of}
+use Rattle.st_text.specs.Texts.{Text}
+use Rattle.st_core.specs.State.{State}
+use Rattle.st_journal.specs.declared.record.Record.{Record}
+use Rattle.st_command_line.specs.Common.{SaysRoot, file_of, has_flag}
+use Rattle.st_command_line.specs.declared.fault.Fault.{Fault}
+use Rattle.st_command.specs.Opening.{OpensWith, IsOfStore}
+use Rattle.st_store_file.specs.declared.counts.Counts.{Counts}
+use Rattle.st_store_file.specs.Shortened.{IsShortened}
+
+-- the words are a command line, and do not ask for a short list
+pub record AsksNone (app : App) (words : List Text) : Type 0 where
+  pub whole : fault_of app words ≡ []
+  pub unasked : has_flag (codes "compact") app words ≡ false
+
+-- the words ask for a short list of the store that they name, and open this state with this opening
+pub record Asks (app : App) (words : List Text) (first : State Global) (opening : Text) : Type 0 where
+  pub digits : Text
+  pub names : List Text
+  pub says : SaysRoot app words digits names
+  pub asked : has_flag (codes "compact") app words ≡ true
+  pub path : Text
+  pub named : file_of (codes "store") app words ≡ Some path
+  pub opens : OpensWith digits names first opening
+
+-- what they ask for was done: whatever is left once the journal is let go is the short list
+pub record IsDone {J : Type 0} (holds : List ℕ → List Record → Type 0) (list : J → List Record) (misreads : J → ℕ)
+    (may_leave : J → List Record → Type 0) (app : App) (words : List Text) (journal : J) : Type 0 where
+  pub first : State Global
+  pub opening : Text
+  pub asks : Asks app words first opening
+  pub counts : Counts
+  pub shortened : misreads journal ≡ 0 → IsShortened holds opening first (list journal) counts
+  pub leaves : misreads journal ≡ 0 → (left : List Record) → may_leave journal left → left ≡ list journal
+
+abbrev pub Shortens : {J : Type 0} → (List ℕ → List Record → Type 0) → (J → List Record) → (J → ℕ) → (J → List Record → Type 0)
+    → App → List Text → Option J → Type 0
+Shortens holds list misreads may_leave app words None = AsksNone app words
+Shortens holds list misreads may_leave app words (Some journal) = IsDone holds list misreads may_leave app words journal
+
+-- what they ask for was not done, by a fault of the store
+pub record IsNotDone (app : App) (words : List Text) (fault : Fault) : Type 0 where
+  pub first : State Global
+  pub opening : Text
+  pub asks : Asks app words first opening
+  pub why : IsOfStore fault

@@ -1,0 +1,43 @@
+//! A short list in the file of a store.
+ghost use Rattle.std.specs.Prelude.{◌≡◌, [], IfOk, IfErr, List};
+ghost use Rattle.sqlite_wal.specs.Files.{image_at};
+ghost use Rattle.st_journal.specs.declared.record.Record.{Record as Change};
+ghost use Rattle.st_command.specs.Opening.{IsOfStore};
+ghost use Rattle.st_store_file.specs.Holding.{HoldStore};
+ghost use Rattle.st_store_file.specs.Shortened.{IsShortened};
+
+use crate::counts::Counts;
+use crate::journal::{leave, shorten_journal};
+use crate::keeper::SqliteKeeper;
+use sqlite_std_file::{FileFrom, Start};
+use st_command::Keeper;
+use st_command_line::Fault;
+use st_compact::WatchedStore;
+use st_core::Store;
+use st_journal::Journal;
+use st_journal_file::FileJournal;
+
+/// Opens the journal at a path, of a store that was this one before its first change, and makes its list short. A store that is
+/// refused is left as it is. `start` says what is supposed of a crash, and stands for what the files held.
+pub fn shorten_file<S: Start>(
+    rt: &HostRuntime,
+    start: S,
+    path: &str,
+    opening: &str,
+    store: Store,
+) -> Result<(FileJournal<FileFrom<S>>, Counts), Fault>
+    requires rows { store.rows ≡ [] }
+    requires audit { store.audit ≡ [] }
+    ensures leaves { IfOk result (λ both. ⟦<FileJournal<FileFrom<S>> as Journal>⟧.misreads both.0 ≡ 0 → (left : List Change)
+        → ⟦<FileJournal<FileFrom<S>> as Journal>⟧.may_leave both.0 left → left ≡ ⟦<FileJournal<FileFrom<S>> as Journal>⟧.list both.0) }
+    ensures short { IfOk result (λ both. ⟦<FileJournal<FileFrom<S>> as Journal>⟧.misreads both.0 ≡ 0
+        → IsShortened (HoldStore (image_at S.Start)) opening.now store (⟦<FileJournal<FileFrom<S>> as Journal>⟧.list both.0) both.1) }
+    ensures err { IfErr result IsOfStore }
+{
+    let mut state = WatchedStore::new(rt.alloc(), store);
+    let keeper = SqliteKeeper::new(rt, start);
+    let mut journal = keeper.open(path, opening, &mut state)?;
+    let counts = shorten_journal(rt.alloc(), &mut journal, state)?;
+    leave(&journal);
+    Ok((journal, counts))
+}
