@@ -18,8 +18,9 @@ use Rattle.sqlite_store.specs.Listing.{IsOurs, all_shapes, file_trees, listed_fr
 use Rattle.sqlite_store.specs.Listed.{catalog_rows}
 use Rattle.sqlite_store.specs.FileStore.{view, schema_of, IsReady}
 use Rattle.sqlite_store.specs.FileStore as store
-use Rattle.st_journal_file.specs.Files.{schema, HoldTrees}
-use Rattle.st_journal_file.specs.inner.Begins.{IsAtRest}
+use Rattle.st_journal_rows.specs.Table.{schema}
+use Rattle.st_journal_file.specs.Files.{HoldTrees}
+use Rattle.st_journal_rows.specs.Begins.{IsAtRest}
 
 pub same_pages : (size : ℕ) (image : Image) (p q : PageMap) → Recovers size image p → Recovers size image q → p ≡ q
 same_pages size image p q a b =

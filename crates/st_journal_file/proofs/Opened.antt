@@ -3,10 +3,10 @@ use Rattle.std.proofs.Common.{◌≡◌, ◌⊎◌, inl, inr, ℕ, List, [], ◌
 use Rattle.sqlite_wal.specs.Recovery.{Image}
 use Rattle.sqlite_trees.specs.View.{View}
 use Rattle.st_journal.specs.declared.record.Record.{Record}
-use Rattle.st_journal_file.specs.Table.{table_tree, record_in, records_in, changes_in, opening_record}
+use Rattle.st_journal_rows.specs.Table.{table_tree, record_in, records_in, changes_in, opening_record}
 use Rattle.st_journal_file.specs.Files.{Finds}
 use Rattle.st_journal_file.specs.Opening.{HoldJournal, HoldNoJournal, Opens}
-use Rattle.st_journal_file.specs.inner.Begins.{Begins}
+use Rattle.st_journal_rows.specs.Begins.{Begins}
 
 pub opened : {S : Type 0} (applies : S → Record → S → Type 0) (opening : List ℕ) (image : Image) (old new : View) (count : ℕ) (before after : S)
     → Finds image old.committed → Begins applies opening old new count before after

@@ -31,10 +31,11 @@ use Rattle.sqlite_store.specs.Listed.{same_listing, catalog_rows}
 use Rattle.sqlite_store.specs.FileStore.{state, schema_in, reading, recovers}
 use Rattle.sqlite_store.proofs.ListingLemmas.{named_tree, past_version, named_shape}
 use Rattle.st_journal.specs.declared.record.Record.{Record}
-use Rattle.st_journal_file.specs.Table.{table_tree, record_in, changes_in}
-use Rattle.st_journal_file.specs.Files.{table_text, schema, HoldNothing}
+use Rattle.st_journal_rows.specs.Table.{table_tree, record_in, changes_in}
+use Rattle.st_journal_rows.specs.Table.{table_text, schema}
+use Rattle.st_journal_file.specs.Files.{HoldNothing}
 use Rattle.st_journal_file.specs.Opening.{HoldNoJournal, Opens}
-use Rattle.st_journal_file.specs.inner.Ready.{HasTable}
+use Rattle.st_journal_rows.specs.Ready.{HasTable}
 
 -- ---- one image has one page size
 

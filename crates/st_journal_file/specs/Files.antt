@@ -1,6 +1,5 @@
 -- What the two files of a journal, the log and the database file, stand for.
-use Rattle.std.specs.Prelude.{◌≡◌, ◌⊎◌, ◌++◌, ℕ, List, true, [], ◌∷◌, codes}
-use Rattle.sqlite_value.specs.declared.value.Value.TheVariants.{Text}
+use Rattle.std.specs.Prelude.{◌≡◌, ◌⊎◌, ℕ, true, []}
 use Rattle.sqlite_wal.specs.Recovery.{Image}
 use Rattle.sqlite_pages.specs.PageMap.{PageMap}
 use Rattle.sqlite_pool.specs.Stored.{Recovers}
@@ -8,24 +7,9 @@ use Rattle.sqlite_pool.specs.Opening.{IsBlankFile}
 use Rattle.sqlite_pool.specs.File.{IsSoundFile, in_use}
 use Rattle.sqlite_trees.specs.declared.store.Shape.TheVariants.{Table}
 use Rattle.sqlite_trees.specs.Tree.{Trees}
-use Rattle.sqlite_store.specs.declared.catalog.Wanted.{Wanted}
 use Rattle.sqlite_store.specs.Db.{rows_at}
 use Rattle.sqlite_store.specs.Listing.{IsOurs, file_trees}
-use Rattle.st_journal_file.specs.Table.{table_tree}
-
--- the table, as SQL makes it
-abbrev pub table_text : List ℕ
-table_text =
-    codes "CREATE TABLE changes (number INTEGER PRIMARY KEY, time INTEGER NOT NULL, user TEXT NOT NULL, "
-    ++ codes "request TEXT NOT NULL, name TEXT NOT NULL, body TEXT NOT NULL, result TEXT NOT NULL) STRICT"
-
--- the schema of the database: this table alone
-abbrev pub schema : List Wanted
-schema = record {
-  shape = Table;
-  reals = 0;
-  row = Text (codes "table") ∷ Text (codes "changes") ∷ Text (codes "changes") ∷ Text table_text ∷ [];
-} ∷ []
+use Rattle.st_journal_rows.specs.Table.{schema, table_tree}
 
 -- the files recover to a database of this schema, with pages of 4,096 bytes, which reads as these trees
 abbrev pub HoldTrees : Image → Trees → Type 0

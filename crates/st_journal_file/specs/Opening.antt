@@ -4,7 +4,7 @@ use Rattle.sqlite_wal.specs.Recovery.{Image}
 use Rattle.sqlite_trees.specs.Tree.{Trees}
 use Rattle.st_journal.specs.declared.record.Record.{Record}
 use Rattle.st_journal.specs.Replays.{Replays}
-use Rattle.st_journal_file.specs.Table.{table_tree, records_in, opening_record}
+use Rattle.st_journal_rows.specs.Table.{table_tree, records_in, opening_record}
 use Rattle.st_journal_file.specs.Files.{HoldTrees, HoldNothing}
 
 -- the files hold a journal of these changes, of a store that was opened so

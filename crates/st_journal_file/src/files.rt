@@ -5,17 +5,17 @@ ghost use Rattle.sqlite_wal.specs.PageSize.{bytes_of};
 ghost use Rattle.sqlite_trees.specs.View.{IsClean};
 ghost use Rattle.sqlite_store.specs.FileStore.{view};
 ghost use Rattle.sqlite_store.specs.Unopened.{state_of, wanted_by, files_of, image, AreUsable};
-ghost use Rattle.st_journal_file.specs.Table.{table_tree};
-ghost use Rattle.st_journal_file.specs.Files.{schema, HoldTrees, Finds};
-ghost use Rattle.st_journal_file.specs.inner.Begins.{IsAtRest};
+ghost use Rattle.st_journal_rows.specs.Table.{table_tree};
+ghost use Rattle.st_journal_rows.specs.Table.{schema};
+ghost use Rattle.st_journal_file.specs.Files.{HoldTrees, Finds};
+ghost use Rattle.st_journal_rows.specs.Begins.{IsAtRest};
 
-use crate::error::OpenError;
-use crate::table::{is_table, table};
 use sqlite_disk::{Disk, Files};
 use sqlite_pager::{Options, Pager};
 use sqlite_pool::probe_blank;
 use sqlite_store::{FileStore, OpenError as StoreOpenError, Unopened};
 use sqlite_wal::{Error, PageSize};
+use st_journal_rows::{OpenError, is_table, table};
 use std::alloc::Global;
 
 // What an error of the store is, where it refuses what is no store at all.

@@ -3,17 +3,13 @@ ghost use Rattle.std.specs.Prelude.{◌≡◌, IsTrue};
 ghost use Rattle.sqlite_trees.specs.Tree.{Trees};
 ghost use Rattle.sqlite_trees.specs.View.{doubt, IsClean};
 ghost use Rattle.sqlite_store.specs.FileStore.{view, recovers};
-ghost use Rattle.st_journal_file.specs.Table.{changes_in};
-ghost use Rattle.st_journal_file.specs.inner.Ready.{HasTable, IsReady};
+ghost use Rattle.st_journal_rows.specs.Table.{changes_in};
+ghost use Rattle.st_journal_rows.specs.Ready.{HasTable, IsReady};
 
-use crate::back::{mend, read_from};
-use crate::error::OpenError;
-use crate::finish::finish;
-use crate::table::MOST;
-use crate::write::put_all;
 use sqlite_disk::Disk;
 use sqlite_store::FileStore;
 use st_journal::{AppendError, Journal, ReadBack, ReadError, Record};
+use st_journal_rows::{MOST, OpenError, finish, mend, put_all, read_from};
 use std::alloc::Global;
 
 /// A journal in the table of a store. An append is one transaction, whose commit is synced once

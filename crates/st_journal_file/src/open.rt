@@ -1,16 +1,20 @@
 //! Opening a journal at a path.
-ghost use Rattle.std.specs.Prelude.{◌≡◌, true, false, IsTrue, IfOk};
+ghost use Rattle.std.specs.Prelude.{◌≡◌, ◌≤◌, true, false, IsTrue, IfOk};
 ghost use Rattle.sqlite_std_file.specs.File.{file_is_usable, IsFresh};
 ghost use Rattle.sqlite_wal.specs.Files.{image_at};
+ghost use Rattle.sqlite_trees.specs.View.{doubt, IsClean};
+ghost use Rattle.sqlite_store.specs.FileStore.{view};
 ghost use Rattle.st_journal_file.specs.Opening.{Opens};
+ghost use Rattle.st_journal_rows.specs.Begins.{IsAtRest, Begins};
 
-use crate::begin::journal_of;
-use crate::error::OpenError;
 use crate::files::open_store;
 use crate::journal::FileJournal;
-use sqlite_disk::{Files, Start};
+use sqlite_disk::{Disk, Files, Start};
 use sqlite_std_file::{FileFrom, OpenError as FileError};
+use sqlite_store::FileStore;
 use st_journal::{Journal, Replay};
+use st_journal_rows::{OpenError, begin};
+use std::alloc::Global;
 use std::hash::{BuildHasher, RandomState};
 use std::io::ErrorKind;
 
@@ -34,6 +38,27 @@ fn open_files<S: Start>(
         }
         Err(FileError::Io(_)) => Err(OpenError::Io),
     }
+}
+
+// The journal of a store.
+fn journal_of<D: Disk + Drop, R: Replay>(
+    mut store: FileStore<D>,
+    alloc: Global,
+    opening: &str,
+    time: i64,
+    state: &mut R,
+) -> Result<FileJournal<D>, OpenError>
+    requires rest { IsClean (view store) → IsTrue (view store).is_open → IsAtRest (view store) }
+    ensures clean { IfOk result (λ journal. doubt (view store).is_clean ≤ doubt (view journal.store).is_clean) }
+    ensures ok { IfOk result (λ journal. IsClean (view journal.store)
+        → Begins R.applies opening.now (view store) (view journal.store) journal.count state.old state.new) }
+{
+    let count = begin(&mut store, alloc, opening, time, state)?;
+    Ok(FileJournal {
+        store,
+        count,
+        alloc,
+    })
 }
 
 impl<S: Start> FileJournal<FileFrom<S>> {

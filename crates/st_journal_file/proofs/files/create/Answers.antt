@@ -1,6 +1,6 @@
 use Rattle.std.proofs.Common.{◌∙◌, arith}
 use Rattle.sqlite_trees.proofs.Doubt.{clean_of}
-use Rattle.st_journal_file.specs.Table.{table_tree}
+use Rattle.st_journal_rows.specs.Table.{table_tree}
 use Rattle.st_journal_file.proofs.FileLemmas.{rests}
 use Rattle.st_journal_file.proofs.files.create.Goals as goal
 

@@ -3,10 +3,10 @@ use Rattle.std.proofs.lemmas.Result.{err_from_is_err_and}
 use Rattle.sqlite_trees.specs.View.{IsClean}
 use Rattle.sqlite_store.specs.FileStore.{view}
 use Rattle.sqlite_store.specs.Laws.{settled_at, shut_is_broken}
-use Rattle.st_journal_file.specs.Table.{changes_in}
-use Rattle.st_journal_file.specs.inner.Ready.{HasTable}
-use Rattle.st_journal_file.proofs.CommitLemmas.{records_of, committed, rolled_back, when_known}
-use Rattle.st_journal_file.proofs.RewriteLemmas.{replaced, replaced_table, length_replaced, changes_replaced}
+use Rattle.st_journal_rows.specs.Table.{changes_in}
+use Rattle.st_journal_rows.specs.Ready.{HasTable}
+use Rattle.st_journal_rows.proofs.CommitLemmas.{records_of, committed, rolled_back, when_known}
+use Rattle.st_journal_rows.proofs.RewriteLemmas.{replaced, replaced_table, length_replaced, changes_replaced}
 use Rattle.st_journal_file.proofs.journal.FileJournal.rewrite.Goals as goal
 
 pub returns-then-self-eq0-clause-crash : goal.returns-then-self-eq0-clause-crash

@@ -3,9 +3,9 @@ use Rattle.std.proofs.lemmas.Result.{err_from_is_err_and}
 use Rattle.sqlite_trees.specs.View.{IsClean}
 use Rattle.sqlite_store.specs.FileStore.{view}
 use Rattle.sqlite_store.specs.Laws.{settled_at, shut_is_broken}
-use Rattle.st_journal_file.specs.Table.{changes_in}
-use Rattle.st_journal_file.specs.inner.Ready.{HasTable}
-use Rattle.st_journal_file.proofs.CommitLemmas.{records_of, added, added_table, committed, length_added, changes_added, rolled_back, when_known}
+use Rattle.st_journal_rows.specs.Table.{changes_in}
+use Rattle.st_journal_rows.specs.Ready.{HasTable}
+use Rattle.st_journal_rows.proofs.CommitLemmas.{records_of, added, added_table, committed, length_added, changes_added, rolled_back, when_known}
 use Rattle.st_journal_file.proofs.journal.FileJournalJournal.append.Goals as goal
 
 pub returns-then-self-gt-MOST-clause-crash : goal.returns-then-self-gt-MOST-clause-crash

@@ -4,10 +4,10 @@ use Rattle.sqlite_trees.specs.Tree.{Trees}
 use Rattle.sqlite_trees.specs.View.{View, IsClean}
 use Rattle.sqlite_store.specs.FileStore.{view}
 use Rattle.sqlite_store.specs.Laws.{settled_at}
-use Rattle.st_journal_file.specs.Table.{changes_in, records_in}
-use Rattle.st_journal_file.specs.inner.Ready.{IsReady}
-use Rattle.st_journal_file.proofs.Backs.{of_changes}
-use Rattle.st_journal_file.proofs.CommitLemmas.{rolled_back}
+use Rattle.st_journal_rows.specs.Table.{changes_in, records_in}
+use Rattle.st_journal_rows.specs.Ready.{IsReady}
+use Rattle.st_journal_rows.proofs.Backs.{of_changes}
+use Rattle.st_journal_rows.proofs.CommitLemmas.{rolled_back}
 use Rattle.st_journal_file.proofs.journal.FileJournalReadBack.read.Goals as goal
 
 pub returns-then-from-ge-MOST-clause-crash : goal.returns-then-from-ge-MOST-clause-crash

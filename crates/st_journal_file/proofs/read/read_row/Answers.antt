@@ -1,6 +1,0 @@
-use Rattle.std.proofs.Common.{rules}
-use Rattle.st_journal_file.proofs.Reading.{record_read}
-use Rattle.st_journal_file.proofs.read.read_row.Goals as goal
-
-pub returns : goal.returns
-returns c = record_read c.args.row.now c.args.number _ _ _ _ _ _ (search rules) (search rules) (search rules) (search rules) (search rules) (search rules) (search rules) (search rules) (search rules)

@@ -1,0 +1,135 @@
+-- A transaction that was committed, and one that a crash cut off.
+use Rattle.std.proofs.Common.{◌≡◌, ◌≢◌, ◌+◌, ◌<◌, Ok, Err, OnOk, Result, ℕ, Bool, true, false, List, [], ◌∷◌, ◌++◌, map, drop, length, IsTrue, refl, sym, ap, subst, ◌∙◌, arith, length-append}
+use Rattle.std.proofs.lemmas.Bool.Decides.{nat_tests}
+use Rattle.sqlite_value.specs.Order.{Row}
+use Rattle.sqlite_trees.specs.Tree.{Trees, with_tree}
+use Rattle.sqlite_trees.specs.Objects.{catalog_tree, version_tree}
+use Rattle.sqlite_trees.specs.View.{View, IsClean, Commits, KeepsCommitted, IsRolledBack, SetsTree}
+use Rattle.st_journal.specs.declared.record.Record.{Record}
+use Rattle.st_journal.specs.declared.journal.AppendError.{AppendError}
+use Rattle.st_journal.specs.declared.journal.AppendError.TheVariants.{NotKept, Unknown}
+use Rattle.st_journal_rows.specs.Table.{table_tree, rows_from, record_in, records_in, changes_in}
+use Rattle.st_journal_rows.specs.Ready.{Adds, ListsTable, HasTable, HasRows, IsReady}
+use Rattle.st_journal_rows.proofs.RowLemmas.{listed}
+
+pub records_of : (v : View) (records : List Record) → HasRows v records → records_in v.trees ≡ records
+records_of v records has = ap (map record_in) has.rows ∙ listed 0 records
+
+-- records behind those of the table
+pub added : (old mid : View) (count : ℕ) (more : List Record) → IsReady old count → Adds old mid count more → HasRows mid (records_in old.trees ++ more)
+added old mid count more ready adds = record {
+  sound = ap (λ (v : View). v.is_broken) adds.frame ∙ ready.rows.sound;
+  numbered = subst IsTrue (sym (ap (λ (v : View). v.is_numbered) adds.frame)) ready.rows.numbered;
+  listed = adds.others catalog_tree (λ e. absurd (omega (arith, e))) ∙ ready.rows.listed;
+  shape = ap (λ (v : View). v.shape table_tree) adds.frame ∙ ready.rows.shape;
+  rows = adds.rows (records_in old.trees) (sym ready.counted) ready.rows.rows;
+}
+
+pub open_of : (is_open is_broken : Bool) → (is_open ≡ false → IsTrue is_broken) → is_broken ≡ false → IsTrue is_open
+open_of true is_broken law sound = refl
+open_of false is_broken law sound = absurd (let e = law refl in cc)
+
+pub committed : (mid new : View) (records : List Record) (count : ℕ) → HasRows mid records → count ≡ length records → 0 < count
+    → (new.is_open ≡ false → IsTrue new.is_broken) → Commits mid new → IsReady new count
+committed mid new records count has counted some law commits =
+    let sound : new.is_broken ≡ false = ap (λ (v : View). v.is_broken) commits.is ∙ has.sound in
+    let trees : new.trees ≡ mid.trees = ap (λ (v : View). v.trees) commits.is in
+    let rows : new.trees table_tree ≡ rows_from 0 records = ap (λ (t : Trees). t table_tree) trees ∙ has.rows in
+    let same : records_in new.trees ≡ records = ap (map record_in) rows ∙ listed 0 records in
+    record {
+      is_open = open_of new.is_open new.is_broken law sound;
+      settled = trees ∙ sym (ap (λ (v : View). v.committed) commits.is);
+      shapes = ap (λ (v : View). v.shape) commits.is ∙ sym (ap (λ (v : View). v.committed_shape) commits.is);
+      rows = record {
+        sound = sound;
+        numbered = subst IsTrue (sym (ap (λ (v : View). v.is_numbered) commits.is)) has.numbered;
+        listed = ap (λ (t : Trees). t catalog_tree) trees ∙ has.listed;
+        shape = ap (λ (v : View). v.shape table_tree) commits.is ∙ has.shape;
+        rows = rows ∙ ap (rows_from 0) (sym same);
+      };
+      counted = counted ∙ ap length (sym same);
+      some = some;
+    }
+
+pub length_added : (old : View) (count : ℕ) (more : List Record) → IsReady old count → count + length more ≡ length (records_in old.trees ++ more)
+length_added old count more ready = omega (arith, ready.counted, length-append (records_in old.trees) more)
+
+-- the first record is no change, and records go behind it
+drop_first : (a b : List Record) → 0 < length a → drop 1 (a ++ b) ≡ drop 1 a ++ b
+drop_first [] b some = absurd (omega (arith, some))
+drop_first (x ∷ a) b some = refl
+
+-- the changes of a view with records behind those of the ready one
+pub changes_added : (old : View) (count : ℕ) (more : List Record) (trees : Trees) → IsReady old count → records_in trees ≡ records_in old.trees ++ more
+    → changes_in trees ≡ changes_in old.committed ++ more
+changes_added old count more trees ready is =
+    ap (drop 1) is
+    ∙ drop_first (records_in old.trees) more (omega (arith, ready.counted, ready.some))
+    ∙ ap (λ (t : Trees). changes_in t ++ more) ready.settled
+
+-- records that were committed into an empty table
+pub committed_records : (mid new : View) (records : List Record) → HasRows mid records → Commits mid new → records_in new.committed ≡ records
+committed_records mid new records has commits = ap records_in (ap (λ (v : View). v.committed) commits.is) ∙ records_of mid records has
+
+unless : (trees : Trees) (rows : List Row) (t tree : ℕ) → t ≢ tree → with_tree trees tree rows t ≡ trees t
+unless trees rows t tree other = grind (arith, nat_tests, other)
+
+-- the first record of an empty table, behind the number of the format
+pub written : (old mid new : View) (edit : List Row → List Row) (first : Record) → HasRows old [] → SetsTree old mid version_tree edit
+    → Adds mid new 0 (first ∷ []) → HasRows new (first ∷ [])
+written old mid new edit first empty sets adds = record {
+  sound = ap (λ (v : View). v.is_broken) adds.frame ∙ ap (λ (v : View). v.is_broken) sets.is ∙ sets.sound;
+  numbered = subst IsTrue (sym (ap (λ (v : View). v.is_numbered) adds.frame ∙ ap (λ (v : View). v.is_numbered) sets.is)) empty.numbered;
+  listed = adds.others catalog_tree (λ e. absurd (omega (arith, e))) ∙ ap (λ (v : View). v.trees catalog_tree) sets.is
+      ∙ unless old.trees (edit (old.trees version_tree)) catalog_tree version_tree (λ e. absurd (omega (arith, e))) ∙ empty.listed;
+  shape = ap (λ (v : View). v.shape table_tree) adds.frame ∙ ap (λ (v : View). v.shape table_tree) sets.is ∙ empty.shape;
+  rows = adds.rows [] refl (ap (λ (v : View). v.trees table_tree) sets.is
+      ∙ unless old.trees (edit (old.trees version_tree)) table_tree version_tree (λ e. absurd (omega (arith, e))) ∙ empty.rows);
+}
+
+-- a database whose table has such rows
+pub has_table : (trees : Trees) (records : List Record) → ListsTable trees → trees table_tree ≡ rows_from 0 records → 0 < length records → HasTable trees
+has_table trees [] listed rows some = absurd (omega (arith, some))
+has_table trees (r ∷ records) listed rows some = record { listed = listed; some = omega (arith, ap length rows) }
+
+pub ready_table : (v : View) (count : ℕ) → IsReady v count → HasTable v.committed
+ready_table v count ready =
+    subst HasTable ready.settled (has_table v.trees (records_in v.trees) ready.rows.listed ready.rows.rows (omega (arith, ready.counted, ready.some)))
+
+-- the table with records behind those that it had
+pub added_table : (old mid : View) (count : ℕ) (more : List Record) → IsReady old count → HasRows mid (records_in old.trees ++ more) → HasTable mid.trees
+added_table old mid count more ready has =
+    has_table mid.trees (records_in old.trees ++ more) has.listed has.rows (omega (arith, ready.counted, ready.some, length-append (records_in old.trees) more))
+
+pub on_ok : {X E P Q : Type 0} (r : Result X E) → (P → Q) → OnOk r P → OnOk r Q
+on_ok (Ok x) so h = so h
+on_ok (Err e) so h = h
+
+-- what was written is undone, so that the table is as it was
+pub rolled_back : (old mid new : View) (count : ℕ) → IsReady old count → KeepsCommitted old mid → IsRolledBack mid new → IsClean new
+    → IsTrue new.is_open → IsReady new count
+rolled_back old mid new count ready kept rolled clean open' =
+    let back = rolled.kept clean in
+    let undone = rolled.undone open' in
+    let trees : new.trees ≡ old.trees = undone.0 ∙ kept.committed (back.was_open open') ∙ sym ready.settled in
+    let shapes : mid.shape ≡ mid.committed_shape = kept.shape ∙ ready.shapes ∙ sym kept.committed_shape in
+    record {
+      is_open = open';
+      settled = undone.0 ∙ sym (back.committed open');
+      shapes = rolled.shape shapes ∙ shapes ∙ sym rolled.committed_shape;
+      rows = record {
+        sound = undone.1;
+        numbered = subst IsTrue (sym (rolled.numbered ∙ kept.numbered)) ready.rows.numbered;
+        listed = ap (λ (t : Trees). t catalog_tree) trees ∙ ready.rows.listed;
+        shape = ap (λ f. f table_tree) (rolled.shape shapes ∙ kept.shape) ∙ ready.rows.shape;
+        rows = ap (λ (t : Trees). t table_tree) trees ∙ ready.rows.rows ∙ ap (λ (t : Trees). rows_from 0 (records_in t)) (sym trees);
+      };
+      counted = ready.counted ∙ ap (λ (t : Trees). length (records_in t)) (sym trees);
+      some = ready.some;
+    }
+
+-- an append that is known to have failed kept nothing
+pub when_known : {X Y P : Type 0} (e : AppendError) (result : Result X AppendError) (last : Result Y AppendError) → result ≡ Err e → last ≡ Err e
+    → last ≢ Err Unknown → (result ≡ Err NotKept → P) → P
+when_known NotKept result last is was known so = so is
+when_known Unknown result last is was known so = absurd (known was)

@@ -1,0 +1,6 @@
+mod ViewLemmas
+mod RowLemmas
+pub mod CommitLemmas
+mod Reading
+pub mod Backs
+pub mod RewriteLemmas

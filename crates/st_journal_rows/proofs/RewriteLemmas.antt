@@ -1,0 +1,107 @@
+-- A list of records in place of another.
+use Rattle.std.proofs.Common.{◌≡◌, ◌≢◌, if◌then◌else◌, ◌==◌, ◌<◌, ◌≤◌, ◌+◌, ◌-◌, ℕ, suc, zero, pos, Bool, true, false, not, filter, List, [], ◌∷◌, ◌++◌, length, take, drop, map, get_or, IsTrue, refl, sym, ap, subst, ◌∙◌, arith, Less, Equal, Greater, append_assoc, append-nil, length-append}
+use Rattle.std.proofs.lemmas.Int.{ints}
+use Rattle.std.proofs.lemmas.Bool.Decides.{nat_tests}
+use Rattle.std.proofs.lemmas.List.{length-take-le, take_all}
+use Rattle.std.specs.Cmp.{int_cmp_is}
+use Rattle.std.specs.Ordering.{is_eq}
+use Rattle.sqlite_value.specs.declared.value.Value.TheVariants.{Int}
+use Rattle.sqlite_value.specs.Order.{value_cmp}
+use Rattle.sqlite_value.proofs.OrderLemmas.{value_cmp-Int}
+use Rattle.sqlite_trees.specs.Tree.{Trees, without_rowid}
+use Rattle.sqlite_trees.specs.Objects.{catalog_tree}
+use Rattle.sqlite_trees.specs.View.{View, OnlyWrites, SetsTree}
+use Rattle.st_journal.specs.declared.record.Record.{Record}
+use Rattle.st_journal_rows.specs.Table.{table_tree, row_of, rows_from, record_in, records_in, changes_in}
+use Rattle.st_journal_rows.specs.Ready.{Adds, Trims, Replaces, HasRows, HasTable, IsReady}
+use Rattle.st_journal_rows.proofs.RowLemmas.{below}
+use Rattle.st_journal_rows.proofs.ViewLemmas.{writes_then}
+use Rattle.st_journal_rows.proofs.CommitLemmas.{has_table}
+
+-- ---- rows are taken out from the last one on
+
+equal_number : (n : ℕ) → value_cmp (Int (pos n)) (Int (pos n)) ≡ Equal
+equal_number n = value_cmp-Int (pos n) (pos n) ∙ sym (int_cmp_is (pos n) (pos n) Equal refl)
+
+pub without_last : (m n : ℕ) (list : List Record) → n ≡ m + length list → (r : Record)
+    → without_rowid (pos n) (rows_from m (list ++ r ∷ [])) ≡ rows_from m list
+without_last m n [] is r = let same : n ≡ m = omega arith in rw (same, equal_number m) refl
+without_last m n (x ∷ list) is r =
+    rw (below m n (omega (arith, is))) (ap (λ rows. row_of m x ∷ rows) (without_last (m + 1) n list (omega (arith, is)) r))
+
+-- the first of a list, and the one behind them
+pub one_less : (k : ℕ) (list : List Record) → k < length list → (r : Record) × (take (suc k) list ≡ take k list ++ r ∷ [])
+one_less k [] low = absurd (omega arith)
+one_less zero (x ∷ list) low = (x, refl)
+one_less (suc k) (x ∷ list) low = let more = one_less k list (omega arith) in (more.0, ap (λ l. x ∷ l) more.1)
+
+pub trims_none : (v : View) (count left : ℕ) → left ≡ count → Trims v v count left
+trims_none v count left whole = record {
+  frame = refl;
+  others = λ _ _. refl;
+  rows = λ list len is. is ∙ ap (rows_from 0) (sym (take_whole left list (len ∙ sym whole)));
+}
+  where
+    take_whole : (n : ℕ) (l : List Record) → length l ≡ n → take n l ≡ l
+    take_whole n l e = subst (λ k. take k l ≡ l) e (all l)
+      where
+        all : (l : List Record) → take (length l) l ≡ l
+        all [] = refl
+        all (x ∷ l) = ap (λ m. x ∷ m) (all l)
+
+pub trims_one : (old mid new : View) (count left number : ℕ) → left ≤ count → 0 < left → number ≡ left - 1 → Trims old mid count left → OnlyWrites mid new
+    → SetsTree mid new table_tree (without_rowid (pos number)) → Trims old new count number
+trims_one old mid new count left number most some is had writes sets = record {
+  frame = writes_then old mid new had.frame writes;
+  others = λ t other. ap (λ (v : View). v.trees t) sets.is ∙ off t other ∙ had.others t other;
+  rows = λ list len rows.
+      let low : number < length list = omega (arith, is, len, most, some) in
+      let next : left ≡ suc number = omega (arith, is, some) in
+      let last = one_less number list low in
+      ap (λ (v : View). v.trees table_tree) sets.is
+      ∙ ap (without_rowid (pos number)) (had.rows list len rows ∙ ap (λ k. rows_from 0 (take k list)) next ∙ ap (rows_from 0) last.1)
+      ∙ without_last 0 number (take number list) (omega (arith, length-take-le number list (omega (arith, low)))) last.0;
+}
+  where
+    off : (t : ℕ) → t ≢ table_tree → (if t == table_tree then without_rowid (pos number) (mid.trees table_tree) else mid.trees t) ≡ mid.trees t
+    off t other = grind (arith, nat_tests, other)
+
+-- ---- records behind the first
+
+pub replaces : (old mid new : View) (count : ℕ) (more : List Record) → 0 < count → Trims old mid count 1 → Adds mid new 1 more → Replaces old new count more
+replaces old mid new count more some trims adds = record {
+  frame = writes_then old mid new trims.frame adds.frame;
+  others = λ t other. adds.others t other ∙ trims.others t other;
+  rows = λ list len rows. adds.rows (take 1 list) (length-take-le 1 list (omega (arith, len, some))) (trims.rows list len rows);
+}
+
+pub replaced : (old mid : View) (count : ℕ) (more : List Record) → IsReady old count → Replaces old mid count more
+    → HasRows mid (take 1 (records_in old.trees) ++ more)
+replaced old mid count more ready it = record {
+  sound = ap (λ (v : View). v.is_broken) it.frame ∙ ready.rows.sound;
+  numbered = subst IsTrue (sym (ap (λ (v : View). v.is_numbered) it.frame)) ready.rows.numbered;
+  listed = it.others catalog_tree (λ e. absurd (omega (arith, e))) ∙ ready.rows.listed;
+  shape = ap (λ (v : View). v.shape table_tree) it.frame ∙ ready.rows.shape;
+  rows = it.rows (records_in old.trees) (sym ready.counted) ready.rows.rows;
+}
+
+length_first : (list : List Record) (more : List Record) → 0 < length list → length (take 1 list ++ more) ≡ 1 + length more
+length_first [] more some = absurd (omega (arith, some))
+length_first (x ∷ list) more some = omega arith
+
+pub length_replaced : (old : View) (count : ℕ) (more : List Record) → IsReady old count → 1 + length more ≡ length (take 1 (records_in old.trees) ++ more)
+length_replaced old count more ready = sym (length_first (records_in old.trees) more (omega (arith, ready.counted, ready.some)))
+
+drop_first : (list : List Record) (more : List Record) → 0 < length list → drop 1 (take 1 list ++ more) ≡ more
+drop_first [] more some = absurd (omega (arith, some))
+drop_first (x ∷ list) more some = refl
+
+-- the changes are these
+pub changes_replaced : (old : View) (count : ℕ) (more : List Record) (trees : Trees) → IsReady old count
+    → records_in trees ≡ take 1 (records_in old.trees) ++ more → changes_in trees ≡ more
+changes_replaced old count more trees ready is = ap (drop 1) is ∙ drop_first (records_in old.trees) more (omega (arith, ready.counted, ready.some))
+
+pub replaced_table : (old mid : View) (count : ℕ) (more : List Record) → IsReady old count → HasRows mid (take 1 (records_in old.trees) ++ more) → HasTable mid.trees
+replaced_table old mid count more ready has =
+    has_table mid.trees (take 1 (records_in old.trees) ++ more) has.listed has.rows
+    (omega (arith, length_replaced old count more ready))

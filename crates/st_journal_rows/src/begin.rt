@@ -1,0 +1,105 @@
+//! The rows that a store is opened with: those that stand in its table, or a first one.
+ghost use Rattle.std.specs.Prelude.{◌≡◌, ◌≤◌, [], ◌∷◌, IsTrue, IfOk, OnOk};
+ghost use Rattle.st_journal.specs.declared.record.Record.{Record};
+ghost use Rattle.sqlite_trees.specs.View.{doubt, IsClean};
+ghost use Rattle.st_journal_rows.specs.Table.{table_tree, opening_record, records_in};
+ghost use Rattle.st_journal_rows.specs.Ready.{HasRows, IsReady};
+ghost use Rattle.st_journal_rows.specs.Begins.{IsAtRest, Begins};
+
+use crate::error::OpenError;
+use crate::finish::finish;
+use crate::read::read_all;
+use crate::table::{FORMAT, TREE};
+use crate::write::put_all;
+use sqlite_trees::error::StoreError;
+use sqlite_trees::store::{Alter, Shape};
+use st_journal::{Record, Replay};
+use st_text::Words;
+use std::alloc::{AllocError, Global};
+use std::slice;
+
+// The first record of a journal.
+fn first_record(alloc: Global, time: i64, opening: &str) -> Result<Record, AllocError>
+    ensures { IfOk result (λ first. first ≡ opening_record time opening.now) }
+{
+    let user = Words::new(alloc, "")?;
+    let request = Words::new(alloc, "open")?;
+    let name = Words::new(alloc, "")?;
+    let body = Words::new(alloc, opening)?;
+    let result = Words::new(alloc, "")?;
+    Ok(Record {
+        time,
+        user,
+        request,
+        name,
+        body,
+        result,
+    })
+}
+
+// Writes the number of the format and the first record, without a commit.
+fn write_first<S: Alter>(store: &mut S, alloc: Global, first: &Record) -> Result<(), StoreError>
+    requires empty { IsClean (S.Store.view store.old) → HasRows (S.Store.view store.old) [] }
+    ensures clean { doubt (S.Store.view store.old).is_clean ≤ doubt (S.Store.view store.new).is_clean }
+    ensures written { OnOk result (IsClean (S.Store.view store.new) → HasRows (S.Store.view store.new) (first.now ∷ [])) }
+{
+    store.set_version(FORMAT)?;
+    put_all(store, alloc, 0, slice::from_ref(first))
+}
+
+// Begins a journal in an empty table.
+fn begin_new<S: Alter>(
+    store: &mut S,
+    alloc: Global,
+    opening: &str,
+    time: i64,
+) -> Result<u64, OpenError>
+    requires empty { IsClean (S.Store.view store.old) → HasRows (S.Store.view store.old) [] }
+    ensures clean { doubt (S.Store.view store.old).is_clean ≤ doubt (S.Store.view store.new).is_clean }
+    ensures ready { IfOk result (λ count. IsClean (S.Store.view store.new) → IsReady (S.Store.view store.new) count) }
+    ensures records { OnOk result (IsClean (S.Store.view store.new)
+        → records_in (S.Store.view store.new).committed ≡ opening_record time opening.now ∷ []) }
+{
+    let Ok(first) = first_record(alloc, time, opening) else {
+        return Err(OpenError::NoMemory);
+    };
+    let written = write_first(store, alloc, &first);
+    match finish(store, written) {
+        Ok(()) => Ok(1),
+        Err(_) => Err(OpenError::Io),
+    }
+}
+
+/// Takes the records of the table, or begins a journal where there is none. It answers how many records there are.
+pub fn begin<S: Alter, R: Replay>(
+    store: &mut S,
+    alloc: Global,
+    opening: &str,
+    time: i64,
+    state: &mut R,
+) -> Result<u64, OpenError>
+    requires rest { IsClean (S.Store.view store.old) → IsTrue (S.Store.view store.old).is_open → IsAtRest (S.Store.view store.old) }
+    ensures clean { doubt (S.Store.view store.old).is_clean ≤ doubt (S.Store.view store.new).is_clean }
+    ensures ok { IfOk result (λ count. IsClean (S.Store.view store.new)
+        → Begins R.applies opening.now (S.Store.view store.old) (S.Store.view store.new) count state.old state.new) }
+{
+    if store.is_broken() {
+        return Err(OpenError::Io);
+    }
+    let Shape::Table = store.shape(TREE) else {
+        return Err(OpenError::NotAJournal);
+    };
+    let version = store.version();
+    if version > FORMAT {
+        return Err(OpenError::LaterFormat(version));
+    }
+    let count = read_all(store, alloc, opening, state)?;
+    if count == 0 {
+        return begin_new(store, alloc, opening, time);
+    }
+    if version == FORMAT {
+        Ok(count)
+    } else {
+        Err(OpenError::Damaged)
+    }
+}
