@@ -6,8 +6,8 @@ ghost use Rattle.sqlite_trees.specs.View.{IsClean, IsQuiet, IsRolledBack, KeepsC
 ghost use Rattle.st_journal_rows.specs.Table.{table_tree, rows_from};
 
 use crate::error::OpenError;
+use crate::object::TREE;
 use crate::read::read_row;
-use crate::table::TREE;
 use sqlite_trees::store::{Shape, Store};
 use sqlite_value::row::Row;
 use st_journal::{ReadError, Record};

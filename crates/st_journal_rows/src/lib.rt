@@ -2,18 +2,18 @@
 #![tactic(auto)]
 
 mod back;
-mod begin;
+mod commit;
 mod error;
-mod finish;
+mod object;
+mod opening;
 mod read;
 mod replace;
-mod table;
 mod write;
 
 pub use back::{mend, read_from};
-pub use begin::begin;
+pub use commit::finish;
 pub use error::OpenError;
-pub use finish::finish;
+pub use object::{MOST, is_table, table};
+pub use opening::begin;
 pub use replace::replace_all;
-pub use table::{MOST, is_table, table};
 pub use write::put_all;

@@ -8,7 +8,7 @@ ghost use Rattle.st_journal_rows.specs.Table.{table_tree, row_of, opening_record
 ghost use Rattle.st_journal_rows.specs.Begins.{Takes, Reads};
 
 use crate::error::OpenError;
-use crate::table::{MOST, TREE};
+use crate::object::{MOST, TREE};
 use sqlite_trees::store::{Direction, Shape, Store};
 use sqlite_value::row::Row;
 use sqlite_value::value::ValueRef;

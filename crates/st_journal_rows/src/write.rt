@@ -4,7 +4,7 @@ ghost use Rattle.sqlite_trees.specs.View.{IsClean, IsQuiet, KeepsCommitted};
 ghost use Rattle.st_journal_rows.specs.Table.{table_tree, row_of};
 ghost use Rattle.st_journal_rows.specs.Ready.{Adds};
 
-use crate::table::TREE;
+use crate::object::TREE;
 use sqlite_trees::error::StoreError;
 use sqlite_trees::store::{Shape, Store};
 use sqlite_value::row::Row;

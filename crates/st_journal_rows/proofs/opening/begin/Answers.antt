@@ -5,7 +5,7 @@ use Rattle.st_journal_rows.specs.Table.{table_tree}
 use Rattle.st_journal_rows.specs.Begins.{IsAtRest, Reads}
 use Rattle.st_journal_rows.proofs.CommitLemmas.{open_of}
 use Rattle.st_journal_rows.proofs.Reading.{resumed, begun, emptied, if_both}
-use Rattle.st_journal_rows.proofs.begin.begin.Goals as goal
+use Rattle.st_journal_rows.proofs.opening.begin.Goals as goal
 
 pub returns-then-count-eq0-clause-ok : goal.returns-then-count-eq0-clause-ok
 returns-then-count-eq0-clause-ok g c = if_both c.begin_new.result (λ count ready list clean.

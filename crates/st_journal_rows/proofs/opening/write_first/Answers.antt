@@ -2,7 +2,7 @@ use Rattle.std.proofs.Common.{◌≡◌, [], ◌∷◌, subst, rules, arith}
 use Rattle.sqlite_trees.specs.View.{IsClean}
 use Rattle.st_journal_rows.specs.Ready.{Adds}
 use Rattle.st_journal_rows.proofs.CommitLemmas.{on_ok, written}
-use Rattle.st_journal_rows.proofs.begin.write_first.Goals as goal
+use Rattle.st_journal_rows.proofs.opening.write_first.Goals as goal
 
 pub returns-clause-written : goal.returns-clause-written
 returns-clause-written g c = on_ok c.put_all.result (λ added clean.

@@ -6,10 +6,10 @@ ghost use Rattle.st_journal_rows.specs.Table.{table_tree, opening_record, record
 ghost use Rattle.st_journal_rows.specs.Ready.{HasRows, IsReady};
 ghost use Rattle.st_journal_rows.specs.Begins.{IsAtRest, Begins};
 
+use crate::commit::finish;
 use crate::error::OpenError;
-use crate::finish::finish;
+use crate::object::{FORMAT, TREE};
 use crate::read::read_all;
-use crate::table::{FORMAT, TREE};
 use crate::write::put_all;
 use sqlite_trees::error::StoreError;
 use sqlite_trees::store::{Alter, Shape};
