@@ -1,7 +1,7 @@
 //! The table, and how it is named.
 ghost use Rattle.std.specs.Prelude.{◌≡◌, ◌∷◌, []};
 ghost use Rattle.sqlite_store.specs.Catalog.{wanted_of};
-ghost use Rattle.st_journal_rows.specs.Files.{schema};
+ghost use Rattle.st_journal_rows.specs.Table.{schema};
 
 use sqlite_trees::schema::Object;
 use sqlite_trees::store::Shape;
