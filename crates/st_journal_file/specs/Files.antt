@@ -1,5 +1,5 @@
 -- What the two files of a journal, the log and the database file, stand for.
-use Rattle.std.specs.Prelude.{◌≡◌, ◌⊎◌, ℕ, true, []}
+use Rattle.std.specs.Prelude.{◌≡◌, ◌⊎◌, true, []}
 use Rattle.sqlite_wal.specs.Recovery.{Image}
 use Rattle.sqlite_pages.specs.PageMap.{PageMap}
 use Rattle.sqlite_pool.specs.Stored.{Recovers}
