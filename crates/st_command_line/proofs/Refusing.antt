@@ -3,7 +3,7 @@ use Rattle.std.specs.Prelude.{IfErr, IfOk, Option, Some, None, Result, Ok, Err, 
 use Rattle.std.specs.Borrow.{Bor}
 use Rattle.std.specs.List.{All, slice_index_or}
 use Rattle.std.proofs.lemmas.List.Elements.{All-head, All-tail}
-use Rattle.std.proofs.Common.{ap, ◌≡◌, ◌∙◌, ◌<◌, ◌==◌, ◌&&◌, ℕ, Bool, T, not, false, length, List, [], ◌∷◌, codes, true, inl, inr, refl, sym, subst, zero, suc, arith}
+use Rattle.std.proofs.Common.{ap, ◌≡◌, ◌∙◌, ◌<◌, ◌&&◌, ℕ, Bool, T, not, false, length, List, [], ◌∷◌, true, inl, inr, refl, sym, subst, zero, suc, arith}
 use Rattle.std.proofs.lemmas.Bool.{and_parts, not-true, false≢true}
 use Rattle.std.specs.Str.{bytes_eq}
 use Rattle.clap.specs.Built.{AddsArg, AddsInTurn, FitsChain, HasDistinctIds, IsPlainArg}
@@ -16,6 +16,7 @@ use Rattle.clap.specs.declared.error.kind.ErrorKind.TheVariants.{OutOfMemory}
 use Rattle.st_text.specs.Texts.{Text}
 use Rattle.st_command_line.specs.Common.{RefusesWords, with_rules}
 use Rattle.st_command_line.specs.Status.{as_fault}
+use Rattle.st_command_line.specs.inner.Commands.{is_own}
 
 -- what follows from a fact of the value, or of the error
 pub if_ok : {T E : Type 0} (P Q : T → Type 0) (r : Result T E) → ((x : T) → P x → Q x) → IfOk r P → IfOk r Q
@@ -74,10 +75,6 @@ distinct (x ∷ xs) is zero zero d e low high same = refl
 distinct (x ∷ xs) is zero (suc k) d e low high same = absurd (apart_before x.id.now xs k d (and_parts _ _ is).0 (omega (arith, high)) same)
 distinct (x ∷ xs) is (suc j) zero d e low high same = absurd (apart_after x.id.now xs j e (and_parts _ _ is).0 (omega (arith, low)) same)
 distinct (x ∷ xs) is (suc j) (suc k) d e low high same = ap suc (distinct xs (and_parts _ _ is).1 j k d e (omega (arith, low)) (omega (arith, high)) same)
-
--- no id that a command has of itself
-abbrev is_own : Text → Bool
-is_own id = not (length id == 0) && (not (bytes_eq id (codes "help")) && not (bytes_eq id (codes "version")))
 
 not_own : false ≡ true → ⊥
 not_own h = subst T (sym h) tt

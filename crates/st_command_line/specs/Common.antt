@@ -1,11 +1,12 @@
 -- What both command lines have, `--root DIGEST`, `--store FILE`, `--compact` and `[NAME]...`: what the words say by it, and why they
 -- are refused.
-use Rattle.std.specs.Prelude.{◌≡◌, ◌⊎◌, ℕ, Bool, List, [], ◌∷◌, Option, Some, None, Ok, IsErr, IsSome, codes, true, false, unwrap_or}
+use Rattle.std.specs.Prelude.{◌≡◌, ◌⊎◌, ℕ, ℤ, Bool, List, [], ◌∷◌, Option, Some, None, Ok, IsErr, IsSome, codes, true, false, unwrap_or}
 use Rattle.std.specs.Str.{bytes_eq}
 use Rattle.hex.specs.Hex.{decode_sized}
 use Rattle.clap.specs.Words.{App, Rule, IsAmong, all_of, fault_of, first_of, found_of, kind_of, matches_of, new_rule, rows_of, with_rule}
 use Rattle.clap.specs.declared.parser.matches.ArgMatches.{ArgMatches}
 use Rattle.clap.specs.declared.builder.action.ArgAction.TheVariants.{Append, Set, SetTrue}
+use Rattle.clap.specs.declared.builder.value_parser.ValueParser.TheVariants.{Signed}
 use Rattle.st_text.specs.Texts.{Text}
 use Rattle.st_auth.specs.Names.{first_bad}
 use Rattle.st_command_line.specs.declared.fault.Fault.{Fault}
@@ -20,22 +21,21 @@ abbrev pub with_rules : App → List Rule → App
 with_rules app [] = app
 with_rules app (rule ∷ rules) = with_rules (with_rule app rule) rules
 
+-- an option with this name that takes one value, and may be there once
+abbrev pub option_rule : Text → Rule
+option_rule name = record (new_rule name) { long = Some name; value_names = 1; action = Some Set }
+
+-- one whose value is a number from the least to the most
+abbrev pub number_rule : Text → ℤ → ℤ → Rule
+number_rule name least most = record (option_rule name) { parser = Some (Signed least most) }
+
 -- the option `--root DIGEST`, which must be there, once
 abbrev pub root_option : Rule
-root_option = record (new_rule (codes "root")) {
-  long = Some (codes "root");
-  value_names = 1;
-  action = Some Set;
-  required = true;
-}
+root_option = record (option_rule (codes "root")) { required = true }
 
 -- the option `--store FILE`
 abbrev pub store_option : Rule
-store_option = record (new_rule (codes "store")) {
-  long = Some (codes "store");
-  value_names = 1;
-  action = Some Set;
-}
+store_option = option_rule (codes "store")
 
 -- the flag `--compact`
 abbrev pub compact_flag : Rule

@@ -9,87 +9,46 @@ use Rattle.std.specs.Net.Grammar.{IsIpv4Text}
 use Rattle.std.specs.Net.Socket.{v4_ip}
 use Rattle.std.specs.declared.net.ipv4_addr.Ipv4Addr.{Ipv4Addr}
 use Rattle.std.specs.declared.net.socket_addr.SocketAddrV4.{SocketAddrV4}
-use Rattle.clap.specs.Words.{App, Rule, fault_of, first_of, matches_of, new_app, new_rule, one_of}
-use Rattle.clap.specs.declared.builder.action.ArgAction.TheVariants.{Set}
-use Rattle.clap.specs.declared.builder.value_parser.ValueParser.TheVariants.{Signed}
+use Rattle.clap.specs.Words.{App, Rule, fault_of, first_of, matches_of, new_app, one_of}
 use Rattle.st_text.specs.Texts.{Text}
 use Rattle.st_command_line.specs.declared.fault.Fault.{Fault}
 use Rattle.st_command_line.specs.declared.fault.Fault.TheVariants.{BadAddress, BadNumber, WantsCopy}
 use Rattle.st_command_line.specs.declared.served_arguments.ServedArguments.{ServedArguments}
 use Rattle.st_command_line.specs.Common as common
 use Rattle.st_command_line.specs.Common.{SaysRoot, NamesItsStore, file_of, has_flag}
-use Rattle.st_command_line.specs.Common.{compact_flag, name_operand, root_option, store_option, with_rules, with_version}
+use Rattle.st_command_line.specs.Common.{compact_flag, name_operand, number_rule, option_rule, root_option, store_option, with_rules, with_version}
 
 -- the option `--port P`, 1 to 65,535, which must be there, once
 abbrev pub port_option : Rule
-port_option = record (new_rule (codes "port")) {
-  long = Some (codes "port");
-  value_names = 1;
-  action = Some Set;
-  parser = Some (Signed (pos 1) (pos 65535));
-  required = true;
-}
+port_option = record (number_rule (codes "port") (pos 1) (pos 65535)) { required = true }
 
 -- the option `--copy FILE`
 abbrev pub copy_option : Rule
-copy_option = record (new_rule (codes "copy")) {
-  long = Some (codes "copy");
-  value_names = 1;
-  action = Some Set;
-}
+copy_option = option_rule (codes "copy")
 
 -- the option `--copy-every SECONDS`, 1 to 3,600
 abbrev pub copy_every_option : Rule
-copy_every_option = record (new_rule (codes "copy-every")) {
-  long = Some (codes "copy-every");
-  value_names = 1;
-  action = Some Set;
-  parser = Some (Signed (pos 1) (pos 3600));
-}
+copy_every_option = number_rule (codes "copy-every") (pos 1) (pos 3600)
 
 -- the option `--connections N`, 0 to 1,000
 abbrev pub connections_option : Rule
-connections_option = record (new_rule (codes "connections")) {
-  long = Some (codes "connections");
-  value_names = 1;
-  action = Some Set;
-  parser = Some (Signed (pos 0) (pos 1000));
-}
+connections_option = number_rule (codes "connections") (pos 0) (pos 1000)
 
 -- the option `--workers N`, 1 to 256
 abbrev pub workers_option : Rule
-workers_option = record (new_rule (codes "workers")) {
-  long = Some (codes "workers");
-  value_names = 1;
-  action = Some Set;
-  parser = Some (Signed (pos 1) (pos 256));
-}
+workers_option = number_rule (codes "workers") (pos 1) (pos 256)
 
 -- the option `--timeout SECONDS`, 1 to 3,600
 abbrev pub timeout_option : Rule
-timeout_option = record (new_rule (codes "timeout")) {
-  long = Some (codes "timeout");
-  value_names = 1;
-  action = Some Set;
-  parser = Some (Signed (pos 1) (pos 3600));
-}
+timeout_option = number_rule (codes "timeout") (pos 1) (pos 3600)
 
 -- the option `--idle SECONDS`, 1 to 3,600
 abbrev pub idle_option : Rule
-idle_option = record (new_rule (codes "idle")) {
-  long = Some (codes "idle");
-  value_names = 1;
-  action = Some Set;
-  parser = Some (Signed (pos 1) (pos 3600));
-}
+idle_option = number_rule (codes "idle") (pos 1) (pos 3600)
 
 -- the option `--listen ADDRESS`
 abbrev pub listen_option : Rule
-listen_option = record (new_rule (codes "listen")) {
-  long = Some (codes "listen");
-  value_names = 1;
-  action = Some Set;
-}
+listen_option = option_rule (codes "listen")
 
 abbrev pub served_rules : List Rule
 served_rules = root_option ∷ port_option ∷ store_option ∷ compact_flag ∷ copy_option ∷ copy_every_option ∷ connections_option

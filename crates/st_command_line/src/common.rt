@@ -5,8 +5,8 @@ ghost use Rattle.clap.specs.Words.{App, app_of, args_of, first_value, found_of, 
 ghost use Rattle.clap.specs.declared.builder.command.Command.TheViews.{out-Command as fields_of};
 ghost use Rattle.st_text.specs.Texts.{Text};
 ghost use Rattle.st_command_line.specs.Common.{IsParsed, NamesItsStore, RefusesWords, says_true};
-ghost use Rattle.st_command_line.specs.Common.{root_option, store_option, compact_flag, name_operand, with_version};
-ghost use Rattle.st_command_line.specs.inner.Commands.{Builds};
+ghost use Rattle.st_command_line.specs.Common.{option_rule, root_option, store_option, compact_flag, name_operand, with_version};
+ghost use Rattle.st_command_line.specs.inner.Commands.{Builds, is_own};
 ghost use Rattle.st_command_line.specs.declared.fault.Fault.TheVariants.{NotText, NoMemory};
 
 use crate::VERSION;
@@ -41,17 +41,32 @@ pub fn root<'a>(alloc: Global) -> Arg<'a>
         .action(ArgAction::Set)
 }
 
+/// An option with this name, which takes a value.
+pub fn option<'a>(alloc: Global, name: &'a str, value: &'a str, help: &'a str) -> Arg<'a>
+    requires own { is_own name.now ≡ true }
+    ensures id { result.id.now ≡ name.entry.now }
+    ensures rule { rule_of result ≡ option_rule name.entry.now }
+    ensures fits { FitsChain result }
+{
+    Arg::new(alloc, name)
+        .long(name)
+        .value_name(value)
+        .help(help)
+        .action(ArgAction::Set)
+}
+
 /// The option `--store FILE`.
 pub fn store<'a>(alloc: Global) -> Arg<'a>
     ensures id { result.id.now ≡ codes "store" }
     ensures rule { rule_of result ≡ store_option }
     ensures fits { FitsChain result }
 {
-    Arg::new(alloc, "store")
-        .long("store")
-        .value_name("FILE")
-        .help("Keep the changes in this SQLite file, which is made where there is none")
-        .action(ArgAction::Set)
+    option(
+        alloc,
+        "store",
+        "FILE",
+        "Keep the changes in this SQLite file, which is made where there is none",
+    )
 }
 
 /// The flag `--compact`.

@@ -1,19 +1,42 @@
 //! The options of `st_served`, and the parsing of its words.
-ghost use Rattle.std.specs.Prelude.{◌≡◌, IfOk, IfErr, IsSome, codes, map, string_bytes};
+ghost use Rattle.std.specs.Prelude.{◌≡◌, IfOk, IfErr, IsSome, codes, map, string_bytes, true};
 ghost use Rattle.clap.specs.Built.{FitsChain};
 ghost use Rattle.clap.specs.Words.{first_value, found_of, rule_of};
-ghost use Rattle.st_command_line.specs.Common.{IsParsed, RefusesWords};
+ghost use Rattle.st_command_line.specs.Common.{IsParsed, RefusesWords, number_rule};
 ghost use Rattle.st_command_line.specs.ServedArguments.{served_command, port_option, connections_option};
 ghost use Rattle.st_command_line.specs.ServedArguments.{copy_option, copy_every_option, workers_option};
 ghost use Rattle.st_command_line.specs.ServedArguments.{timeout_option, idle_option, listen_option};
-ghost use Rattle.st_command_line.specs.inner.Commands.{Builds};
+ghost use Rattle.st_command_line.specs.inner.Commands.{Builds, is_own};
 
-use crate::common::{compact, named, names, parse_by, root, store};
+use crate::common::{compact, named, names, option, parse_by, root, store};
 use crate::fault::Fault;
+use clap::builder::ValueParser;
 use clap::{Arg, ArgAction, ArgMatches, Command};
 use std::alloc::{AllocError, Global};
 
 const ABOUT: &str = "Serves labelled points in place and time at a TCP port";
+
+// An option with this name, which takes a number from the least to the most.
+fn number<'a>(
+    alloc: Global,
+    name: &'a str,
+    value: &'a str,
+    help: &'a str,
+    least: i64,
+    most: i64,
+) -> Arg<'a>
+    requires own { is_own name.now ≡ true }
+    ensures id { result.id.now ≡ name.entry.now }
+    ensures rule { rule_of result ≡ number_rule name.entry.now least most }
+    ensures fits { FitsChain result }
+{
+    Arg::new(alloc, name)
+        .long(name)
+        .value_name(value)
+        .help(help)
+        .action(ArgAction::Set)
+        .value_parser(ValueParser::signed(least, most))
+}
 
 // The option `--port P`.
 fn port<'a>(alloc: Global) -> Arg<'a>
@@ -21,13 +44,7 @@ fn port<'a>(alloc: Global) -> Arg<'a>
     ensures rule { rule_of result ≡ port_option }
     ensures fits { FitsChain result }
 {
-    Arg::new(alloc, "port")
-        .long("port")
-        .value_name("P")
-        .help("The TCP port, 1 to 65535")
-        .required(true)
-        .action(ArgAction::Set)
-        .value_parser(clap::value_parser!(u16).range(1..))
+    number(alloc, "port", "P", "The TCP port, 1 to 65535", 1, 65535).required(true)
 }
 
 // The option `--copy FILE`.
@@ -36,11 +53,12 @@ fn copy<'a>(alloc: Global) -> Arg<'a>
     ensures rule { rule_of result ≡ copy_option }
     ensures fits { FitsChain result }
 {
-    Arg::new(alloc, "copy")
-        .long("copy")
-        .value_name("FILE")
-        .help("A copy of the store, a SQLite file of its own that follows; wants --store")
-        .action(ArgAction::Set)
+    option(
+        alloc,
+        "copy",
+        "FILE",
+        "A copy of the store, a SQLite file of its own that follows; wants --store",
+    )
 }
 
 // The option `--copy-every SECONDS`.
@@ -49,12 +67,14 @@ fn copy_every<'a>(alloc: Global) -> Arg<'a>
     ensures rule { rule_of result ≡ copy_every_option }
     ensures fits { FitsChain result }
 {
-    Arg::new(alloc, "copy-every")
-        .long("copy-every")
-        .value_name("SECONDS")
-        .help("How long the copy stays behind, 1 to 3600 seconds; without it 60")
-        .action(ArgAction::Set)
-        .value_parser(clap::value_parser!(u16).range(1..=3600))
+    number(
+        alloc,
+        "copy-every",
+        "SECONDS",
+        "How long the copy stays behind, 1 to 3600 seconds; without it 60",
+        1,
+        3600,
+    )
 }
 
 // The option `--connections N`.
@@ -63,12 +83,14 @@ fn connections<'a>(alloc: Global) -> Arg<'a>
     ensures rule { rule_of result ≡ connections_option }
     ensures fits { FitsChain result }
 {
-    Arg::new(alloc, "connections")
-        .long("connections")
-        .value_name("N")
-        .help("End after so many connections, 0 to 1000")
-        .action(ArgAction::Set)
-        .value_parser(clap::value_parser!(u16).range(0..=1000))
+    number(
+        alloc,
+        "connections",
+        "N",
+        "End after so many connections, 0 to 1000",
+        0,
+        1000,
+    )
 }
 
 // The option `--workers N`.
@@ -77,14 +99,14 @@ fn workers<'a>(alloc: Global) -> Arg<'a>
     ensures rule { rule_of result ≡ workers_option }
     ensures fits { FitsChain result }
 {
-    Arg::new(alloc, "workers")
-        .long("workers")
-        .value_name("N")
-        .help(
-            "The threads that serve connections, 1 to 256; without it 64, or 2 with --connections",
-        )
-        .action(ArgAction::Set)
-        .value_parser(clap::value_parser!(u16).range(1..=256))
+    number(
+        alloc,
+        "workers",
+        "N",
+        "The threads that serve connections, 1 to 256; without it 64, or 2 with --connections",
+        1,
+        256,
+    )
 }
 
 // The option `--timeout SECONDS`.
@@ -93,12 +115,14 @@ fn timeout<'a>(alloc: Global) -> Arg<'a>
     ensures rule { rule_of result ≡ timeout_option }
     ensures fits { FitsChain result }
 {
-    Arg::new(alloc, "timeout")
-        .long("timeout")
-        .value_name("SECONDS")
-        .help("How long a message or a reply may take, 1 to 3600 seconds; without it 30")
-        .action(ArgAction::Set)
-        .value_parser(clap::value_parser!(u16).range(1..=3600))
+    number(
+        alloc,
+        "timeout",
+        "SECONDS",
+        "How long a message or a reply may take, 1 to 3600 seconds; without it 30",
+        1,
+        3600,
+    )
 }
 
 // The option `--idle SECONDS`.
@@ -107,14 +131,14 @@ fn idle<'a>(alloc: Global) -> Arg<'a>
     ensures rule { rule_of result ≡ idle_option }
     ensures fits { FitsChain result }
 {
-    Arg::new(alloc, "idle")
-        .long("idle")
-        .value_name("SECONDS")
-        .help(
-            "How long a client may wait with its next message, 1 to 3600 seconds; without it as --timeout",
-        )
-        .action(ArgAction::Set)
-        .value_parser(clap::value_parser!(u16).range(1..=3600))
+    number(
+        alloc,
+        "idle",
+        "SECONDS",
+        "How long a client may wait with its next message, 1 to 3600 seconds; without it as --timeout",
+        1,
+        3600,
+    )
 }
 
 // The option `--listen ADDRESS`.
@@ -123,11 +147,12 @@ fn listen<'a>(alloc: Global) -> Arg<'a>
     ensures rule { rule_of result ≡ listen_option }
     ensures fits { FitsChain result }
 {
-    Arg::new(alloc, "listen")
-        .long("listen")
-        .value_name("ADDRESS")
-        .help("The IPv4 address to listen at; without it 127.0.0.1")
-        .action(ArgAction::Set)
+    option(
+        alloc,
+        "listen",
+        "ADDRESS",
+        "The IPv4 address to listen at; without it 127.0.0.1",
+    )
 }
 
 // The command.

@@ -1,6 +1,6 @@
 use Rattle.std.specs.Prelude.{option_map}
-use Rattle.std.proofs.Common.{ap, sym, subst, ◌≡◌, ◌∙◌, codes, true, false, rules}
-use Rattle.clap.specs.Words.{first_value, found_of}
+use Rattle.std.proofs.Common.{ap, sym, ◌≡◌, ◌∙◌, codes, true, false, rules}
+use Rattle.clap.specs.Words.{found_of}
 use Rattle.st_command_line.proofs.Wanting.{file_is, given, wants, wants_none}
 use Rattle.st_command_line.proofs.common.check_store.Goals as goal
 

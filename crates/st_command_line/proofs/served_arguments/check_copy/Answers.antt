@@ -1,6 +1,6 @@
-use Rattle.std.specs.Prelude.{Option, Some, None, IsSome, option_map}
+use Rattle.std.specs.Prelude.{IsSome, option_map}
 use Rattle.std.proofs.lemmas.Bool.{false≢true}
-use Rattle.std.proofs.Common.{ap, sym, subst, ◌≡◌, ◌∙◌, codes}
+use Rattle.std.proofs.Common.{ap, sym, subst, ◌∙◌, codes}
 use Rattle.st_command_line.specs.ServedArguments.{served_command}
 use Rattle.st_command_line.proofs.Wanting.{file_is, given}
 use Rattle.st_command_line.proofs.served_arguments.check_copy.Goals as goal

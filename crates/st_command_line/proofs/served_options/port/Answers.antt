@@ -3,4 +3,4 @@ use Rattle.st_command_line.proofs.Refusing.{fits}
 use Rattle.st_command_line.proofs.served_options.port.Goals as goal
 
 pub returns-clause-fits : goal.returns-clause-fits
-returns-clause-fits c = fits c.value_parser-2.result (codes "port") (search rules) refl (search rules) (search rules)
+returns-clause-fits c = fits c.required.result (codes "port") (search rules) refl (search rules) (search rules)

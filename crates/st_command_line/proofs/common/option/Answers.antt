@@ -1,0 +1,6 @@
+use Rattle.std.proofs.Common.{rules}
+use Rattle.st_command_line.proofs.Refusing.{fits}
+use Rattle.st_command_line.proofs.common.option.Goals as goal
+
+pub returns-clause-fits : goal.returns-clause-fits
+returns-clause-fits c = fits c.action.result c.args.name.now (search rules) c.requires.own (search rules) (search rules)
