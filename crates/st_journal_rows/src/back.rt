@@ -35,7 +35,8 @@ fn read_one<S: Store>(
     }
 }
 
-/// Reads the records of the rows from this number on, at most so many.
+/// Reads the records of the rows from this number on, at most so many. `Io` where the store cannot be read, `Damaged` where a row
+/// is no record, or has another number, and `NoMemory` where memory ran out.
 pub fn read_from<S: Store>(
     store: &mut S,
     alloc: Global,

@@ -1,7 +1,9 @@
 //! The table, and how it is named.
-ghost use Rattle.std.specs.Prelude.{◌≡◌, ◌∷◌, []};
+ghost use Rattle.std.specs.Prelude.{◌≡◌, ◌≢◌, ◌⊎◌, ◌∷◌, [], codes, false, IsTrue};
 ghost use Rattle.sqlite_store.specs.Catalog.{wanted_of};
-ghost use Rattle.st_journal_rows.specs.Table.{schema};
+ghost use Rattle.sqlite_value.specs.Order.{column};
+ghost use Rattle.sqlite_value.specs.declared.value.Value.TheVariants.{Text as TextValue};
+ghost use Rattle.st_journal_rows.specs.Table.{schema, table_text};
 
 use sqlite_trees::schema::Object;
 use sqlite_trees::store::Shape;
@@ -38,7 +40,10 @@ pub fn table() -> Object<'static>
 }
 
 /// Whether a row of the schema is that of the table. Its columns are a rowid, type, name, table, root page and SQL text.
-pub fn is_table(row: &Row) -> bool {
+pub fn is_table(row: &Row) -> bool
+    ensures yes { IsTrue result → (column row.now 2 ≡ TextValue (codes "changes")) × (column row.now 5 ≡ TextValue table_text) }
+    ensures no { result ≡ false → (column row.now 2 ≢ TextValue (codes "changes")) ⊎ (column row.now 5 ≢ TextValue table_text) }
+{
     let (ValueRef::Text(name), ValueRef::Text(sql)) = (row.get(2), row.get(5)) else {
         return false;
     };

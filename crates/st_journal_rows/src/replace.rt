@@ -27,7 +27,8 @@ fn trim<S: Store>(store: &mut S, count: u64) -> Result<(), StoreError>
     Ok(())
 }
 
-/// Writes the records behind the first row, in place of the others of so many, without a commit.
+/// Writes the records behind the first row, in place of the others of so many, without a commit. It fails where the store does;
+/// what was written until then is for [`crate::finish`] to roll back.
 pub fn replace_all<S: Store>(
     store: &mut S,
     alloc: Global,

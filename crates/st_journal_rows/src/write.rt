@@ -28,7 +28,8 @@ fn fill(row: &mut Row, number: u64, change: &Record) -> Result<(), AllocError>
     row.push(ValueRef::Text(change.result.as_str().as_bytes()))
 }
 
-/// Writes the records behind so many rows, without a commit.
+/// Writes the records behind so many rows, without a commit. It fails where the store does; what was written until then is for
+/// [`crate::finish`] to roll back.
 pub fn put_all<S: Store>(
     store: &mut S,
     alloc: Global,

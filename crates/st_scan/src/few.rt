@@ -5,19 +5,33 @@ ghost use Rattle.st_index.specs.Fields.{Counts};
 
 use st_bigmin::first_by;
 use st_box::{KeyTest, Query};
-use st_index::{Fields, Judge, RowIndex};
-use st_key::{Key, Period};
+use st_index::{Fields, Judge, KeyRange, RowIndex};
+use st_key::Key;
 
 // In how many ranges of keys rows are counted one after the other, before all are counted from the top of the index.
-const FEW: u64 = 4;
-// A quarter of the world's width and of its height.
-const QUARTER: u32 = 1 << 19;
+const FEW: u64 = 8;
+// A query with so many points is likely to have keys in more. It is a quarter of the world wide and high, and a quarter of a week
+// long, or as large.
+const WIDE: u64 = 1 << 55;
+// So is one with so many times as many points as each of the ranges until now had keys, on average.
+const LARGE: u64 = 2;
 
-// Whether a query is a quarter of the world wide and high and a quarter of a period long, so that its keys lie in many ranges.
-fn is_wide(query: &Query, period: Period) -> bool {
-    query.x1() - query.x0() >= QUARTER
-        && query.y1() - query.y0() >= QUARTER
-        && query.t1() - query.t0() >= period.seconds() / 4
+// How many points a query has, as far as 64 bits tell.
+fn points_in(query: &Query) -> u64 {
+    let width = u64::from(query.x1() - query.x0()) + 1;
+    let height = u64::from(query.y1() - query.y0()) + 1;
+    let seconds = query.t1() - query.t0() + 1;
+    width.saturating_mul(height).saturating_mul(seconds)
+}
+
+// How many keys a range has. Of one that goes on into another bin it is not told.
+fn keys_in(range: &KeyRange) -> u64 {
+    let (first, last) = (range.first, range.last);
+    if first.bin() == last.bin() {
+        last.address().saturating_sub(first.address())
+    } else {
+        u64::MAX
+    }
 }
 
 // Adds to the number of each field how many rows of an index are in it, inside the query, and have a label that is found
@@ -34,23 +48,27 @@ pub(crate) fn count_few<I: RowIndex, J: Judge<I::Alloc>, F: Fields>(
         counts.old counts.new }
     ensures same { J.judges judge.new ≡ J.judges judge.old }
 {
-    let test = KeyTest::new(fields.query(), index.period());
-    if is_wide(&test.query, test.period) {
+    let query = fields.query();
+    let points = points_in(query);
+    if points >= WIDE {
         return false;
     }
+    let test = KeyTest::new(query, index.period());
     let mut from = Some(Key::FIRST);
     let mut ranges = 0;
+    let mut keys = 0u64;
     'keys: while let Some(start) = from {
         let Some(key) = first_by(&test, start) else {
             return true;
         };
-        if ranges >= FEW {
+        if ranges >= FEW || ranges > 0 && keys / ranges < points / LARGE {
             return false;
         }
         ranges += 1;
         let Some(range) = index.count_fields_at(start, key, judge, fields, counts) else {
             return false;
         };
+        keys = keys.saturating_add(keys_in(&range));
         from = range.last.after(test.period);
     }
     true

@@ -26,7 +26,7 @@ returns-in_default-first_by-clause-counts g c = λ _.
     let old = c.args.counts.now in
     let start = c.in-Some.start in
     let counted = subst (λ o. CountedIn period q judges field_of content old (rank_or_end period o) c.keys.counts) c.in-Some.is c.keys.invariant.counted in
-    let none = subst (λ r. (k : Key) → HasKey r period k → IsBefore k start) (c.new-test.ensures.query ∙ c.query.ensures) c.in_default-first_by.ensures.none in
+    let none = subst (λ r. (k : Key) → HasKey r period k → IsBefore k start) (c.new-test.ensures.query ∙ c.query-query.ensures) c.in_default-first_by.ensures.none in
     in_all period q judges field_of content old (rank start) c.keys.counts counted (λ k has. rank_before k start (none k has))
 
 pub keys-preserved : goal.keys-preserved
@@ -44,7 +44,7 @@ keys-preserved g c =
     let last = rank c.in-Some-count_fields_at.range.last in
     let new = c.count_fields_at.new.counts in
     let counted = subst (λ o. CountedIn period q judges field_of content old (rank_or_end period o) c.keys.counts) c.in-Some.is c.keys.invariant.counted in
-    let found = subst (λ r. IsFirstFrom r period start key) (c.new-test.ensures.query ∙ c.query.ensures) c.in-Some-first_by.ensures.some in
+    let found = subst (λ r. IsFirstFrom r period start key) (c.new-test.ensures.query ∙ c.query-query.ensures) c.in-Some-first_by.ensures.some in
     let judged = subst (λ j. Counts q j field_of (rows_between (g.I.RowIndex.period_of c.args.index.now) first last content) c.keys.counts new) c.keys.invariant.same at.counts in
     let more = subst (λ p. Counts q judges field_of (rows_between p first last content) c.keys.counts new) (sym (c.new-test.ensures.period ∙ c.period.ensures.value)) judged in
     let gap : (k : Key) → HasKey q period k → rank start ≤ rank k → first ≤ rank k = λ k has le.

@@ -10,4 +10,4 @@ invariant-keys g l = record {
 }
 
 abbrev pub decreases-keys : goal.decreases-keys
-decreases-keys g l = 4 - l.ranges
+decreases-keys g l = 8 - l.ranges
