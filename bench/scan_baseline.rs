@@ -177,8 +177,9 @@ fn main() {
         let counted = count(&parts(&bounds), &rows, &sees);
         let count_took = start.elapsed().as_nanos();
         let start = Instant::now();
-        let in_fields: u64 = grid(&parts(&bounds), &rows, &sees).iter().sum();
+        let fields = grid(&parts(&bounds), &rows, &sees);
         let grid_took = start.elapsed().as_nanos();
+        let in_fields: u64 = fields.iter().sum();
         println!("{class} {counted} {in_fields} {count_took} {grid_took}");
     }
 }

