@@ -8,7 +8,7 @@ import re
 import socket
 import subprocess
 import time
-from collections.abc import Iterator
+from collections.abc import Collection, Iterator
 from contextlib import ExitStack, contextmanager
 from pathlib import Path
 from typing import Any
@@ -101,11 +101,13 @@ class Stack:
         with urlopen(request, timeout=timeout) as reply:
             return json.load(reply)
 
-    def lines(self, wait_for: int = 0) -> list[dict[str, Any]]:
-        """The lines of the edge's log, after waiting until there are so many."""
+    def lines(self, wait_for: int = 0, paths: Collection[str] = ()) -> list[dict[str, Any]]:
+        """The lines of the edge's log, of these paths alone if some are given, after waiting until there are so many. A line is
+        written when its connection has ended, so that of an earlier test may come late."""
         end = time.monotonic() + 5
         while True:
             lines = [json.loads(it) for it in self.log.read_text().splitlines() if it.startswith("{")]
+            lines = [line for line in lines if not paths or line["path"] in paths]
             if len(lines) >= wait_for or time.monotonic() > end:
                 return lines
             time.sleep(0.05)

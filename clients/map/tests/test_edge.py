@@ -81,7 +81,8 @@ def test_larger_body_is_refused_as_by_the_server(stack: Stack) -> None:
 
 
 def test_log_has_the_user_and_no_secret(stack: Stack) -> None:
-    before = len(stack.lines())
+    paths = ("/whoami", '/tables/"a\\b"')
+    before = len(stack.lines(paths=paths))
     stack.ask("root", "GET", "/whoami")
     alone = token("root").partition(".")[2]
     asked = [f"Bearer {token('eve')}", f"Bearer {alone}", f"Basic {token('root')}", 'Bearer "quoted".' + "0" * 64]
@@ -92,7 +93,7 @@ def test_log_has_the_user_and_no_secret(stack: Stack) -> None:
                 "Connection: close\r\n\r\n".encode()
             )
             client.recv(65_536)
-    lines = stack.lines(before + 1 + len(asked))[before:]
+    lines = stack.lines(before + 1 + len(asked), paths)[before:]
     assert [line["user"] for line in lines] == ["root", "eve", "-", "-", "-"]
     assert (lines[0]["method"], lines[0]["path"], lines[0]["status"]) == ("GET", "/whoami", 200)
     assert {line["path"] for line in lines[1:]} == {'/tables/"a\\b"'}
