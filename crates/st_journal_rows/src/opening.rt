@@ -70,10 +70,10 @@ fn begin_new<S: Alter>(
     }
 }
 
-/// Takes the records of the table, or begins a journal where there is none. It answers how many records there are. `NotAJournal`
-/// where the store has another table, `LaterFormat` where a later version wrote it, `OtherOpening` where the first record says
-/// another opening, `Damaged` where the rows are not records in order, or one does not apply, `Io` where the store cannot be read
-/// or written, and `NoMemory` where memory ran out.
+/// Takes the records of the table, or begins a journal where it has no rows. It answers how many records there are. `NotAJournal`
+/// where the store has no such table, `LaterFormat` where a later version wrote it, `OtherOpening` where the first record says
+/// another opening, `Damaged` where the rows are not records in order, one does not apply, or the format is an earlier one, `Io`
+/// where the store cannot be read or written, and `NoMemory` where memory ran out.
 pub fn begin<S: Alter, R: Replay>(
     store: &mut S,
     alloc: Global,

@@ -28,7 +28,7 @@ fn points_in(query: &Query) -> u64 {
 fn keys_in(range: &KeyRange) -> u64 {
     let (first, last) = (range.first, range.last);
     if first.bin() == last.bin() {
-        last.address().saturating_sub(first.address())
+        last.address().saturating_sub(first.address()).saturating_add(1)
     } else {
         u64::MAX
     }
@@ -61,7 +61,7 @@ pub(crate) fn count_few<I: RowIndex, J: Judge<I::Alloc>, F: Fields>(
         let Some(key) = first_by(&test, start) else {
             return true;
         };
-        if ranges >= FEW || ranges > 0 && keys / ranges < points / LARGE {
+        if ranges >= FEW || keys < (points / LARGE).saturating_mul(ranges) {
             return false;
         }
         ranges += 1;

@@ -1,16 +1,15 @@
 //! What a gate is asked and told of the calls of a station.
 ghost use Rattle.std.specs.Prelude.{◌≡◌};
 
-use crate::halls::{COUNT, INPUT, NO_ROWS, OUTPUT, stores};
+use crate::halls::{COUNT, INPUT, NO_ROWS, OUTPUT};
 use crate::messages::is_answered;
-use st_core::Store;
-use st_hall::{Clerk, Desk, Gate, Hall, HallName, Unnamed};
+use crate::opened::{AtStation, at_station};
+use st_hall::{Gate, HallName};
 use st_station::Station;
 use std::alloc::Global;
-use std::marker::Brand;
+use std::sync::Wait;
 use std::sync::atomic::AtomicU64;
 use std::sync::atomic::Ordering::SeqCst;
-use std::sync::{Mutex, Wait};
 use std::test::*;
 
 const NUMBER: u64 = 7;
@@ -54,64 +53,38 @@ impl Gate for Counting {
     }
 }
 
-// Whether a station answers a message without a route, a count, a put and a count rightly, and then a count where no row is.
-fn is_told<H: HallName, C: Wait + Drop, R: Wait>(
-    alloc: Global,
-    station: &mut Station<'_, H, C, Counting, R>,
-) -> Option<bool> {
-    let is_nowhere = is_answered(alloc, station, NOWHERE, NO_ROUTE)?;
-    let is_counted = is_answered(alloc, station, INPUT, OUTPUT)?;
-    let is_none = is_answered(alloc, station, COUNT, NO_ROWS)?;
-    Some(is_nowhere && is_counted && is_none)
+// A message without a route, a count, a put and a count, and then a count where no row is.
+struct Five;
+
+impl AtStation<Counting> for Five {
+    // Whether the answers are right.
+    type Found = bool;
+
+    fn ask<H: HallName, C: Wait + Drop, W: Wait>(
+        &self,
+        alloc: Global,
+        station: &mut Station<'_, H, C, Counting, W>,
+    ) -> Option<bool> {
+        let is_nowhere = is_answered(alloc, station, NOWHERE, NO_ROUTE)?;
+        let is_counted = is_answered(alloc, station, INPUT, OUTPUT)?;
+        let is_none = is_answered(alloc, station, COUNT, NO_ROWS)?;
+        Some(is_nowhere && is_counted && is_none)
+    }
 }
 
 // Whether the answers are right, how often the gate was asked, and which calls were answered and which gave up.
-type Told = (bool, u64, u64, u64);
-
-// That of a station at this desk.
-fn told_at<H: HallName, C: Wait + Drop, R: Wait>(
-    rt: &R,
-    alloc: Global,
-    clerk: &Mutex<Clerk<H, C>>,
-    desk: Desk<H>,
-    opens: bool,
-) -> Option<Told> {
+fn found<R: Wait>(rt: &R, alloc: Global, opens: bool) -> Option<(bool, u64, u64, u64)> {
     let gate = Counting {
         opens,
         asked: AtomicU64::new(0),
         answered: AtomicU64::new(0),
         gave_up: AtomicU64::new(0),
     };
-    let mut station = Station::new(rt, alloc, NUMBER, desk, clerk, &gate).ok()?;
-    let is_right = is_told(alloc, &mut station);
-    drop(station);
+    let is_right = at_station(rt, alloc, &["A"], (NUMBER, &gate), &Five)?;
     let asked = gate.asked.load(SeqCst);
     let answered = gate.answered.load(SeqCst);
     let gave_up = gate.gave_up.load(SeqCst);
-    Some((is_right?, asked, answered, gave_up))
-}
-
-// That of a station at the first desk of a hall.
-fn told<H: HallName, R: Wait>(
-    rt: &R,
-    alloc: Global,
-    name: Unnamed,
-    both: (Store, Store),
-    opens: bool,
-) -> Option<Told>
-    requires named { (name.seen.book ≡ H.book) × (name.blank.name ≡ H.name) × (H.parts ≡ 2) }
-    requires alike { (both.0 ≡ H.start) × (both.1 ≡ H.start) }
-{
-    let (clerk, desk, other) = Hall::<H>::open(rt, alloc, name, both.0, both.1).ok()?;
-    drop(other);
-    let clerk = Mutex::new(clerk);
-    let told = told_at(rt, alloc, &clerk, desk, opens);
-    drop(clerk);
-    told
-}
-
-fn found<R: Wait>(rt: &R, alloc: Global, opens: bool) -> Option<Told> {
-    told::<Brand, _>(rt, alloc, Unnamed::new(), stores(alloc, &["A"])?, opens)
+    Some((is_right, asked, answered, gave_up))
 }
 
 // Three of the five calls are reads. The row of the put has the label A, so that the last count finds none.

@@ -1,14 +1,13 @@
 //! Connections whose reads or writes fail at a call.
 ghost use Rattle.std.specs.Prelude.{◌≡◌, None, false};
 
-use crate::halls::{Always, INPUT, OUTPUT, stores};
+use crate::halls::{Always, INPUT, OUTPUT};
+use crate::opened::{AtStation, at_station};
 use st_connection::{Ended, Failed, IoFault, Sink, Source};
-use st_core::Store;
-use st_hall::{Clerk, Desk, Hall, HallName, Unnamed};
+use st_hall::HallName;
 use st_station::{Station, work};
 use std::alloc::Global;
-use std::marker::Brand;
-use std::sync::{Mutex, Wait};
+use std::sync::Wait;
 use std::test::*;
 
 // What becomes of a connection.
@@ -121,64 +120,42 @@ fn made_reader(trouble: Trouble, call: u64) -> Reader
     }
 }
 
-// How a connection ends, how many bytes are written, and whether they begin the output.
-type Worked = (Result<Ended, IoFault>, usize, bool);
-
-// What becomes of a connection to a station that has this trouble at a call.
-fn worked_by<H: HallName, C: Wait + Drop, R: Wait>(
-    alloc: Global,
-    station: &mut Station<'_, H, C, Always, R>,
-    (trouble, call, most): (Trouble, u64, usize),
-) -> Worked {
-    let mut reader = made_reader(trouble, call);
-    let mut writer = made_writer(alloc, trouble, call, most);
-    let ended = work(station, &mut reader, &mut writer);
-    let taken = writer.taken.as_slice();
-    (ended, taken.len(), OUTPUT.starts_with(taken))
+// A connection that has this trouble at a call, and whose writer takes so many bytes per call.
+#[derive(Clone, Copy)]
+struct Connection {
+    trouble: Trouble,
+    call: u64,
+    most: usize,
 }
 
-// That of a connection to a station at this desk.
-fn worked_at<H: HallName, C: Wait + Drop, R: Wait>(
-    rt: &R,
-    alloc: Global,
-    clerk: &Mutex<Clerk<H, C>>,
-    desk: Desk<H>,
-    at: (Trouble, u64, usize),
-) -> Option<Worked> {
-    let mut station = Station::new(rt, alloc, 1, desk, clerk, &Always).ok()?;
-    let worked = worked_by(alloc, &mut station, at);
-    drop(station);
-    Some(worked)
-}
+impl AtStation<Always> for Connection {
+    // How the connection ends, how many bytes are written, and whether they begin the output.
+    type Found = (Result<Ended, IoFault>, usize, bool);
 
-// That of a station at the first desk of a hall.
-fn worked<H: HallName, R: Wait>(
-    rt: &R,
-    alloc: Global,
-    name: Unnamed,
-    both: (Store, Store),
-    at: (Trouble, u64, usize),
-) -> Option<Worked>
-    requires named { (name.seen.book ≡ H.book) × (name.blank.name ≡ H.name) × (H.parts ≡ 2) }
-    requires alike { (both.0 ≡ H.start) × (both.1 ≡ H.start) }
-{
-    let (clerk, desk, other) = Hall::<H>::open(rt, alloc, name, both.0, both.1).ok()?;
-    drop(other);
-    let clerk = Mutex::new(clerk);
-    let worked = worked_at(rt, alloc, &clerk, desk, at);
-    drop(clerk);
-    worked
-}
-
-fn found<R: Wait>(rt: &R, alloc: Global, at: (Trouble, u64, usize)) -> Option<Worked> {
-    worked::<Brand, _>(rt, alloc, Unnamed::new(), stores(alloc, &["A"])?, at)
+    fn ask<H: HallName, C: Wait + Drop, W: Wait>(
+        &self,
+        alloc: Global,
+        station: &mut Station<'_, H, C, Always, W>,
+    ) -> Option<(Result<Ended, IoFault>, usize, bool)> {
+        let mut reader = made_reader(self.trouble, self.call);
+        let mut writer = made_writer(alloc, self.trouble, self.call, self.most);
+        let ended = work(station, &mut reader, &mut writer);
+        let taken = writer.taken.as_slice();
+        Some((ended, taken.len(), OUTPUT.starts_with(taken)))
+    }
 }
 
 // Whether each call where the trouble may come ends the connection by a fault that tells what is written, which begins the
 // output, and whether a connection without it ends well, with all of it written.
 fn is_told<R: Wait>(rt: &R, alloc: Global, trouble: Trouble, most: usize) -> Option<bool> {
     for call in 1..1000 {
-        let (ended, written, is_front) = found(rt, alloc, (trouble, call, most))?;
+        let connection = Connection {
+            trouble,
+            call,
+            most,
+        };
+        let found = at_station(rt, alloc, &["A"], (1, &Always), &connection);
+        let (ended, written, is_front) = found?;
         if !is_front {
             return Some(false);
         }

@@ -2,11 +2,9 @@
 ghost use Rattle.std.specs.Prelude.{◌≡◌};
 
 use crate::asks::{front_of, put, rows};
-use crate::halls::stores;
-use st_core::Store;
-use st_hall::{Clerk, Desk, Front, Hall, HallName, Unnamed};
+use crate::opened::{AtDesks, at_desks};
+use st_hall::{Clerk, Desk, Front, Hall, HallName};
 use std::alloc::Global;
-use std::marker::Brand;
 use std::sync::{Mutex, Wait};
 use std::test::*;
 
@@ -54,26 +52,25 @@ fn learnt_by<H: HallName, R: Wait + Drop, W: Wait>(
     Some([after_first?, again?, after_second?, at_last?])
 }
 
-// That of the second desk of a hall, with fronts of the first.
-fn learnt<H: HallName, R: Wait>(
-    rt: &R,
-    alloc: Global,
-    name: Unnamed,
-    both: (Store, Store),
-) -> Option<[u64; 4]>
-    requires named { (name.seen.book ≡ H.book) × (name.blank.name ≡ H.name) × (H.parts ≡ 2) }
-    requires alike { (both.0 ≡ H.start) × (both.1 ≡ H.start) }
-{
-    let (mut clerk, mut one, mut two) = Hall::<H>::open(rt, alloc, name, both.0, both.1).ok()?;
-    let learnt = learnt_by(rt, alloc, &mut clerk, &mut one, &mut two);
-    drop(two);
-    drop(one);
-    drop(clerk);
-    learnt
-}
+// Two fronts, which the second desk learns.
+struct Fronts;
 
-fn found<R: Wait>(rt: &R, alloc: Global) -> Option<[u64; 4]> {
-    learnt::<Brand, _>(rt, alloc, Unnamed::new(), stores(alloc, &[])?)
+impl AtDesks for Fronts {
+    type Found = [u64; 4];
+
+    fn ask<H: HallName, C: Wait + Drop, W: Wait>(
+        &self,
+        rt: &W,
+        alloc: Global,
+        clerk: &Mutex<Clerk<H, C>>,
+        one: &mut Desk<H>,
+        two: &mut Desk<H>,
+    ) -> Option<[u64; 4]> {
+        let mut guard = clerk.lock(rt);
+        let learnt = learnt_by(rt, alloc, &mut guard, one, two);
+        drop(guard);
+        learnt
+    }
 }
 
 // The front of a put at a clerk that is shared.
@@ -90,51 +87,36 @@ fn told_shared<H: HallName, R: Wait + Drop, W: Wait>(
     front
 }
 
-// What the second desk counts after a put at the first one, before it learned the front and once it did.
-fn late_by<H: HallName, R: Wait + Drop, W: Wait>(
-    rt: &W,
-    alloc: Global,
-    clerk: &Mutex<Clerk<H, R>>,
-    one: &mut Desk<H>,
-    two: &mut Desk<H>,
-) -> Option<(u64, u64)> {
-    let front = told_shared(rt, alloc, clerk, one);
-    let before = rows(alloc, two);
-    let after = rows_after(alloc, two, &front);
-    drop(front);
-    Some((before?, after?))
-}
+// A put at the first desk.
+struct Put;
 
-// That of the desks of a hall.
-fn late<H: HallName, R: Wait>(
-    rt: &R,
-    alloc: Global,
-    name: Unnamed,
-    both: (Store, Store),
-) -> Option<(u64, u64)>
-    requires named { (name.seen.book ≡ H.book) × (name.blank.name ≡ H.name) × (H.parts ≡ 2) }
-    requires alike { (both.0 ≡ H.start) × (both.1 ≡ H.start) }
-{
-    let (clerk, mut one, mut two) = Hall::<H>::open(rt, alloc, name, both.0, both.1).ok()?;
-    let clerk = Mutex::new(clerk);
-    let late = late_by(rt, alloc, &clerk, &mut one, &mut two);
-    drop(two);
-    drop(one);
-    drop(clerk);
-    late
-}
+impl AtDesks for Put {
+    // What the second desk counts before it learned the front of the put, and once it did.
+    type Found = (u64, u64);
 
-fn found_late<R: Wait>(rt: &R, alloc: Global) -> Option<(u64, u64)> {
-    late::<Brand, _>(rt, alloc, Unnamed::new(), stores(alloc, &[])?)
+    fn ask<H: HallName, C: Wait + Drop, W: Wait>(
+        &self,
+        rt: &W,
+        alloc: Global,
+        clerk: &Mutex<Clerk<H, C>>,
+        one: &mut Desk<H>,
+        two: &mut Desk<H>,
+    ) -> Option<(u64, u64)> {
+        let front = told_shared(rt, alloc, clerk, one);
+        let before = rows(alloc, two);
+        let after = rows_after(alloc, two, &front);
+        drop(front);
+        Some((before?, after?))
+    }
 }
 
 #[test]
 fn a_desk_that_did_not_learn_may_lag(rt: HostRuntime) {
-    let counts = found_late(&rt, rt.alloc());
+    let counts = at_desks(&rt, rt.alloc(), &[], &Put);
     assert!(rt; counts == Some((0, 1)) || counts == Some((1, 1)));
 }
 
 #[test]
 fn a_desk_sees_what_it_learned(rt: HostRuntime) {
-    assert!(rt; found(&rt, rt.alloc()) == Some([1, 1, 2, 2]));
+    assert!(rt; at_desks(&rt, rt.alloc(), &[], &Fronts) == Some([1, 1, 2, 2]));
 }

@@ -23,6 +23,8 @@ mod kept_puts;
 #[cfg(test)]
 mod messages;
 #[cfg(test)]
+mod opened;
+#[cfg(test)]
 mod pending;
 #[cfg(test)]
 mod pipelines;

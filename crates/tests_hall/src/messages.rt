@@ -1,15 +1,14 @@
 //! Three messages, and what a station answers them.
 ghost use Rattle.std.specs.Prelude.{◌≡◌};
 
-use crate::halls::{AUDIT, Always, INPUT, ONE_ENTRY, OUTPUT, stores};
-use st_core::Store;
-use st_hall::{Clerk, Desk, Gate, Hall, HallName, Unnamed};
+use crate::halls::{AUDIT, Always, INPUT, ONE_ENTRY, OUTPUT};
+use crate::opened::{AtStation, at_station};
+use st_hall::{Gate, HallName};
 use st_http::message::{Message, Take};
 use st_http::routes::Routes;
 use st_station::Station;
 use std::alloc::Global;
-use std::marker::Brand;
-use std::sync::{Mutex, Wait};
+use std::sync::Wait;
 use std::test::*;
 
 // Answers a message, behind what was answered before.
@@ -80,53 +79,27 @@ pub fn is_answered<H: HallName, C: Wait + Drop, G: Gate, R: Wait>(
     Some(told_of(alloc, station, text)?.as_slice() == wanted)
 }
 
-// Whether a station answers the three messages rightly, how many receipts it got, and whether the listing has one entry.
-fn answered_by<H: HallName, C: Wait + Drop, R: Wait>(
-    alloc: Global,
-    station: &mut Station<'_, H, C, Always, R>,
-) -> Option<(bool, u64, bool)> {
-    let is_told = is_answered(alloc, station, INPUT, OUTPUT)?;
-    let made = station.made();
-    let is_listed = is_answered(alloc, station, AUDIT, ONE_ENTRY)?;
-    Some((is_told, made, is_listed))
-}
+// Three messages.
+struct Three;
 
-// That of a station at this desk.
-fn answered_at<H: HallName, C: Wait + Drop, R: Wait>(
-    rt: &R,
-    alloc: Global,
-    clerk: &Mutex<Clerk<H, C>>,
-    desk: Desk<H>,
-) -> Option<(bool, u64, bool)> {
-    let mut station = Station::new(rt, alloc, 1, desk, clerk, &Always).ok()?;
-    let answered = answered_by(alloc, &mut station);
-    drop(station);
-    answered
-}
+impl AtStation<Always> for Three {
+    // Whether the answers are right, how many receipts the station got, and whether the listing has one entry.
+    type Found = (bool, u64, bool);
 
-// That of a station at the first desk of a hall.
-fn answered<H: HallName, R: Wait>(
-    rt: &R,
-    alloc: Global,
-    name: Unnamed,
-    both: (Store, Store),
-) -> Option<(bool, u64, bool)>
-    requires named { (name.seen.book ≡ H.book) × (name.blank.name ≡ H.name) × (H.parts ≡ 2) }
-    requires alike { (both.0 ≡ H.start) × (both.1 ≡ H.start) }
-{
-    let (clerk, desk, other) = Hall::<H>::open(rt, alloc, name, both.0, both.1).ok()?;
-    drop(other);
-    let clerk = Mutex::new(clerk);
-    let answered = answered_at(rt, alloc, &clerk, desk);
-    drop(clerk);
-    answered
-}
-
-fn found<R: Wait>(rt: &R, alloc: Global) -> Option<(bool, u64, bool)> {
-    answered::<Brand, _>(rt, alloc, Unnamed::new(), stores(alloc, &["A"])?)
+    fn ask<H: HallName, C: Wait + Drop, W: Wait>(
+        &self,
+        alloc: Global,
+        station: &mut Station<'_, H, C, Always, W>,
+    ) -> Option<(bool, u64, bool)> {
+        let is_told = is_answered(alloc, station, INPUT, OUTPUT)?;
+        let made = station.made();
+        let is_listed = is_answered(alloc, station, AUDIT, ONE_ENTRY)?;
+        Some((is_told, made, is_listed))
+    }
 }
 
 #[test]
 fn three_messages(rt: HostRuntime) {
-    assert!(rt; found(&rt, rt.alloc()) == Some((true, 1, true)));
+    let found = at_station(&rt, rt.alloc(), &["A"], (1, &Always), &Three);
+    assert!(rt; found == Some((true, 1, true)));
 }

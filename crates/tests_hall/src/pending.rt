@@ -4,12 +4,11 @@ ghost use Rattle.st_core.specs.Step.{asks_for_change};
 
 use crate::asks::{are_listed, create_user, is_accepted, put, rows};
 use crate::fronts::{rows_after, told};
-use crate::halls::stores;
-use st_core::{Asked, Store};
-use st_hall::{Clerk, Desk, Hall, HallName, Unnamed};
+use crate::opened::{AtDesks, at_desks};
+use st_core::Asked;
+use st_hall::{Clerk, Desk, HallName};
 use std::alloc::Global;
-use std::marker::Brand;
-use std::sync::Wait;
+use std::sync::{Mutex, Wait};
 use std::test::*;
 
 // Whether changes are told to be made, what the desks count while these are pending and once the second learned of a further
@@ -52,29 +51,29 @@ fn pending_by<H: HallName, R: Wait + Drop, W: Wait>(
     Some((is_put, is_user_made, [at_one?, at_two?, after?], is_listed))
 }
 
-// That of the desks of a hall.
-fn pending_in<H: HallName, R: Wait>(
-    rt: &R,
-    alloc: Global,
-    name: Unnamed,
-    both: (Store, Store),
-) -> Option<Found>
-    requires named { (name.seen.book ≡ H.book) × (name.blank.name ≡ H.name) × (H.parts ≡ 2) }
-    requires alike { (both.0 ≡ H.start) × (both.1 ≡ H.start) }
-{
-    let (mut clerk, mut one, mut two) = Hall::<H>::open(rt, alloc, name, both.0, both.1).ok()?;
-    let found = pending_by(rt, alloc, &mut clerk, &mut one, &mut two);
-    drop(two);
-    drop(one);
-    drop(clerk);
-    found
-}
+// Two changes that are pending, and one that is published.
+struct Changes;
 
-fn found<R: Wait>(rt: &R, alloc: Global) -> Option<Found> {
-    pending_in::<Brand, _>(rt, alloc, Unnamed::new(), stores(alloc, &[])?)
+impl AtDesks for Changes {
+    type Found = Found;
+
+    fn ask<H: HallName, C: Wait + Drop, W: Wait>(
+        &self,
+        rt: &W,
+        alloc: Global,
+        clerk: &Mutex<Clerk<H, C>>,
+        one: &mut Desk<H>,
+        two: &mut Desk<H>,
+    ) -> Option<Found> {
+        let mut guard = clerk.lock(rt);
+        let found = pending_by(rt, alloc, &mut guard, one, two);
+        drop(guard);
+        found
+    }
 }
 
 #[test]
 fn pending(rt: HostRuntime) {
-    assert!(rt; found(&rt, rt.alloc()) == Some((true, true, [0, 0, 2], true)));
+    let found = at_desks(&rt, rt.alloc(), &[], &Changes);
+    assert!(rt; found == Some((true, true, [0, 0, 2], true)));
 }

@@ -1,14 +1,13 @@
 //! Messages whose token does not hold, at a station.
 ghost use Rattle.std.specs.Prelude.{◌≡◌};
 
-use crate::halls::{AUDIT, Always, stores};
+use crate::halls::{AUDIT, Always};
 use crate::messages::told_of;
-use st_core::Store;
-use st_hall::{Clerk, Desk, Hall, HallName, Unnamed};
+use crate::opened::{AtStation, at_station};
+use st_hall::HallName;
 use st_station::Station;
 use std::alloc::Global;
-use std::marker::Brand;
-use std::sync::{Mutex, Wait};
+use std::sync::Wait;
 use std::test::*;
 
 // The head of a put by root with a secret that is not root's. Behind it comes the length of the body.
@@ -50,54 +49,28 @@ fn is_refused<H: HallName, C: Wait + Drop, R: Wait>(
     Some(told.as_slice() == REFUSED)
 }
 
-// Whether a station refuses both puts, how many receipts it got, and whether the listing is empty.
-fn refused_by<H: HallName, C: Wait + Drop, R: Wait>(
-    alloc: Global,
-    station: &mut Station<'_, H, C, Always, R>,
-) -> Option<(bool, bool, u64, bool)> {
-    let short = is_refused(alloc, station, false)?;
-    let long = is_refused(alloc, station, true)?;
-    let made = station.made();
-    let listed = told_of(alloc, station, AUDIT)?;
-    Some((short, long, made, listed.as_slice() == NO_ENTRY))
-}
+// A short put and a long one.
+struct Puts;
 
-// That of a station at this desk.
-fn refused_at<H: HallName, C: Wait + Drop, R: Wait>(
-    rt: &R,
-    alloc: Global,
-    clerk: &Mutex<Clerk<H, C>>,
-    desk: Desk<H>,
-) -> Option<(bool, bool, u64, bool)> {
-    let mut station = Station::new(rt, alloc, 1, desk, clerk, &Always).ok()?;
-    let refused = refused_by(alloc, &mut station);
-    drop(station);
-    refused
-}
+impl AtStation<Always> for Puts {
+    // Whether the station refuses each, how many receipts it got, and whether the listing is empty.
+    type Found = (bool, bool, u64, bool);
 
-// That of a station at the first desk of a hall.
-fn refused<H: HallName, R: Wait>(
-    rt: &R,
-    alloc: Global,
-    name: Unnamed,
-    both: (Store, Store),
-) -> Option<(bool, bool, u64, bool)>
-    requires named { (name.seen.book ≡ H.book) × (name.blank.name ≡ H.name) × (H.parts ≡ 2) }
-    requires alike { (both.0 ≡ H.start) × (both.1 ≡ H.start) }
-{
-    let (clerk, desk, other) = Hall::<H>::open(rt, alloc, name, both.0, both.1).ok()?;
-    drop(other);
-    let clerk = Mutex::new(clerk);
-    let refused = refused_at(rt, alloc, &clerk, desk);
-    drop(clerk);
-    refused
-}
-
-fn found<R: Wait>(rt: &R, alloc: Global) -> Option<(bool, bool, u64, bool)> {
-    refused::<Brand, _>(rt, alloc, Unnamed::new(), stores(alloc, &["A"])?)
+    fn ask<H: HallName, C: Wait + Drop, W: Wait>(
+        &self,
+        alloc: Global,
+        station: &mut Station<'_, H, C, Always, W>,
+    ) -> Option<(bool, bool, u64, bool)> {
+        let short = is_refused(alloc, station, false)?;
+        let long = is_refused(alloc, station, true)?;
+        let made = station.made();
+        let listed = told_of(alloc, station, AUDIT)?;
+        Some((short, long, made, listed.as_slice() == NO_ENTRY))
+    }
 }
 
 #[test]
 fn a_stranger_is_in_no_list(rt: HostRuntime) {
-    assert!(rt; found(&rt, rt.alloc()) == Some((true, true, 0, true)));
+    let found = at_station(&rt, rt.alloc(), &["A"], (1, &Always), &Puts);
+    assert!(rt; found == Some((true, true, 0, true)));
 }

@@ -3,13 +3,13 @@
 ghost use Rattle.std.specs.Prelude.{◌≡◌};
 
 use crate::asks::create_user;
-use crate::halls::{Always, stores};
+use crate::halls::Always;
 use crate::messages::told_of;
-use st_core::{Reply, Store};
-use st_hall::{AskFault, Clerk, Desk, Hall, HallName, Receipt, Unnamed};
+use crate::opened::{AtDesks, AtStation, at_desks, at_station};
+use st_core::Reply;
+use st_hall::{AskFault, Clerk, Desk, Hall, HallName, Receipt};
 use st_station::Station;
 use std::alloc::Global;
-use std::marker::Brand;
 use std::sync::{Mutex, Wait};
 use std::test::*;
 
@@ -31,13 +31,15 @@ enum End {
     NoMemory,
 }
 
-// How a change is asked for.
+// How a change is asked for at a desk.
 #[derive(Clone, Copy)]
 enum Way {
     Commit,
     Hall,
-    Station,
 }
+
+// A change by a message to a station.
+struct Message;
 
 // What a change with this receipt comes to.
 fn end_of<H: HallName>(told: &Result<Receipt<H>, AskFault>) -> End {
@@ -81,8 +83,8 @@ fn by_hall<H: HallName, R: Wait + Drop, W: Wait>(
     Some(end)
 }
 
-// The same, by a station.
-fn by_station<H: HallName, C: Wait + Drop, R: Wait>(
+// The same, by a message to a station.
+fn by_message<H: HallName, C: Wait + Drop, R: Wait>(
     alloc: Global,
     station: &mut Station<'_, H, C, Always, R>,
 ) -> Option<End> {
@@ -96,7 +98,7 @@ fn by_station<H: HallName, C: Wait + Drop, R: Wait>(
     }
 }
 
-// What the new user comes to at a desk.
+// The same, in either way.
 fn once<H: HallName, R: Wait + Drop, W: Wait>(
     rt: &W,
     alloc: Global,
@@ -105,99 +107,58 @@ fn once<H: HallName, R: Wait + Drop, W: Wait>(
     way: Way,
 ) -> Option<End> {
     match way {
+        Way::Commit => by_commit(rt, alloc, clerk, desk),
         Way::Hall => by_hall(rt, alloc, clerk, desk),
-        _ => by_commit(rt, alloc, clerk, desk),
     }
 }
 
-// The same, where it is asked for a second time if memory ran out.
-fn at_desk<H: HallName, R: Wait + Drop, W: Wait>(
-    rt: &W,
-    alloc: Global,
-    clerk: &Mutex<Clerk<H, R>>,
-    desk: &mut Desk<H>,
-    way: Way,
-) -> Option<End> {
-    match once(rt, alloc, clerk, desk, way)? {
-        End::NoMemory => once(rt, alloc, clerk, desk, way),
-        end => Some(end),
+impl AtDesks for Way {
+    // What the new user comes to, who is asked for a second time if memory ran out.
+    type Found = End;
+
+    fn ask<H: HallName, C: Wait + Drop, W: Wait>(
+        &self,
+        rt: &W,
+        alloc: Global,
+        clerk: &Mutex<Clerk<H, C>>,
+        one: &mut Desk<H>,
+        _two: &mut Desk<H>,
+    ) -> Option<End> {
+        match once(rt, alloc, clerk, one, *self)? {
+            End::NoMemory => once(rt, alloc, clerk, one, *self),
+            end => Some(end),
+        }
     }
 }
 
-// The same, by a station.
-fn at_station<H: HallName, C: Wait + Drop, R: Wait>(
-    alloc: Global,
-    station: &mut Station<'_, H, C, Always, R>,
-) -> Option<End> {
-    match by_station(alloc, station)? {
-        End::NoMemory => by_station(alloc, station),
-        end => Some(end),
+impl AtStation<Always> for Message {
+    // The same.
+    type Found = End;
+
+    fn ask<H: HallName, C: Wait + Drop, W: Wait>(
+        &self,
+        alloc: Global,
+        station: &mut Station<'_, H, C, Always, W>,
+    ) -> Option<End> {
+        match by_message(alloc, station)? {
+            End::NoMemory => by_message(alloc, station),
+            end => Some(end),
+        }
     }
-}
-
-// The same, by the station of a desk.
-fn at_new_station<H: HallName, C: Wait + Drop, R: Wait>(
-    rt: &R,
-    alloc: Global,
-    clerk: &Mutex<Clerk<H, C>>,
-    desk: Desk<H>,
-) -> Option<End> {
-    let mut station = Station::new(rt, alloc, 1, desk, clerk, &Always).ok()?;
-    let end = at_station(alloc, &mut station);
-    drop(station);
-    end
-}
-
-// The same, in this way.
-fn made_at<H: HallName, C: Wait + Drop, R: Wait>(
-    rt: &R,
-    alloc: Global,
-    clerk: &Mutex<Clerk<H, C>>,
-    mut desk: Desk<H>,
-    way: Way,
-) -> Option<End> {
-    if let Way::Station = way {
-        return at_new_station(rt, alloc, clerk, desk);
-    }
-    let end = at_desk(rt, alloc, clerk, &mut desk, way);
-    drop(desk);
-    end
-}
-
-// The same, at the first desk of a hall.
-fn made_in<H: HallName, R: Wait>(
-    rt: &R,
-    alloc: Global,
-    name: Unnamed,
-    both: (Store, Store),
-    way: Way,
-) -> Option<End>
-    requires named { (name.seen.book ≡ H.book) × (name.blank.name ≡ H.name) × (H.parts ≡ 2) }
-    requires alike { (both.0 ≡ H.start) × (both.1 ≡ H.start) }
-{
-    let (clerk, desk, other) = Hall::<H>::open(rt, alloc, name, both.0, both.1).ok()?;
-    drop(other);
-    let clerk = Mutex::new(clerk);
-    let end = made_at(rt, alloc, &clerk, desk, way);
-    drop(clerk);
-    end
-}
-
-fn found<R: Wait>(rt: &R, alloc: Global, way: Way) -> Option<End> {
-    made_in::<Brand, _>(rt, alloc, Unnamed::new(), stores(alloc, &[])?, way)
 }
 
 #[test]
 fn by_a_commit(rt: HostRuntime) {
-    assert!(rt; found(&rt, rt.alloc(), Way::Commit) == Some(End::Made));
+    assert!(rt; at_desks(&rt, rt.alloc(), &[], &Way::Commit) == Some(End::Made));
 }
 
 #[test]
 fn by_a_change_of_the_hall(rt: HostRuntime) {
-    assert!(rt; found(&rt, rt.alloc(), Way::Hall) == Some(End::Made));
+    assert!(rt; at_desks(&rt, rt.alloc(), &[], &Way::Hall) == Some(End::Made));
 }
 
 #[test]
 fn by_a_message_to_a_station(rt: HostRuntime) {
-    assert!(rt; found(&rt, rt.alloc(), Way::Station) == Some(End::Made));
+    let end = at_station(&rt, rt.alloc(), &[], (1, &Always), &Message);
+    assert!(rt; end == Some(End::Made));
 }
