@@ -4,7 +4,7 @@ use denote.RattleType.{RattleType}
 use denote.Param.Send.{IsSend, IsSync, sendable}
 use Rattle.std.proofs.Crossing.{crosses}
 use Rattle.st_press.specs.contracts.front.Front as Front
-use Rattle.st_hall.proofs.Crossing.{front}
+use Rattle.st_desk.proofs.Crossing.{front}
 use Rattle.st_publisher.proofs.Crossing.{held_draft, held_publisher}
 use Rattle.st_durable_hall.specs.contracts.board.Board as Board
 use Rattle.st_durable_hall.specs.contracts.hall.DurableHall as DurableHall

@@ -4,8 +4,8 @@ use denote.RattleType.{RattleType}
 use denote.Ref.{NamedLft}
 use denote.Param.Send.{IsSend, IsSync, sendable}
 use Rattle.std.proofs.Crossing.{crosses}
-use Rattle.st_hall.proofs.Crossing.{desk, front}
-use Rattle.st_hall.specs.contracts.desk.Desk as Desk
+use Rattle.st_desk.proofs.Crossing.{desk, front}
+use Rattle.st_desk.specs.contracts.desk.Desk as Desk
 use Rattle.st_press.specs.contracts.front.Front as Front
 use Rattle.st_station.proofs.Crossing.{held_routes}
 use Rattle.st_publisher.proofs.Crossing.{held_draft, held_publisher}

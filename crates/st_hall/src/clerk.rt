@@ -6,11 +6,10 @@ ghost use Rattle.st_press.specs.Steps.{reply_of, state_after};
 ghost use Rattle.st_press.specs.Views.{Beside, IsStranger, receipts};
 ghost use Rattle.st_press.specs.declared.fault.AskFault.TheVariants.{Stranger};
 
-use crate::desk::Desk;
 use crate::receipt::{Receipt, receipt_of};
-use crate::scribe::Scribe;
 use left_right::Absorb;
 use st_core::{Asked, Reply, Store};
+use st_desk::{Desk, Scribe};
 use st_dir::Directory;
 use st_press::edition::{Edition, Queued};
 use st_press::front::Front;

@@ -8,11 +8,10 @@ ghost use Rattle.st_press.specs.declared.fault.AskFault.TheVariants.{Stranger};
 ghost use Rattle.st_press.specs.inner.Editions.{Agrees};
 
 use crate::clerk::Clerk;
-use crate::desk::{Desk, EditionReader};
 use crate::receipt::Receipt;
-use crate::scribe::Scribe;
 use left_right::writer::Writer;
 use st_core::{Asked, Store};
+use st_desk::{Desk, EditionReader, Scribe};
 use st_dir::Directory;
 use st_press::edition::Edition;
 use st_press::front::{Front, begin};

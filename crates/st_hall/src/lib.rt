@@ -1,19 +1,15 @@
-//! Two copies of a store, a clerk who changes them, and desks that read them without waiting.
+//! Two copies of a store, a clerk who changes them, and workers at desks that read them without waiting.
 #![tactic(auto)]
 
 mod clerk;
-mod desk;
 mod hall;
-pub mod law;
 mod receipt;
-mod scribe;
 mod worker;
 
 pub use clerk::Clerk;
-pub use desk::Desk;
 pub use hall::Hall;
 pub use receipt::Receipt;
-pub use scribe::Scribe;
+pub use st_desk::{Desk, Scribe};
 pub use st_press::{
     Agreeing, AskFault, Consistent, Edition, Front, HallFault, HallName, Press, Queued, Unnamed,
     UnnamedFor,

@@ -7,10 +7,10 @@ ghost use Rattle.st_press.specs.Views.{EndsAfter, EndsWith, IsStranger, Learns};
 ghost use Rattle.st_press.specs.declared.fault.AskFault.TheVariants.{NoMemory, Stranger};
 
 use crate::clerk::Clerk;
-use crate::desk::Desk;
 use crate::hall::Hall;
 use crate::receipt::Receipt;
 use st_core::{Asked, Reply, Token};
+use st_desk::Desk;
 use st_press::front::Front;
 use st_press::{AskFault, HallName};
 use std::alloc::AllocError;

@@ -5,7 +5,7 @@ use Rattle.st_journal.specs.declared.read_back.ReadError.{ReadError}
 use Rattle.st_journal.specs.declared.read_back.ReadError.TheVariants.{Lost}
 use Rattle.st_journal.specs.Replays.{Replays}
 use Rattle.st_durable.specs.Applying.{Applies}
-use Rattle.st_hall.specs.Steps.{Ask, State, state_after}
+use Rattle.st_press.specs.Steps.{Ask, State, state_after}
 use Rattle.st_press.proofs.Fronts.{prefix_self}
 use Rattle.st_publisher.specs.Rolls.{WasRead}
 use Rattle.st_publisher.specs.inner.Sound.{IsSound}

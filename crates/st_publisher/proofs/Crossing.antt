@@ -5,8 +5,8 @@ use denote.Param.Send.{IsSend, sendable}
 use Rattle.std.proofs.Crossing.{crosses}
 use Rattle.st_press.specs.contracts.front.Front as Front
 use Rattle.st_press.specs.contracts.press.Press as Press
-use Rattle.st_hall.specs.contracts.scribe.Scribe as Scribe
-use Rattle.st_hall.proofs.Crossing.{front, press, scribe}
+use Rattle.st_desk.specs.contracts.scribe.Scribe as Scribe
+use Rattle.st_desk.proofs.Crossing.{front, press, scribe}
 use Rattle.st_press.proofs.edition.Queued.TheSendSync as QueuedCross
 use Rattle.st_publisher.specs.contracts.draft.Draft as Draft
 use Rattle.st_publisher.specs.contracts.publisher.Publisher as Publisher

@@ -7,7 +7,7 @@ use Rattle.st_dir.specs.Directory.{Directory}
 use Rattle.st_journal.specs.declared.record.Record.{Record}
 use Rattle.st_journal.specs.Replays.{Replays}
 use Rattle.st_durable.specs.Applying.{Applies, Notes}
-use Rattle.st_hall.specs.Steps.{Ask, State, state_after}
+use Rattle.st_press.specs.Steps.{Ask, State, state_after}
 use Rattle.st_press.proofs.Following.{after_none}
 use Rattle.st_press.proofs.Fronts.{prefix_self, prefix_trans}
 use Rattle.st_publisher.specs.Rolls.{KeptRoll, LeadPast, LeadToOne, WasKept}

@@ -2,7 +2,7 @@
 -- whether no more is added.
 use Rattle.std.specs.Prelude.{Bool, List}
 use Rattle.st_journal.specs.declared.record.Record.{Record}
-use Rattle.st_hall.specs.Steps.{Ask}
+use Rattle.st_press.specs.Steps.{Ask}
 
 pub record Drafted : Type 0 where
   pub list : List Ask

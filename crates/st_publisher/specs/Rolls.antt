@@ -4,7 +4,7 @@ use mathlib.Core.List.{IsPrefix}
 use Rattle.st_journal.specs.declared.record.Record.{Record}
 use Rattle.st_journal.specs.Replays.{Replays}
 use Rattle.st_durable.specs.Applying.{Applies}
-use Rattle.st_hall.specs.Steps.{Ask, State, state_after}
+use Rattle.st_press.specs.Steps.{Ask, State, state_after}
 
 -- The one list of changes as far as an append was given it, the part of it that is kept, the part that is published, the journal, and
 -- whether an append failed.

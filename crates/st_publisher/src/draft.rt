@@ -6,17 +6,18 @@ ghost use Rattle.st_core.specs.Step.{asker_of, asks_for_change};
 ghost use Rattle.st_journal.specs.Replays.{Replays};
 ghost use Rattle.st_service.specs.Answers.{AsksBy, IsFound};
 ghost use Rattle.st_durable.specs.Applying.{Applies};
-ghost use Rattle.st_hall.specs.Steps.{state_after};
-ghost use Rattle.st_hall.specs.Views.{EndsAfter, IsStranger};
+ghost use Rattle.st_press.specs.Steps.{state_after};
+ghost use Rattle.st_press.specs.Views.{EndsAfter, IsStranger};
 ghost use Rattle.st_publisher.specs.declared.fault.ChangeError.{ChangeError};
 
 use crate::fault::ChangeError;
 use crate::keeping::hold;
 use st_core::{Asked, Reply};
+use st_desk::{Desk, Scribe};
 use st_durable::note;
-use st_hall::{AskFault, Desk, Front, HallName, Press, Queued, Scribe};
 use st_http::message::Message;
 use st_journal::Record;
+use st_press::{AskFault, Front, HallName, Press, Queued};
 use std::alloc::Global;
 use std::collections::VecDeque;
 use std::marker::Model;
@@ -49,7 +50,7 @@ impl<H: HallName> Model for Draft<H> {
     ghost use mathlib.Core.List.{IsPrefix};
     ghost use Rattle.st_journal.specs.Replays.{Replays};
     ghost use Rattle.st_durable.specs.Applying.{Applies};
-    ghost use Rattle.st_hall.specs.Steps.{state_after};
+    ghost use Rattle.st_press.specs.Steps.{state_after};
     ghost use Rattle.st_publisher.specs.Drafts.{Drafted};
 
     ghost Value = { Drafted };

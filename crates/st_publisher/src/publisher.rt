@@ -5,14 +5,14 @@ ghost use Rattle.st_journal.specs.declared.record.Record.{Record};
 ghost use Rattle.st_journal.specs.declared.read_back.ReadError.TheVariants as ends;
 ghost use Rattle.st_journal.specs.Replays.{Replays};
 ghost use Rattle.st_durable.specs.Applying.{Applies};
-ghost use Rattle.st_hall.specs.Steps.{state_after};
+ghost use Rattle.st_press.specs.Steps.{state_after};
 ghost use Rattle.st_publisher.specs.Rolls.{LeadPast, LeadToOne, WasKept, WasRead};
 
 use crate::draft::{Batch, Draft};
 use crate::fault::Lost;
 use crate::keeping::append_all;
 use st_durable::Beginning;
-use st_hall::{Front, HallName, Press};
+use st_press::{Front, HallName, Press};
 use st_journal::{Journal, ReadBack, ReadError, Record};
 use std::marker::{Model, PhantomData};
 use std::sync::{Mutex, Wait};

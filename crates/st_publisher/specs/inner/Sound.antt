@@ -5,7 +5,7 @@ use mathlib.Core.List.{IsPrefix}
 use Rattle.st_journal.specs.declared.record.Record.{Record}
 use Rattle.st_journal.specs.Replays.{Replays}
 use Rattle.st_durable.specs.Applying.{Applies}
-use Rattle.st_hall.specs.Steps.{State, state_after}
+use Rattle.st_press.specs.Steps.{State, state_after}
 use Rattle.st_publisher.specs.Rolls.{KeptRoll, LeadPast}
 
 pub record IsSound {J : Type 0} (list : J → List Record) (misreads : J → ℕ) (is_ready : J → Type 0) (may_leave : J → List Record → Type 0)

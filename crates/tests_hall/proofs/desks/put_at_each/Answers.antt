@@ -1,6 +1,7 @@
 use denote.Param.Send.{sendable, given_sync}
 use Rattle.std.proofs.Crossing.{crosses}
-use Rattle.st_hall.proofs.Crossing.{clerk, desk}
+use Rattle.st_desk.proofs.Crossing.{desk}
+use Rattle.st_hall.proofs.Crossing.{clerk}
 use Rattle.tests_hall.proofs.desks.put_at_each.Goals as goal
 
 pub for_each_mut-requires-send-T : goal.for_each_mut-requires-send-T

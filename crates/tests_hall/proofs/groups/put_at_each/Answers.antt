@@ -1,6 +1,6 @@
 use denote.Param.Send.{sendable, given_sync}
 use Rattle.std.proofs.Crossing.{crosses}
-use Rattle.st_hall.proofs.Crossing.{desk}
+use Rattle.st_desk.proofs.Crossing.{desk}
 use Rattle.st_durable_hall.proofs.Crossing.{durable_hall}
 use Rattle.tests_hall.proofs.groups.put_at_each.Goals as goal
 

@@ -3,7 +3,7 @@ use mathlib.Core.List.{IsPrefix}
 use Rattle.st_journal.specs.declared.record.Record.{Record}
 use Rattle.st_journal.specs.Replays.{Replays}
 use Rattle.st_durable.specs.Applying.{Applies}
-use Rattle.st_hall.specs.Steps.{state_after}
+use Rattle.st_press.specs.Steps.{state_after}
 use Rattle.st_publisher.proofs.Grouping.{drafted}
 use Rattle.st_publisher.proofs.draft.Draft.add.Goals as goal
 

@@ -1,6 +1,6 @@
 use Rattle.std.proofs.Common.{◌≡◌, ◌++◌, ◌⊎◌, List, refl, subst, sym}
 use Rattle.st_journal.specs.declared.record.Record.{Record}
-use Rattle.st_hall.specs.Steps.{Ask}
+use Rattle.st_press.specs.Steps.{Ask}
 use Rattle.st_publisher.specs.Rolls.{LeadToOne}
 use Rattle.st_publisher.proofs.Grouping.{Keeps, kept_batch, left_one, lost_batch}
 use Rattle.st_publisher.proofs.publisher.Publisher.keep.Goals as goal

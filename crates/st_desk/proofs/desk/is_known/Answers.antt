@@ -1,6 +1,6 @@
 use Rattle.std.proofs.Common.{rules}
 use Rattle.st_press.proofs.Unheard.{refused_for_token, told_otherwise}
-use Rattle.st_hall.proofs.desk.is_known.Goals as goal
+use Rattle.st_desk.proofs.desk.is_known.Goals as goal
 
 pub returns-in-Refused-Denied-Token : goal.returns-in-Refused-Denied-Token
 returns-in-Refused-Denied-Token c s asked bad told = refused_for_token s asked bad (search rules)

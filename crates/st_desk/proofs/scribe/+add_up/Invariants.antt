@@ -1,5 +1,5 @@
 use Rattle.std.specs.Prelude.{length}
-use Rattle.st_hall.proofs.scribe.+add_up.Given as goal
+use Rattle.st_desk.proofs.scribe.+add_up.Given as goal
 
 -- each call has one desk less
 abbrev pub decreases-add_up : goal.decreases-add_up

@@ -1,5 +1,5 @@
 use Rattle.std.proofs.Common.{rules}
-use Rattle.st_hall.proofs.desk.consult.Goals as goal
+use Rattle.st_desk.proofs.desk.consult.Goals as goal
 
 pub returns-then-len-clause-seen : goal.returns-then-len-clause-seen
 returns-then-len-clause-seen g c = search rules

@@ -3,7 +3,7 @@ use Rattle.st_core.specs.Judging.{judgement}
 use Rattle.st_core.specs.Step.{asker_of}
 use Rattle.st_press.specs.Steps.{reply_of, state_after, next, judged_in}
 use Rattle.st_press.proofs.Following.{at_state, after_snoc}
-use Rattle.st_hall.proofs.scribe.Scribe.decided.Goals as goal
+use Rattle.st_desk.proofs.scribe.Scribe.decided.Goals as goal
 
 pub returns-clause-judged : goal.returns-clause-judged
 returns-clause-judged g c = at_state (λ d s. judgement d.0 ≡ judged_in s c.args.asked.now) _ _ _ c.directory.ensures c.decide.ensures.judged

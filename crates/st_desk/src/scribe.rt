@@ -93,8 +93,9 @@ fn adopt(directory: &mut Directory, decision: Decision) -> Reply
 }
 
 impl<H: HallName> Scribe<H> {
+    /// A scribe of a list without changes, with the users at the hall's start.
     #[tactic(auto, using(st_press::proofs::Following::after_none))]
-    pub(crate) fn new(
+    pub fn new(
         head: Head<H>,
         front: Front<H>,
         directory: Directory,

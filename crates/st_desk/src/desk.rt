@@ -18,7 +18,8 @@ use std::alloc::AllocError;
 use std::marker::Model;
 use std::sync::ledger::Share;
 
-pub(crate) type EditionReader<H> = Reader<Edition<H>, (), Consistent<H>>;
+/// A place for a reader of the published state.
+pub type EditionReader<H> = Reader<Edition<H>, (), Consistent<H>>;
 
 /// A reader of the hall. Contracts see the changes that it has seen, and how many receipts were got with it.
 #[derive(Drop)]
@@ -89,7 +90,8 @@ fn is_known(reply: &Reply) -> bool
 }
 
 impl<H: HallName> Desk<H> {
-    pub(crate) fn new(reader: EditionReader<H>, front: Front<H>, share: Share<H>) -> Desk<H>
+    /// A desk at a place of its own, with one part of what counts receipts. The front is what it has seen.
+    pub fn new(reader: EditionReader<H>, front: Front<H>, share: Share<H>) -> Desk<H>
         requires { (share.parts ≡ 1) × (share.amount ≡ 0) }
         ensures { (result.seen ≡ front) × (result.made ≡ 0) }
     {

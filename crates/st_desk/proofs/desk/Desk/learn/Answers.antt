@@ -1,5 +1,5 @@
 use Rattle.std.proofs.Common.{rules}
-use Rattle.st_hall.proofs.desk.Desk.learn.Goals as goal
+use Rattle.st_desk.proofs.desk.Desk.learn.Goals as goal
 
 pub returns-clause-one : goal.returns-clause-one
 returns-clause-one g c = search rules
