@@ -3,20 +3,15 @@
 use denote.RattleType.{RattleType}
 use denote.Param.Send.{IsSend, IsSync, sendable}
 use Rattle.std.proofs.Crossing.{crosses}
-use Rattle.st_press.specs.contracts.front.Front as Front
-use Rattle.st_desk.proofs.Crossing.{front}
+use Rattle.st_desk.proofs.Crossing.{held_front}
 use Rattle.st_publisher.proofs.Crossing.{held_draft, held_publisher}
 use Rattle.st_durable_hall.specs.contracts.board.Board as Board
 use Rattle.st_durable_hall.specs.contracts.hall.DurableHall as DurableHall
 
--- as a struct's field has it, which is how `search` meets it
-held_front : (H : RattleType) (h : _) (l : _) → IsSend (Front.the_field H h l).row
-held_front H h l = front H h l
-
 pub board : (B H J : RattleType) (b : _) (h : _) (l : _) (j : _) → IsSend J → IsSend (Board.the_row B H J b h l j)
 board B H J b h l j t = search (sendable, crosses, held_front) depth 60 fits 100000
 
-held_board : (B H J : RattleType) (b : _) (h : _) (l : _) (j : _) → IsSend J → IsSend (Board.the_field B H J b h l j).row
+pub held_board : (B H J : RattleType) (b : _) (h : _) (l : _) (j : _) → IsSend J → IsSend (Board.the_field B H J b h l j).row
 held_board B H J b h l j t = board B H J b h l j t
 
 pub durable_hall : (B H R J : RattleType) (b : _) (h : _) (l : _) (j : _) → IsSend R → IsSend J → IsSync (DurableHall.the_row B H R J b h l j)

@@ -4,24 +4,12 @@ use denote.RattleType.{RattleType}
 use denote.Ref.{NamedLft}
 use denote.Param.Send.{IsSend, IsSync, sendable}
 use Rattle.std.proofs.Crossing.{crosses}
-use Rattle.st_desk.proofs.Crossing.{desk, front}
-use Rattle.st_desk.specs.contracts.desk.Desk as Desk
-use Rattle.st_press.specs.contracts.front.Front as Front
+use Rattle.st_desk.proofs.Crossing.{held_desk, held_front}
 use Rattle.st_station.proofs.Crossing.{held_routes}
 use Rattle.st_publisher.proofs.Crossing.{held_draft, held_publisher}
-use Rattle.st_durable_hall.proofs.Crossing.{board}
-use Rattle.st_durable_hall.specs.contracts.board.Board as Board
+use Rattle.st_durable_hall.proofs.Crossing.{held_board}
 use Rattle.st_durable_hall.specs.contracts.hall.DurableHall as DurableHall
 use Rattle.st_durable_station.specs.contracts.station.DurableStation as DurableStation
-
-held_desk : (H : RattleType) (h : _) (l : _) → IsSend (Desk.the_field H h l).row
-held_desk H h l = desk H h l
-
-held_front : (H : RattleType) (h : _) (l : _) → IsSend (Front.the_field H h l).row
-held_front H h l = front H h l
-
-held_board : (B H J : RattleType) (b : _) (h : _) (l : _) (j : _) → IsSend J → IsSend (Board.the_field B H J b h l j).row
-held_board B H J b h l j t = board B H J b h l j t
 
 held_hall : (B H R J : RattleType) (b : _) (h : _) (l : _) (j : _) → IsSend R → IsSend J → IsSync (DurableHall.the_field B H R J b h l j).row
 held_hall B H R J b h l j s t = search (sendable, crosses, held_draft, held_publisher, held_board) depth 60 fits 100000

@@ -12,8 +12,8 @@ use crate::draft::{Batch, Draft};
 use crate::fault::Lost;
 use crate::keeping::append_all;
 use st_durable::Beginning;
-use st_press::{Front, HallName, Press};
 use st_journal::{Journal, ReadBack, ReadError, Record};
+use st_press::{Front, HallName, Press};
 use std::marker::{Model, PhantomData};
 use std::sync::{Mutex, Wait};
 
