@@ -95,12 +95,7 @@ fn adopt(directory: &mut Directory, decision: Decision) -> Reply
 impl<H: HallName> Scribe<H> {
     /// A scribe of a list without changes, with the users at the hall's start.
     #[tactic(auto, using(st_press::proofs::Following::after_none))]
-    pub fn new(
-        head: Head<H>,
-        front: Front<H>,
-        directory: Directory,
-        book: Book<H>,
-    ) -> Scribe<H>
+    pub fn new(head: Head<H>, front: Front<H>, directory: Directory, book: Book<H>) -> Scribe<H>
         requires start { front ≡ [] }
         requires directory { (directory ≡ H.start.directory) × (book.total ≡ 0) }
         ensures { result ≡ [] }

@@ -28,7 +28,9 @@ fn points_in(query: &Query) -> u64 {
 fn keys_in(range: &KeyRange) -> u64 {
     let (first, last) = (range.first, range.last);
     if first.bin() == last.bin() {
-        last.address().saturating_sub(first.address()).saturating_add(1)
+        last.address()
+            .saturating_sub(first.address())
+            .saturating_add(1)
     } else {
         u64::MAX
     }
