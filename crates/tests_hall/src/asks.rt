@@ -13,6 +13,18 @@ use st_label::Label;
 use st_policy::{Entry, Request};
 use std::alloc::{AllocError, Global};
 
+/// What answers reads, as a desk does.
+pub trait Reads {
+    fn answer(&mut self, asked: &Asked) -> Result<Reply, AllocError>
+        requires { asks_for_change asked.now ≡ false };
+}
+
+impl<H: HallName> Reads for Desk<H> {
+    fn answer(&mut self, asked: &Asked) -> Result<Reply, AllocError> {
+        self.read(asked)
+    }
+}
+
 // Root's token.
 fn token() -> Option<Token> {
     Some(Token {
@@ -116,10 +128,10 @@ fn entries_in(told: &Result<Reply, AllocError>) -> Option<usize> {
 }
 
 // The number that a desk tells of a count.
-fn number_of<H: HallName>(desk: &mut Desk<H>, asked: Asked) -> Option<u64>
+fn number_of<D: Reads>(desk: &mut D, asked: Asked) -> Option<u64>
     requires { asks_for_change asked ≡ false }
 {
-    let told = desk.read(&asked);
+    let told = desk.answer(&asked);
     drop(asked);
     let number = number_in(&told);
     drop(told);
@@ -127,16 +139,16 @@ fn number_of<H: HallName>(desk: &mut Desk<H>, asked: Asked) -> Option<u64>
 }
 
 /// How many rows a desk counts.
-pub fn rows<H: HallName>(alloc: Global, desk: &mut Desk<H>) -> Option<u64> {
+pub fn rows<D: Reads>(alloc: Global, desk: &mut D) -> Option<u64> {
     let asked = count(alloc)?;
     number_of(desk, asked)
 }
 
 // How many entries a desk tells in a listing.
-fn entries_of<H: HallName>(desk: &mut Desk<H>, asked: Asked) -> Option<usize>
+fn entries_of<D: Reads>(desk: &mut D, asked: Asked) -> Option<usize>
     requires { asks_for_change asked ≡ false }
 {
-    let told = desk.read(&asked);
+    let told = desk.answer(&asked);
     drop(asked);
     let count = entries_in(&told);
     drop(told);
@@ -144,7 +156,7 @@ fn entries_of<H: HallName>(desk: &mut Desk<H>, asked: Asked) -> Option<usize>
 }
 
 /// How many changes a desk lists that were asked for.
-pub fn entries<H: HallName>(desk: &mut Desk<H>) -> Option<usize> {
+pub fn entries<D: Reads>(desk: &mut D) -> Option<usize> {
     entries_of(desk, audit())
 }
 
@@ -167,10 +179,10 @@ fn lists(told: &Result<Reply, AllocError>, wanted: &[&str]) -> bool {
 }
 
 // Whether a desk tells such a listing.
-fn is_listing<H: HallName>(desk: &mut Desk<H>, asked: Asked, wanted: &[&str]) -> bool
+fn is_listing<D: Reads>(desk: &mut D, asked: Asked, wanted: &[&str]) -> bool
     requires { asks_for_change asked ≡ false }
 {
-    let told = desk.read(&asked);
+    let told = desk.answer(&asked);
     drop(asked);
     let is_told = lists(&told, wanted);
     drop(told);
@@ -178,7 +190,7 @@ fn is_listing<H: HallName>(desk: &mut Desk<H>, asked: Asked, wanted: &[&str]) ->
 }
 
 /// Whether a desk lists changes by these requests, in this order.
-pub fn are_listed<H: HallName>(desk: &mut Desk<H>, wanted: &[&str]) -> bool {
+pub fn are_listed<D: Reads>(desk: &mut D, wanted: &[&str]) -> bool {
     is_listing(desk, audit(), wanted)
 }
 

@@ -3,9 +3,8 @@ ghost use Rattle.std.specs.Prelude.{◌≡◌};
 
 use crate::halls::{COUNT, INPUT, NO_ROWS, OUTPUT};
 use crate::messages::is_answered;
-use crate::opened::{AtStation, at_station};
-use st_hall::{Gate, HallName};
-use st_station::Station;
+use crate::opened::{Answers, AtStation, at_station};
+use st_hall::Gate;
 use std::alloc::Global;
 use std::sync::Wait;
 use std::sync::atomic::AtomicU64;
@@ -56,15 +55,11 @@ impl Gate for Counting {
 // A message without a route, a count, a put and a count, and then a count where no row is.
 struct Five;
 
-impl AtStation<Counting> for Five {
+impl AtStation for Five {
     // Whether the answers are right.
     type Found = bool;
 
-    fn ask<H: HallName, C: Wait + Drop, W: Wait>(
-        &self,
-        alloc: Global,
-        station: &mut Station<'_, H, C, Counting, W>,
-    ) -> Option<bool> {
+    fn ask<S: Answers>(&self, alloc: Global, station: &mut S) -> Option<bool> {
         let is_nowhere = is_answered(alloc, station, NOWHERE, NO_ROUTE)?;
         let is_counted = is_answered(alloc, station, INPUT, OUTPUT)?;
         let is_none = is_answered(alloc, station, COUNT, NO_ROWS)?;

@@ -2,10 +2,8 @@
 ghost use Rattle.std.specs.Prelude.{◌≡◌, None, false};
 
 use crate::halls::{Always, INPUT, OUTPUT};
-use crate::opened::{AtStation, at_station};
-use st_connection::{Ended, Failed, IoFault, Sink, Source};
-use st_hall::HallName;
-use st_station::{Station, work};
+use crate::opened::{Answers, AtStation, at_station};
+use st_connection::{Attend, Ended, Failed, IoFault, Sink, Source};
 use std::alloc::Global;
 use std::sync::Wait;
 use std::test::*;
@@ -128,18 +126,18 @@ struct Connection {
     most: usize,
 }
 
-impl AtStation<Always> for Connection {
+impl AtStation for Connection {
     // How the connection ends, how many bytes are written, and whether they begin the output.
     type Found = (Result<Ended, IoFault>, usize, bool);
 
-    fn ask<H: HallName, C: Wait + Drop, W: Wait>(
+    fn ask<S: Answers>(
         &self,
         alloc: Global,
-        station: &mut Station<'_, H, C, Always, W>,
+        station: &mut S,
     ) -> Option<(Result<Ended, IoFault>, usize, bool)> {
         let mut reader = made_reader(self.trouble, self.call);
         let mut writer = made_writer(alloc, self.trouble, self.call, self.most);
-        let ended = work(station, &mut reader, &mut writer);
+        let ended = station.serve(&mut reader, &mut writer);
         let taken = writer.taken.as_slice();
         Some((ended, taken.len(), OUTPUT.starts_with(taken)))
     }

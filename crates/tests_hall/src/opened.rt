@@ -2,8 +2,10 @@
 ghost use Rattle.std.specs.Prelude.{◌≡◌};
 
 use crate::halls::stores;
+use st_connection::Attend;
 use st_core::Store;
 use st_hall::{Clerk, Desk, Gate, Hall, HallName, Unnamed};
+use st_http::message::Message;
 use st_station::Station;
 use std::alloc::Global;
 use std::marker::Brand;
@@ -23,15 +25,31 @@ pub trait AtDesks {
     ) -> Option<Self::Found>;
 }
 
-/// What is asked of a station that has a gate.
-pub trait AtStation<G: Gate> {
+/// What answers messages and connections, as a station does.
+pub trait Answers: Attend {
+    // Puts the answer to a message behind what was told before.
+    fn tell(&mut self, message: &Message<'_>, told: &mut Vec<u8>) -> Option<()>;
+
+    // How many receipts it got.
+    fn made(&self) -> u64;
+}
+
+impl<H: HallName, C: Wait + Drop, G: Gate, W: Wait> Answers for Station<'_, H, C, G, W> {
+    fn tell(&mut self, message: &Message<'_>, told: &mut Vec<u8>) -> Option<()> {
+        let answer = self.reply_to(message);
+        told.extend_from_slice(answer.as_bytes()).ok()
+    }
+
+    fn made(&self) -> u64 {
+        Station::made(self)
+    }
+}
+
+/// What is asked of a station.
+pub trait AtStation {
     type Found;
 
-    fn ask<H: HallName, C: Wait + Drop, W: Wait>(
-        &self,
-        alloc: Global,
-        station: &mut Station<'_, H, C, G, W>,
-    ) -> Option<Self::Found>;
+    fn ask<S: Answers>(&self, alloc: Global, station: &mut S) -> Option<Self::Found>;
 }
 
 // What is found at the desks of a new hall.
@@ -65,7 +83,7 @@ pub fn at_desks<R: Wait, A: AtDesks>(
 }
 
 // What is found of a station at this desk.
-fn found_of_station<H: HallName, C: Wait + Drop, G: Gate, R: Wait, A: AtStation<G>>(
+fn found_of_station<H: HallName, C: Wait + Drop, G: Gate, R: Wait, A: AtStation>(
     rt: &R,
     alloc: Global,
     clerk: &Mutex<Clerk<H, C>>,
@@ -80,7 +98,7 @@ fn found_of_station<H: HallName, C: Wait + Drop, G: Gate, R: Wait, A: AtStation<
 }
 
 // What is found of a station at the first desk of a new hall.
-fn found_at_station<H: HallName, G: Gate, R: Wait, A: AtStation<G>>(
+fn found_at_station<H: HallName, G: Gate, R: Wait, A: AtStation>(
     rt: &R,
     alloc: Global,
     name: Unnamed,
@@ -100,7 +118,7 @@ fn found_at_station<H: HallName, G: Gate, R: Wait, A: AtStation<G>>(
 }
 
 /// What is found of a station that has this number and gate, in a hall whose root has these authorizations.
-pub fn at_station<R: Wait, G: Gate, A: AtStation<G>>(
+pub fn at_station<R: Wait, G: Gate, A: AtStation>(
     rt: &R,
     alloc: Global,
     auths: &[&str],

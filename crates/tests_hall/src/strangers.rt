@@ -3,11 +3,8 @@ ghost use Rattle.std.specs.Prelude.{◌≡◌};
 
 use crate::halls::{AUDIT, Always};
 use crate::messages::told_of;
-use crate::opened::{AtStation, at_station};
-use st_hall::HallName;
-use st_station::Station;
+use crate::opened::{Answers, AtStation, at_station};
 use std::alloc::Global;
-use std::sync::Wait;
 use std::test::*;
 
 // The head of a put by root with a secret that is not root's. Behind it comes the length of the body.
@@ -39,11 +36,7 @@ fn put(alloc: Global, is_long: bool) -> Option<Vec<u8>> {
 }
 
 // Whether a station refuses a put for its token.
-fn is_refused<H: HallName, C: Wait + Drop, R: Wait>(
-    alloc: Global,
-    station: &mut Station<'_, H, C, Always, R>,
-    is_long: bool,
-) -> Option<bool> {
+fn is_refused<S: Answers>(alloc: Global, station: &mut S, is_long: bool) -> Option<bool> {
     let text = put(alloc, is_long)?;
     let told = told_of(alloc, station, text.as_slice())?;
     Some(told.as_slice() == REFUSED)
@@ -52,15 +45,11 @@ fn is_refused<H: HallName, C: Wait + Drop, R: Wait>(
 // A short put and a long one.
 struct Puts;
 
-impl AtStation<Always> for Puts {
+impl AtStation for Puts {
     // Whether the station refuses each, how many receipts it got, and whether the listing is empty.
     type Found = (bool, bool, u64, bool);
 
-    fn ask<H: HallName, C: Wait + Drop, W: Wait>(
-        &self,
-        alloc: Global,
-        station: &mut Station<'_, H, C, Always, W>,
-    ) -> Option<(bool, bool, u64, bool)> {
+    fn ask<S: Answers>(&self, alloc: Global, station: &mut S) -> Option<(bool, bool, u64, bool)> {
         let short = is_refused(alloc, station, false)?;
         let long = is_refused(alloc, station, true)?;
         let made = station.made();

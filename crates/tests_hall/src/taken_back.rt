@@ -5,10 +5,9 @@ ghost use Rattle.std.specs.Prelude.{◌≡◌};
 use crate::asks::create_user;
 use crate::halls::Always;
 use crate::messages::told_of;
-use crate::opened::{AtDesks, AtStation, at_desks, at_station};
+use crate::opened::{Answers, AtDesks, AtStation, at_desks, at_station};
 use st_core::Reply;
 use st_hall::{AskFault, Clerk, Desk, Hall, HallName, Receipt};
-use st_station::Station;
 use std::alloc::Global;
 use std::sync::{Mutex, Wait};
 use std::test::*;
@@ -84,10 +83,7 @@ fn by_hall<H: HallName, R: Wait + Drop, W: Wait>(
 }
 
 // The same, by a message to a station.
-fn by_message<H: HallName, C: Wait + Drop, R: Wait>(
-    alloc: Global,
-    station: &mut Station<'_, H, C, Always, R>,
-) -> Option<End> {
+fn by_message<S: Answers>(alloc: Global, station: &mut S) -> Option<End> {
     let told = told_of(alloc, station, USER)?;
     if told.as_slice() == MADE {
         Some(End::Made)
@@ -131,15 +127,11 @@ impl AtDesks for Way {
     }
 }
 
-impl AtStation<Always> for Message {
+impl AtStation for Message {
     // The same.
     type Found = End;
 
-    fn ask<H: HallName, C: Wait + Drop, W: Wait>(
-        &self,
-        alloc: Global,
-        station: &mut Station<'_, H, C, Always, W>,
-    ) -> Option<End> {
+    fn ask<S: Answers>(&self, alloc: Global, station: &mut S) -> Option<End> {
         match by_message(alloc, station)? {
             End::NoMemory => by_message(alloc, station),
             end => Some(end),
