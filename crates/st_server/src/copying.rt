@@ -53,9 +53,16 @@ impl Bell {
 
 // The list that a hall's journal keeps.
 #[derive(Drop)]
-struct KeptList<'a, B: Beginning, H: HallName, C: Wait + Drop, J: ReadBack + Drop, R: Wait> {
-    hall: &'a DurableHall<B, H, C, J>,
-    rt: &'a R,
+pub(crate) struct KeptList<
+    'a,
+    B: Beginning,
+    H: HallName,
+    C: Wait + Drop,
+    J: ReadBack + Drop,
+    R: Wait,
+> {
+    pub(crate) hall: &'a DurableHall<B, H, C, J>,
+    pub(crate) rt: &'a R,
 }
 
 impl<B: Beginning, H: HallName, C: Wait + Drop, J: ReadBack + Drop, R: Wait> Source
@@ -96,17 +103,9 @@ fn tell<R: Eprint>(rt: &R, was_faulty: bool, turn: Result<(), CopyFault>) -> boo
 }
 
 // Takes turns until the bell rings, and a last one then; none more once the store is lost.
-fn follow<
-    'a,
-    B: Beginning,
-    H: HallName,
-    C: Wait + Drop,
-    J: ReadBack + Drop,
-    K: Copier + Drop,
-    R: Wait + Clock + Eprint,
->(
-    rt: &'a R,
-    hall: &'a DurableHall<B, H, C, J>,
+fn follow<L: Source + Drop, K: Copier + Drop, R: Wait + Clock + Eprint>(
+    rt: &R,
+    mut list: L,
     copying: Copying<'_, K>,
     bell: &Bell,
     period: Duration,
@@ -116,7 +115,6 @@ fn follow<
         path,
         opening,
     } = copying;
-    let mut list = KeptList { hall, rt };
     let mut was_faulty = false;
     let mut is_last = false;
     for _ in rt.forever() {
@@ -132,13 +130,10 @@ fn follow<
     }
 }
 
-// Serves connections as `attend` does, with a copy that follows the hall's journal where one is wanted.
+// Serves connections as `attend` does, with a copy that follows the list where one is wanted.
 pub(crate) fn attend_and_copy<
     T: Attend + Send + Drop,
-    B: Beginning + Send + Sync,
-    H: HallName + Send + Sync,
-    C: Wait + Drop + Send,
-    J: ReadBack + Drop + Send,
+    L: Source + Drop + Send,
     K: Copier + Drop + Send,
     R: Net<Listener = TcpListener, Stream = TcpStream> + Threads + Wait + Clock + Eprint + Sync,
 >(
@@ -146,7 +141,7 @@ pub(crate) fn attend_and_copy<
     alloc: Global,
     listener: &TcpListener,
     said: &ServedArguments<'_>,
-    hall: &DurableHall<B, H, C, J>,
+    list: L,
     copying: Option<Copying<'_, K>>,
     attendants: Vec<T>,
 ) -> Result<u16, Fault>
@@ -154,6 +149,7 @@ pub(crate) fn attend_and_copy<
     ensures err { IfErr result Stops }
 {
     let Some(copying) = copying else {
+        drop(list);
         return attend(rt, alloc, listener, said, attendants);
     };
     let period = said.copy_period();
@@ -163,10 +159,10 @@ pub(crate) fn attend_and_copy<
         thread::scope_env(),
         rt,
         |scope| -> Result<u16, Fault>
-            requires { IsSync R.row × (IsSend C.row × (IsSend J.row × IsSend K.row)) }
+            requires { IsSync R.row × (IsSend L.row × IsSend K.row) }
             ensures { IfOk result (λ number. said.entry.now.connections ≡ Some number) × IfErr result Stops }
         {
-            let thread = scope.spawn(move || follow(rt, hall, copying, bell, period));
+            let thread = scope.spawn(move || follow(rt, list, copying, bell, period));
             if thread.is_err() {
                 let _told = rt.eprintln(format_args!("{PROGRAM}: no copy: no thread"));
             }

@@ -8,11 +8,11 @@ ghost use Rattle.st_server.specs.Serving.{IsRefused};
 ghost use Rattle.st_command_line.specs.ServedArguments.{SaysServed, store_of};
 ghost use Rattle.st_command_line.specs.Status.{exit_status_after};
 
-use crate::copying::{Copying, attend_and_copy};
+use crate::copying::{Copying, KeptList, attend_and_copy};
 use st_command::{Keeper, stores_and_opening_for};
 use st_command_line::{Fault, ServedArguments};
 use st_connection::Attend;
-use st_copy::Copier;
+use st_copy::{Copier, Source};
 use st_core::{Seed, Store};
 use st_durable::{Beginning, ReplayedCopies};
 use st_durable_hall::DurableHall;
@@ -39,10 +39,7 @@ struct Place<'a> {
 // Tells that the server listens, serves connections, and tells how many were served, or that the store is lost.
 fn announce<
     T: Attend + Send + Drop,
-    B: Beginning + Send + Sync,
-    H: HallName + Send + Sync,
-    C: Wait + Drop + Send,
-    J: ReadBack + Drop + Send,
+    L: Source + Drop + Send,
     K: Copier + Drop + Send,
     R: Net<Listener = TcpListener, Stream = TcpStream> + Threads + Wait + Clock + Eprint + Sync,
     O: Write,
@@ -50,7 +47,7 @@ fn announce<
     rt: &R,
     alloc: Global,
     said: &ServedArguments<'_>,
-    hall: &DurableHall<B, H, C, J>,
+    list: L,
     copying: Option<Copying<'_, K>>,
     alarm: &AtomicBool,
     attendants: Vec<T>,
@@ -62,10 +59,11 @@ fn announce<
         Ok(listener) => listener,
         Err(fault) => {
             drop(attendants);
+            drop(list);
             return Err(fault);
         }
     };
-    let attended = attend_and_copy(rt, alloc, &listener, said, hall, copying, attendants);
+    let attended = attend_and_copy(rt, alloc, &listener, said, list, copying, attendants);
     if alarm.load(Ordering::SeqCst) {
         return Err(Fault::StoreLost);
     }
@@ -113,7 +111,8 @@ fn seat_workers<
 {
     let alarm = AtomicBool::new(false);
     let stations = stations_at(rt, alloc, hall, &alarm, desks)?;
-    announce(rt, alloc, said, hall, copying, &alarm, stations, output)
+    let list = KeptList { hall, rt };
+    announce(rt, alloc, said, list, copying, &alarm, stations, output)
 }
 
 // Opens a hall over the two stores, with a desk for each worker, and serves at its desks.
