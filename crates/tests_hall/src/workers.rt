@@ -69,9 +69,9 @@ impl<R: Clock + Wait> Turns<'_, R> {
 }
 
 // Whether a station counts no rows.
-fn counts_none<H: HallName, R: Clock + Wait>(
+fn counts_none<H: HallName, C: Wait + Drop, G: Gate, W: Wait>(
     alloc: Global,
-    mut station: Station<'_, H, &R, Turns<'_, R>, R>,
+    mut station: Station<'_, H, C, G, W>,
 ) -> Option<bool> {
     is_answered(alloc, &mut station, COUNT, NO_ROWS)
 }
