@@ -28,7 +28,6 @@ use std::marker::Model;
 use tables::Tables;
 
 /// The directory, the rows of each table, and the audit listing.
-#[derive(Drop)]
 pub struct Store<A: Allocator + Copy = Global> {
     pub(crate) alloc: A,
     pub(crate) directory: Directory<A>,
@@ -147,5 +146,17 @@ impl<A: Allocator + Copy> Store<A> {
         } else {
             self.answer(asked)
         }
+    }
+}
+
+// Written out, and not derived: a derived drop is proved anew in each crate that owns a store.
+impl<A: Allocator + Copy> Drop for Store<A> {
+    fn drop(self) {
+        let Self {
+            alloc: _alloc,
+            directory: _directory,
+            tables: _tables,
+            audit: _audit,
+        } = self;
     }
 }

@@ -9,7 +9,6 @@ use st_label::Label;
 use std::alloc::{Allocator, Global};
 
 /// A request: one variant for each line that is served. The lines from `Put` on are changes.
-#[derive(Drop)]
 pub enum Request<A: Allocator = Global> {
     /// The asker's own account.
     Whoami,
@@ -156,6 +155,112 @@ pub enum Request<A: Allocator = Global> {
         user: Name,
         permission: TablePermission,
     },
+}
+
+// Written out, and not derived: a derived drop is proved anew in each crate that owns a request.
+impl<A: Allocator> Drop for Request<A> {
+    fn drop(self) {
+        match self {
+            Request::Whoami | Request::Tables | Request::Users | Request::Audit => {}
+            Request::User { user: _user } | Request::DropUser { user: _user } => {}
+            Request::NamespaceGrants {
+                namespace: _namespace,
+            } => {}
+            Request::Grants { table: _table } | Request::DropTable { table: _table } => {}
+            Request::Constraint {
+                table: _table,
+                on: _on,
+            } => {}
+            Request::CreateTable {
+                table: _table,
+                period: _period,
+            }
+            | Request::Period {
+                table: _table,
+                period: _period,
+            } => {}
+            Request::Label { label: _label } => {}
+            Request::Get {
+                table: _table,
+                id: _id,
+                auths: _auths,
+            } => {}
+            Request::Scan {
+                table: _table,
+                query: _query,
+                auths: _auths,
+                limit: _limit,
+                after: _after,
+            } => {}
+            Request::Count {
+                table: _table,
+                query: _query,
+                auths: _auths,
+            } => {}
+            Request::Grid {
+                table: _table,
+                query: _query,
+                auths: _auths,
+                columns: _columns,
+                lines: _lines,
+            } => {}
+            Request::Plan {
+                table: _table,
+                query: _query,
+                budget: _budget,
+            } => {}
+            Request::Put {
+                table: _table,
+                row: _row,
+            } => {}
+            Request::Delete {
+                table: _table,
+                id: _id,
+                label: _label,
+            } => {}
+            Request::CreateUser {
+                user: _user,
+                digest: _digest,
+                auths: _auths,
+            } => {}
+            Request::Token {
+                user: _user,
+                digest: _digest,
+            } => {}
+            Request::Auths {
+                user: _user,
+                auths: _auths,
+            } => {}
+            Request::GrantSystem {
+                user: _user,
+                permission: _permission,
+            }
+            | Request::RevokeSystem {
+                user: _user,
+                permission: _permission,
+            } => {}
+            Request::GrantTable {
+                table: _table,
+                user: _user,
+                permission: _permission,
+            }
+            | Request::RevokeTable {
+                table: _table,
+                user: _user,
+                permission: _permission,
+            } => {}
+            Request::GrantNamespace {
+                namespace: _namespace,
+                user: _user,
+                permission: _permission,
+            }
+            | Request::RevokeNamespace {
+                namespace: _namespace,
+                user: _user,
+                permission: _permission,
+            } => {}
+        }
+    }
 }
 
 impl<A: Allocator> Request<A> {

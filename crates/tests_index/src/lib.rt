@@ -19,6 +19,8 @@ mod lanes;
 #[cfg(test)]
 mod marks;
 #[cfg(test)]
+mod on_line;
+#[cfg(test)]
 mod plans;
 #[cfg(test)]
 mod putting;

@@ -1,12 +1,9 @@
 //! Counts of rows under more labels than a node has numbers for, and of several rows of one key, as rows come and go: a UB-tree and an
 //! index of one region always count the same.
 
-use crate::putting::{put_at, take_at};
-use crate::tabling::query_of;
-use st_auth::Auths;
-use st_index::{ListIndex, Row, RowIndex};
+use crate::on_line::OnLine;
+use st_index::ListIndex;
 use st_key::Period;
-use st_scan::count;
 use st_ubtree::UbTree;
 use std::alloc::Global;
 
@@ -33,17 +30,10 @@ fn label_of(x: u64, later: u64) -> Option<&'static str> {
     LABELS.get(at).copied()
 }
 
-// How many rows of an index are inside a box and shown.
-fn shown<I: RowIndex<Alloc = Global>>(alloc: Global, index: &I, asked: [u64; 6]) -> Option<u64> {
-    let query = query_of(asked)?;
-    let auths = Auths::from_list(alloc, &HELD).ok()?;
-    Some(count(alloc, index, &query, &auths))
-}
-
 // Whether both count the same in each box.
-fn agree(alloc: Global, tree: &UbTree, list: &ListIndex) -> Option<bool> {
+fn agree<T: OnLine, L: OnLine>(alloc: Global, tree: &T, list: &L) -> Option<bool> {
     for asked in BOXES {
-        if shown(alloc, tree, asked)? != shown(alloc, list, asked)? {
+        if tree.counted(alloc, &HELD, asked)? != list.counted(alloc, &HELD, asked)? {
             return Some(false);
         }
     }
@@ -60,16 +50,11 @@ enum Step {
 
 impl Step {
     // Does it at a place of an index. Whether it could be done.
-    fn at<I: RowIndex<Alloc = Global, Row = Row>>(
-        self,
-        alloc: Global,
-        index: &mut I,
-        x: u64,
-    ) -> Option<bool> {
+    fn at<I: OnLine>(self, alloc: Global, index: &mut I, x: u64) -> Option<bool> {
         match self {
-            Step::Put => Some(put_at(index, alloc, x, ("a", label_of(x, 0)?)).is_some()),
-            Step::PutMore => Some(put_at(index, alloc, x, ("b", label_of(x, 1)?)).is_some()),
-            Step::Take => take_at(index, alloc, x, ("a", label_of(x, 0)?)),
+            Step::Put => Some(index.put(alloc, x, ("a", label_of(x, 0)?)).is_some()),
+            Step::PutMore => Some(index.put(alloc, x, ("b", label_of(x, 1)?)).is_some()),
+            Step::Take => index.take(alloc, x, ("a", label_of(x, 0)?)),
         }
     }
 
@@ -84,7 +69,12 @@ impl Step {
 }
 
 // Does a step at each place of both where it is due. Whether all could be done, and both count the same after each.
-fn follow(alloc: Global, tree: &mut UbTree, list: &mut ListIndex, step: Step) -> Option<bool> {
+fn follow<T: OnLine, L: OnLine>(
+    alloc: Global,
+    tree: &mut T,
+    list: &mut L,
+    step: Step,
+) -> Option<bool> {
     for x in 0..COUNT {
         if step.is_due(x) {
             let is_done = step.at(alloc, tree, x)? && step.at(alloc, list, x)?;
@@ -97,13 +87,13 @@ fn follow(alloc: Global, tree: &mut UbTree, list: &mut ListIndex, step: Step) ->
 }
 
 // How many rows a tree shows in all after each step, if it counts as an index of one region does throughout.
-fn counts_of(alloc: Global, tree: &mut UbTree, list: &mut ListIndex) -> Option<[u64; 3]> {
+fn counts_of<T: OnLine, L: OnLine>(alloc: Global, tree: &mut T, list: &mut L) -> Option<[u64; 3]> {
     let mut counts = [0; 3];
     for (at, step) in [Step::Put, Step::PutMore, Step::Take].iter().enumerate() {
         if !follow(alloc, tree, list, *step)? {
             return None;
         }
-        counts[at] = shown(alloc, tree, BOXES[0])?;
+        counts[at] = tree.counted(alloc, &HELD, BOXES[0])?;
     }
     Some(counts)
 }

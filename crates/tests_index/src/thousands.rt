@@ -1,19 +1,13 @@
 //! Two thousand rows, each of a key of its own, put into a UB-tree and into an index of one region and taken out again: the places
 //! that are held are always those from one to another, and both say so.
 
-use crate::putting::{put_at, take_at};
-use crate::tabling::query_of;
-use st_auth::Auths;
-use st_index::{ListIndex, Row, RowIndex, RowView};
+use crate::on_line::{OnLine, Places};
+use st_index::ListIndex;
 use st_key::Period;
-use st_scan::{count, page};
 use st_ubtree::UbTree;
 use std::alloc::Global;
 
 const COUNT: u64 = 2_000;
-
-// The first of some places that follow each other, and the place past the last.
-type Places = (u64, u64);
 
 const ALL: Places = (0, COUNT);
 
@@ -65,45 +59,19 @@ fn box_of((first, end): Places) -> [u64; 6] {
 }
 
 // Whether an index counts the rows of these places in a part.
-fn counts<I: RowIndex<Alloc = Global>>(
-    alloc: Global,
-    index: &I,
-    places: Places,
-    part: Places,
-) -> Option<bool> {
+fn counts<I: OnLine>(alloc: Global, index: &I, places: Places, part: Places) -> Option<bool> {
     let (from, to) = common(places, part);
-    let query = query_of(box_of(part))?;
-    let counted = count(alloc, index, &query, &Auths::none(alloc));
+    let counted = index.counted(alloc, &[], box_of(part))?;
     Some(counted == to.saturating_sub(from))
 }
 
-// Whether the rows are at these places, one at each, in rising order.
-fn are_at(rows: &[RowView<'_>], (from, to): Places) -> bool {
-    let mut place = from;
-    for row in rows {
-        if u64::from(row.point().x()) != place {
-            return false;
-        }
-        place = place.saturating_add(1);
-    }
-    place == to.max(from)
-}
-
 // Whether an index shows the rows of these places in a part.
-fn shows<I: RowIndex<Alloc = Global>>(
-    alloc: Global,
-    index: &I,
-    places: Places,
-    part: Places,
-) -> Option<bool> {
-    let query = query_of(box_of(part))?;
-    let auths = Auths::none(alloc);
-    let page = page::<I, Global, Global>(alloc, index, &query, &auths, None, 1_000).ok()?;
-    Some(!page.more && are_at(page.rows.as_slice(), common(places, part)))
+fn shows<I: OnLine>(alloc: Global, index: &I, places: Places, part: Places) -> Option<bool> {
+    index.shows(alloc, box_of(part), common(places, part))
 }
 
 // Whether an index has the rows of these places: by a count of the middle, and one by one.
-fn is_full<I: RowIndex<Alloc = Global>>(alloc: Global, index: &I, places: Places) -> Option<bool> {
+fn is_full<I: OnLine>(alloc: Global, index: &I, places: Places) -> Option<bool> {
     let [low, high] = HALVES;
     let is_counted = counts(alloc, index, places, MIDDLE)?;
     let is_low = shows(alloc, index, places, low)?;
@@ -113,7 +81,7 @@ fn is_full<I: RowIndex<Alloc = Global>>(alloc: Global, index: &I, places: Places
 
 // Whether an index has the rows of these places after the step of this number: by a count of all, and each hundredth time closer.
 // One whose counts are slow is asked each tenth time.
-fn holds<I: RowIndex<Alloc = Global>>(
+fn holds<I: OnLine>(
     alloc: Global,
     index: &I,
     (number, is_slow): (u64, bool),
@@ -129,14 +97,9 @@ fn holds<I: RowIndex<Alloc = Global>>(
 }
 
 // Puts in a row at each place, in an order. Whether the index has the rows of the places so far after each.
-fn put_all<I: RowIndex<Alloc = Global, Row = Row>>(
-    alloc: Global,
-    index: &mut I,
-    order: Order,
-    is_slow: bool,
-) -> Option<bool> {
+fn put_all<I: OnLine>(alloc: Global, index: &mut I, order: Order, is_slow: bool) -> Option<bool> {
     for number in 0..COUNT {
-        put_at(index, alloc, order.place(number), ("a", ""))?;
+        index.put(alloc, order.place(number), ("a", ""))?;
         if !holds(alloc, index, (number, is_slow), order.so_far(number))? {
             return Some(false);
         }
@@ -145,14 +108,9 @@ fn put_all<I: RowIndex<Alloc = Global, Row = Row>>(
 }
 
 // Takes out the row of each place, in an order. Whether each was there, and the index has the rows of the places left after each.
-fn take_all<I: RowIndex<Alloc = Global>>(
-    alloc: Global,
-    index: &mut I,
-    order: Order,
-    is_slow: bool,
-) -> Option<bool> {
+fn take_all<I: OnLine>(alloc: Global, index: &mut I, order: Order, is_slow: bool) -> Option<bool> {
     for number in 0..COUNT {
-        let was_held = take_at(index, alloc, order.place(number), ("a", ""))?;
+        let was_held = index.take(alloc, order.place(number), ("a", ""))?;
         if !was_held || !holds(alloc, index, (number, is_slow), order.left(number))? {
             return Some(false);
         }
@@ -160,12 +118,16 @@ fn take_all<I: RowIndex<Alloc = Global>>(
     Some(true)
 }
 
-// Whether an index of one region has the right rows throughout, where they are put in by one order and taken out by another.
-fn is_list_right(alloc: Global, puts: Order, takes: Order) -> Option<bool> {
-    let mut list = ListIndex::new(alloc, Period::Week);
-    let is_put = put_all(alloc, &mut list, puts, true)?;
-    let is_taken = take_all(alloc, &mut list, takes, true)?;
+// Whether an index has the right rows throughout, where they are put in by one order and taken out by another.
+fn is_right<I: OnLine>(alloc: Global, index: &mut I, puts: Order, takes: Order) -> Option<bool> {
+    let is_put = put_all(alloc, index, puts, true)?;
+    let is_taken = take_all(alloc, index, takes, true)?;
     Some(is_put && is_taken)
+}
+
+// Whether a new index of one region has.
+fn is_list_right(alloc: Global, puts: Order, takes: Order) -> Option<bool> {
+    is_right(alloc, &mut ListIndex::new(alloc, Period::Week), puts, takes)
 }
 
 // How many regions a tree has.

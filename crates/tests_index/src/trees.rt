@@ -44,18 +44,21 @@ fn split(alloc: Global, count: u64) -> Option<String> {
     bounds(alloc, &filled(alloc, count)?)
 }
 
-// The bounds of a tree of 57 rows of which the first of the second page was taken out.
-fn merged(alloc: Global) -> Option<String> {
+// A tree of 57 rows of which the first of the second page was taken out.
+fn cut(alloc: Global) -> Option<UbTree> {
     let mut tree = filled(alloc, 57)?;
     take_at(&mut tree, alloc, 24, ("a", ""))?;
-    bounds(alloc, &tree)
+    Some(tree)
 }
 
-// How many rows a tree of 57 rows has once that one is taken out.
+// The bounds of that tree.
+fn merged(alloc: Global) -> Option<String> {
+    bounds(alloc, &cut(alloc)?)
+}
+
+// How many rows that tree has.
 fn len_of_merged(alloc: Global) -> Option<u64> {
-    let mut tree = filled(alloc, 57)?;
-    take_at(&mut tree, alloc, 24, ("a", ""))?;
-    Some(tree.len())
+    Some(cut(alloc)?.len())
 }
 
 // Whether the text is this one.
@@ -86,19 +89,19 @@ fn rows_of_one_key(rt: HostRuntime) {
     assert!(rt; crowded(rt.alloc()) == Some((1, 33)));
 }
 
-// Puts a further row into the tree, if it has as many rows as that. Whether it then is a row more.
-fn put_next<A: Allocator + Copy>(alloc: A, tree: &mut UbTree<A>, x: u64) -> bool {
-    tree.len() == x && put_at(tree, alloc, x, ("a", "")).is_some()
-}
-
-// Puts a further row into the tree. Gives how many growths it takes, if none of them changes the tree.
+// Puts a further row into a tree of so many rows. Gives how many growths it takes, if the tree has as many with each refused.
 fn put_counted<'a>(
     heap: &'a Refusing<Global>,
     tree: &mut UbTree<&'a Refusing<Global>>,
-    x: u64,
+    rows: u64,
+    (x, id): (u64, &str),
 ) -> Option<u64> {
-    let count = growths_at(heap, tree, x, ("a", ""))?;
-    put_next(heap, tree, x).then_some(count)
+    let count = growths_at(heap, tree, x, (id, ""))?;
+    if tree.len() != rows {
+        return None;
+    }
+    put_at(tree, heap, x, (id, ""))?;
+    Some(count)
 }
 
 // How many growths each of 65 rows takes that are put into a tree one by one.
@@ -106,7 +109,7 @@ fn growths_of_each(heap: &Refusing<Global>) -> Option<[u64; 65]> {
     let mut tree = UbTree::new(heap, Period::Week).ok()?;
     let mut counts = [0; 65];
     for x in 0..65u64 {
-        counts[x as usize] = put_counted(heap, &mut tree, x)?;
+        counts[x as usize] = put_counted(heap, &mut tree, x, (x, "a"))?;
     }
     Some(counts)
 }
@@ -130,8 +133,7 @@ fn growths_of_one_key(heap: &Refusing<Global>) -> Option<[u64; 3]> {
     let mut tree = UbTree::new(heap, Period::Week).ok()?;
     let mut counts = [0; 3];
     for (at, id) in ["b", "a", "c"].iter().enumerate() {
-        counts[at] = growths_at(heap, &tree, 0, (*id, ""))?;
-        put_at(&mut tree, heap, 0, (*id, ""))?;
+        counts[at] = put_counted(heap, &mut tree, at as u64, (0, *id))?;
     }
     Some(counts)
 }
