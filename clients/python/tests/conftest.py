@@ -6,14 +6,17 @@ import itertools
 import os
 import pytest
 from collections.abc import Callable, Iterator
-from hypothesis import settings
+from hypothesis import HealthCheck, settings
 from pathlib import Path
 from served import served, token
 
 from fashkiin import Client, Table
 from fashkiin.cli import main
 
-settings.register_profile("few", max_examples=25, deadline=None)
+# How quickly examples are found, and how many are too large, is up to chance and to the machine.
+settings.register_profile(
+    "few", max_examples=25, deadline=None, suppress_health_check=[HealthCheck.data_too_large, HealthCheck.too_slow]
+)
 settings.load_profile("few")
 _numbers = itertools.count(1)
 
