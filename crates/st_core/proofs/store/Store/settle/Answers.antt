@@ -1,7 +1,6 @@
-use Rattle.std.proofs.Common.{rules, ◌≡◌, sym, subst}
-use Rattle.std.specs.Prelude.{IfOk, OnOk}
+use Rattle.std.proofs.Common.{rules, ◌≡◌, subst}
 use Rattle.st_core.specs.Judging.{JudgesChange, judgement}
-use Rattle.st_core.specs.Step.{Judged, Heard, settle}
+use Rattle.st_core.specs.Step.{Heard}
 use Rattle.st_core.proofs.Judgements.{change_heard}
 use Rattle.st_core.proofs.store.Store.settle.Goals as goal
 
