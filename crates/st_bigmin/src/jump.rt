@@ -40,6 +40,10 @@ pub(crate) fn next_between(z: u64, first: &Corner, last: &Corner) -> Option<u64>
     ensures none { IfNone result ((b : ZBox) → first_of b ≡ first.now → last_of b ≡ last.now
         → (a : ℕ) → IsInside b a → a ≤ z) }
 {
+    // None is greater than that of the last corner. A search would try each level to find this.
+    if z >= last.address() {
+        return None;
+    }
     for level in first_level(z, first, last)..63 {
         let prefix = z >> level;
         if prefix % 2 == 0 {

@@ -11,10 +11,14 @@ use st_key::Point;
 // How many seconds a week has.
 const WEEK: u64 = 604_800;
 
-// How many numbers 21 bits tell, as those of a coordinate: x has the lowest, y the next, and the seconds the highest.
+// How many numbers 21 bits tell, as those of a coordinate: x has the lowest, y the next, and the seconds the 22 highest.
 const SIDE: u64 = 1 << 21;
 
 const SQUARE: u64 = 1 << 42;
+
+// How many seconds from the start of a week on have numbers, almost seven weeks: one fewer than 22 bits tell, so that they tell
+// the end too.
+const SPAN: u64 = (1 << 22) - 1;
 
 /// The week of a point.
 pub fn week_of(point: &Point) -> u32 {
@@ -28,12 +32,12 @@ fn start_of(week: u32) -> u64
     u64::from(week) * WEEK
 }
 
-/// The number of a point. There is none where the point is before the week, or 2^21 seconds or more after its start.
+/// The number of a point. There is none where the point is before the week, or 2^22 - 1 seconds or more after its start.
 pub fn spot_of(point: &Point, week: u32) -> Option<u64>
     ensures { IfSome result (λ spot. IsSpotOf week spot point.now) }
 {
     let seconds = point.t().checked_sub(start_of(week))?;
-    if seconds >= SIDE {
+    if seconds >= SPAN {
         return None;
     }
     Some(u64::from(point.x()) + u64::from(point.y()) * SIDE + seconds * SQUARE)
@@ -57,8 +61,8 @@ impl SpotBox {
         ensures { IsBoxOf query.now week result }
     {
         let start = start_of(week);
-        let t_first = query.t0().saturating_sub(start).min(SIDE) * SQUARE;
-        let t_end = (query.t1() + 1).saturating_sub(start).min(SIDE) * SQUARE;
+        let t_first = query.t0().saturating_sub(start).min(SPAN) * SQUARE;
+        let t_end = (query.t1() + 1).saturating_sub(start).min(SPAN) * SQUARE;
         SpotBox {
             x_first: query.x0().into(),
             x_size: u64::from(query.x1() - query.x0()) + 1,

@@ -42,3 +42,7 @@ returns-clause-none c = λ b first_is last_is. jumps.none_above b c.args.z c.loo
 pub loop-level-init : goal.loop-level-init
 loop-level-init c = λ b first_is last_is.
     jumps.none_near-start b c.args.z c.first_level-level.result _ _ (sym first_is) (sym last_is) c.first_level-level.ensures
+
+pub returns-then-z-address-clause-none : goal.returns-then-z-address-clause-none
+returns-then-z-address-clause-none c = λ b first_is last_is.
+    jumps.past_last b c.args.last.now c.args.z c.address.result c.address.ensures last_is (omega arith)
