@@ -125,13 +125,13 @@ greatest_below-min b z y m e h = record {
   greatest = λ a inside below. h.greatest a inside (omega (arith, inside.is_address));
 }
 
--- past the highest level none is left
 -- no address of the box is after that of its last place
 pub past_last : (b : ZBox) (t : Spot) (z m : ℕ) → m ≡ address_at t → last_of b ≡ t → m ≤ z → (a : ℕ) → IsInside b a → a ≤ z
 past_last b t z m m_is same over a inside =
     let last : m ≡ address_at (last_of b) = m_is ∙ ap address_at (sym same) in
     omega (arith, last, address-mono (spot_at a) (last_of b) inside.to_last (box_in_cube b), address-spot a inside.is_address)
 
+-- past the highest level none is left
 pub none_above : (b : ZBox) (z k : ℕ) → NoneNear b z k → 63 ≤ k → (a : ℕ) → IsInside b a → a ≤ z
 none_above b z k none past a inside =
     elim (cases_lt z a) [

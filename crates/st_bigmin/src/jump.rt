@@ -40,7 +40,7 @@ pub(crate) fn next_between(z: u64, first: &Corner, last: &Corner) -> Option<u64>
     ensures none { IfNone result ((b : ZBox) → first_of b ≡ first.now → last_of b ≡ last.now
         → (a : ℕ) → IsInside b a → a ≤ z) }
 {
-    // None is greater than that of the last corner. A search would try each level to find this.
+    // No address of the box is after that of its last corner. The search below would try each level to find that out.
     if z >= last.address() {
         return None;
     }
