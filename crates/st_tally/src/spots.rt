@@ -1,5 +1,5 @@
 //! Points near a week, each as one number.
-ghost use Rattle.std.specs.Prelude.{◌≡◌, ℕ, ◌*◌, IfSome};
+ghost use Rattle.std.specs.Prelude.{◌≡◌, ℕ, ◌+◌, ◌-◌, ◌*◌, ◌^◌, ◌<◌, ◌≤◌, ◌⊎◌, IfSome, IfNone};
 ghost use Rattle.st_key.specs.declared.point.Point.{Point as PointValue};
 ghost use Rattle.st_box.specs.declared.query.Query.{Query as QueryValue};
 ghost use Rattle.st_box.specs.Query.{is_inside};
@@ -34,7 +34,8 @@ fn start_of(week: u32) -> u64
 
 /// The number of a point. There is none where the point is before the week, or 2^22 - 1 seconds or more after its start.
 pub fn spot_of(point: &Point, week: u32) -> Option<u64>
-    ensures { IfSome result (λ spot. IsSpotOf week spot point.now) }
+    ensures some { IfSome result (λ spot. IsSpotOf week spot point.now) }
+    ensures none { IfNone result ((point.now.t < week * 604800) ⊎ (week * 604800 + (2 ^ 22 - 1) ≤ point.now.t)) }
 {
     let seconds = point.t().checked_sub(start_of(week))?;
     if seconds >= SPAN {
