@@ -20,9 +20,15 @@ use std::time::Clock;
 
 /// A store that is asked over connections, one after another, and a journal of its changes. Each change whose token holds, made or
 /// refused, is in the journal before a byte of its answer is written.
-#[derive(Drop)]
 pub struct DurableService<'a, B: Beginning, J: Journal + Drop, C: Clock> {
     server: Server<Answerer<'a, B, J, C>>,
+}
+
+// Written out, and not derived: a derived drop is proved anew in each crate that owns such a service.
+impl<'a, B: Beginning, J: Journal + Drop, C: Clock> Drop for DurableService<'a, B, J, C> {
+    fn drop(self) {
+        let Self { server: _server } = self;
+    }
 }
 
 impl<'a, B: Beginning, J: Journal + Drop, C: Clock> Model for DurableService<'a, B, J, C> {

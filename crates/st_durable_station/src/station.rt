@@ -25,7 +25,6 @@ pub const HOLD: usize = 16_384;
 /// A desk that serves connections, one after another, and the hall that makes their changes. Contracts see what the desk has seen,
 /// how many changes were made at it and the list that ends with the last of them, the same as it was when it was last settled, and
 /// whether a settling failed.
-#[derive(Drop)]
 pub struct DurableStation<
     'a,
     B: Beginning,
@@ -39,6 +38,19 @@ pub struct DurableStation<
     routes: Routes,
     buffer: Vec<u8>,
     block: Vec<u8>,
+}
+
+// Written out, and not derived: a derived drop is proved anew in each crate that owns such a station.
+impl<'a, B: Beginning, H: HallName, R: Wait + Drop, J: Journal + Drop, C: Clock, W: Wait> Drop
+    for DurableStation<'a, B, H, R, J, C, W> {
+    fn drop(self) {
+        let Self {
+            answerer: _answerer,
+            routes: _routes,
+            buffer: _buffer,
+            block: _block,
+        } = self;
+    }
 }
 
 impl<'a, B: Beginning, H: HallName, R: Wait + Drop, J: Journal + Drop, C: Clock, W: Wait> Model

@@ -33,7 +33,6 @@ pub trait Gate {
 }
 
 /// A worker at a desk, with the clerk and a gate. Contracts see its number, its calls, the longest front that it learnt, and the desk.
-#[derive(Drop)]
 pub struct Worker<'a, H: HallName, R: Wait + Drop, G: Gate> {
     number: u64,
     calls: u64,
@@ -41,6 +40,20 @@ pub struct Worker<'a, H: HallName, R: Wait + Drop, G: Gate> {
     desk: Desk<H>,
     clerk: &'a Mutex<Clerk<H, R>>,
     gate: &'a G,
+}
+
+// Written out, and not derived: a derived drop is proved anew in each crate that owns a worker.
+impl<'a, H: HallName, R: Wait + Drop, G: Gate> Drop for Worker<'a, H, R, G> {
+    fn drop(self) {
+        let Self {
+            number: _number,
+            calls: _calls,
+            learnt: _learnt,
+            desk: _desk,
+            clerk: _clerk,
+            gate: _gate,
+        } = self;
+    }
 }
 
 impl<'a, H: HallName, R: Wait + Drop, G: Gate> Model for Worker<'a, H, R, G> {

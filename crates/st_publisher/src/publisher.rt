@@ -20,7 +20,6 @@ use std::sync::{Mutex, Wait};
 /// A journal and a press. Changes are kept by one append for all that were decided since the last one, and then published. A thread
 /// holds its lock while they are. Contracts see the list as far as an append was given it, the part of it that is kept, the part
 /// that is published, the journal, and whether an append failed.
-#[derive(Drop)]
 pub struct Publisher<B: Beginning, H: HallName, R: Wait + Drop, J: Journal + Drop> {
     press: Press<H, R>,
     journal: J,
@@ -29,6 +28,20 @@ pub struct Publisher<B: Beginning, H: HallName, R: Wait + Drop, J: Journal + Dro
     kept: Front<H>,
     is_lost: bool,
     beginning: PhantomData<B>,
+}
+
+// Written out, and not derived: a derived drop is proved anew in each crate that owns a publisher.
+impl<B: Beginning, H: HallName, R: Wait + Drop, J: Journal + Drop> Drop for Publisher<B, H, R, J> {
+    fn drop(self) {
+        let Self {
+            press: _press,
+            journal: _journal,
+            tried: _tried,
+            kept: _kept,
+            is_lost: _is_lost,
+            beginning: _beginning,
+        } = self;
+    }
 }
 
 impl<B: Beginning, H: HallName, R: Wait + Drop, J: Journal + Drop> Model for Publisher<B, H, R, J> {

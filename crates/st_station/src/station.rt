@@ -25,11 +25,21 @@ use std::marker::Model;
 use std::sync::{Mutex, Wait};
 
 // What answers messages by a worker.
-#[derive(Drop)]
 struct Answerer<'a, H: HallName, R: Wait + Drop, G: Gate, W: Wait> {
     alloc: Global,
     worker: Worker<'a, H, R, G>,
     rt: &'a W,
+}
+
+// Written out, and not derived, as that of a station is.
+impl<'a, H: HallName, R: Wait + Drop, G: Gate, W: Wait> Drop for Answerer<'a, H, R, G, W> {
+    fn drop(self) {
+        let Self {
+            alloc: _alloc,
+            worker: _worker,
+            rt: _rt,
+        } = self;
+    }
 }
 
 impl<'a, H: HallName, R: Wait + Drop, G: Gate, W: Wait> Model for Answerer<'a, H, R, G, W> {
@@ -156,9 +166,15 @@ impl<'a, H: HallName, R: Wait + Drop, G: Gate, W: Wait> Replies for Answerer<'a,
 
 /// A worker who serves connections, one after another. Contracts see it as its post: its number, how many messages it was asked, the
 /// longest front that it learnt, and its desk.
-#[derive(Drop)]
 pub struct Station<'a, H: HallName, R: Wait + Drop, G: Gate, W: Wait> {
     server: Server<Answerer<'a, H, R, G, W>>,
+}
+
+// Written out, and not derived: a derived drop is proved anew in each crate that owns a station.
+impl<'a, H: HallName, R: Wait + Drop, G: Gate, W: Wait> Drop for Station<'a, H, R, G, W> {
+    fn drop(self) {
+        let Self { server: _server } = self;
+    }
 }
 
 impl<'a, H: HallName, R: Wait + Drop, G: Gate, W: Wait> Model for Station<'a, H, R, G, W> {
