@@ -20,8 +20,8 @@ use Rattle.st_scan.specs.Pages.{is_past}
 use Rattle.st_table.specs.Rows.{Held, full_name, is_held, without_row}
 use Rattle.st_dir.specs.Directory.{Directory, has_auth, has_secret, has_system, has_table, is_table, period_of}
 use Rattle.st_dir.specs.Listings.{users_of, tables_of, grants_on}
-use Rattle.st_dir.specs.declared.grant.Scope.TheVariants.{OnTable, OnNamespace}
-use Rattle.st_dir.specs.declared.permission.Permission.{Permission}
+use Rattle.st_grant.specs.declared.grant.Scope.TheVariants.{OnTable, OnNamespace}
+use Rattle.st_grant.specs.declared.permission.Permission.{Permission}
 use Rattle.st_policy.specs.declared.denial.Denial.{Denial}
 use Rattle.st_policy.specs.declared.refusal.Refusal.{Refusal}
 use Rattle.st_policy.specs.declared.request.Request.{Request}

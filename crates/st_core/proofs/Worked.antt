@@ -9,8 +9,8 @@ use Rattle.st_key.specs.declared.period.Period.{Period}
 use Rattle.st_box.specs.declared.query.Query.{Query}
 use Rattle.st_box.specs.inner.Coordinates.{query_of}
 use Rattle.st_index.specs.declared.row.Row.{Row}
-use Rattle.st_dir.specs.declared.permission.Permission.{Permission}
-use Rattle.st_dir.specs.declared.table_permission.TablePermission.{TablePermission}
+use Rattle.st_grant.specs.declared.permission.Permission.{Permission}
+use Rattle.st_grant.specs.declared.table_permission.TablePermission.{TablePermission}
 use Rattle.st_policy.specs.declared.denial.Denial.{Denial}
 use Rattle.st_policy.specs.declared.refusal.Refusal.{Refusal}
 use Rattle.st_policy.specs.declared.request.Request.{Request}

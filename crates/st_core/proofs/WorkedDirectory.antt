@@ -4,10 +4,10 @@ use Rattle.std.specs.Prelude.{codes}
 use Rattle.st_key.specs.declared.period.Period.{Period}
 use Rattle.st_label.specs.inner.Machine.{class_of}
 use Rattle.st_label.specs.Reading.{reading}
-use Rattle.st_dir.specs.Permissions.{system_permissions, table_permissions}
-use Rattle.st_dir.specs.declared.permission.Permission.{Permission}
-use Rattle.st_dir.specs.declared.system_permission.SystemPermission.{SystemPermission}
-use Rattle.st_dir.specs.declared.table_permission.TablePermission.{TablePermission}
+use Rattle.st_grant.specs.Permissions.{system_permissions, table_permissions}
+use Rattle.st_grant.specs.declared.permission.Permission.{Permission}
+use Rattle.st_grant.specs.declared.system_permission.SystemPermission.{SystemPermission}
+use Rattle.st_grant.specs.declared.table_permission.TablePermission.{TablePermission}
 use Rattle.st_policy.specs.declared.denial.Denial.{Denial}
 use Rattle.st_policy.specs.declared.refusal.Refusal.{Refusal}
 use Rattle.st_policy.specs.declared.request.Request.{Request}

@@ -8,8 +8,8 @@ use Rattle.st_key.specs.declared.period.Period.{Period}
 use Rattle.st_box.specs.inner.Coordinates.{query_of}
 use Rattle.st_label.specs.inner.Machine.{class_of}
 use Rattle.st_label.specs.Reading.{reading}
-use Rattle.st_dir.specs.declared.grant.Scope.TheVariants.{OnTable}
-use Rattle.st_dir.specs.declared.permission.Permission.{Permission}
+use Rattle.st_grant.specs.declared.grant.Scope.TheVariants.{OnTable}
+use Rattle.st_grant.specs.declared.permission.Permission.{Permission}
 use Rattle.st_policy.specs.declared.denial.Denial.{Denial}
 use Rattle.st_policy.specs.declared.refusal.Refusal.{Refusal}
 use Rattle.st_policy.specs.declared.request.Request.{Request}

@@ -7,7 +7,7 @@ use Rattle.st_key.specs.Order.{bits_below}
 use Rattle.st_key.specs.declared.period.Period.{Period}
 use Rattle.st_label.specs.inner.Machine.{class_of}
 use Rattle.st_label.specs.Reading.{reading}
-use Rattle.st_dir.specs.declared.table_permission.TablePermission.{TablePermission}
+use Rattle.st_grant.specs.declared.table_permission.TablePermission.{TablePermission}
 use Rattle.st_policy.specs.declared.request.Request.{Request}
 use Rattle.st_core.specs.declared.asked.Asked.{Asked}
 use Rattle.st_core.specs.declared.asked.Call.{Call}

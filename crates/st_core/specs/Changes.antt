@@ -4,8 +4,8 @@ use Rattle.st_text.specs.Texts.{Text}
 use Rattle.st_dir.specs.Directory.{Directory}
 use Rattle.st_dir.specs.Changes.{table_added, table_dropped, constraint_set, period_set, user_added, user_dropped, digest_set, auths_set}
 use Rattle.st_dir.specs.Changes.{system_granted, system_revoked, granted, revoked}
-use Rattle.st_dir.specs.Permissions.{table_permission, system_permission}
-use Rattle.st_dir.specs.declared.grant.Scope.TheVariants.{OnTable, OnNamespace}
+use Rattle.st_grant.specs.Permissions.{table_permission, system_permission}
+use Rattle.st_grant.specs.declared.grant.Scope.TheVariants.{OnTable, OnNamespace}
 use Rattle.st_policy.specs.declared.request.Request.{Request}
 use Rattle.st_policy.specs.declared.request.Request.TheVariants.{Whoami, Tables, Users, User, Grants, NamespaceGrants, Label, Audit, Get}
 use Rattle.st_policy.specs.declared.request.Request.TheVariants.{Scan, Count, Grid, Plan, Put, Delete, CreateTable, DropTable, Constraint}

@@ -13,7 +13,7 @@ use Rattle.st_scan.specs.Grids.{grid_of}
 use Rattle.st_scan.specs.Pages.{is_past}
 use Rattle.st_dir.specs.Directory.{Directory, period_of}
 use Rattle.st_dir.specs.Listings.{who, users_of, tables_of, grants_on}
-use Rattle.st_dir.specs.declared.grant.Scope.TheVariants.{OnTable, OnNamespace}
+use Rattle.st_grant.specs.declared.grant.Scope.TheVariants.{OnTable, OnNamespace}
 use Rattle.st_policy.specs.declared.refusal.Refusal.{Refusal}
 use Rattle.st_policy.specs.declared.request.Request.{Request}
 use Rattle.st_table.specs.Rows.{Held, rows_in_table}

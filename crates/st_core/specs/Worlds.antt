@@ -5,7 +5,7 @@ use Rattle.std.specs.List.{list_any}
 use Rattle.st_text.specs.Texts.{Text, same}
 use Rattle.st_label.specs.Reading.{is_true}
 use Rattle.st_dir.specs.Directory.{Directory, is_table, has_auth, has_system, has_table}
-use Rattle.st_dir.specs.declared.permission.Permission.{Permission}
+use Rattle.st_grant.specs.declared.permission.Permission.{Permission}
 use Rattle.st_policy.specs.declared.request.Request.{Request}
 use Rattle.st_policy.specs.declared.request.Request.TheVariants.{Put, Delete}
 use Rattle.st_policy.specs.Requests.{is_change}

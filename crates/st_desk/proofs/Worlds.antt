@@ -5,7 +5,7 @@ use Rattle.std.specs.List.{list_any}
 use Rattle.std.specs.declared.alloc.Global.{Global}
 use Rattle.st_text.specs.Texts.{Text}
 use Rattle.st_dir.specs.Directory.{Directory, has_system}
-use Rattle.st_dir.specs.declared.permission.Permission.{Permission}
+use Rattle.st_grant.specs.declared.permission.Permission.{Permission}
 use Rattle.st_core.specs.Step.{asks_for_change, step, after}
 use Rattle.st_core.specs.Worlds.{moments, Sight, ever, NeverSystem, names, stays, kept, keep, replies_to}
 use Rattle.st_core.proofs.Steps.{read_leaves}

@@ -4,17 +4,16 @@ use Rattle.std.specs.List.{list_any}
 use Rattle.std.specs.Option.{option_map_or}
 use Rattle.st_text.specs.Texts.{Text, same}
 use Rattle.st_text.proofs.Same.{same-eq}
-use Rattle.st_dir.specs.Changes.{with_grant}
-use Rattle.st_dir.specs.Grants.{same_grant, same_scope}
+use Rattle.st_grant.specs.Grants.{same_grant, same_scope, with_grant}
 use Rattle.st_dir.specs.Directory.{Directory}
 use Rattle.st_dir.specs.Listings.{grants_on, granted_on, held_on}
-use Rattle.st_dir.specs.Order.{grant_key}
+use Rattle.st_grant.specs.Order.{grant_key}
 use Rattle.st_dir.specs.declared.grantee.Grantee.{Grantee}
-use Rattle.st_dir.specs.Permissions.{same_permission}
-use Rattle.st_dir.specs.declared.grant.Grant.{Grant}
-use Rattle.st_dir.specs.declared.grant.Scope.{Scope}
-use Rattle.st_dir.specs.inner.Keys.{grant_own}
-use Rattle.st_dir.proofs.Sets.{any_order}
+use Rattle.st_grant.specs.Permissions.{same_permission}
+use Rattle.st_grant.specs.declared.grant.Grant.{Grant}
+use Rattle.st_grant.specs.declared.grant.Scope.{Scope}
+use Rattle.st_grant.specs.inner.Keys.{grant_own}
+use Rattle.st_grant.proofs.Sets.{any_order}
 use Rattle.st_sorted.proofs.Sorted.{clash}
 
 pub held_with : (g : Grant) (grants : List Grant) → list_any (same_grant g) (with_grant g grants) ≡ true

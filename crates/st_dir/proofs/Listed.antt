@@ -1,5 +1,5 @@
 -- What is granted is in the listing.
-use Rattle.std.proofs.Common.{◌≡◌, List, [], ◌∷◌, map, filter, Bool, true, false, ◌&&◌, refl, sym, ◌∙◌, subst}
+use Rattle.std.proofs.Common.{◌≡◌, List, [], ◌∷◌, filter, Bool, true, false, ◌&&◌, refl, sym, ◌∙◌, subst}
 use Rattle.std.specs.Prelude.{ℕ, nat_eq}
 use Rattle.std.specs.List.{list_any}
 use Rattle.std.proofs.lemmas.Bool.{eqb-true}
@@ -7,16 +7,18 @@ use Rattle.st_text.specs.Texts.{Text, same}
 use Rattle.st_text.proofs.Same.{same-eq}
 use Rattle.st_dir.specs.Changes.{granted}
 use Rattle.st_dir.specs.Directory.{Directory, is_granted}
-use Rattle.st_dir.specs.Grants.{grant_of, same_scope}
+use Rattle.st_grant.specs.Grants.{grant_of, same_scope}
 use Rattle.st_dir.specs.Listings.{granted_on, grants_on, held_on, shows}
-use Rattle.st_dir.specs.Permissions.{place_of, same_permission, table_permission, table_permissions}
-use Rattle.st_dir.specs.declared.grant.Grant.{Grant}
-use Rattle.st_dir.specs.declared.grant.Scope.{Scope}
-use Rattle.st_dir.specs.declared.permission.Permission.{Permission}
-use Rattle.st_dir.specs.declared.table_permission.TablePermission.{TablePermission}
-use Rattle.st_dir.specs.inner.Keys.{and_first, and_second}
+use Rattle.st_grant.specs.Permissions.{place_of, same_permission, table_permission, table_permissions}
+use Rattle.st_grant.specs.declared.grant.Grant.{Grant}
+use Rattle.st_grant.specs.declared.grant.Scope.{Scope}
+use Rattle.st_grant.specs.declared.permission.Permission.{Permission}
+use Rattle.st_grant.specs.declared.table_permission.TablePermission.{TablePermission}
+use Rattle.st_grant.specs.inner.Keys.{and_second}
+use Rattle.st_dir.proofs.Keys.{and_first}
 use Rattle.st_dir.proofs.Laws.{given_of, held_with}
-use Rattle.st_dir.proofs.Sets.{among_set, among_users, list_any-map, users_on}
+use Rattle.st_dir.proofs.Sets.{list_any-map}
+use Rattle.st_grant.proofs.Sets.{among_set, among_users, users_on}
 use Rattle.st_sorted.proofs.Sorted.{clash}
 
 module _ {X : Type 0} (test other : X → Bool) (holds : (x : X) → test x ≡ true → other x ≡ true) where

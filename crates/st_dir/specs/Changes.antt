@@ -1,16 +1,14 @@
 -- How changes change the directory: what is added is put in its place, what is removed is taken out, and all else stays.
 use Rattle.std.specs.Prelude.{ℕ, List, [], ◌∷◌, map, filter, Bool, false, not, if◌then◌else◌}
-use Rattle.std.specs.List.{fold, list_any}
 use Rattle.st_key.specs.declared.period.Period.{Period}
 use Rattle.st_text.specs.Texts.{Text, same, in_order}
 use Rattle.st_dir.specs.Directory.{Directory}
-use Rattle.st_dir.specs.Grants.{grant_of, same_grant, same_scope}
-use Rattle.st_dir.specs.Order.{user_key, table_key, grant_key}
-use Rattle.st_dir.specs.Permissions.{same_permission, table_permissions, listed}
-use Rattle.st_dir.specs.declared.grant.Grant.{Grant}
-use Rattle.st_dir.specs.declared.grant.Scope.{Scope}
-use Rattle.st_dir.specs.declared.grant.Scope.TheVariants.{OnTable}
-use Rattle.st_dir.specs.declared.permission.Permission.{Permission}
+use Rattle.st_grant.specs.Grants.{grant_of, same_grant, same_scope, with_all, with_grant}
+use Rattle.st_dir.specs.Order.{user_key, table_key}
+use Rattle.st_grant.specs.Permissions.{same_permission, listed}
+use Rattle.st_grant.specs.declared.grant.Scope.{Scope}
+use Rattle.st_grant.specs.declared.grant.Scope.TheVariants.{OnTable}
+use Rattle.st_grant.specs.declared.permission.Permission.{Permission}
 use Rattle.st_dir.specs.declared.table.TableInfo.{TableInfo}
 use Rattle.st_dir.specs.declared.user.User.{User}
 
@@ -49,15 +47,6 @@ system_revoked name p d =
     }
 
 -- ---- grants on tables and namespaces
-
--- with the grant among them; nothing changes if it is held already
-abbrev pub with_grant : Grant → List Grant → List Grant
-with_grant g grants = if list_any (same_grant g) grants then grants else in_order grant_key (g ∷ grants)
-
--- with each table permission for the user on the scope
-abbrev pub with_all : (user : Text) → (scope : Scope) → List Grant → List Grant
-with_all user scope grants =
-    fold (λ held p. with_grant (grant_of user scope p) held) grants table_permissions
 
 abbrev pub granted : {A : Type 0} → (user : Text) → (scope : Scope) → (p : Permission) → Directory A → Directory A
 granted user scope p d = record d { grants = with_grant (grant_of user scope p) d.grants }

@@ -6,12 +6,12 @@ use Rattle.sha2.specs.Sha256.{sha256}
 use Rattle.st_key.specs.declared.period.Period.{Period}
 use Rattle.st_text.specs.Texts.{Text, same, is_among}
 use Rattle.st_text.specs.Names.{namespace_of}
-use Rattle.st_dir.specs.Permissions.{same_permission, system_permissions}
-use Rattle.st_dir.specs.Grants.{grant_of, same_grant, all_on}
-use Rattle.st_dir.specs.declared.grant.Grant.{Grant}
-use Rattle.st_dir.specs.declared.grant.Scope.{Scope}
-use Rattle.st_dir.specs.declared.grant.Scope.TheVariants.{OnTable, OnNamespace}
-use Rattle.st_dir.specs.declared.permission.Permission.{Permission}
+use Rattle.st_grant.specs.Permissions.{same_permission, system_permissions}
+use Rattle.st_grant.specs.Grants.{grant_of, same_grant, all_on}
+use Rattle.st_grant.specs.declared.grant.Grant.{Grant}
+use Rattle.st_grant.specs.declared.grant.Scope.{Scope}
+use Rattle.st_grant.specs.declared.grant.Scope.TheVariants.{OnTable, OnNamespace}
+use Rattle.st_grant.specs.declared.permission.Permission.{Permission}
 use Rattle.st_dir.specs.declared.table.TableInfo.{TableInfo}
 use Rattle.st_dir.specs.declared.user.User.{User}
 

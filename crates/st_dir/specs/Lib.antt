@@ -1,10 +1,10 @@
-pub mod Permissions
-pub mod Grants
 pub mod Order
 pub mod Directory
 pub mod Listings
 pub mod Changes
 pub mod inner
+pub use Rattle.st_grant.specs.Permissions
+pub use Rattle.st_grant.specs.Grants
 pub use Rattle.st_sorted.specs.Sorted
 pub use Rattle.st_text.specs.Texts
 pub use Rattle.st_text.specs.Names

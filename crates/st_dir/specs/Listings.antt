@@ -3,13 +3,13 @@ use Rattle.std.specs.Prelude.{Bool, ◌&&◌, List, map, filter, Option, option_
 use Rattle.std.specs.List.{list_any}
 use Rattle.st_text.specs.Texts.{Text, same, in_order, set_of}
 use Rattle.st_dir.specs.Directory.{Directory, user_named, is_granted}
-use Rattle.st_dir.specs.Grants.{same_scope}
+use Rattle.st_grant.specs.Grants.{same_scope}
 use Rattle.st_dir.specs.Order.{user_key, table_key}
-use Rattle.st_dir.specs.Permissions.{listed, same_permission, table_permissions}
+use Rattle.st_grant.specs.Permissions.{listed, same_permission, table_permissions}
 use Rattle.st_dir.specs.declared.account.Account.{Account}
 use Rattle.st_dir.specs.declared.grantee.Grantee.{Grantee}
-use Rattle.st_dir.specs.declared.grant.Scope.{Scope}
-use Rattle.st_dir.specs.declared.permission.Permission.{Permission}
+use Rattle.st_grant.specs.declared.grant.Scope.{Scope}
+use Rattle.st_grant.specs.declared.permission.Permission.{Permission}
 use Rattle.st_dir.specs.declared.table.TableInfo.{TableInfo}
 
 -- a user's account: the authorizations in byte order, each once, and the system permissions in listing order

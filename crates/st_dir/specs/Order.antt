@@ -1,11 +1,6 @@
--- The keys by which users, tables and grants are sorted: users and tables by the bytes of their names; grants by what they
--- are on, tables before namespaces, then by their users, then by their permissions in listing order.
+-- The keys by which users and tables are sorted: by the bytes of their names.
 use Rattle.std.specs.Prelude.{List, [], ◌∷◌}
 use Rattle.st_text.specs.Texts.{Text}
-use Rattle.st_dir.specs.Permissions.{place_of}
-use Rattle.st_dir.specs.declared.grant.Grant.{Grant}
-use Rattle.st_dir.specs.declared.grant.Scope.{Scope}
-use Rattle.st_dir.specs.declared.grant.Scope.TheVariants.{OnTable, OnNamespace}
 use Rattle.st_dir.specs.declared.table.TableInfo.{TableInfo}
 use Rattle.st_dir.specs.declared.user.User.{User}
 
@@ -14,14 +9,3 @@ user_key user = user.name ∷ []
 
 abbrev pub table_key : TableInfo → List Text
 table_key info = info.table ∷ []
-
-abbrev pub scope_kind : Scope → Text
-scope_kind (OnTable t) = 0 ∷ []
-scope_kind (OnNamespace n) = 1 ∷ []
-
-abbrev pub scope_name : Scope → Text
-scope_name (OnTable t) = t
-scope_name (OnNamespace n) = n
-
-abbrev pub grant_key : Grant → List Text
-grant_key g = scope_kind g.scope ∷ scope_name g.scope ∷ g.user ∷ (place_of g.permission ∷ []) ∷ []

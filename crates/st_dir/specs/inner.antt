@@ -1,4 +1,2 @@
 -- Invariants of representations, machines and stages of the code: no reader has to believe what stands here.
-pub mod Keys
-pub mod Names
 pub use Rattle.st_sorted.specs.Places

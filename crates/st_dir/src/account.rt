@@ -1,6 +1,5 @@
 //! Accounts.
-use crate::name::Name;
-use crate::permission::Permission;
+use st_grant::{Name, Permission};
 use st_text::{Items, Words};
 use std::alloc::{Allocator, Global};
 

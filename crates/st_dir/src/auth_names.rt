@@ -2,10 +2,10 @@
 ghost use Rattle.std.specs.Prelude.{◌≡◌, IfOk, OnOk};
 ghost use Rattle.st_text.specs.Texts.{set_of};
 ghost use Rattle.st_sorted.specs.Sorted.{Rises, name_key};
-ghost use Rattle.st_dir.specs.inner.Names.{with_name};
+ghost use Rattle.st_grant.specs.inner.Names.{with_name};
 
-use crate::named::Named;
 use st_auth::Auths;
+use st_grant::Named;
 use st_sorted::{has, place_of};
 use st_text::{Items, Words};
 use std::alloc::{AllocError, Allocator};

@@ -1,6 +1,6 @@
 //! The directory.
 ghost use Rattle.std.specs.Prelude.{◌≡◌, IfOk, option_map};
-ghost use Rattle.st_dir.specs.declared.grant.Scope.TheVariants.{OnNamespace};
+ghost use Rattle.st_grant.specs.declared.grant.Scope.TheVariants.{OnNamespace};
 ghost use Rattle.st_dir.specs.Directory.{user_named, table_named, auths_of, has_secret, has_system, has_table};
 ghost use Rattle.st_dir.specs.Directory.{is_user, is_table, is_granted, constraint_of, first_directory};
 
@@ -11,17 +11,13 @@ mod table_changes;
 mod user_changes;
 
 use crate::directory::first::{first_grants, first_tables, first_users};
-use crate::grant::Scope;
-use crate::grants::Grants;
-use crate::name::Name;
-use crate::permission::Permission;
 use crate::table::TableInfo;
-use crate::table_name::TableName;
 use crate::tables::Tables;
 use crate::user::User;
 use crate::users::Users;
 use sha2::{Digest, Sha256};
 use st_auth::Auths;
+use st_grant::{Grants, Name, Permission, Scope, TableName};
 use st_key::Period;
 use std::alloc::{AllocError, Allocator, Global};
 use std::marker::Model;

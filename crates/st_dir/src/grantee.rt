@@ -1,6 +1,5 @@
 //! Users with what they have been granted.
-use crate::name::Name;
-use crate::permission::Permission;
+use st_grant::{Name, Permission};
 use st_text::Items;
 use std::alloc::{Allocator, Global};
 

@@ -6,11 +6,11 @@ ghost use Rattle.st_sorted.specs.Sorted.{Rises, name_key};
 ghost use Rattle.st_dir.specs.Changes.{granted, user_dropped, table_dropped};
 ghost use Rattle.st_dir.specs.Directory.{Directory, has_table, is_granted};
 ghost use Rattle.st_dir.specs.Listings.{grants_on, shows};
-ghost use Rattle.st_dir.specs.Permissions.{table_permission};
-ghost use Rattle.st_dir.specs.declared.grant.Scope.{Scope};
-ghost use Rattle.st_dir.specs.declared.grant.Scope.TheVariants.{OnTable, OnNamespace};
-ghost use Rattle.st_dir.specs.declared.permission.Permission.{Permission};
-ghost use Rattle.st_dir.specs.declared.table_permission.TablePermission.{TablePermission};
+ghost use Rattle.st_grant.specs.Permissions.{table_permission};
+ghost use Rattle.st_grant.specs.declared.grant.Scope.{Scope};
+ghost use Rattle.st_grant.specs.declared.grant.Scope.TheVariants.{OnTable, OnNamespace};
+ghost use Rattle.st_grant.specs.declared.permission.Permission.{Permission};
+ghost use Rattle.st_grant.specs.declared.table_permission.TablePermission.{TablePermission};
 
 use std::alloc::Allocator;
 

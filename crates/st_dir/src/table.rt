@@ -1,7 +1,7 @@
 //! Tables.
 ghost use Rattle.std.specs.Prelude.{◌≡◌};
 
-use crate::table_name::TableName;
+use st_grant::TableName;
 use st_key::Period;
 
 /// A table: its name, whether its visibility constraint is on, and the length of its time bins.

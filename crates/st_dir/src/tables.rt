@@ -6,8 +6,8 @@ ghost use Rattle.st_dir.specs.Order.{table_key};
 ghost use Rattle.st_sorted.specs.Sorted.{Rises};
 ghost use Rattle.st_dir.specs.declared.table.TableInfo as Declared;
 
-use crate::named::Named;
 use crate::table::TableInfo;
+use st_grant::Named;
 use st_key::Period;
 use st_sorted::{get, place_of, position, remove};
 use st_text::Items;

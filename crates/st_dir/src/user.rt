@@ -1,13 +1,12 @@
 //! Users.
 ghost use Rattle.std.specs.Prelude.{◌≡◌, IfOk};
 ghost use Rattle.st_text.specs.Texts.{set_of};
-ghost use Rattle.st_dir.specs.Permissions.{listed};
+ghost use Rattle.st_grant.specs.Permissions.{listed};
 
 use crate::account::Account;
 use crate::auth_names::each_once;
-use crate::name::Name;
-use crate::system_permissions::SystemPermissions;
 use st_auth::Auths;
+use st_grant::{Name, SystemPermissions};
 use std::alloc::{AllocError, Allocator, Global};
 
 /// A user: the name, the SHA-256 of the secret, the authorizations, and the permissions on the system.

@@ -3,15 +3,13 @@ ghost use Rattle.std.specs.Prelude.{◌≡◌, ◌∷◌, [], None, find, filter
 ghost use Rattle.st_text.specs.Texts.{same, in_order};
 ghost use Rattle.st_dir.specs.Changes.{with_user};
 ghost use Rattle.st_dir.specs.Order.{user_key};
-ghost use Rattle.st_dir.specs.Permissions.{listed, same_permission};
+ghost use Rattle.st_grant.specs.Permissions.{listed, same_permission};
 ghost use Rattle.st_sorted.specs.Sorted.{Rises};
 ghost use Rattle.st_dir.specs.declared.user.User as Declared;
 
-use crate::name::Name;
-use crate::named::Named;
-use crate::permission::Permission;
 use crate::user::User;
 use st_auth::Auths;
+use st_grant::{Name, Named, Permission};
 use st_sorted::{get, place_of, position, remove};
 use st_text::Items;
 use std::alloc::{AllocError, Allocator, Global};

@@ -10,9 +10,9 @@ use Rattle.st_key.specs.declared.period.Period.{Period}
 use Rattle.st_key.specs.declared.period.Period.TheVariants.{Day, Week}
 use Rattle.st_key.specs.declared.place.Place.{Place}
 use Rattle.st_text.specs.Texts.{Text, same}
-use Rattle.st_dir.specs.Permissions.{table_permission_named, system_permission_named}
-use Rattle.st_dir.specs.declared.system_permission.SystemPermission.{SystemPermission}
-use Rattle.st_dir.specs.declared.table_permission.TablePermission.{TablePermission}
+use Rattle.st_grant.specs.Permissions.{table_permission_named, system_permission_named}
+use Rattle.st_grant.specs.declared.system_permission.SystemPermission.{SystemPermission}
+use Rattle.st_grant.specs.declared.table_permission.TablePermission.{TablePermission}
 use Rattle.st_policy.specs.Periods.{period_name}
 use Rattle.st_json.specs.declared.value.Bounds.{Bounds}
 

@@ -14,8 +14,8 @@ use Rattle.st_label.specs.Reading.{IsLabel}
 use Rattle.st_label.specs.Refusals.{max_len}
 use Rattle.st_label.specs.Faults.{RefusesLabel}
 use Rattle.st_label.specs.declared.label.LabelFault.TheVariants as fault
-use Rattle.st_dir.specs.declared.system_permission.SystemPermission.{SystemPermission}
-use Rattle.st_dir.specs.declared.table_permission.TablePermission.{TablePermission}
+use Rattle.st_grant.specs.declared.system_permission.SystemPermission.{SystemPermission}
+use Rattle.st_grant.specs.declared.table_permission.TablePermission.{TablePermission}
 use Rattle.st_policy.specs.Refusals.{field_text}
 use Rattle.st_policy.specs.declared.field_name.FieldName.{FieldName}
 use Rattle.st_policy.specs.declared.field_name.FieldName.TheVariants as names

@@ -6,7 +6,7 @@ use Rattle.st_index.specs.declared.row.Row.{Row}
 use Rattle.st_plan.specs.declared.part_plan.PartPlan.{PartPlan}
 use Rattle.st_dir.specs.declared.account.Account.{Account}
 use Rattle.st_dir.specs.declared.grantee.Grantee.{Grantee}
-use Rattle.st_dir.specs.declared.permission.Permission.{Permission}
+use Rattle.st_grant.specs.declared.permission.Permission.{Permission}
 use Rattle.st_policy.specs.declared.denial.Denial.{Denial}
 use Rattle.st_policy.specs.declared.refusal.Refusal.{Refusal}
 use Rattle.st_policy.specs.declared.reply.Reply.{Reply}

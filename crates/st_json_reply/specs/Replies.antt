@@ -8,10 +8,10 @@ use Rattle.st_key.specs.declared.point.Point.{Point}
 use Rattle.st_index.specs.declared.row.Row.{Row}
 use Rattle.st_plan.specs.declared.part_plan.PartPlan.{PartPlan}
 use Rattle.st_plan.specs.declared.range.Range.{Range}
-use Rattle.st_dir.specs.Permissions.{permission_name}
+use Rattle.st_grant.specs.Permissions.{permission_name}
 use Rattle.st_dir.specs.declared.account.Account.{Account}
 use Rattle.st_dir.specs.declared.grantee.Grantee.{Grantee}
-use Rattle.st_dir.specs.declared.permission.Permission.{Permission}
+use Rattle.st_grant.specs.declared.permission.Permission.{Permission}
 use Rattle.st_dir.specs.declared.table.TableInfo.{TableInfo}
 use Rattle.st_policy.specs.Periods.{period_name}
 use Rattle.st_policy.specs.declared.entry.Entry.{Entry}

@@ -4,8 +4,8 @@ use Rattle.std.specs.Prelude.{Option, Some, None, find, option_map, Result, Ok, 
 use Rattle.st_text.specs.Texts.{Text, same}
 use Rattle.st_label.specs.Reading.{is_true}
 use Rattle.st_dir.specs.Directory.{Directory, is_table, is_user, is_granted, has_auth, has_system, has_table, is_constrained}
-use Rattle.st_dir.specs.declared.grant.Scope.TheVariants.{OnNamespace}
-use Rattle.st_dir.specs.declared.permission.Permission.{Permission}
+use Rattle.st_grant.specs.declared.grant.Scope.TheVariants.{OnNamespace}
+use Rattle.st_grant.specs.declared.permission.Permission.{Permission}
 use Rattle.st_policy.specs.declared.denial.Denial.{Denial}
 use Rattle.st_policy.specs.declared.refusal.Refusal.{Refusal}
 use Rattle.st_policy.specs.declared.refusal.Refusal.TheVariants.{NoTable, NoUser, TableExists, UserExists, Denied}

@@ -2,7 +2,7 @@
 ghost use Rattle.std.specs.Prelude.{◌≡◌, None, true, false, IfOk};
 ghost use Rattle.st_dir.specs.Directory.{is_table};
 ghost use Rattle.st_dir.specs.Listings.{grants_on};
-ghost use Rattle.st_dir.specs.declared.grant.Scope.TheVariants.{OnTable};
+ghost use Rattle.st_grant.specs.declared.grant.Scope.TheVariants.{OnTable};
 ghost use Rattle.st_policy.specs.Policy.{refusal_of};
 ghost use Rattle.st_policy.specs.Requests.{is_change, table_of};
 ghost use Rattle.st_core.specs.Reads.{account, shown};

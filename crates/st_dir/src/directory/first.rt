@@ -1,20 +1,16 @@
 //! The directory that a server begins with.
 ghost use Rattle.std.specs.Prelude.{◌≡◌, ◌∷◌, [], IfOk, false, codes};
-ghost use Rattle.st_dir.specs.Permissions.{system_permissions};
-ghost use Rattle.st_dir.specs.Grants.{all_on};
-ghost use Rattle.st_dir.specs.declared.grant.Scope.TheVariants.{OnTable};
+ghost use Rattle.st_grant.specs.Permissions.{system_permissions};
+ghost use Rattle.st_grant.specs.Grants.{all_on};
+ghost use Rattle.st_grant.specs.declared.grant.Scope.TheVariants.{OnTable};
 ghost use Rattle.st_key.specs.declared.period.Period as Period;
 
-use crate::grant::Scope;
-use crate::grants::Grants;
-use crate::name::Name;
-use crate::system_permissions::SystemPermissions;
 use crate::table::TableInfo;
-use crate::table_name::TableName;
 use crate::tables::Tables;
 use crate::user::User;
 use crate::users::Users;
 use st_auth::Auths;
+use st_grant::{Grants, Name, Scope, SystemPermissions, TableName};
 use st_key::Period;
 use std::alloc::{AllocError, Allocator};
 

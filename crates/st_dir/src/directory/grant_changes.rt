@@ -2,17 +2,13 @@
 ghost use Rattle.std.specs.Prelude.{◌≡◌, true, false, Err, IfErr, IsOk, OnOk, OnErr};
 ghost use Rattle.st_dir.specs.Changes.{granted, revoked};
 ghost use Rattle.st_dir.specs.Directory.{is_user, is_table};
-ghost use Rattle.st_dir.specs.Permissions.{table_permission};
+ghost use Rattle.st_grant.specs.Permissions.{table_permission};
 ghost use Rattle.st_dir.specs.declared.fault.DirectoryFault.TheVariants.{NoUser, NoTable, NoMemory};
-ghost use Rattle.st_dir.specs.declared.grant.Scope.TheVariants.{OnTable, OnNamespace};
+ghost use Rattle.st_grant.specs.declared.grant.Scope.TheVariants.{OnTable, OnNamespace};
 
 use crate::directory::Directory;
 use crate::fault::DirectoryFault;
-use crate::grant::{Grant, Scope};
-use crate::name::Name;
-use crate::permission::Permission;
-use crate::table_name::TableName;
-use crate::table_permission::TablePermission;
+use st_grant::{Grant, Name, Permission, Scope, TableName, TablePermission};
 use std::alloc::Allocator;
 
 impl<A: Allocator> Directory<A> {

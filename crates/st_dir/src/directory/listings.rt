@@ -3,17 +3,15 @@ ghost use Rattle.std.specs.Prelude.{◌≡◌, false, true, map, Err, IfOk, IfEr
 ghost use Rattle.st_dir.specs.Directory.{is_table};
 ghost use Rattle.st_dir.specs.Listings.{who, users_of, tables_of, held_on, grants_on};
 ghost use Rattle.st_dir.specs.declared.fault.DirectoryFault.TheVariants.{NoTable, NoMemory};
-ghost use Rattle.st_dir.specs.declared.grant.Scope.TheVariants.{OnTable, OnNamespace};
+ghost use Rattle.st_grant.specs.declared.grant.Scope.TheVariants.{OnTable, OnNamespace};
 
 use crate::account::Account;
 use crate::directory::Directory;
 use crate::fault::DirectoryFault;
-use crate::grant::Scope;
 use crate::grantee::Grantee;
-use crate::name::Name;
 use crate::table::TableInfo;
-use crate::table_name::TableName;
 use st_auth::Auths;
+use st_grant::{Name, Scope, TableName};
 use st_text::Items;
 use std::alloc::{AllocError, Allocator};
 

@@ -6,10 +6,8 @@ ghost use Rattle.st_dir.specs.declared.fault.DirectoryFault.TheVariants.{NoUser,
 
 use crate::directory::Directory;
 use crate::fault::DirectoryFault;
-use crate::grant::Scope;
-use crate::name::Name;
 use crate::table::TableInfo;
-use crate::table_name::TableName;
+use st_grant::{Name, Scope, TableName};
 use st_key::Period;
 use std::alloc::Allocator;
 

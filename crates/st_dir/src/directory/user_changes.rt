@@ -2,16 +2,14 @@
 ghost use Rattle.std.specs.Prelude.{◌≡◌, [], true, false, Err, IfErr, IsOk, OnOk, OnErr};
 ghost use Rattle.st_dir.specs.Changes.{user_added, user_dropped, digest_set, auths_set, system_granted, system_revoked};
 ghost use Rattle.st_dir.specs.Directory.{is_user};
-ghost use Rattle.st_dir.specs.Permissions.{system_permission};
+ghost use Rattle.st_grant.specs.Permissions.{system_permission};
 ghost use Rattle.st_dir.specs.declared.fault.DirectoryFault.TheVariants.{NoUser, UserExists, NoMemory};
 
 use crate::directory::Directory;
 use crate::fault::DirectoryFault;
-use crate::name::Name;
-use crate::system_permission::SystemPermission;
-use crate::system_permissions::SystemPermissions;
 use crate::user::User;
 use st_auth::Auths;
+use st_grant::{Name, SystemPermission, SystemPermissions};
 use std::alloc::Allocator;
 
 // A user without permissions.

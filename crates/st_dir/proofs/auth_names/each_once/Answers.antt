@@ -6,7 +6,8 @@ use Rattle.st_text.specs.Texts.{same, is_among}
 use Rattle.st_auth.specs.Order.{name_at}
 use Rattle.st_auth.proofs.Search.{places_inside}
 use Rattle.st_sorted.specs.Sorted.{Rises, name_key}
-use Rattle.st_dir.proofs.Sets.{among_with, at_any_default, met_in_order, rises_with}
+use Rattle.st_grant.proofs.Sets.{among_with, rises_with}
+use Rattle.st_dir.proofs.Sets.{at_any_default, met_in_order}
 use Rattle.st_dir.proofs.auth_names.each_once.Goals as goal
 
 pub get-requires : goal.get-requires

@@ -1,8 +1,9 @@
 use Rattle.st_text.specs.Texts.{same}
-use Rattle.st_dir.specs.Grants.{same_grant, same_scope}
-use Rattle.st_dir.specs.Permissions.{same_permission}
-use Rattle.st_dir.specs.declared.grant.Scope.TheVariants.{OnTable}
-use Rattle.st_dir.specs.inner.Keys.{none_left, and_second}
+use Rattle.st_grant.specs.Grants.{same_grant, same_scope}
+use Rattle.st_grant.specs.Permissions.{same_permission}
+use Rattle.st_grant.specs.declared.grant.Scope.TheVariants.{OnTable}
+use Rattle.st_grant.specs.inner.Keys.{and_second}
+use Rattle.st_dir.proofs.Keys.{none_left}
 use Rattle.st_dir.proofs.law.dropped_tables_have_no_grants.Goals as goal
 
 pub returns : goal.returns

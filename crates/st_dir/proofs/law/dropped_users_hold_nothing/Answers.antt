@@ -1,8 +1,8 @@
 use Rattle.std.proofs.Common.{◌&&◌}
 use Rattle.st_text.specs.Texts.{same}
-use Rattle.st_dir.specs.Grants.{same_grant, same_scope}
-use Rattle.st_dir.specs.Permissions.{same_permission}
-use Rattle.st_dir.specs.inner.Keys.{none_left, and_first, same_sym}
+use Rattle.st_grant.specs.Grants.{same_grant, same_scope}
+use Rattle.st_grant.specs.Permissions.{same_permission}
+use Rattle.st_dir.proofs.Keys.{none_left, and_first, same_sym}
 use Rattle.st_dir.proofs.law.dropped_users_hold_nothing.Goals as goal
 
 pub returns : goal.returns

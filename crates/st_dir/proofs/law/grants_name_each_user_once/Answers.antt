@@ -1,8 +1,8 @@
 use Rattle.std.proofs.Common.{map, filter, sym, subst}
-use Rattle.st_dir.specs.Grants.{same_scope}
+use Rattle.st_grant.specs.Grants.{same_scope}
 use Rattle.st_sorted.specs.Sorted.{Rises, name_key}
 use Rattle.st_dir.proofs.Laws.{named_back}
-use Rattle.st_dir.proofs.Sets.{rises_set}
+use Rattle.st_grant.proofs.Sets.{rises_set}
 use Rattle.st_dir.proofs.law.grants_name_each_user_once.Goals as goal
 
 pub returns : goal.returns

@@ -2,10 +2,10 @@ use Rattle.std.proofs.Common.{false, ap, ◌∙◌}
 use Rattle.std.specs.List.{list_any}
 use Rattle.std.specs.Option.{option_map_or}
 use Rattle.st_text.specs.Names.{namespace_of}
-use Rattle.st_dir.specs.Changes.{with_grant}
-use Rattle.st_dir.specs.Grants.{same_grant}
-use Rattle.st_dir.specs.declared.grant.Grant.{Grant}
-use Rattle.st_dir.specs.declared.grant.Scope.TheVariants.{OnTable, OnNamespace}
+use Rattle.st_grant.specs.Grants.{with_grant}
+use Rattle.st_grant.specs.Grants.{same_grant}
+use Rattle.st_grant.specs.declared.grant.Grant.{Grant}
+use Rattle.st_grant.specs.declared.grant.Scope.TheVariants.{OnTable, OnNamespace}
 use Rattle.st_dir.proofs.Laws.{held_with, or_true}
 use Rattle.st_dir.proofs.law.namespace_grants_hold.Goals as goal
 

@@ -1,10 +1,10 @@
 use Rattle.std.proofs.Common.{◌||◌, Some, refl, ap, ◌∙◌}
 use Rattle.std.specs.List.{list_any}
 use Rattle.st_text.specs.Names.{namespace_of}
-use Rattle.st_dir.specs.Changes.{with_grant}
-use Rattle.st_dir.specs.Grants.{same_grant}
-use Rattle.st_dir.specs.declared.grant.Grant.{Grant}
-use Rattle.st_dir.specs.declared.grant.Scope.TheVariants.{OnTable, OnNamespace}
+use Rattle.st_grant.specs.Grants.{with_grant}
+use Rattle.st_grant.specs.Grants.{same_grant}
+use Rattle.st_grant.specs.declared.grant.Grant.{Grant}
+use Rattle.st_grant.specs.declared.grant.Scope.TheVariants.{OnTable, OnNamespace}
 use Rattle.st_dir.proofs.Laws.{others_with, other_scope, other_name, by_namespace}
 use Rattle.st_dir.proofs.law.namespace_grants_hold_nowhere_else.Goals as goal
 

@@ -1,7 +1,7 @@
 use Rattle.std.proofs.Common.{Some, option_map, ap, sym, ◌∙◌}
 use Rattle.st_text.specs.Texts.{set_of}
 use Rattle.st_dir.specs.Directory.{user_named}
-use Rattle.st_dir.specs.Permissions.{listed}
+use Rattle.st_grant.specs.Permissions.{listed}
 use Rattle.st_dir.specs.declared.user.User.{User}
 use Rattle.st_dir.proofs.directory.Directory.who.Goals as goal
 

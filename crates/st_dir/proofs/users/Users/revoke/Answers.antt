@@ -3,7 +3,7 @@ use Rattle.std.specs.Prelude.{slice_set}
 use Rattle.st_text.specs.Texts.{same}
 use Rattle.st_dir.specs.Changes.{with_user}
 use Rattle.st_dir.specs.Order.{user_key}
-use Rattle.st_dir.specs.Permissions.{same_permission}
+use Rattle.st_grant.specs.Permissions.{same_permission}
 use Rattle.st_dir.specs.declared.user.User.{User}
 use Rattle.st_sorted.specs.Sorted.{Rises}
 use Rattle.st_dir.proofs.Setting.{set_there, set_rises}

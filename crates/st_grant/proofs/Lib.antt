@@ -1,0 +1,2 @@
+pub mod Sets
+mod Order

@@ -1,0 +1,3 @@
+-- Invariants of representations, machines and stages of the code: no reader has to believe what stands here.
+pub mod Keys
+pub mod Names
