@@ -6,10 +6,11 @@ ghost use Rattle.sqlite_store.specs.FileStore.{view, recovers};
 ghost use Rattle.st_journal_rows.specs.Table.{changes_in};
 ghost use Rattle.st_journal_rows.specs.Ready.{HasTable, IsReady};
 
+use crate::rows::put_behind;
 use sqlite_disk::Disk;
 use sqlite_store::FileStore;
 use st_journal::{AppendError, Journal, ReadBack, ReadError, Record};
-use st_journal_rows::{MOST, OpenError, finish, mend, put_all, read_from};
+use st_journal_rows::{MOST, OpenError, read_back};
 use std::alloc::Global;
 
 /// A journal in the table of a store. An append is one transaction, whose commit is synced once
@@ -47,8 +48,7 @@ impl<D: Disk + Drop> Journal for FileJournal<D> {
         if self.count > MOST || added > MOST {
             return Err(AppendError::NotKept);
         }
-        let written = put_all(&mut self.store, self.alloc, self.count, records);
-        finish(&mut self.store, written)?;
+        put_behind(&mut self.store, self.alloc, self.count, self.count, records)?;
         self.count += added;
         Ok(())
     }
@@ -59,10 +59,7 @@ impl<D: Disk + Drop> ReadBack for FileJournal<D> {
         if from >= MOST || most as u64 > MOST {
             return Err(ReadError::NotRead);
         }
-        match read_from(&mut self.store, self.alloc, from + 1, most) {
-            Ok(records) => Ok(records),
-            Err(_) => Err(mend(&mut self.store)),
-        }
+        read_back(&mut self.store, self.alloc, from + 1, most)
     }
 }
 

@@ -6,6 +6,7 @@ mod journal;
 pub mod law;
 mod open;
 mod rewrite;
+mod rows;
 
 pub use journal::FileJournal;
 pub use st_journal_rows::OpenError;

@@ -3,9 +3,10 @@ ghost use Rattle.std.specs.Prelude.{◌≡◌, ◌≢◌, ◌⊎◌, ◌≤◌, 
 ghost use Rattle.st_journal.specs.declared.record.Record.{Record};
 
 use crate::journal::FileJournal;
+use crate::rows::put_behind;
 use sqlite_disk::Disk;
 use st_journal::{AppendError, Journal, Record};
-use st_journal_rows::{MOST, finish, replace_all};
+use st_journal_rows::MOST;
 
 impl<D: Disk + Drop> FileJournal<D> {
     /// Puts the records in place of the list, all of them or none, and returns once they would outlast a crash. They are numbered
@@ -27,8 +28,7 @@ impl<D: Disk + Drop> FileJournal<D> {
         if self.count == 0 || self.count > MOST || added > MOST {
             return Err(AppendError::NotKept);
         }
-        let written = replace_all(&mut self.store, self.alloc, self.count, records);
-        finish(&mut self.store, written)?;
+        put_behind(&mut self.store, self.alloc, self.count, 1, records)?;
         self.count = 1 + added;
         Ok(())
     }

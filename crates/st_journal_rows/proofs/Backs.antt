@@ -1,6 +1,6 @@
 -- Rows of the table, read one by one by their numbers.
-use Rattle.std.proofs.Common.{◌≡◌, ◌<◌, ◌≤◌, ◌+◌, ℕ, zero, suc, pos, true, false, List, [], ◌∷◌, ◌++◌, Some, None, map, filter, drop, take, slice_get, get_or, length, refl, sym, ap, subst, ◌∙◌, arith, Less, Equal, Greater}
-use Rattle.std.specs.Prelude.{Option, if◌then◌else◌}
+use Rattle.std.proofs.Common.{◌≡◌, ◌<◌, ◌≤◌, ◌+◌, ℕ, zero, suc, pos, true, false, List, [], ◌∷◌, ◌++◌, Some, None, map, filter, drop, take, slice_get, get_or, length, refl, sym, ap, ◌∙◌, arith, Equal, Greater}
+use Rattle.std.specs.Prelude.{Option}
 use Rattle.std.proofs.lemmas.Int.{ints}
 use Rattle.std.proofs.lemmas.List.{take_more}
 use Rattle.std.specs.Cmp.{int_cmp_is}
@@ -10,7 +10,7 @@ use Rattle.sqlite_value.proofs.OrderLemmas.{value_cmp-Int}
 use Rattle.sqlite_trees.specs.Tree.{has_rowid}
 use Rattle.sqlite_trees.specs.View.{Finds}
 use Rattle.st_journal.specs.declared.record.Record.{Record}
-use Rattle.st_journal_rows.specs.Table.{row_of, rows_from, record_in, changes_in, records_in}
+use Rattle.st_journal_rows.specs.Table.{row_of, rows_from, record_in}
 use Rattle.st_journal_rows.proofs.RowLemmas.{below}
 
 even : (m n : ℕ) → m ≡ n → value_cmp (Int (pos m)) (Int (pos n)) ≡ Equal

@@ -1,5 +1,5 @@
 -- A transaction that was committed, and one that a crash cut off.
-use Rattle.std.proofs.Common.{◌≡◌, ◌≢◌, ◌+◌, ◌<◌, Ok, Err, OnOk, Result, ℕ, Bool, true, false, List, [], ◌∷◌, ◌++◌, map, drop, length, IsTrue, refl, sym, ap, subst, ◌∙◌, arith, length-append}
+use Rattle.std.proofs.Common.{◌≡◌, ◌≢◌, ◌<◌, Ok, Err, OnOk, Result, ℕ, Bool, true, false, List, [], ◌∷◌, map, length, IsTrue, refl, sym, ap, subst, ◌∙◌, arith}
 use Rattle.std.proofs.lemmas.Bool.Decides.{nat_tests}
 use Rattle.sqlite_value.specs.Order.{Row}
 use Rattle.sqlite_trees.specs.Tree.{Trees, with_tree}
@@ -8,22 +8,13 @@ use Rattle.sqlite_trees.specs.View.{View, IsClean, Commits, KeepsCommitted, IsRo
 use Rattle.st_journal.specs.declared.record.Record.{Record}
 use Rattle.st_journal.specs.declared.journal.AppendError.{AppendError}
 use Rattle.st_journal.specs.declared.journal.AppendError.TheVariants.{NotKept, Unknown}
-use Rattle.st_journal_rows.specs.Table.{table_tree, rows_from, record_in, records_in, changes_in}
-use Rattle.st_journal_rows.specs.Ready.{Adds, ListsTable, HasTable, HasRows, IsReady}
+use Rattle.st_journal_rows.specs.Table.{table_tree, rows_from, record_in, records_in}
+use Rattle.st_journal_rows.specs.Ready.{ListsTable, HasTable, HasRows, IsReady}
+use Rattle.st_journal_rows.specs.inner.Writes.{Adds}
 use Rattle.st_journal_rows.proofs.RowLemmas.{listed}
 
 pub records_of : (v : View) (records : List Record) → HasRows v records → records_in v.trees ≡ records
 records_of v records has = ap (map record_in) has.rows ∙ listed 0 records
-
--- records behind those of the table
-pub added : (old mid : View) (count : ℕ) (more : List Record) → IsReady old count → Adds old mid count more → HasRows mid (records_in old.trees ++ more)
-added old mid count more ready adds = record {
-  sound = ap (λ (v : View). v.is_broken) adds.frame ∙ ready.rows.sound;
-  numbered = subst IsTrue (sym (ap (λ (v : View). v.is_numbered) adds.frame)) ready.rows.numbered;
-  listed = adds.others catalog_tree (λ e. absurd (omega (arith, e))) ∙ ready.rows.listed;
-  shape = ap (λ (v : View). v.shape table_tree) adds.frame ∙ ready.rows.shape;
-  rows = adds.rows (records_in old.trees) (sym ready.counted) ready.rows.rows;
-}
 
 pub open_of : (is_open is_broken : Bool) → (is_open ≡ false → IsTrue is_broken) → is_broken ≡ false → IsTrue is_open
 open_of true is_broken law sound = refl
@@ -50,22 +41,6 @@ committed mid new records count has counted some law commits =
       counted = counted ∙ ap length (sym same);
       some = some;
     }
-
-pub length_added : (old : View) (count : ℕ) (more : List Record) → IsReady old count → count + length more ≡ length (records_in old.trees ++ more)
-length_added old count more ready = omega (arith, ready.counted, length-append (records_in old.trees) more)
-
--- the first record is no change, and records go behind it
-drop_first : (a b : List Record) → 0 < length a → drop 1 (a ++ b) ≡ drop 1 a ++ b
-drop_first [] b some = absurd (omega (arith, some))
-drop_first (x ∷ a) b some = refl
-
--- the changes of a view with records behind those of the ready one
-pub changes_added : (old : View) (count : ℕ) (more : List Record) (trees : Trees) → IsReady old count → records_in trees ≡ records_in old.trees ++ more
-    → changes_in trees ≡ changes_in old.committed ++ more
-changes_added old count more trees ready is =
-    ap (drop 1) is
-    ∙ drop_first (records_in old.trees) more (omega (arith, ready.counted, ready.some))
-    ∙ ap (λ (t : Trees). changes_in t ++ more) ready.settled
 
 -- records that were committed into an empty table
 pub committed_records : (mid new : View) (records : List Record) → HasRows mid records → Commits mid new → records_in new.committed ≡ records
@@ -96,14 +71,13 @@ pub ready_table : (v : View) (count : ℕ) → IsReady v count → HasTable v.co
 ready_table v count ready =
     subst HasTable ready.settled (has_table v.trees (records_in v.trees) ready.rows.listed ready.rows.rows (omega (arith, ready.counted, ready.some)))
 
--- the table with records behind those that it had
-pub added_table : (old mid : View) (count : ℕ) (more : List Record) → IsReady old count → HasRows mid (records_in old.trees ++ more) → HasTable mid.trees
-added_table old mid count more ready has =
-    has_table mid.trees (records_in old.trees ++ more) has.listed has.rows (omega (arith, ready.counted, ready.some, length-append (records_in old.trees) more))
-
 pub on_ok : {X E P Q : Type 0} (r : Result X E) → (P → Q) → OnOk r P → OnOk r Q
 on_ok (Ok x) so h = so h
 on_ok (Err e) so h = h
+
+pub on_both : {X E P Q R : Type 0} (r : Result X E) → (P → Q → R) → OnOk r P → OnOk r Q → OnOk r R
+on_both (Ok x) so h q = so h q
+on_both (Err e) so h q = h
 
 -- what was written is undone, so that the table is as it was
 pub rolled_back : (old mid new : View) (count : ℕ) → IsReady old count → KeepsCommitted old mid → IsRolledBack mid new → IsClean new

@@ -11,7 +11,7 @@ use Rattle.sqlite_trees.specs.Tree.{put_row}
 use Rattle.sqlite_trees.specs.View.{View, OnlyWrites, SetsTree}
 use Rattle.st_journal.specs.declared.record.Record.{Record}
 use Rattle.st_journal_rows.specs.Table.{table_tree, row_of, rows_from, record_in}
-use Rattle.st_journal_rows.specs.Ready.{Adds}
+use Rattle.st_journal_rows.specs.inner.Writes.{Adds}
 use Rattle.st_journal_rows.proofs.ViewLemmas.{writes_then}
 
 pub below : (m n : ℕ) → m < n → value_cmp (Int (pos m)) (Int (pos n)) ≡ Less

@@ -1,3 +1,4 @@
 pub mod Table
 pub mod Ready
 pub mod Begins
+pub mod inner

@@ -1,33 +1,14 @@
--- A store that has the table, and what is written there.
-use Rattle.std.specs.Prelude.{◌≡◌, ◌≢◌, ◌<◌, ℕ, false, List, ◌++◌, length, take, IsTrue}
+-- A store that has the table, and what comes of writing there.
+use Rattle.std.specs.Prelude.{◌≡◌, ◌⊎◌, ◌<◌, ◌≤◌, ◌+◌, ℕ, false, Result, Err, List, ◌++◌, length, take, IsTrue, OnOk}
 use Rattle.sqlite_trees.specs.declared.store.Shape.TheVariants.{Table}
 use Rattle.sqlite_trees.specs.Tree.{Trees}
 use Rattle.sqlite_trees.specs.Objects.{catalog_tree}
-use Rattle.sqlite_trees.specs.View.{View, OnlyWrites}
+use Rattle.sqlite_trees.specs.View.{View, doubt, IsClean}
 use Rattle.sqlite_store.specs.Listing.{listed_from}
 use Rattle.st_journal.specs.declared.record.Record.{Record}
+use Rattle.st_journal.specs.declared.journal.AppendError.{AppendError}
+use Rattle.st_journal.specs.declared.journal.AppendError.TheVariants.{NotKept}
 use Rattle.st_journal_rows.specs.Table.{table_tree, rows_from, records_in, schema}
-
--- Only the table differs. Where it had so many rows of records, it has these behind them.
-pub record Adds (old new : View) (count : ℕ) (more : List Record) : Type 0 where
-  pub frame : OnlyWrites old new
-  pub others : (t : ℕ) → t ≢ table_tree → new.trees t ≡ old.trees t
-  pub rows : (records : List Record) → length records ≡ count → old.trees table_tree ≡ rows_from 0 records
-      → new.trees table_tree ≡ rows_from 0 (records ++ more)
-
--- Only the table differs. Where it had so many rows of records, it has so many of the first of them.
-pub record Trims (old new : View) (count left : ℕ) : Type 0 where
-  pub frame : OnlyWrites old new
-  pub others : (t : ℕ) → t ≢ table_tree → new.trees t ≡ old.trees t
-  pub rows : (records : List Record) → length records ≡ count → old.trees table_tree ≡ rows_from 0 records
-      → new.trees table_tree ≡ rows_from 0 (take left records)
-
--- Only the table differs. Where it had so many rows of records, it has these behind the first.
-pub record Replaces (old new : View) (count : ℕ) (more : List Record) : Type 0 where
-  pub frame : OnlyWrites old new
-  pub others : (t : ℕ) → t ≢ table_tree → new.trees t ≡ old.trees t
-  pub rows : (records : List Record) → length records ≡ count → old.trees table_tree ≡ rows_from 0 records
-      → new.trees table_tree ≡ rows_from 0 (take 1 records ++ more)
 
 -- the database lists the table, and nothing else
 abbrev pub ListsTable : Trees → Type 0
@@ -54,3 +35,17 @@ pub record IsReady (v : View) (count : ℕ) : Type 0 where
   pub rows : HasRows v (records_in v.trees)
   pub counted : count ≡ length (records_in v.trees)
   pub some : 0 < count
+
+-- What comes of putting records behind the first `kept` of so many, in place of the others: all of it is done, or nothing.
+pub record PutsBehind {S X : Type 0} (view : S → View) (recovers : S → Trees → Type 0) (old new : S) (count kept : ℕ) (more : List Record)
+    (result : Result X AppendError) : Type 0 where
+  pub clean : doubt (view old).is_clean ≤ doubt (view new).is_clean
+  pub numbered : IsClean (view new) → (view new).is_numbered ≡ (view old).is_numbered
+  pub ready : OnOk result (IsClean (view new) → IsReady (view new) (kept + length more))
+  pub put : OnOk result (IsClean (view new) → records_in (view new).committed ≡ take kept (records_in (view old).committed) ++ more)
+  pub goes_on : IsClean (view new) → result ≡ Err NotKept → IsReady (view new) count
+  pub not_kept : IsClean (view new) → result ≡ Err NotKept → records_in (view new).committed ≡ records_in (view old).committed
+  -- what a crash leaves
+  pub table : IsClean (view new) → (db : Trees) → recovers new db → HasTable db
+  pub left : IsClean (view new) → (db : Trees) → recovers new db
+      → (records_in db ≡ records_in (view old).committed) ⊎ (records_in db ≡ take kept (records_in (view old).committed) ++ more)

@@ -1,9 +1,10 @@
 //! Rows of the table, read back as records.
-ghost use Rattle.std.specs.Prelude.{◌≡◌, ◌≢◌, ◌≤◌, ◌<◌, ◌+◌, ◌^◌, false, Err, List, IsTrue, IfOk, OnOk, OnErr, drop, take, slice_get};
+ghost use Rattle.std.specs.Prelude.{◌≡◌, ◌≢◌, ◌≤◌, ◌<◌, ◌+◌, ◌^◌, ℕ, false, Err, List, IsTrue, IfOk, OnOk, OnErr, drop, take, slice_get};
 ghost use Rattle.st_journal.specs.declared.record.Record.{Record};
 ghost use Rattle.st_journal.specs.declared.read_back.ReadError.TheVariants as ends;
 ghost use Rattle.sqlite_trees.specs.View.{IsClean, IsQuiet, IsRolledBack, KeepsCommitted};
 ghost use Rattle.st_journal_rows.specs.Table.{table_tree, rows_from};
+ghost use Rattle.st_journal_rows.specs.Ready.{IsReady};
 
 use crate::error::OpenError;
 use crate::object::TREE;
@@ -35,9 +36,9 @@ fn read_one<S: Store>(
     }
 }
 
-/// Reads the records of the rows from this number on, at most so many. `Io` where the store cannot be read, `Damaged` where a row
-/// is no record, or has another number, and `NoMemory` where memory ran out.
-pub fn read_from<S: Store>(
+// Reads the records of the rows from this number on, at most so many. `Io` where the store cannot be read, `Damaged` where a row
+// is no record, or has another number, and `NoMemory` where memory ran out.
+fn read_from<S: Store>(
     store: &mut S,
     alloc: Global,
     number: u64,
@@ -64,8 +65,8 @@ pub fn read_from<S: Store>(
     Ok(records)
 }
 
-/// Begins the transaction, in which nothing was written, anew after a reading that failed, and says whether the store goes on.
-pub fn mend<S: Store>(store: &mut S) -> ReadError
+// Begins the transaction, in which nothing was written, anew after a reading that failed, and says whether the store goes on.
+fn mend<S: Store>(store: &mut S) -> ReadError
     ensures rolled { IsRolledBack (S.view store.old) (S.view store.new) }
     ensures goes_on { IsClean (S.view store.new) → result ≢ ends.Lost
         → IsTrue (S.view store.new).is_open × ((S.view store.new).is_broken ≡ false) }
@@ -76,5 +77,29 @@ pub fn mend<S: Store>(store: &mut S) -> ReadError
         ReadError::Lost
     } else {
         ReadError::NotRead
+    }
+}
+
+/// Reads the records of the rows from this number on, at most so many. `NotRead` where memory ran out or the store cannot be read
+/// and goes on, `Lost` where only opening it again tells what it holds.
+pub fn read_back<S: Store>(
+    store: &mut S,
+    alloc: Global,
+    number: u64,
+    most: usize,
+) -> Result<Vec<Record>, ReadError>
+    requires table { IsClean (S.view store.old) → (S.view store.old).shape table_tree ≡ Shape.Table }
+    requires room { number + most ≤ 2 ^ 63 }
+    ensures found { IfOk result (λ found. IsClean (S.view store.new) → (records : List Record)
+        → (S.view store.old).trees table_tree ≡ rows_from 0 records → found.items ≡ take most (drop number records)) }
+    ensures ready { IsClean (S.view store.new) → result ≢ Err ends.Lost
+        → (count : ℕ) → IsReady (S.view store.old) count → IsReady (S.view store.new) count }
+    ensures same { IsClean (S.view store.new) → result ≢ Err ends.Lost → (S.view store.new).committed ≡ (S.view store.old).committed }
+    ensures numbered { IsClean (S.view store.new) → (S.view store.new).is_numbered ≡ (S.view store.old).is_numbered }
+    ensures quiet { IsQuiet S.view S.faults S.recovers S.is_shielded store.old store.new }
+{
+    match read_from(store, alloc, number, most) {
+        Ok(records) => Ok(records),
+        Err(_) => Err(mend(store)),
     }
 }

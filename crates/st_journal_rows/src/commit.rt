@@ -8,9 +8,12 @@ use sqlite_trees::error::StoreError;
 use sqlite_trees::store::Store;
 use st_journal::AppendError;
 
-/// Commits what was written if all went well, and else rolls it back. `NotKept` where nothing was kept and the store goes on,
-/// `Unknown` where the store is broken, so that only opening it again tells.
-pub fn finish<S: Store>(store: &mut S, written: Result<(), StoreError>) -> Result<(), AppendError>
+// Commits what was written if all went well, and else rolls it back. `NotKept` where nothing was kept and the store goes on,
+// `Unknown` where the store is broken, so that only opening it again tells.
+pub(crate) fn finish<S: Store>(
+    store: &mut S,
+    written: Result<(), StoreError>,
+) -> Result<(), AppendError>
     ensures clean { doubt (S.view store.old).is_clean ≤ doubt (S.view store.new).is_clean }
     ensures numbered { IsClean (S.view store.new) → (S.view store.new).is_numbered ≡ (S.view store.old).is_numbered }
     ensures done { OnOk result (written ≡ Ok tt) }

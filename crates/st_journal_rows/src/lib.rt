@@ -10,10 +10,8 @@ mod read;
 mod replace;
 mod write;
 
-pub use back::{mend, read_from};
-pub use commit::finish;
+pub use back::read_back;
 pub use error::OpenError;
 pub use object::{MOST, is_table, table};
 pub use opening::begin;
-pub use replace::replace_all;
-pub use write::put_all;
+pub use replace::put_behind;

@@ -2,7 +2,7 @@
 ghost use Rattle.std.specs.Prelude.{◌≡◌, ◌+◌, ◌<◌, ◌^◌, ℕ, length, OnOk};
 ghost use Rattle.sqlite_trees.specs.View.{IsClean, IsQuiet, KeepsCommitted};
 ghost use Rattle.st_journal_rows.specs.Table.{table_tree, row_of};
-ghost use Rattle.st_journal_rows.specs.Ready.{Adds};
+ghost use Rattle.st_journal_rows.specs.inner.Writes.{Adds};
 
 use crate::object::TREE;
 use sqlite_trees::error::StoreError;
@@ -28,9 +28,9 @@ fn fill(row: &mut Row, number: u64, change: &Record) -> Result<(), AllocError>
     row.push(ValueRef::Text(change.result.as_str().as_bytes()))
 }
 
-/// Writes the records behind so many rows, without a commit. It fails where the store does; what was written until then is for
-/// [`crate::finish`] to roll back.
-pub fn put_all<S: Store>(
+// Writes the records behind so many rows, without a commit. It fails where the store does; what was written until then is for
+// [`crate::commit::finish`] to roll back.
+pub(crate) fn put_all<S: Store>(
     store: &mut S,
     alloc: Global,
     count: u64,

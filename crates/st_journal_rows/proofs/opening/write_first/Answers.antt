@@ -1,6 +1,6 @@
 use Rattle.std.proofs.Common.{◌≡◌, [], ◌∷◌, subst, rules, arith}
 use Rattle.sqlite_trees.specs.View.{IsClean}
-use Rattle.st_journal_rows.specs.Ready.{Adds}
+use Rattle.st_journal_rows.specs.inner.Writes.{Adds}
 use Rattle.st_journal_rows.proofs.CommitLemmas.{on_ok, written}
 use Rattle.st_journal_rows.proofs.opening.write_first.Goals as goal
 

@@ -1,4 +1,4 @@
-use Rattle.std.proofs.Common.{rules, arith}
+use Rattle.std.proofs.Common.{arith}
 use Rattle.sqlite_trees.specs.View.{IsClean}
 use Rattle.st_journal_rows.proofs.CommitLemmas.{on_ok}
 use Rattle.st_journal_rows.proofs.ViewLemmas.{quiet_then, kept_then}
@@ -12,7 +12,7 @@ returns-clause-replaced g c = on_ok c.put_all.result (λ added clean.
     let mid = s.view c.trim.new.store in
     let new = s.view c.put_all.new.store in
     let mid_clean : IsClean mid = omega (arith, clean, c.put_all.ensures.quiet.clean) in
-    replaces old mid new c.args.count c.args.records.now (search rules) (c.in_ok-trim.ensures.trimmed mid_clean) (added clean)) c.put_all.ensures.added
+    replaces old mid new c.args.count c.args.kept c.args.records.now c.requires.fewer (c.in_ok-trim.ensures.trimmed mid_clean) (added clean)) c.put_all.ensures.added
 
 pub returns-clause-kept : goal.returns-clause-kept
 returns-clause-kept g c clean =

@@ -1,6 +1,5 @@
-use Rattle.std.proofs.Common.{◌≡◌, ◌-◌, rules, arith, subst}
+use Rattle.std.proofs.Common.{◌-◌, rules, arith}
 use Rattle.sqlite_trees.specs.View.{IsClean}
-use Rattle.st_journal_rows.specs.Ready.{Trims}
 use Rattle.st_journal_rows.proofs.ViewLemmas.{quiet_same, quiet_then, kept_same, kept_then, kept_write}
 use Rattle.st_journal_rows.proofs.RewriteLemmas.{trims_none, trims_one}
 use Rattle.st_journal_rows.proofs.replace.trim.Goals as goal

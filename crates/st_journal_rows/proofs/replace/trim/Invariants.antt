@@ -1,6 +1,6 @@
-use Rattle.std.proofs.Common.{◌≡◌, ◌-◌}
+use Rattle.std.proofs.Common.{◌-◌}
 use Rattle.sqlite_trees.specs.View.{IsClean, IsQuiet, KeepsCommitted}
-use Rattle.st_journal_rows.specs.Ready.{Trims}
+use Rattle.st_journal_rows.specs.inner.Writes.{Trims}
 use Rattle.st_journal_rows.proofs.replace.trim.Given as goal
 
 abbrev pub invariant-loop-done : goal.invariant-loop-done

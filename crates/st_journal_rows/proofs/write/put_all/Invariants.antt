@@ -1,6 +1,6 @@
 use Rattle.std.proofs.Common.{◌≡◌, ◌+◌, take}
 use Rattle.sqlite_trees.specs.View.{IsClean, IsQuiet, KeepsCommitted}
-use Rattle.st_journal_rows.specs.Ready.{Adds}
+use Rattle.st_journal_rows.specs.inner.Writes.{Adds}
 use Rattle.st_journal_rows.proofs.write.put_all.Given as goal
 
 abbrev pub invariant-loop-change : goal.invariant-loop-change

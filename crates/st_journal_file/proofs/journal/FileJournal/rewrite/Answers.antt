@@ -1,12 +1,11 @@
-use Rattle.std.proofs.Common.{rules, inl, inr, ◌+◌, IsTrue, length, arith, sym, ap, subst, ◌∙◌}
+use Rattle.std.proofs.Common.{rules, inl, inr, drop, IsTrue, arith, sym, ap, subst, ◌∙◌}
 use Rattle.std.proofs.lemmas.Result.{err_from_is_err_and}
 use Rattle.sqlite_trees.specs.View.{IsClean}
 use Rattle.sqlite_store.specs.FileStore.{view}
-use Rattle.sqlite_store.specs.Laws.{settled_at, shut_is_broken}
+use Rattle.sqlite_store.specs.Laws.{settled_at}
 use Rattle.st_journal_rows.specs.Table.{changes_in}
-use Rattle.st_journal_rows.specs.Ready.{HasTable}
-use Rattle.st_journal_rows.proofs.CommitLemmas.{records_of, committed, rolled_back, when_known}
-use Rattle.st_journal_rows.proofs.RewriteLemmas.{replaced, replaced_table, length_replaced, changes_replaced}
+use Rattle.st_journal_rows.proofs.CommitLemmas.{when_known}
+use Rattle.st_journal_rows.proofs.RewriteLemmas.{changes_replaced}
 use Rattle.st_journal_file.proofs.journal.FileJournal.rewrite.Goals as goal
 
 pub returns-then-self-eq0-clause-crash : goal.returns-then-self-eq0-clause-crash
@@ -14,108 +13,52 @@ returns-then-self-eq0-clause-crash g c clean left leaves =
     let ready = c.requires.ready clean in
     inl (leaves.2 ∙ ap changes_in (settled_at c.args.self.now.store g.met.D.Disk.seen_may_stay leaves.0 ready.is_open leaves.1))
 
-pub returns-in_err-finish-clause-ready : goal.returns-in_err-finish-clause-ready
-returns-in_err-finish-clause-ready g c kept clean =
-    let old = view c.args.self.now.store in
-    let middle = view c.replace_all-written.new.store in
-    let new = view c.finish.new.store in
-    let mid : IsClean middle = omega (arith, clean, c.finish.ensures.clean) in
-    let was : IsClean old = omega (arith, mid, c.replace_all-written.ensures.quiet.clean) in
-    let not_kept = c.finish.ensures.not_kept clean in
-    let rolled = c.in_err-finish.ensures.err in
-    let back = rolled_back old middle new c.args.self.now.count (c.requires.ready was) (c.replace_all-written.ensures.kept mid) rolled clean in
+pub returns-in_err-put_behind-clause-ready : goal.returns-in_err-put_behind-clause-ready
+returns-in_err-put_behind-clause-ready g c kept clean =
     let last = err_from_is_err_and c.from_residual.result c.from_residual.ensures.1 in
-    when_known last.0 c.finish.result c.from_residual.result (search (rules, last.2)) last.1 kept (λ no. back (not_kept no).0)
+    when_known last.0 c.put_behind.result c.from_residual.result (search (rules, last.2)) last.1 kept (c.put_behind.ensures.goes_on clean)
 
-pub returns-in_err-finish-clause-crash : goal.returns-in_err-finish-clause-crash
-returns-in_err-finish-clause-crash g c clean left leaves =
-    let old = view c.args.self.now.store in
-    let middle = view c.replace_all-written.new.store in
-    let mid : IsClean middle = omega (arith, clean, c.finish.ensures.clean) in
-    let was : IsClean old = omega (arith, mid, c.replace_all-written.ensures.quiet.clean) in
-    let ready = c.requires.ready was in
-    elim (c.finish.ensures.crash leaves.0 leaves.1) [
-      | inl new ↦ inr (leaves.2 ∙ ap changes_in new.2 ∙ changes_replaced old c.args.self.now.count c.args.records.now middle.trees ready
-          (records_of middle _ (replaced old middle c.args.self.now.count c.args.records.now ready ((rw new.0 at c.replace_all-written.ensures.replaced) mid))))
-      | inr same ↦ inl (leaves.2 ∙ ap changes_in (settled_at c.args.self.now.store g.met.D.Disk.seen_may_stay leaves.0 ready.is_open (c.replace_all-written.ensures.quiet.outcomes leaves.0 same)))
+pub returns-in_err-put_behind-clause-not_kept : goal.returns-in_err-put_behind-clause-not_kept
+returns-in_err-put_behind-clause-not_kept g c clean is =
+    ap (drop 1) (c.put_behind.ensures.not_kept clean (search (rules, is)))
+
+pub returns-in_err-put_behind-clause-crash : goal.returns-in_err-put_behind-clause-crash
+returns-in_err-put_behind-clause-crash g c clean left leaves =
+    let was : IsClean (view c.args.self.now.store) = omega (arith, clean, c.put_behind.ensures.clean) in
+    elim (c.put_behind.ensures.left clean leaves.0 leaves.1) [
+      | inl same ↦ inl (leaves.2 ∙ ap (drop 1) same)
+      | inr put ↦ inr (leaves.2 ∙ changes_replaced (view c.args.self.now.store) c.args.self.now.count c.args.records.now leaves.0 (c.requires.ready was) put)
     ]
 
 pub returns-clause-crash : goal.returns-clause-crash
 returns-clause-crash g c clean left leaves =
-    let old = view c.args.self.now.store in
-    let middle = view c.replace_all-written.new.store in
-    let mid : IsClean middle = omega (arith, clean, c.finish.ensures.clean) in
-    let was : IsClean old = omega (arith, mid, c.replace_all-written.ensures.quiet.clean) in
-    let ready = c.requires.ready was in
-    elim (c.finish.ensures.crash leaves.0 leaves.1) [
-      | inl new ↦ inr (leaves.2 ∙ ap changes_in new.2 ∙ changes_replaced old c.args.self.now.count c.args.records.now middle.trees ready
-          (records_of middle _ (replaced old middle c.args.self.now.count c.args.records.now ready ((rw new.0 at c.replace_all-written.ensures.replaced) mid))))
-      | inr same ↦ inl (leaves.2 ∙ ap changes_in (settled_at c.args.self.now.store g.met.D.Disk.seen_may_stay leaves.0 ready.is_open (c.replace_all-written.ensures.quiet.outcomes leaves.0 same)))
+    let was : IsClean (view c.args.self.now.store) = omega (arith, clean, c.put_behind.ensures.clean) in
+    elim (c.put_behind.ensures.left clean leaves.0 leaves.1) [
+      | inl same ↦ inl (leaves.2 ∙ ap (drop 1) same)
+      | inr put ↦ inr (leaves.2 ∙ changes_replaced (view c.args.self.now.store) c.args.self.now.count c.args.records.now leaves.0 (c.requires.ready was) put)
     ]
 
 pub returns-clause-ready : goal.returns-clause-ready
-returns-clause-ready g c kept clean =
-    let old = view c.args.self.now.store in
-    let middle = view c.replace_all-written.new.store in
-    let new = view c.finish.new.store in
-    let mid : IsClean middle = omega (arith, clean, c.finish.ensures.clean) in
-    let was : IsClean old = omega (arith, mid, c.replace_all-written.ensures.quiet.clean) in
-    let ready = c.requires.ready was in
-    let has = replaced old middle c.args.self.now.count c.args.records.now ready ((rw c.in_ok-finish.ensures.done at c.replace_all-written.ensures.replaced) mid) in
-    committed middle new _ (1 + length c.args.records.now) has (length_replaced old c.args.self.now.count c.args.records.now ready) (omega arith) (shut_is_broken c.finish.new.store) (c.in_ok-finish.ensures.ok clean)
+returns-clause-ready g c kept clean = c.in_ok-put_behind.ensures.ready clean
 
 pub returns-clause-kept : goal.returns-clause-kept
 returns-clause-kept g c clean =
-    let old = view c.args.self.now.store in
-    let middle = view c.replace_all-written.new.store in
-    let new = view c.finish.new.store in
-    let mid : IsClean middle = omega (arith, clean, c.finish.ensures.clean) in
-    let was : IsClean old = omega (arith, mid, c.replace_all-written.ensures.quiet.clean) in
-    let ready = c.requires.ready was in
-    let has = replaced old middle c.args.self.now.count c.args.records.now ready ((rw c.in_ok-finish.ensures.done at c.replace_all-written.ensures.replaced) mid) in
-    let commits = c.in_ok-finish.ensures.ok clean in
-    ap changes_in (ap (λ v. v.committed) commits.is) ∙ changes_replaced old c.args.self.now.count c.args.records.now middle.trees ready (records_of middle _ has)
+    let was : IsClean (view c.args.self.now.store) = omega (arith, clean, c.put_behind.ensures.clean) in
+    changes_replaced (view c.args.self.now.store) c.args.self.now.count c.args.records.now (view c.put_behind.new.store).committed (c.requires.ready was)
+    (c.in_ok-put_behind.ensures.put clean)
 
 pub invariant_of-self : goal.invariant_of-self
 invariant_of-self g c = record {
   numbered = λ clean.
-      let old = view c.args.self.now.store in
-      let middle = view c.replace_all-written.new.store in
-      let mid : IsClean middle = omega (arith, clean, c.finish.ensures.clean) in
-      let was : IsClean old = omega (arith, mid, c.replace_all-written.ensures.quiet.clean) in
-      subst IsTrue (sym (c.finish.ensures.numbered clean ∙ (c.replace_all-written.ensures.kept mid).numbered)) (c.args.self.now.numbered was);
-  lasting = λ clean db leaves.
-      let old = view c.args.self.now.store in
-      let middle = view c.replace_all-written.new.store in
-      let count = c.args.self.now.count in
-      let mid : IsClean middle = omega (arith, clean, c.finish.ensures.clean) in
-      let was : IsClean old = omega (arith, mid, c.replace_all-written.ensures.quiet.clean) in
-      let ready = c.requires.ready was in
-      elim (c.finish.ensures.crash db leaves) [
-        | inl new ↦ subst HasTable (sym new.2) (replaced_table old middle count c.args.records.now ready
-            (replaced old middle count c.args.records.now ready ((rw new.0 at c.replace_all-written.ensures.replaced) mid)))
-        | inr same ↦ c.args.self.now.lasting was db (c.replace_all-written.ensures.quiet.outcomes db same)
-      ];
+      let was : IsClean (view c.args.self.now.store) = omega (arith, clean, c.put_behind.ensures.clean) in
+      subst IsTrue (sym (c.put_behind.ensures.numbered clean)) (c.args.self.now.numbered was);
+  lasting = c.put_behind.ensures.table;
 }
 
 pub invariant_of-self-2 : goal.invariant_of-self-2
 invariant_of-self-2 g c = record {
   numbered = λ clean.
-      let old = view c.args.self.now.store in
-      let middle = view c.replace_all-written.new.store in
-      let mid : IsClean middle = omega (arith, clean, c.finish.ensures.clean) in
-      let was : IsClean old = omega (arith, mid, c.replace_all-written.ensures.quiet.clean) in
-      subst IsTrue (sym (c.finish.ensures.numbered clean ∙ (c.replace_all-written.ensures.kept mid).numbered)) (c.args.self.now.numbered was);
-  lasting = λ clean db leaves.
-      let old = view c.args.self.now.store in
-      let middle = view c.replace_all-written.new.store in
-      let count = c.args.self.now.count in
-      let mid : IsClean middle = omega (arith, clean, c.finish.ensures.clean) in
-      let was : IsClean old = omega (arith, mid, c.replace_all-written.ensures.quiet.clean) in
-      let ready = c.requires.ready was in
-      elim (c.finish.ensures.crash db leaves) [
-        | inl new ↦ subst HasTable (sym new.2) (replaced_table old middle count c.args.records.now ready
-            (replaced old middle count c.args.records.now ready ((rw new.0 at c.replace_all-written.ensures.replaced) mid)))
-        | inr same ↦ c.args.self.now.lasting was db (c.replace_all-written.ensures.quiet.outcomes db same)
-      ];
+      let was : IsClean (view c.args.self.now.store) = omega (arith, clean, c.put_behind.ensures.clean) in
+      subst IsTrue (sym (c.put_behind.ensures.numbered clean)) (c.args.self.now.numbered was);
+  lasting = c.put_behind.ensures.table;
 }

@@ -1,0 +1,26 @@
+-- Stages of the code, which no reader has to believe: what is written in the table before a commit.
+use Rattle.std.specs.Prelude.{◌≡◌, ◌≢◌, ℕ, List, ◌++◌, length, take}
+use Rattle.sqlite_trees.specs.View.{View, OnlyWrites}
+use Rattle.st_journal.specs.declared.record.Record.{Record}
+use Rattle.st_journal_rows.specs.Table.{table_tree, rows_from}
+
+-- Only the table differs. Where it had so many rows of records, it has these behind them.
+pub record Adds (old new : View) (count : ℕ) (more : List Record) : Type 0 where
+  pub frame : OnlyWrites old new
+  pub others : (t : ℕ) → t ≢ table_tree → new.trees t ≡ old.trees t
+  pub rows : (records : List Record) → length records ≡ count → old.trees table_tree ≡ rows_from 0 records
+      → new.trees table_tree ≡ rows_from 0 (records ++ more)
+
+-- Only the table differs. Where it had so many rows of records, it has so many of the first of them.
+pub record Trims (old new : View) (count left : ℕ) : Type 0 where
+  pub frame : OnlyWrites old new
+  pub others : (t : ℕ) → t ≢ table_tree → new.trees t ≡ old.trees t
+  pub rows : (records : List Record) → length records ≡ count → old.trees table_tree ≡ rows_from 0 records
+      → new.trees table_tree ≡ rows_from 0 (take left records)
+
+-- Only the table differs. Where it had so many rows of records, it has these behind the first `kept`.
+pub record Replaces (old new : View) (count kept : ℕ) (more : List Record) : Type 0 where
+  pub frame : OnlyWrites old new
+  pub others : (t : ℕ) → t ≢ table_tree → new.trees t ≡ old.trees t
+  pub rows : (records : List Record) → length records ≡ count → old.trees table_tree ≡ rows_from 0 records
+      → new.trees table_tree ≡ rows_from 0 (take kept records ++ more)
