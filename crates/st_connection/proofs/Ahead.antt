@@ -10,7 +10,9 @@ use Rattle.st_connection.specs.Render.{continue_text, interim}
 use Rattle.st_connection.specs.inner.Stages.{Whole, Broken, Loses, Spoken, One, Sent, Stands, Answered, AnsweredTold, AnsweredOn, AnsweredText, Passed}
 use Rattle.st_connection.specs.declared.sending.Stopped.{Stopped}
 use Rattle.st_connection.specs.declared.sending.Stopped.TheVariants as stopped
+use Rattle.st_connection.specs.declared.connection.Next.{Next}
 use Rattle.st_connection.specs.declared.connection.Next.TheVariants as nexts
+use Rattle.st_connection.specs.declared.connection.Stop.{Stop}
 use Rattle.st_connection.specs.declared.connection.Stop.TheVariants as stops
 use Rattle.st_http.proofs.FirstLemmas.{first_unique}
 use Rattle.st_connection.proofs.Reading.{begins_one, few_items}
@@ -124,19 +126,23 @@ module _ {S : Type 0} (step : S → First → List ℕ → S → Type 0) (hold :
       told_stops expected back why s =
           subst (λ (s : S). AnsweredTold step hold told old s last text held hn before wn (Err why)) (sym now) (told_stops_here expected last back why s)
 
-      pub told_closes : closed ≡ true → Passed new kept last ho hn wo wn answer [] (Ok tt) → AnsweredTold step hold told old after last text held hn before wn (Ok nexts.Closed)
-      told_closes e passed =
+      told_so : (found next : Next) → found ≡ next → AnsweredTold step hold told old after last text held hn before wn (Ok next)
+          → AnsweredTold step hold told old after last text held hn before wn (Ok found)
+      told_so found next is = subst (λ (n : Next). AnsweredTold step hold told old after last text held hn before wn (Ok n)) (sym is)
+
+      pub told_closes : (found : Next) → found ≡ nexts.Closed → closed ≡ true → Passed new kept last ho hn wo wn answer [] (Ok tt) → AnsweredTold step hold told old after last text held hn before wn (Ok found)
+      told_closes found is e passed =
           let out = flushed new kept last ho hn wo wn answer passed in
           let whole = subst (λ (b : Bool). Whole step b old new text rest held hn before wn) e (told_out out.0 out.1) in
-          (rest, subst (λ (s : S). Whole step true old s text rest held hn before wn) (sym now) whole)
+          told_so found nexts.Closed is (rest, subst (λ (s : S). Whole step true old s text rest held hn before wn) (sym now) whole)
 
-      pub told_opens : closed ≡ false → (used : ℕ) → rest ≡ drop used text → 0 < used → used ≤ length text → Passed new kept last ho hn wo wn answer [] (Ok tt)
-          → AnsweredTold step hold told old after last text held hn before wn (Ok (nexts.Open used))
-      told_opens e used rest_is some within passed =
+      pub told_opens : (found : Next) (used : ℕ) → found ≡ nexts.Open used → closed ≡ false → rest ≡ drop used text → 0 < used → used ≤ length text → Passed new kept last ho hn wo wn answer [] (Ok tt)
+          → AnsweredTold step hold told old after last text held hn before wn (Ok found)
+      told_opens found used is e rest_is some within passed =
           let out = flushed new kept last ho hn wo wn answer passed in
           let whole = subst (λ (b : Bool). Whole step b old new text rest held hn before wn) e (told_out out.0 out.1) in
           let there = subst (λ (t : List ℕ). Whole step false old new text t held hn before wn) rest_is whole in
-          (within, (λ t. some), subst (λ (s : S). Whole step false old s text (drop used text) held hn before wn) (sym now) there)
+          told_so found (nexts.Open used) is (within, (λ t. some), subst (λ (s : S). Whole step false old s text (drop used text) held hn before wn) (sym now) there)
 
 -- ---- the word
 
@@ -201,29 +207,39 @@ module _ {S : Type 0} (step : S → First → List ℕ → S → Type 0) (hold :
   first_stops told stopped.Unwritten b = breaks_behind b
   first_stops told stopped.Lost b = loses_behind b
 
-  pub first_closes : (told : Bool) → AnsweredTold step hold told mid new last (piece text used) hm hn wm wn (Ok nexts.Closed) → AnsweredText step hold old new last text ho hn wo wn (Ok stops.Closed)
-  first_closes told b = closes_behind b
+  -- what was answered, by what the code found in its result
+  first_so : (told : Bool) (next found : Next) → next ≡ found → AnsweredTold step hold told mid new last (piece text used) hm hn wm wn (Ok next) → AnsweredTold step hold told mid new last (piece text used) hm hn wm wn (Ok found)
+  first_so told next found is = subst (λ (n : Next). AnsweredTold step hold told mid new last (piece text used) hm hn wm wn (Ok n)) is
 
-  pub first_waits : (told due : Bool) → used ≤ length text → AnsweredTold step hold told mid new last (piece text used) hm hn wm wn (Ok (nexts.Waits due)) → AnsweredText step hold old new last text ho hn wo wn (Ok (stops.Waits used true))
-  first_waits told due within (waits, b) = (
-    within,
-    subst (λ (t : List ℕ). IsFirst t (more true)) (piece_is text used) waits,
-    subst (λ (t : List ℕ). Spoken step old new text t true ho hn wo wn) (piece_is text used)
-        (spoken_join step old mid new text (piece text used) ho hm hn wo wm wn a (piece text used) true b),
-  )
+  then_so : (stop found : Stop) → stop ≡ found → AnsweredOn step hold mid new last (piece text used) hm hn wm wn (Ok stop) → AnsweredOn step hold mid new last (piece text used) hm hn wm wn (Ok found)
+  then_so stop found is = subst (λ (s : Stop). AnsweredOn step hold mid new last (piece text used) hm hn wm wn (Ok s)) is
 
-  pub first_open : (told : Bool) (count : ℕ) → AnsweredTold step hold told mid new last (piece text used) hm hn wm wn (Ok (nexts.Open count)) → Whole step false old new text (drop (used + count) text) ho hn wo wn
-  first_open told count (within, some, b) =
+  pub first_closes : (told : Bool) (next : Next) → next ≡ nexts.Closed → AnsweredTold step hold told mid new last (piece text used) hm hn wm wn (Ok next) → AnsweredText step hold old new last text ho hn wo wn (Ok stops.Closed)
+  first_closes told next is b = closes_behind (first_so told next nexts.Closed is b)
+
+  pub first_waits : (told due : Bool) (next : Next) → next ≡ nexts.Waits due → used ≤ length text → AnsweredTold step hold told mid new last (piece text used) hm hn wm wn (Ok next)
+      → AnsweredText step hold old new last text ho hn wo wn (Ok (stops.Waits used true))
+  first_waits told due next is within answered =
+      let there = first_so told next (nexts.Waits due) is answered in (
+        within,
+        subst (λ (t : List ℕ). IsFirst t (more true)) (piece_is text used) there.0,
+        subst (λ (t : List ℕ). Spoken step old new text t true ho hn wo wn) (piece_is text used)
+            (spoken_join step old mid new text (piece text used) ho hm hn wo wm wn a (piece text used) true there.1),
+      )
+
+  pub first_open : (told : Bool) (next : Next) (count : ℕ) → next ≡ nexts.Open count → AnsweredTold step hold told mid new last (piece text used) hm hn wm wn (Ok next) → Whole step false old new text (drop (used + count) text) ho hn wo wn
+  first_open told next count is answered =
+      let there = first_so told next (nexts.Open count) is answered in
       subst (λ (t : List ℕ). Whole step false old new text t ho hn wo wn) (drop_again text used count)
-      (whole_join step old mid new text (piece text used) ho hm hn wo wm wn a false (drop count (piece text used)) b)
+      (whole_join step old mid new text (piece text used) ho hm hn wo wm wn a false (drop count (piece text used)) there.2)
 
   pub then_stops : (why : Stopped) (room : ℕ) → room ≡ hold → AnsweredOn step room mid new last (piece text used) hm hn wm wn (Err why)
       → AnsweredText step hold old new last text ho hn wo wn (Err why)
   then_stops stopped.Unwritten room same b = breaks_behind (subst (λ (n : ℕ). Broken step n mid new (piece text used) hm hn wm wn) same b)
   then_stops stopped.Lost room same b = loses_behind b
 
-  pub then_closes : AnsweredOn step hold mid new last (piece text used) hm hn wm wn (Ok stops.Closed) → AnsweredText step hold old new last text ho hn wo wn (Ok stops.Closed)
-  then_closes b = closes_behind b
+  pub then_closes : (stop : Stop) → stop ≡ stops.Closed → AnsweredOn step hold mid new last (piece text used) hm hn wm wn (Ok stop) → AnsweredText step hold old new last text ho hn wo wn (Ok stops.Closed)
+  then_closes stop is b = closes_behind (then_so stop stops.Closed is b)
 
   then_spoken : (count : ℕ) (told : Bool) → Spoken step mid new (piece text used) (drop count (piece text used)) told hm hn wm wn
       → Spoken step old new text (drop (used + count) text) told ho hn wo wn
@@ -231,17 +247,40 @@ module _ {S : Type 0} (step : S → First → List ℕ → S → Type 0) (hold :
       subst (λ (t : List ℕ). Spoken step old new text t told ho hn wo wn) (drop_again text used count)
       (spoken_join step old mid new text (piece text used) ho hm hn wo wm wn a (drop count (piece text used)) told b)
 
-  pub then_waits : (count : ℕ) → used ≤ length text → AnsweredOn step hold mid new last (piece text used) hm hn wm wn (Ok (stops.Waits count false))
+  pub then_waits : (stop : Stop) (count : ℕ) (due : Bool) → stop ≡ stops.Waits count due → due ≡ false → used ≤ length text → AnsweredOn step hold mid new last (piece text used) hm hn wm wn (Ok stop)
       → AnsweredText step hold old new last text ho hn wo wn (Ok (stops.Waits (used + count) false))
-  then_waits count fits (within, waits, b) = (
-    let n = piece_length text used in omega (arith, n, within, fits),
-    subst (λ (t : List ℕ). IsFirst t (more false)) (drop_again text used count) waits,
-    then_spoken count false b,
-  )
+  then_waits stop count due is last_one fits answered =
+      let there = then_so stop (stops.Waits count false) (is ∙ ap (stops.Waits count) last_one) answered in (
+        let n = piece_length text used in omega (arith, n, there.0, fits),
+        subst (λ (t : List ℕ). IsFirst t (more false)) (drop_again text used count) there.1,
+        then_spoken count false there.2,
+      )
 
-  pub then_told : (count : ℕ) → AnsweredOn step hold mid new last (piece text used) hm hn wm wn (Ok (stops.Waits count true))
+  pub then_told : (stop : Stop) (count : ℕ) (due : Bool) → stop ≡ stops.Waits count due → due ≡ true → AnsweredOn step hold mid new last (piece text used) hm hn wm wn (Ok stop)
       → Stands false true (drop (used + count) text) × Spoken step old new text (drop (used + count) text) true ho hn wo wn
-  then_told count (within, stands, b) = (subst (λ (t : List ℕ). Stands false true t) (drop_again text used count) stands, then_spoken count true b)
+  then_told stop count due is more_due answered =
+      let there = then_so stop (stops.Waits count true) (is ∙ ap (stops.Waits count) more_due) answered in
+      (subst (λ (t : List ℕ). Stands false true t) (drop_again text used count) there.1, then_spoken count true there.2)
+
+-- how far the code goes on in the text
+module _ {S : Type 0} (step : S → First → List ℕ → S → Type 0) (hold : ℕ) (mid new last : S) (text : List ℕ) (used : ℕ) (within : used ≤ length text) (hm hn : Option (List ℕ)) (wm wn : ℕ) (count : ℕ) where
+  pub open_within : (told : Bool) (next : Next) → next ≡ nexts.Open count → AnsweredTold step hold told mid new last (piece text used) hm hn wm wn (Ok next) → used + count ≤ length text
+  open_within told next is answered =
+      let there = subst (λ (n : Next). AnsweredTold step hold told mid new last (piece text used) hm hn wm wn (Ok n)) is answered in omega (arith, within, there.0, piece_length text used)
+
+  pub open_some : (told : Bool) (next : Next) → next ≡ nexts.Open count → AnsweredTold step hold told mid new last (piece text used) hm hn wm wn (Ok next) → told ≡ true → 0 < count
+  open_some told next is answered =
+      let there = subst (λ (n : Next). AnsweredTold step hold told mid new last (piece text used) hm hn wm wn (Ok n)) is answered in there.1
+
+  pub then_within : (stop : Stop) (due : Bool) → stop ≡ stops.Waits count due → AnsweredOn step hold mid new last (piece text used) hm hn wm wn (Ok stop) → used + count ≤ length text
+  then_within stop due is answered =
+      let there = subst (λ (s : Stop). AnsweredOn step hold mid new last (piece text used) hm hn wm wn (Ok s)) is answered in omega (arith, within, there.0, piece_length text used)
+
+-- how far a text is done with at its end
+pub waits_within : {S : Type 0} (step : S → First → List ℕ → S → Type 0) (hold : ℕ) (old new last : S) (text : List ℕ) (ho hn : Option (List ℕ)) (wo wn : ℕ) (most : ℕ) → length text ≤ most
+    → (stop : Stop) (used : ℕ) (told : Bool) → stop ≡ stops.Waits used told → AnsweredText step hold old new last text ho hn wo wn (Ok stop) → used ≤ most
+waits_within step hold old new last text ho hn wo wn most le stop used told is answered =
+    let there = subst (λ (s : Stop). AnsweredText step hold old new last text ho hn wo wn (Ok s)) is answered in omega (arith, le, there.0)
 
 -- ---- how much was written, and how much is left
 
@@ -255,6 +294,22 @@ pub spoken_bound : {S : Type 0} (step : S → First → List ℕ → S → Type 
 spoken_bound step old new text rest told ho hn wo wn s =
     let b = whole_bound step old new text rest ho s.held wo s.written s.whole in let n = interim_few told in omega (arith, b, n, s.counted)
 
+-- there is room for what is left of a text, as there was for all of it
+pub room_first : (text rest : List ℕ) (wn written said : ℕ) → wn + 2 ^ 65 * length rest ≤ written - said + 2 ^ 65 * length text + 25
+    → written + 2 ^ 65 * (length text + 5) < 2 ^ 128 → wn + 2 ^ 65 < 2 ^ 128
+room_first text rest wn written said bound room = omega (arith, bound, room)
+
+pub room_left : (text : List ℕ) (used wn written said : ℕ) → wn + 2 ^ 65 * length (drop used text) ≤ written - said + 2 ^ 65 * length text
+    → written + 2 ^ 65 * (length text + 5) < 2 ^ 128 → wn + 2 ^ 65 * (length (piece text used) + 3) < 2 ^ 128
+room_left text used wn written said bound room = omega (arith, bound, room, ap length (piece_is text used))
+
+-- what was counted with what was said was counted before it
+pub taken_back : (written said : ℕ) → said ≤ written → written ≡ written - said + said
+taken_back written said le = omega arith
+
+pub said_within : (wn written said : ℕ) → wn ≡ written + said → said ≤ wn
+said_within wn written said e = omega (arith, e)
+
 -- each pass of the loop but the first takes a byte at least
 pub smaller : (all used count later : ℕ) (told : Bool) → (told ≡ true → 0 < count) → used + count + later ≤ all
     → all - (used + count + later) + 0 < all - used + (if told then 0 else 1)
@@ -263,6 +318,3 @@ smaller all used count later false some le = omega (arith, le)
 
 pub told_first : (text : List ℕ) → Stands false true text → (item : First) → IsFirst text item → expects item ≡ true
 told_first text (first, is, e) item other = ap expects (first_unique text item first other is) ∙ e
-
-pub not_err : {A E : Type 0} (value : A) (fault : E) → Ok value ≡ Err fault → ⊥
-not_err value fault same = cc

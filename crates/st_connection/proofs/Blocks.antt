@@ -1,5 +1,6 @@
 -- Answers that are held back, and what comes of them.
 use Rattle.std.proofs.Common.{◌≡◌, ◌⊎◌, inl, inr, ◌∙◌, ℕ, ◌+◌, ◌*◌, ◌^◌, ◌≤◌, Bool, true, false, Option, Ok, Err, List, [], ◌∷◌, ◌++◌, length, take, drop, refl, sym, ap, subst, arith, append_assoc, append-nil, length-append}
+use Rattle.std.specs.Prelude.{Result}
 use Rattle.std.specs.List.{concat}
 use Rattle.std.specs.Io.KnownBytes.{Appends}
 use Rattle.std.proofs.KnownBytes.{Appends-trans}
@@ -260,10 +261,15 @@ sent_more ho hn wo wn bytes others b s = record {
   counted = s.counted;
 }
 
-pub passed_err : {S : Type 0} (now kept_old kept_new : S) (ho hn : Option (List ℕ)) (wo wn : ℕ) (bytes others back : List ℕ) (why : Stopped)
+passed_err : {S : Type 0} (now kept_old kept_new : S) (ho hn : Option (List ℕ)) (wo wn : ℕ) (bytes others back : List ℕ) (why : Stopped)
     → Passed now kept_old kept_new ho hn wo wn bytes [] (Err why) → Passed now kept_old kept_new ho hn wo wn (bytes ++ others) back (Err why)
 passed_err now ko kn ho hn wo wn bytes others back stopped.Unwritten s = sent_more ho hn wo wn bytes others false s
 passed_err now ko kn ho hn wo wn bytes others back stopped.Lost s = s
+
+pub passed_on : {S : Type 0} (now kept_old kept_new : S) (ho hn : Option (List ℕ)) (wo wn : ℕ) (bytes others back : List ℕ) (result : Result (Unit {0}) Stopped) (why : Stopped)
+    → result ≡ Err why → Passed now kept_old kept_new ho hn wo wn bytes [] (Err why) → Passed now kept_old kept_new ho hn wo wn (bytes ++ others) back result
+passed_on now ko kn ho hn wo wn bytes others back result why is s =
+    subst (λ (r : Result (Unit {0}) Stopped). Passed now ko kn ho hn wo wn (bytes ++ others) back r) (sym is) (passed_err now ko kn ho hn wo wn bytes others back why s)
 
 pub flushed : {S : Type 0} (now kept_old kept_new : S) (ho hn : Option (List ℕ)) (wo wn : ℕ) (bytes : List ℕ)
     → Passed now kept_old kept_new ho hn wo wn bytes [] (Ok tt) → Appends ho hn bytes × (wn ≡ wo + length bytes)

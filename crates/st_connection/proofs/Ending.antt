@@ -1,11 +1,13 @@
 -- What a call leaves of its reader and its writer, and of what answers, at each of its ends.
-use Rattle.std.proofs.Common.{◌≡◌, ◌⊎◌, inl, inr, ◌-◌, ◌+◌, ◌^◌, min, ℕ, Bool, true, false, Option, Ok, Err, List, refl}
+use Rattle.std.proofs.Common.{◌≡◌, ◌⊎◌, inl, inr, ◌-◌, ◌+◌, ◌^◌, min, ℕ, Bool, true, false, Option, Ok, Err, List, refl, ap}
 use Rattle.std.specs.Prelude.{Result}
 use Rattle.std.specs.Io.KnownBytes.{IsAtEnd}
 use Rattle.st_connection.specs.Connection.{EndsOn, KeptUnlessLost}
 use Rattle.st_connection.specs.declared.connection.Ended.{Ended}
 use Rattle.st_connection.specs.declared.connection.Ended.TheVariants.{Clean, Closed, Cut, TurnsSpent, Lost}
 use Rattle.st_connection.specs.declared.connection.IoFault.{IoFault}
+use Rattle.st_connection.specs.declared.sending.Stopped.{Stopped}
+use Rattle.st_connection.specs.declared.sending.Stopped.TheVariants as stopped
 
 module _ (most : ℕ) (left : Option (List ℕ)) (first_reads reads : ℕ) (has_ended read_failed write_failed : Bool) where
   pub on_fault : (fault : IoFault) → (read_failed ≡ true) ⊎ (write_failed ≡ true)
@@ -59,16 +61,51 @@ module _ (most : ℕ) (left : Option (List ℕ)) (first_reads reads : ℕ) (has_
       sound = sound;
     }
 
+-- ---- what was not written is not lost, nor the other way round
+
+pub unwritten_not_lost : {A : Type 0} (why : Stopped) → why ≡ stopped.Unwritten → ◌≡◌ {A = Result A Stopped} (Err why) (Err stopped.Lost) → ⊥
+unwritten_not_lost why is same = cc
+
+pub lost_not_unwritten : {A : Type 0} (why : Stopped) → why ≡ stopped.Lost → ◌≡◌ {A = Result A Stopped} (Err why) (Err stopped.Unwritten) → ⊥
+lost_not_unwritten why is same = cc
+
+-- what no success is, and an error of another value's result
+pub not_err : {A E : Type 0} (value : A) (fault : E) → Ok value ≡ Err fault → ⊥
+not_err value fault same = cc
+
+pub same_err : {A B : Type 0} (why other : Stopped) → ◌≡◌ {A = Result A Stopped} (Err why) (Err other) → ◌≡◌ {A = Result B Stopped} (Err why) (Err other)
+same_err why other same = ap Err (let e : why ≡ other = cc in e)
+
+pub settled_unless : {A B : Type 0} {P : Type 0} (why : Stopped) → (◌≡◌ {A = Result A Stopped} (Err why) (Err stopped.Unwritten) → P)
+    → (◌≡◌ {A = Result B Stopped} (Err why) (Err stopped.Lost) → ⊥) → P
+settled_unless stopped.Unwritten settled other = settled refl
+settled_unless stopped.Lost settled other = absurd (other refl)
+
 -- ---- what answers
 
 module _ {S : Type 0} (kept now : S) (has_failed : Bool) where
-  pub kept_sound : (result : Result Ended IoFault) → (result ≡ Ok Lost → ⊥) → kept ≡ now → has_failed ≡ false
+  kept_sound : (result : Result Ended IoFault) → (result ≡ Ok Lost → ⊥) → kept ≡ now → has_failed ≡ false
       → KeptUnlessLost kept now has_failed result
   kept_sound result some settled sound = record {
     settled = λ n. settled;
     lost = λ e. absurd (some e);
     sound = λ n. sound;
   }
+
+  pub kept_fault : (fault : IoFault) → kept ≡ now → has_failed ≡ false → KeptUnlessLost kept now has_failed (Err fault)
+  kept_fault fault = kept_sound (Err fault) (λ e. cc)
+
+  pub kept_clean : kept ≡ now → has_failed ≡ false → KeptUnlessLost kept now has_failed (Ok Clean)
+  kept_clean = kept_sound (Ok Clean) (λ e. cc)
+
+  pub kept_cut : kept ≡ now → has_failed ≡ false → KeptUnlessLost kept now has_failed (Ok Cut)
+  kept_cut = kept_sound (Ok Cut) (λ e. cc)
+
+  pub kept_closed : kept ≡ now → has_failed ≡ false → KeptUnlessLost kept now has_failed (Ok Closed)
+  kept_closed = kept_sound (Ok Closed) (λ e. cc)
+
+  pub kept_turns : kept ≡ now → has_failed ≡ false → KeptUnlessLost kept now has_failed (Ok TurnsSpent)
+  kept_turns = kept_sound (Ok TurnsSpent) (λ e. cc)
 
   pub kept_lost : has_failed ≡ true → KeptUnlessLost kept now has_failed (Ok Lost)
   kept_lost failed = record {

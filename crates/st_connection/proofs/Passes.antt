@@ -1,12 +1,13 @@
 -- The items of a text, as far as the loop over them has come.
-use Rattle.std.proofs.Common.{◌≡◌, ◌∙◌, ◌⊎◌, inl, inr, Bool, Ok, Err, [], ◌++◌, sym, ℕ, ◌+◌, ◌-◌, ◌*◌, ◌^◌, ◌<◌, ◌≤◌, true, false, Option, List, length, take, drop, ap, subst, arith, refl, append_assoc, append-nil, length-append, length-take}
+use Rattle.std.proofs.Common.{◌≡◌, ◌∙◌, ◌⊎◌, inl, inr, Bool, Ok, Err, [], ◌++◌, sym, ℕ, ◌+◌, ◌-◌, ◌*◌, ◌^◌, ◌<◌, ◌≤◌, Fits, w64, true, false, Option, List, length, take, drop, ap, subst, arith, refl, append_assoc, append-nil, length-append, length-take}
 use Rattle.std.proofs.lemmas.Grind.{common_steps}
-use Rattle.st_http.specs.First.{First, IsFirst}
+use Rattle.st_http.specs.First.{First}
 use Rattle.std.specs.Io.KnownBytes.{Appends}
 use Rattle.std.specs.List.{concat}
 use Rattle.std.proofs.KnownBytes.{Appends-trans}
 use Rattle.st_connection.specs.inner.Stages.{Whole, Broken, Loses, One, Passed, Stands, Answered, AnsweredNext}
 use Rattle.st_connection.specs.declared.sending.Stopped.{Stopped}
+use Rattle.st_connection.specs.declared.connection.Next.{Next}
 use Rattle.st_connection.specs.declared.connection.Next.TheVariants as nexts
 use Rattle.st_connection.specs.declared.connection.Stop.TheVariants as stops
 use Rattle.st_connection.specs.declared.sending.Stopped.TheVariants as stopped
@@ -54,13 +55,12 @@ module _ {S : Type 0} (step : S → First → List ℕ → S → Type 0) (hold :
 
 pub goes_on : {S : Type 0} (step : S → First → List ℕ → S → Type 0) (hold : ℕ) (old mid kept : S) (text : List ℕ) (used : ℕ) (ho hm : Option (List ℕ)) (wo wm : ℕ) (bytes : List ℕ)
     → Gathered step hold false old mid kept text (drop used text) ho hm wo wm bytes → length bytes ≤ hold
-    → (new last : S) (hn : Option (List ℕ)) (wn : ℕ) (back : List ℕ) (count : ℕ) (answer : List ℕ) (after : S)
-    → One step false mid new (piece text used) (drop count (piece text used)) answer → (after ≡ kept) ⊎ (after ≡ new)
-    → Passed new after last hm hn wm wn (bytes ++ answer) back (Ok tt)
-    → Gathered step hold false old new last text (drop (used + count) text) ho hn wo wn back
-goes_on step hold old mid kept text used ho hm wo wm bytes a le new last hn wn back count answer after one which passed =
-    let c = subst (λ (t : List ℕ). One step false mid new (piece text used) t answer) (drop_again text used count) one in
-    elim (passes step hold old mid kept text used ho hm wo wm bytes a le false new after (drop (used + count) text) answer c which last hn wn back passed) [
+    → (new last : S) (hn : Option (List ℕ)) (wn : ℕ) (back : List ℕ) (next : Next) (count : ℕ) → next ≡ nexts.Open count
+    → AnsweredNext step false mid new kept last (piece text used) hm hn wm wn bytes back (Ok next) → Gathered step hold false old new last text (drop (used + count) text) ho hn wo wn back
+goes_on step hold old mid kept text used ho hm wo wm bytes a le new last hn wn back next count is answered =
+    let there = subst (λ (n : Next). AnsweredNext step false mid new kept last (piece text used) hm hn wm wn bytes back (Ok n)) is answered in
+    let one = subst (λ (t : List ℕ). One step false mid new (piece text used) t there.0) (drop_again text used count) there.4 in
+    elim (passes step hold old mid kept text used ho hm wo wm bytes a le false new there.1 (drop (used + count) text) there.0 one there.5 last hn wn back there.6) [
       | inl g ↦ g
       | inr (whole, none, all) ↦ gathered_none step hold old new text (drop (used + count) text) ho hn wo wn back last whole none all
     ]
@@ -154,42 +154,50 @@ module _ {S : Type 0} (step : S → First → List ℕ → S → Type 0) (hold :
       gathered_stops step hold closed old new after text rest ho hm wo wm (bytes ++ answer)
       (one_more step hold old mid kept text used ho hm wo wm bytes a le closed new after rest answer one which) last hn wn why back passed
 
+  -- what was answered, by what the code found in its result
+  next_so : (next found : Next) → next ≡ found → AnsweredNext step false mid new kept last (piece text used) hm hn wm wn bytes back (Ok next) → AnsweredNext step false mid new kept last (piece text used) hm hn wm wn bytes back (Ok found)
+  next_so next found is = subst (λ (n : Next). AnsweredNext step false mid new kept last (piece text used) hm hn wm wn bytes back (Ok n)) is
+
   module _ (new2 last2 : S) (now : new2 ≡ new) (hk : Option (List ℕ)) (wk : ℕ) where
     still : (due : Bool) → AnsweredNext step false mid new kept last (piece text used) hm hn wm wn bytes back (Ok (nexts.Waits due)) → Gathered step hold false old new last text (drop used text) ho hn wo wn back
     still due (stands, now_same, kept_same, back_same, wrote, counted) = same_one step hold old mid kept text used ho hm wo wm bytes a new last hn wn back (now_same, kept_same, back_same, wrote, counted)
 
-    pub waits : (due : Bool) → used ≤ length text → AnsweredNext step false mid new kept last (piece text used) hm hn wm wn bytes back (Ok (nexts.Waits due)) → Passed new last last2 hn hk wn wk back [] (Ok tt)
+    pub waits : (next : Next) (due : Bool) → next ≡ nexts.Waits due → used ≤ length text → AnsweredNext step false mid new kept last (piece text used) hm hn wm wn bytes back (Ok next) → Passed new last last2 hn hk wn wk back [] (Ok tt)
         → Answered step hold old new2 last2 text ho hk wo wk (Ok (stops.Waits used due))
-    waits due within n passed =
+    waits next due is within answered passed =
+        let n = next_so next (nexts.Waits due) is answered in
         let f = flushed new last last2 hn hk wn wk back passed in
         let w = gathered_out step hold false old new last text (drop used text) ho hn wo wn back (still due n) hk wk f.0 f.1 in
         (within, stands_so text used due n.0, subst (λ (s : S). Whole step false old s text (drop used text) ho hk wo wk) (sym now) w)
 
-    pub waits_breaks : (due : Bool) → AnsweredNext step false mid new kept last (piece text used) hm hn wm wn bytes back (Ok (nexts.Waits due)) → (why : Stopped) → Passed new last last2 hn hk wn wk back [] (Err why)
+    pub waits_breaks : (next : Next) (due : Bool) → next ≡ nexts.Waits due → AnsweredNext step false mid new kept last (piece text used) hm hn wm wn bytes back (Ok next) → (why : Stopped) → Passed new last last2 hn hk wn wk back [] (Err why)
         → Answered step hold old new2 last2 text ho hk wo wk (Err why)
-    waits_breaks due n why passed =
+    waits_breaks next due is answered why passed =
+        let n = next_so next (nexts.Waits due) is answered in
         subst (λ (s : S). Answered step hold old s last2 text ho hk wo wk (Err why)) (sym now)
         (gathered_stops step hold false old new last text (drop used text) ho hn wo wn back (still due n) last2 hk wk why [] passed)
 
-    pub closes : AnsweredNext step false mid new kept last (piece text used) hm hn wm wn bytes back (Ok nexts.Closed) → Passed new last last2 hn hk wn wk back [] (Ok tt)
+    pub closes : (next : Next) → next ≡ nexts.Closed → AnsweredNext step false mid new kept last (piece text used) hm hn wm wn bytes back (Ok next) → Passed new last last2 hn hk wn wk back [] (Ok tt)
         → Answered step hold old new2 last2 text ho hk wo wk (Ok stops.Closed)
-    closes (answer, after, rest, one, which, before) passed =
+    closes next is answered passed =
+        let n = next_so next nexts.Closed is answered in
         let f = flushed new last last2 hn hk wn wk back passed in (
-          rest,
-          subst (λ (s : S). Whole step true old s text rest ho hk wo wk) (sym now)
-              (elim (passes step hold old mid kept text used ho hm wo wm bytes a le true new after rest answer one which last hn wn back before) [
-                | inl g ↦ gathered_out step hold true old new last text rest ho hn wo wn back g hk wk f.0 f.1
-                | inr (w, none, all) ↦ whole_stays step true old new text rest ho hn wo wn w hk wk back none f.0 f.1
+          n.2,
+          subst (λ (s : S). Whole step true old s text n.2 ho hk wo wk) (sym now)
+              (elim (passes step hold old mid kept text used ho hm wo wm bytes a le true new n.1 n.2 n.0 n.3 n.4 last hn wn back n.5) [
+                | inl g ↦ gathered_out step hold true old new last text n.2 ho hn wo wn back g hk wk f.0 f.1
+                | inr (w, none, all) ↦ whole_stays step true old new text n.2 ho hn wo wn w hk wk back none f.0 f.1
               ]),
         )
 
-    pub closes_breaks : AnsweredNext step false mid new kept last (piece text used) hm hn wm wn bytes back (Ok nexts.Closed) → (why : Stopped) → Passed new last last2 hn hk wn wk back [] (Err why)
+    pub closes_breaks : (next : Next) → next ≡ nexts.Closed → AnsweredNext step false mid new kept last (piece text used) hm hn wm wn bytes back (Ok next) → (why : Stopped) → Passed new last last2 hn hk wn wk back [] (Err why)
         → Answered step hold old new2 last2 text ho hk wo wk (Err why)
-    closes_breaks (answer, after, rest, one, which, before) why passed =
+    closes_breaks next is answered why passed =
+        let n = next_so next nexts.Closed is answered in
         subst (λ (s : S). Answered step hold old s last2 text ho hk wo wk (Err why)) (sym now)
-        (elim (passes step hold old mid kept text used ho hm wo wm bytes a le true new after rest answer one which last hn wn back before) [
-          | inl g ↦ gathered_stops step hold true old new last text rest ho hn wo wn back g last2 hk wk why [] passed
-          | inr (w, none, all) ↦ whole_stops step hold true old new text rest ho hn wo wn w last last2 hk wk back none all why passed
+        (elim (passes step hold old mid kept text used ho hm wo wm bytes a le true new n.1 n.2 n.0 n.3 n.4 last hn wn back n.5) [
+          | inl g ↦ gathered_stops step hold true old new last text n.2 ho hn wo wn back g last2 hk wk why [] passed
+          | inr (w, none, all) ↦ whole_stops step hold true old new text n.2 ho hn wo wn w last last2 hk wk back none all why passed
         ])
 
 pub block_length : (block : List ℕ) (n hold : ℕ) → n ≤ hold → length (take n block) ≤ hold
@@ -199,3 +207,37 @@ pub next_count : {S : Type 0} (step : S → First → List ℕ → S → Type 0)
     → AnsweredNext step false mid new kept last text hm hn wm wn bytes back (Ok nexts.Closed) → length bytes < 2 ^ 64 → wn < wm + 3 * 2 ^ 64
 next_count step mid new kept last text hm hn wm wn bytes back (answer, after, rest, one, which, inl (same, wrote, counted, keeps)) le = omega (arith, counted)
 next_count step mid new kept last text hm hn wm wn bytes back (answer, after, rest, one, which, inr (none, wrote, counted, all)) le = omega (arith, counted, one.fits, le, length-append bytes answer)
+
+pub at_most_is : (a b n : ℕ) → a ≤ b → b ≡ n → a ≤ n
+at_most_is a b n le e = omega (arith, le, e)
+
+-- how far the code goes on in the text, and how much it has written then
+module _ {S : Type 0} (step : S → First → List ℕ → S → Type 0) (mid new kept last : S) (text : List ℕ) (used : ℕ) (hm hn : Option (List ℕ)) (wm wn : ℕ) (bytes back : List ℕ) (next : Next) (answered : AnsweredNext step false mid new kept last (piece text used) hm hn wm wn bytes back (Ok next)) where
+  pub next_within : (count : ℕ) → next ≡ nexts.Open count → used ≤ length text → used + count ≤ length text
+  next_within count is within =
+      let there = subst (λ (n : Next). AnsweredNext step false mid new kept last (piece text used) hm hn wm wn bytes back (Ok n)) is answered in omega (arith, within, there.3, piece_length text used)
+
+  pub next_smaller : (count : ℕ) → next ≡ nexts.Open count → used ≤ length text → length text - (used + count) < length text - used
+  next_smaller count is within =
+      let there = subst (λ (n : Next). AnsweredNext step false mid new kept last (piece text used) hm hn wm wn bytes back (Ok n)) is answered in
+      omega (arith, within, there.2, there.3, piece_length text used)
+
+  module _ (written : ℕ) (bound : wm ≤ written + 2 ^ 65 * length text) (room : written + 2 ^ 65 * (length text + 3) < 2 ^ 128) where
+    pub room_waits : (due : Bool) → next ≡ nexts.Waits due → wn + 2 ^ 64 < 2 ^ 128
+    room_waits due is = let there = subst (λ (n : Next). AnsweredNext step false mid new kept last (piece text used) hm hn wm wn bytes back (Ok n)) is answered in omega (arith, bound, room, there.5)
+
+    pub room_closes : next ≡ nexts.Closed → length bytes < 2 ^ 64 → wn + 2 ^ 64 < 2 ^ 128
+    room_closes is le =
+        let there = subst (λ (n : Next). AnsweredNext step false mid new kept last (piece text used) hm hn wm wn bytes back (Ok n)) is answered in
+        let few = next_count step mid new kept last (piece text used) hm hn wm wn bytes back there le in omega (arith, bound, room, few)
+
+pub fits_text : (text : List ℕ) (n : ℕ) → n ≤ length text → length text < 2 ^ 64 → Fits w64 n
+fits_text text n le fits = omega (arith, le, fits)
+
+-- a front of a block that is long enough has its length
+pub front_whole : (block : List ℕ) (n most : ℕ) → n ≤ most → length block ≡ most → n ≡ length (take n block)
+front_whole block n most le len = omega (arith, le, len, length-take n block)
+
+-- a front of a block is no longer than it was taken to be
+pub front_below : (block : List ℕ) (n room most : ℕ) → n ≤ room → room < most → length (take n block) < most
+front_below block n room most le lt = omega (arith, le, lt, length-take n block)

@@ -14,6 +14,7 @@ use Rattle.st_connection.specs.Connection.{Told}
 use Rattle.st_connection.specs.Render.{continue_text, interim}
 use Rattle.st_connection.specs.inner.Stages.{One, Passed, Stands, AnsweredNext}
 use Rattle.st_connection.specs.declared.sending.Stopped.{Stopped}
+use Rattle.st_connection.specs.declared.connection.Next.{Next}
 use Rattle.st_connection.specs.declared.connection.Next.TheVariants as nexts
 
 -- the message that stands first in a text
@@ -126,12 +127,16 @@ module _ {S : Type 0} (step : S → First → List ℕ → S → Type 0) (old mi
   next_stops closed one why passed =
       subst (λ (s : S). AnsweredNext step false old s kept_old kept_new text ho hn wo wn held back (Err why)) (sym now) (answer, kept, rest, closed, one, which, passed)
 
-  pub next_closed : One step true old mid text rest answer → Passed mid kept kept_new ho hn wo wn (held ++ answer) back (Ok tt)
-      → AnsweredNext step false old new kept_old kept_new text ho hn wo wn held back (Ok nexts.Closed)
-  next_closed one passed =
-      subst (λ (s : S). AnsweredNext step false old s kept_old kept_new text ho hn wo wn held back (Ok nexts.Closed)) (sym now) (answer, kept, rest, one, which, passed)
+  next_so : (found next : Next) → found ≡ next → AnsweredNext step false old mid kept_old kept_new text ho hn wo wn held back (Ok next)
+      → AnsweredNext step false old new kept_old kept_new text ho hn wo wn held back (Ok found)
+  next_so found next is answered =
+      subst (λ (s : S). AnsweredNext step false old s kept_old kept_new text ho hn wo wn held back (Ok found)) (sym now)
+      (subst (λ (n : Next). AnsweredNext step false old mid kept_old kept_new text ho hn wo wn held back (Ok n)) (sym is) answered)
 
-  pub next_open : (used : ℕ) → (0 < used) × (used ≤ length text) × One step false old mid text (drop used text) answer → Passed mid kept kept_new ho hn wo wn (held ++ answer) back (Ok tt)
-      → AnsweredNext step false old new kept_old kept_new text ho hn wo wn held back (Ok (nexts.Open used))
-  next_open used (some, within, one) passed =
-      subst (λ (s : S). AnsweredNext step false old s kept_old kept_new text ho hn wo wn held back (Ok (nexts.Open used))) (sym now) (answer, kept, some, within, one, which, passed)
+  pub next_closed : (found : Next) → found ≡ nexts.Closed → One step true old mid text rest answer
+      → Passed mid kept kept_new ho hn wo wn (held ++ answer) back (Ok tt) → AnsweredNext step false old new kept_old kept_new text ho hn wo wn held back (Ok found)
+  next_closed found is one passed = next_so found nexts.Closed is (answer, kept, rest, one, which, passed)
+
+  pub next_open : (found : Next) (used : ℕ) → found ≡ nexts.Open used → (0 < used) × (used ≤ length text) × One step false old mid text (drop used text) answer → Passed mid kept kept_new ho hn wo wn (held ++ answer) back (Ok tt)
+      → AnsweredNext step false old new kept_old kept_new text ho hn wo wn held back (Ok found)
+  next_open found used is (some, within, one) passed = next_so found (nexts.Open used) is (answer, kept, some, within, one, which, passed)

@@ -9,7 +9,9 @@ use Rattle.st_http.proofs.FirstLemmas.{first_unique, more_short}
 use Rattle.st_http.proofs.ExpectLemmas.{awaited}
 use Rattle.st_connection.specs.Connection.{ServedWithin, SaysAll, Told}
 use Rattle.st_connection.specs.Render.{interim}
-use Rattle.st_connection.specs.inner.Stages.{Whole, Broken, Loses, Spoken}
+use Rattle.st_connection.specs.inner.Stages.{Whole, Broken, Loses, Spoken, AnsweredText}
+use Rattle.st_connection.specs.declared.connection.Stop.{Stop}
+use Rattle.st_connection.specs.declared.connection.Stop.TheVariants as stops
 use Rattle.st_connection.specs.declared.connection.Ended.TheVariants.{Clean, Closed, Cut, TurnsSpent, Lost}
 use Rattle.st_connection.proofs.Empty.{first_empty}
 use Rattle.st_connection.proofs.Reading.{few_items, items_whole}
@@ -193,19 +195,24 @@ module _ {S : Type 0} (step : S → First → List ℕ → S → Type 0) (old no
             );
           }
 
-      pub goes_on_serving : (used : ℕ) (ahead : Bool) (left : List ℕ) → left ≡ drop used longer → length got ≤ 65536
-          → (used ≤ length longer) × IsFirst (drop used longer) (more ahead) × Spoken (Told step) now new longer (drop used longer) ahead s.spoken.held hm s.spoken.written wm
+      pub goes_on_serving : (last : S) (stop : Stop) (used : ℕ) (ahead : Bool) → stop ≡ stops.Waits used ahead → (left : List ℕ) → left ≡ drop used longer → length got ≤ 65536
+          → AnsweredText (Told step) hold now new last longer s.spoken.held hm s.spoken.written wm (Ok stop)
           → Serving (Told step) old new left ahead lo lm ho hm wm (turn + 1)
-      goes_on_serving used ahead left is le (fits, waits, a) = record {
-        given = s.given ++ got;
-        gave = gave_more;
-        spoken = spoken_join (Told step) old now new (s.given ++ got) longer ho s.spoken.held hm 0 s.spoken.written wm grown left ahead
-            (subst (λ (t : List ℕ). Spoken (Told step) now new longer t ahead s.spoken.held hm s.spoken.written wm) (sym is) a);
-        waits = subst (λ (t : List ℕ). IsFirst t (more ahead)) (sym is) waits;
-        turns = omega (arith, s.turns, length-append s.given got);
-      }
+      goes_on_serving last stop used ahead found left is le answered =
+          let a = subst (λ (o : Stop). AnsweredText (Told step) hold now new last longer s.spoken.held hm s.spoken.written wm (Ok o)) found answered in
+          record {
+            given = s.given ++ got;
+            gave = gave_more;
+            spoken = spoken_join (Told step) old now new (s.given ++ got) longer ho s.spoken.held hm 0 s.spoken.written wm grown left ahead
+                (subst (λ (t : List ℕ). Spoken (Told step) now new longer t ahead s.spoken.held hm s.spoken.written wm) (sym is) a.2);
+            waits = subst (λ (t : List ℕ). IsFirst t (more ahead)) (sym is) a.1;
+            turns = omega (arith, s.turns, length-append s.given got);
+          }
 
 -- the number of reads after one more
 pub counted_on : (first_reads reads next turn : ℕ) → (turn ≡ 0 → reads ≡ first_reads) → (0 < turn → reads ≡ min (first_reads + turn) (2 ^ 64 - 1)) → next ≡ min (reads + 1) (2 ^ 64 - 1) → next ≡ min (first_reads + (turn + 1)) (2 ^ 64 - 1)
 counted_on first_reads reads next zero a b e = let i = a refl in omega (arith, i, e)
 counted_on first_reads reads next (suc turn) a b e = let i = b (omega arith) in omega (arith, i, e)
+
+pub some_turn : {P : Type 0} (turn : ℕ) → turn + 1 ≡ 0 → P
+some_turn turn none = absurd (omega (arith, none))

@@ -11,3 +11,4 @@ pub mod Listing
 pub mod Sorting
 pub mod Searching
 pub mod Ranges
+pub mod Places

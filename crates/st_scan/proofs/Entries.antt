@@ -1,5 +1,5 @@
 -- Entries whose keys rise, and their rows.
-use Rattle.std.proofs.Common.{◌≡◌, ℕ, ◌+◌, ◌-◌, ◌<◌, ◌≤◌, List, [], ◌∷◌, ◌++◌, filter, length, get_or, take, drop, suc, zero, add-zero, refl, sym, ap, subst, ◌∙◌, arith, append_assoc, IsTrue}
+use Rattle.std.proofs.Common.{◌≡◌, ℕ, ◌+◌, ◌-◌, ◌<◌, ◌≤◌, List, [], ◌∷◌, ◌++◌, filter, length, get_or, take, drop, suc, zero, add-zero, refl, sym, ap, subst, ◌∙◌, arith, append_assoc, append-nil, IsTrue}
 use Rattle.std.proofs.lemmas.Grind.{flat_map-append}
 use Rattle.std.proofs.lemmas.List.Elements.{All-append, All-cons, All-head, All-nil, All-tail, filter-append}
 use Rattle.std.proofs.lemmas.List.{get_or-drop, get_or-take, length-drop, length-take-le, take-append-drop, take_all}
@@ -14,7 +14,7 @@ use Rattle.st_box.specs.declared.query.Query.{Query}
 use Rattle.st_index.specs.Rows.{EntryValue, IsEntry, Rises, rank_of, rows_of}
 use Rattle.st_scan.specs.Rows.{has_row}
 use Rattle.st_scan.specs.inner.Steps.{SkipsTo}
-use Rattle.st_scan.proofs.Filters.{filter_none}
+use Rattle.st_scan.proofs.Filters.{filter_none, no_items}
 
 pub all_left : {X : Type 0} (P : X → Type 0) (xs ys : List X) → All P (xs ++ ys) → All P xs
 all_left P [] ys h = All-nil P
@@ -84,6 +84,12 @@ module _ {A : Type 0} (q : Query) where
         ∙ filter-append (has_row q) e.rows []
         ∙ ap (λ xs. xs ++ []) (filter_none (has_row q) e.rows out);
   }
+
+  -- and where none is ahead
+  pub pass_all : (entries ahead : List (EntryValue A)) → Passed q entries ahead → length ahead ≡ 0 → filter (has_row q) (rows_of entries) ≡ []
+  pass_all entries ahead p none =
+      let whole : entries ≡ p.passed = p.is ∙ ap (λ es. p.passed ++ es) (no_items ahead none) ∙ append-nil p.passed in
+      ap (λ es. filter (has_row q) (rows_of es)) whole ∙ p.outside
 
 module _ {A : Type 0} (period : Period) (start : ℕ) where
   -- a later entry has a higher key

@@ -1,7 +1,7 @@
 -- Fields of a grid, and the rows that are counted in them.
-use Rattle.std.proofs.Common.{◌≡◌, ℕ, suc, ◌+◌, ◌*◌, ◌/◌, ◌^◌, ◌<◌, ◌≤◌, List, [], ◌∷◌, length, map, count_by, Bool, nat_eq, get_or, refl, ap, ◌∙◌, arith}
-use Rattle.std.proofs.Math.Nat.{div-lt_iff_lt-mul, mul-lt-mul_of_pos_right}
-use Rattle.std.proofs.lemmas.Nat.{mul-lt}
+use Rattle.std.proofs.Common.{◌≡◌, ℕ, suc, ◌+◌, ◌-◌, ◌*◌, ◌/◌, ◌^◌, ◌<◌, ◌≤◌, max, min, List, [], ◌∷◌, length, map, count_by, Bool, nat_eq, get_or, refl, ap, ◌∙◌, arith}
+use Rattle.std.proofs.Math.Nat.{div-lt_iff_lt-mul, div-mul-le_self, mul-le-mul_right, mul-lt-mul_of_pos_right}
+use Rattle.std.proofs.lemmas.Nat.{le-div, mul-lt}
 use Rattle.std.specs.List.{All}
 use Rattle.st_label.specs.Reading.{is_true}
 use Rattle.st_text.specs.Texts.{Text, is_among}
@@ -22,6 +22,23 @@ share_below a w s l some =
 
 pub share_fits : (a s : ℕ) → a < 2 ^ 21 → s ≤ 32 → a * s < 2 ^ 32
 share_fits a s l few = let p = mul-lt a s (2 ^ 21) 33 l (omega (arith, few)) in omega (arith, p)
+
+div_mono : (a b w : ℕ) → a ≤ b → 0 < w → a / w ≤ b / w
+div_mono a b w le some = le-div (a / w) b w some (omega (arith, le, div-mul-le_self a w))
+
+-- numbers between two that share one are in the same
+pub share_between : (first w shares low high number share : ℕ) → 0 < w → low ≤ number → number ≤ high
+    → share ≡ (low - first) * shares / w → (high - first) * shares / w ≡ share → (number - first) * shares / w ≡ share
+share_between first w shares low high number share some from to is same =
+    let below = div_mono ((low - first) * shares) ((number - first) * shares) w (mul-le-mul_right shares (omega (arith, from))) some in
+    let above = div_mono ((number - first) * shares) ((high - first) * shares) w (mul-le-mul_right shares (omega (arith, to))) some in
+    omega (arith, below, above, is, same)
+
+pub max_at_most : (a b n m : ℕ) → m ≡ max a b → a ≤ n → b ≤ n → m ≤ n
+max_at_most a b n m is le more = omega (arith, is, le, more)
+
+pub min_at_least : (a b n m : ℕ) → m ≡ min a b → n ≤ a → n ≤ b → n ≤ m
+min_at_least a b n m is le more = omega (arith, is, le, more)
 
 -- a list of the values of a function at the numbers from one on
 pub counted : (f : ℕ → ℕ) (counts : List ℕ) (from : ℕ) → ((k : ℕ) → k < length counts → get_or counts k 0 ≡ f (from + k)) → counts ≡ map f (numbers from (length counts))

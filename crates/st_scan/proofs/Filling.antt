@@ -1,9 +1,25 @@
 -- A page as it is filled.
-use Rattle.std.proofs.Common.{◌≡◌, ℕ, ◌≤◌, List, [], ◌∷◌, ◌++◌, length, filter, Bool, true, false, take, sym, ap, ◌∙◌, arith, append_assoc, append-nil, length-append}
+use Rattle.std.proofs.Common.{◌≡◌, ℕ, ◌<◌, ◌≤◌, ◌&&◌, List, [], ◌∷◌, ◌++◌, length, filter, Bool, true, false, take, refl, sym, ap, ◌∙◌, arith, append_assoc, append-nil, length-append}
 use Rattle.std.proofs.lemmas.Bool.{lt-ltb, le-ltb}
 use Rattle.std.proofs.lemmas.List.{take_all, take-append-le}
+use Rattle.st_label.specs.Reading.{is_true}
+use Rattle.st_text.specs.Texts.{Text, is_among}
 use Rattle.std.specs.Prelude.{Result, Ok, Err, IfOk, IfErr, nat_lt}
 use Rattle.st_scan.proofs.Visible.{keep, omit}
+
+both : (s t : Bool) → true ≡ s → true ≡ t → s && t ≡ true
+both true true a b = refl
+both true false a b = cc
+both false t a b = cc
+
+-- a row that is past the place, and whose label was found true
+pub shown_so : (past : Bool) (verdicts auths : List Text) (label own : Text) → true ≡ past → true ≡ is_true (is_among verdicts) label → label ≡ own → verdicts ≡ auths
+    → past && is_true (is_among auths) own ≡ true
+shown_so past verdicts auths label own after held same set =
+    both past (is_true (is_among auths) own) after (held ∙ ap (λ l. is_true (is_among verdicts) l) same ∙ ap (λ names. is_true (is_among names) own) set)
+
+pub one_fewer : {X : Type 0} (left rest : List X) (x : X) → left ≡ x ∷ rest → length rest < length left
+one_fewer left rest x is = omega (arith, ap length is)
 
 -- the rows of the page so far, and those that may follow, are all that are to be shown
 pub record Fills {X : Type 0} (p : X → Bool) (limit : ℕ) (rows left all : List X) : Type 0 where

@@ -4,7 +4,7 @@ use Rattle.std.proofs.lemmas.Bool.{cases_lt}
 use Rattle.std.specs.Prelude.{IfSome, IfNone, Option, Some, None}
 use Rattle.st_bigmin.specs.First.{IsAtOrAfter}
 use Rattle.st_scan.specs.inner.Steps.{rank_or_end}
-use Rattle.std.proofs.Common.{inl, inr, Bool, false, ◌≡◌, ◌↔◌, ℕ, ◌/◌, ◌%◌, ◌<◌, ◌≤◌, refl, sym, ◌∙◌, subst, arith, IsTrue}
+use Rattle.std.proofs.Common.{inl, inr, Bool, false, ◌≡◌, ◌↔◌, ℕ, ◌+◌, ◌*◌, ◌/◌, ◌%◌, ◌^◌, ◌<◌, ◌≤◌, refl, sym, ◌∙◌, subst, arith, IsTrue}
 use Rattle.st_key.specs.declared.key.Key.{Key}
 use Rattle.st_key.specs.declared.period.Period.{Period}
 use Rattle.st_key.specs.Key.{IsBefore, IsKeyOf, rank}
@@ -26,6 +26,10 @@ pub record RowKey {A : Type 0} (period : Period) (row : Row A) : Type 0 where
 
 bin_bound : (a b : ℕ) → a < b → b ≤ 229376 → a < 229376
 bin_bound a b h k = omega (arith, h, k)
+
+-- a key before the end of a period has one of its bins
+pub bin_below : (bin address bins : ℕ) → bin * 2 ^ 63 + address < bins * 2 ^ 63 → bin < bins
+bin_below bin address bins lt = omega (arith, lt)
 
 pub row_key : {A : Type 0} (period : Period) (row : Row A) → RowKey period row
 unfolding rank_of

@@ -6,6 +6,7 @@ use Rattle.httparse.specs.Grammar.{RequestHead}
 use Rattle.st_http.specs.Message.{ShowsMessage}
 use Rattle.st_http.specs.First.{message, fault, more, IsFirst}
 use Rattle.st_connection.specs.Connection.{Told}
+use Rattle.st_connection.specs.declared.connection.Next.TheVariants as nexts
 use Rattle.st_connection.specs.inner.Stages.{One}
 use Rattle.st_connection.proofs.Empty.{first_empty}
 use Rattle.st_connection.proofs.Steps.{told_so, stands_due, waits_so, fault_one, message_one, message_stays, next_stops, next_closed, next_open}
@@ -38,7 +39,7 @@ returns-in_default-clause-answered g c =
     let expected = told_so _ _ _ false c.take-taken.ensures.first c.expects.ensures c.if-expects.false in
     let s = subst (λ (a : List ℕ). g.X.Replies.answers (g.X.Replies.now c.args.answerer.now) (fault c.in-Fault.fault.reason c.in-Fault.fault.bare) a (g.X.Replies.now c.args.answerer.now)) (sym c.fault_text-answer.ensures) (g.met.X.Replies.faults (g.X.Replies.now c.args.answerer.now) _ _) in
     let one = fault_one g.X.Replies.answers _ _ _ _ (omega arith) false expected c.in-Fault.fault (rw c.in-Fault.is at c.take-taken.ensures.first) s in
-    next_closed (Told g.X.Replies.answers) _ _ _ _ _ _ c.in_default.ensures.now _ _ _ _ _ _ (take c.pass.new.held c.pass.new.block) _ _ (inl refl) one c.in_default.ensures.passed
+    next_closed (Told g.X.Replies.answers) _ _ _ _ _ _ c.in_default.ensures.now _ _ _ _ _ _ (take c.pass.new.held c.pass.new.block) _ _ (inl refl) nexts.Closed refl one c.in_default.ensures.passed
 
 pub returns-in-Err-pass-clause-answered : goal.returns-in-Err-pass-clause-answered
 returns-in-Err-pass-clause-answered g c =
@@ -57,8 +58,8 @@ returns-after-message-clause-answered g c =
     let one = message_one g.X.Replies.answers (g.X.Replies.now c.args.answerer.now) (g.X.Replies.now c.reply-reply.new.self) c.args.text.now _ (omega arith) false expected _ _ first replied in
     elim c.if-message.branch [
       | then-message w ↦
-          rw w.result-is (next_closed (Told g.X.Replies.answers) _ _ _ _ _ _ c.in_default-pass.ensures.now _ _ _ _ _ _ (take c.pass-in-Message.new.held c.pass-in-Message.new.block) _ one.0 c.reply-reply.ensures.kept
+          (next_closed (Told g.X.Replies.answers) _ _ _ _ _ _ c.in_default-pass.ensures.now _ _ _ _ _ _ (take c.pass-in-Message.new.held c.pass-in-Message.new.block) _ one.0 c.reply-reply.ensures.kept c.if-message.result w.result-is
           (subst (λ (b : Bool). One (Told g.X.Replies.answers) b (g.X.Replies.now c.args.answerer.now) (g.X.Replies.now c.reply-reply.new.self) c.args.text.now one.0 c.as_slice.result.now) w.if-message.true one.1) c.in_default-pass.ensures.passed)
-      | else-message w ↦ rw w.result-is (next_open (Told g.X.Replies.answers) _ _ _ _ _ _ c.in_default-pass.ensures.now _ _ _ _ _ _ (take c.pass-in-Message.new.held c.pass-in-Message.new.block) _ [] c.reply-reply.ensures.kept _
+      | else-message w ↦ (next_open (Told g.X.Replies.answers) _ _ _ _ _ _ c.in_default-pass.ensures.now _ _ _ _ _ _ (take c.pass-in-Message.new.held c.pass-in-Message.new.block) _ [] c.reply-reply.ensures.kept c.if-message.result _ w.result-is
           (message_stays g.X.Replies.answers (g.X.Replies.now c.args.answerer.now) (g.X.Replies.now c.reply-reply.new.self) c.args.text.now _ (omega arith) false expected _ _ first replied w.if-message.false) c.in_default-pass.ensures.passed)
     ]

@@ -1,5 +1,4 @@
-use Rattle.std.proofs.Common.{◌≡◌, List, [], ◌++◌, ℕ, Bool, Option, true, false, refl, sym, ◌∙◌, subst, arith}
-use Rattle.std.specs.Io.KnownBytes.{Appends}
+use Rattle.std.proofs.Common.{◌≡◌, List, [], ℕ, Bool, true, false, refl, sym, ◌∙◌, subst, arith}
 use Rattle.httparse.specs.Grammar.{RequestHead}
 use Rattle.st_http.specs.Message.{ShowsMessage}
 use Rattle.st_http.specs.First.{First, IsFirst, message}
@@ -39,10 +38,10 @@ returns-after-message-clause-answered g c hold held before wrote counted =
     let one = message_one g.X.Replies.answers (g.X.Replies.now c.args.answerer.now) (g.X.Replies.now c.reply-reply.new.self) c.args.text.now c.as_slice.result.now (omega arith) c.args.told expected _ _ c.in-Message.ensures.first replied in
     elim c.if-message.branch [
       | then-message w ↦
-          rw w.result-is (told_closes (Told g.X.Replies.answers) hold _ c.args.text.now held _ before _ c.args.told wrote counted _ _ one.0 c.as_slice.result.now one.1
-          (g.X.Replies.kept c.args.answerer.now) _ c.requires.settled c.reply-reply.ensures.kept _ _ _ _ c.in_default.ensures.now w.if-message.true c.in_default.ensures.passed)
+          (told_closes (Told g.X.Replies.answers) hold _ c.args.text.now held _ before _ c.args.told wrote counted _ _ one.0 c.as_slice.result.now one.1
+          (g.X.Replies.kept c.args.answerer.now) _ c.requires.settled c.reply-reply.ensures.kept _ _ _ _ c.in_default.ensures.now c.if-message.result w.result-is w.if-message.true c.in_default.ensures.passed)
       | else-message w ↦
           let stays = message_stays g.X.Replies.answers (g.X.Replies.now c.args.answerer.now) (g.X.Replies.now c.reply-reply.new.self) c.args.text.now c.as_slice.result.now (omega arith) c.args.told expected _ _ c.in-Message.ensures.first replied w.if-message.false in
-          rw w.result-is (told_opens (Told g.X.Replies.answers) hold _ c.args.text.now held _ before _ c.args.told wrote counted false _ _ c.as_slice.result.now stays.2
-          (g.X.Replies.kept c.args.answerer.now) _ c.requires.settled c.reply-reply.ensures.kept _ _ _ _ c.in_default.ensures.now refl _ refl stays.0 stays.1 c.in_default.ensures.passed)
+          (told_opens (Told g.X.Replies.answers) hold _ c.args.text.now held _ before _ c.args.told wrote counted false _ _ c.as_slice.result.now stays.2
+          (g.X.Replies.kept c.args.answerer.now) _ c.requires.settled c.reply-reply.ensures.kept _ _ _ _ c.in_default.ensures.now c.if-message.result _ w.result-is refl refl stays.0 stays.1 c.in_default.ensures.passed)
     ]

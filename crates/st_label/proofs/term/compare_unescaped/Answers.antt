@@ -1,4 +1,5 @@
-use Rattle.std.proofs.Common.{inl, inr, sym, ◌∙◌, ap}
+use Rattle.std.proofs.Common.{arith, inl, inr, sym, ◌∙◌, ap}
+use Rattle.std.proofs.lemmas.Grind.{common_steps}
 use Rattle.std.proofs.lemmas.List.{drop_all}
 use Rattle.std.specs.Cmp.Lexicographic.{slice_cmp}
 use Rattle.std.specs.Ordering.{nat_cmp}
@@ -18,3 +19,6 @@ pub returns-else-is_empty : goal.returns-else-is_empty
 returns-else-is_empty c =
     sym (c.loop-b.invariant ∙ ap (λ k. slice_cmp nat_cmp c.loop-b.rest.now (unescaped_from c.loop-b.behind k)) (drop_all c.loop-b.b-index c.args.quoted.now c.loop-b-test.false)
     ∙ greater c.loop-b.rest.now c.loop-b.behind (sym c.is_empty.ensures ∙ c.if-is_empty.false))
+
+pub loop-b-preserved : goal.loop-b-preserved
+loop-b-preserved c = grind (arith, common_steps)

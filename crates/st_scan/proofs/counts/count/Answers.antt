@@ -1,4 +1,5 @@
-use Rattle.std.proofs.Common.{sym, ap, ◌∙◌}
+use Rattle.std.proofs.Common.{◌≡◌, ℕ, [], refl, sym, ap, ◌∙◌}
+use Rattle.std.proofs.lemmas.List.Elements.{All-cons, All-nil}
 use Rattle.std.proofs.lemmas.List.Sums.{length-filter}
 use Rattle.st_label.specs.Reading.{is_true}
 use Rattle.st_text.specs.Texts.{is_among}
@@ -24,3 +25,6 @@ returns g c =
     ∙ ap (λ judges. count_of q judges content) c.count_few.ensures.same
     ∙ ap (λ names. count_of q (λ label. is_true (is_among names) label) content) c.new-sight.ensures
     ∙ sym (length-filter (is_visible_inside q c.args.auths.now) content)
+
+pub count_few-requires-clause-none : goal.count_few-requires-clause-none
+count_few-requires-clause-none g c = All-cons (λ (n : ℕ). n ≡ 0) 0 [] refl (All-nil (λ (n : ℕ). n ≡ 0))

@@ -1,13 +1,14 @@
-use Rattle.std.proofs.Common.{◌≡◌, ◌+◌, ◌≤◌, ℕ, refl, sym, subst, ◌∙◌, arith}
+use Rattle.std.proofs.Common.{◌+◌, ◌<◌, ◌≤◌, refl, sym, subst, ◌∙◌, arith}
 use Rattle.st_key.specs.declared.key.Key.{Key}
 use Rattle.st_key.specs.Key.{IsBefore, rank}
+use Rattle.st_key.specs.Period.{bins_of}
 use Rattle.st_bigmin.specs.First.{IsFirstFrom}
 use Rattle.st_box.specs.Query.{HasKey}
 use Rattle.st_index.specs.Fields.{Counts}
 use Rattle.st_index.specs.Index.{rows_between}
 use Rattle.st_scan.specs.inner.Steps.{rank_or_end}
 use Rattle.st_scan.proofs.Counting.{CountedIn, in_all, in_end, in_more, in_none}
-use Rattle.st_scan.proofs.Keys.{after_place, from_rank, rank_before, rank_from}
+use Rattle.st_scan.proofs.Keys.{after_place, bin_below, from_rank, rank_before, rank_from}
 use Rattle.st_scan.proofs.few.count_few.Goals as goal
 
 pub keys-init : goal.keys-init
@@ -65,3 +66,9 @@ returns-clause-counts g c = λ _.
     let content = g.I.RowIndex.content c.args.index.now in
     let old = c.args.counts.now in
     in_end period q judges field_of content old c.keys.counts (subst (λ o. CountedIn period q judges field_of content old (rank_or_end period o) c.keys.counts) c.in_default.is c.keys.invariant.counted)
+
+pub after-from-requires : goal.after-from-requires
+after-from-requires g c =
+    let last = c.in-Some-count_fields_at.range.last in
+    subst (λ p. last.bin < bins_of p) (sym (c.new-test.ensures.period ∙ c.period.ensures.value))
+    (bin_below last.bin last.address (bins_of (g.I.RowIndex.period_of c.args.index.now)) c.in-Some-count_fields_at.ensures.within)

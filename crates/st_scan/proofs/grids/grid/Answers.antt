@@ -25,3 +25,7 @@ returns-clause-grid g c =
     let zeros = subst (All (λ (n : ℕ). n ≡ 0)) (sym (c.deref_mut.ensures.value ∙ c.in_ok-counts.ensures.items_if_clones_equal (λ y e. e))) (All-replicate (λ (n : ℕ). n ≡ 0) (nx * ny) 0 refl) in
     let by = subst (λ names. Counts q (λ label. is_true (is_among names) label) (field_of q nx ny) content c.deref_mut.result.now counts) c.new-sight.ensures c.count_fields.ensures in
     kept ∙ are_grid q nx ny auths content c.deref_mut.result.now counts zeros by size
+
+pub count_fields-requires-clause-none : goal.count_fields-requires-clause-none
+count_fields-requires-clause-none g c =
+    subst (All (λ (n : ℕ). n ≡ 0)) (sym (c.deref_mut.ensures.value ∙ c.in_ok-counts.ensures.items_if_clones_equal (λ y e. e))) (All-replicate (λ (n : ℕ). n ≡ 0) (c.args.columns * c.args.lines) 0 refl)

@@ -21,3 +21,8 @@ returns-in-Some-clause-over g c = λ none. absurd (c.in-Some.ensures.some.some n
 
 pub enter_region-requires-clause-rows : goal.enter_region-requires-clause-rows
 enter_region-requires-clause-rows g c = no_items (viewed c.regions.at.rows) (eqb-true _ _ (sym c.is_empty.ensures ∙ c.regions-test.true))
+
+pub regions-preserved : goal.regions-preserved
+regions-preserved g c =
+    let steps = c.in-Some-enter_region.ensures.some in
+    record { at = steps.at; start = steps.start ∙ c.regions.invariant.start; left = steps.left ∙ c.regions.invariant.left }

@@ -1,7 +1,8 @@
-use Rattle.std.proofs.Common.{◌+◌, sym, subst}
+use Rattle.std.proofs.Common.{◌+◌, ◌<◌, sym, subst}
 use Rattle.st_key.specs.Key.{rank}
+use Rattle.st_key.specs.Period.{bins_of}
 use Rattle.st_index.specs.Index.{IsLeafAt, region}
-use Rattle.st_scan.proofs.Keys.{after_place, from_rank, rank_before, rank_from}
+use Rattle.st_scan.proofs.Keys.{after_place, bin_below, from_rank, rank_before, rank_from}
 use Rattle.st_scan.proofs.Regions.{is_in}
 use Rattle.st_scan.proofs.step.open_next.Goals as goal
 
@@ -30,3 +31,8 @@ returns-clause-some g c =
       after = skips.after;
       next_is = after_place w c.after.result _ c.after.ensures.rank c.after.ensures.last;
     }
+
+pub after-requires : goal.after-requires
+after-requires g c =
+    subst (λ p. c.leaf_at-leaf.result.last.bin < bins_of p) (sym c.requires)
+    (bin_below c.leaf_at-leaf.result.last.bin c.leaf_at-leaf.result.last.address (bins_of (g.I.RowIndex.period_of c.args.index.now)) c.leaf_at-leaf.ensures.leaf.within)

@@ -1,4 +1,4 @@
-use Rattle.std.proofs.Common.{Err, sym, subst, ◌∙◌}
+use Rattle.std.proofs.Common.{Err, sym, subst, ◌∙◌, rules}
 use Rattle.std.proofs.lemmas.Result.{err_from_is_err_and}
 use Rattle.st_workers.specs.Telling.{Tells}
 use Rattle.st_workers.proofs.Telling.{not_bound, not_listening}
@@ -16,3 +16,6 @@ returns-in_err-tell-clause-err g c =
     let new = g.O.Write.contents c.tell.new.output in
     let p = err_from_is_err_and c.from_residual-in_err-tell.result c.from_residual-in_err-tell.ensures.1 in
     rw p.1 (subst (λ f. Tells said.port said.connections old new (Err f)) (sym p.2) (not_listening said.port said.connections old new _ c.in_err-tell.ensures.err))
+
+pub returns-clause-ok : goal.returns-clause-ok
+returns-clause-ok g c = search rules

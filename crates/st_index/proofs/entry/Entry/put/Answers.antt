@@ -1,7 +1,8 @@
-use Rattle.std.proofs.Common.{arith, ◌≡◌, [], sym, refl, ◌∙◌}
+use Rattle.std.proofs.Common.{arith, ◌≡◌, [], sym, refl, ap, ◌∙◌}
 use Rattle.std.proofs.lemmas.Bool.{eqb-true, eqb-false}
 use Rattle.std.proofs.lemmas.List.{nil_from_length}
 use Rattle.std.specs.List.{insert}
+use Rattle.st_index.specs.Rows.{EntryValue}
 use Rattle.st_index.proofs.Putting.{adds_insert, names_put, names_held}
 use Rattle.st_index.proofs.entry.Entry.put.Goals as goal
 use Rattle.st_index.specs.declared.row.Row.{Row}
@@ -51,3 +52,6 @@ pub returns-then-is_empty-clause-added : goal.returns-then-is_empty-clause-added
 returns-then-is_empty-clause-added g c =
     let none : c.args.self.now.rows ≡ [] = nil_from_length c.args.self.now.rows (eqb-true _ _ (sym c.is_empty.ensures ∙ c.if-is_empty.true)) in
     rw (none, c.overwrite.ensures, c.new.ensures) (record { front = []; back = []; old_is = refl; new_is = refl })
+
+pub returns-then-is_empty-clause-at : goal.returns-then-is_empty-clause-at
+returns-then-is_empty-clause-at g c = ap (λ (v : EntryValue g.row.A.Denot). v.at) (c.overwrite.ensures ∙ c.new.ensures) ∙ sym c.requires.key

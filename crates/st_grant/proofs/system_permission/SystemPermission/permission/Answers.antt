@@ -1,0 +1,5 @@
+use Rattle.std.proofs.Common.{rules}
+use Rattle.st_grant.proofs.system_permission.SystemPermission.permission.Goals as goal
+
+pub returns-in-DropTable : goal.returns-in-DropTable
+returns-in-DropTable c = search rules
