@@ -12,7 +12,7 @@ returns-then-len-limit-clause-rows g c =
     let rows = map row_of_view c.rows.rows.items in
     let all = filter shown c.args.walk.now.left in
     let fills = subst (λ left. Fills shown c.args.limit rows left all) c.in-Some.ensures.some c.rows.invariant.fills in
-    rows_more shown c.args.limit rows c.next.new.self.left all (row_of_view c.in-Some.row) fills (shown_so _ c.rows.verdicts c.args.verdicts.now _ _ c.if-is_past.ensures c.if-ask.ensures.value c.label.ensures c.rows.invariant.set)
+    rows_more shown c.args.limit rows c.next.new.self.left all (row_of_view c.in-Some.row) fills (search rules)
     (length-map c.rows.rows.items row_of_view ∙ search rules)
 
 pub returns-then-len-limit-clause-more : goal.returns-then-len-limit-clause-more
@@ -21,7 +21,7 @@ returns-then-len-limit-clause-more g c =
     let rows = map row_of_view c.rows.rows.items in
     let all = filter shown c.args.walk.now.left in
     let fills = subst (λ left. Fills shown c.args.limit rows left all) c.in-Some.ensures.some c.rows.invariant.fills in
-    more_more shown c.args.limit rows c.next.new.self.left all (row_of_view c.in-Some.row) fills (shown_so _ c.rows.verdicts c.args.verdicts.now _ _ c.if-is_past.ensures c.if-ask.ensures.value c.label.ensures c.rows.invariant.set)
+    more_more shown c.args.limit rows c.next.new.self.left all (row_of_view c.in-Some.row) fills (search rules)
     (length-map c.rows.rows.items row_of_view ∙ search rules)
 
 pub rows-preserved-then-ask : goal.rows-preserved-then-ask
