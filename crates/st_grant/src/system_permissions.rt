@@ -69,13 +69,6 @@ impl SystemPermissions {
         SystemPermissions { permissions }
     }
 
-    // The permissions.
-    pub(crate) fn as_slice(&self) -> &[Permission]
-        ensures { result.now ≡ self.now }
-    {
-        self.permissions.as_slice()
-    }
-
     /// Whether the permission is one of them.
     pub fn has(&self, permission: Permission) -> bool
         ensures { result ≡ list_any (same_permission permission) self.now }
