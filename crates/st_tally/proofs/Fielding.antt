@@ -15,6 +15,7 @@ use Rattle.st_index.proofs.Tallying.{counts_not}
 use Rattle.st_tally.specs.declared.bounds.Bounds.{Bounds}
 use Rattle.st_index.specs.Rows.{EntryValue}
 use Rattle.st_tally.specs.inner.Marks.{IsMark, verdict_on}
+use Rattle.st_tally.specs.declared.spots.Spot.{Spot}
 use Rattle.st_tally.specs.inner.Spots.{IsSpotOf}
 use Rattle.st_tally.specs.inner.Sums.{IsWithin}
 use Rattle.st_tally.proofs.Tallied.{verdict_here}
@@ -43,7 +44,7 @@ module _ {A : Type 0} (q : Query) (field_of : Point → ℕ) (rows : List (Row A
       → All (λ (row : Row A). is_counted q judges row ≡ true → field_of row.point ≡ one) rows
   all_in_one judges one all = λ k d l counted. all k d l (and_parts _ _ counted).0
 
-module _ {A : Type 0} (q : Query) (judges : Text → Bool) (field_of : Point → ℕ) (labels : List Text) (e : EntryValue A) (number week spot : ℕ)
+module _ {A : Type 0} (q : Query) (judges : Text → Bool) (field_of : Point → ℕ) (labels : List Text) (e : EntryValue A) (number week : ℕ) (spot : Spot)
     (mark : IsMark labels e number week spot) where
   -- what was counted of an entry of one row by its mark
   pub marked_counts : (old new : List ℕ) → number < 512

@@ -12,6 +12,7 @@ use Rattle.st_index.specs.declared.entries.Change.{Change}
 use Rattle.st_index.specs.inner.Changes.{IsChange}
 use Rattle.st_tally.specs.Pages.{NodeValue, PageValue, entries_of_pages}
 use Rattle.st_tally.specs.declared.page_marks.PageMarks.{PageMarks}
+use Rattle.st_tally.specs.declared.spots.Spot.{Spot}
 use Rattle.st_tally.specs.inner.Marks.{AreMarkedBy, AreMarks, ClosesAt, DifferAt, DifferInMarks, HasAt, IsMark, IsMarkedAt, Keeps, OpensAt}
 use Rattle.st_tally.proofs.Placing.{Closes, Opens, apart, at_before, at_changed, at_last, at_other, keeps_all, same_at, same_or_not}
 
@@ -32,7 +33,7 @@ ok_then (Ok x) next p = next p
 ok_then (Err e) next p = tt
 
 module _ {A : Type 0} where
-  pub mark_kept : (old new : List Text) (e : EntryValue A) (number week spot : ℕ) → Keeps old new → IsMark old e number week spot → IsMark new e number week spot
+  pub mark_kept : (old new : List Text) (e : EntryValue A) (number week : ℕ) (spot : Spot) → Keeps old new → IsMark old e number week spot → IsMark new e number week spot
   mark_kept old new e number week spot keeps is = λ few. let h = is few in (h.0, h.1, h.2, λ low. keeps number h.0.label (h.3 low))
 
   pub marks_kept : (old new : List Text) (es : List (EntryValue A)) (p : PageMarks) → Keeps old new → AreMarks old es p → AreMarks new es p
@@ -48,7 +49,7 @@ module _ {A : Type 0} where
 
   -- one of another page that has the same here
   pub mark_moved : (old new : List Text) (p q : PageMarks) (i j : ℕ) (e : EntryValue A) → Keeps old new → q.week ≡ p.week
-      → ((number : ℕ) → HasAt q.numbers j number → HasAt p.numbers i number) → ((spot : ℕ) → HasAt q.spots j spot → HasAt p.spots i spot)
+      → ((number : ℕ) → HasAt q.numbers j number → HasAt p.numbers i number) → ((spot : Spot) → HasAt q.spots j spot → HasAt p.spots i spot)
       → IsMarkedAt old p i e → IsMarkedAt new q j e
   mark_moved old new p q i j e keeps week numbers spots is = λ number spot a b.
       subst (λ w. IsMark new e number w spot) (sym week) (mark_kept old new e number p.week spot keeps (is number spot (numbers number a) (spots spot b)))

@@ -17,6 +17,7 @@ use Rattle.st_index.proofs.Sums.{sum_all, sum_by-flat_map, sum_one_more}
 use Rattle.st_tally.specs.declared.marks.Marks.{Marks}
 use Rattle.st_tally.specs.declared.page_marks.PageMarks.{PageMarks}
 use Rattle.st_tally.specs.inner.Marks.{AreKnown, AreMarks, HasAt, IsMark, MakeUp, tallied, verdict_on}
+use Rattle.st_tally.specs.declared.spots.Spot.{Spot}
 use Rattle.st_tally.specs.inner.Spots.{IsSpotOf}
 use Rattle.st_tally.specs.inner.Sums.{AreInside}
 use Rattle.st_tally.proofs.ByMarks.{one_row}
@@ -135,23 +136,23 @@ one_of_both false false = refl
 
 module _ {A : Type 0} (labels : List Text) where
   -- the mark at a place
-  pub mark_at : (es : List (EntryValue A)) (p : PageMarks) (i : ℕ) (e : EntryValue A) (number spot : ℕ) → AreMarks labels es p → HasAt es i e
-      → i < length p.numbers → i < length p.spots → number ≡ get_or p.numbers i 0 → spot ≡ get_or p.spots i 0 → IsMark labels e number p.week spot
-  mark_at es p i e number spot are h n m number_is spot_is = are i e h number spot (read_at p.numbers i 0 number n number_is) (read_at p.spots i 0 spot m spot_is)
+  pub mark_at : (es : List (EntryValue A)) (p : PageMarks) (i : ℕ) (e : EntryValue A) (number : ℕ) (spot : Spot) → AreMarks labels es p → HasAt es i e
+      → i < length p.numbers → number ≡ get_or p.numbers i 0 → HasAt p.spots i spot → IsMark labels e number p.week spot
+  mark_at es p i e number spot are h n number_is spot_there = are i e h number spot (read_at p.numbers i 0 number n number_is) spot_there
 
   -- its entry has one row
-  pub one_in : (e : EntryValue A) (number week spot : ℕ) → IsMark labels e number week spot → number < 65535 → length e.rows ≡ 1
+  pub one_in : (e : EntryValue A) (number week : ℕ) (spot : Spot) → IsMark labels e number week spot → number < 65535 → length e.rows ≡ 1
   one_in e number week spot is few = ap length (is few).1
 
   -- where all rows of its entry are inside, so is the point of its spot
-  pub spot_inside : (q : Query) (e : EntryValue A) (number week spot : ℕ) → IsMark labels e number week spot → number < 65535 → AreInside q e.rows
+  pub spot_inside : (q : Query) (e : EntryValue A) (number week : ℕ) (spot : Spot) → IsMark labels e number week spot → number < 65535 → AreInside q e.rows
       → (p : Point) → IsSpotOf week spot p → true ≡ is_inside q p
   spot_inside q e number week spot is few inside p at =
       let one = is few in
       let P = λ (r : Row A). is_inside q r.point ≡ true in
       sym (ap (is_inside q) (same_point week spot p one.0.point at one.2) ∙ All-head P one.0 [] (subst (All P) one.1 inside))
 
-module _ {A : Type 0} (q : Query) (labels : List Text) (e : EntryValue A) (number week spot : ℕ) (is : IsMark labels e number week spot) (inside : Bool)
+module _ {A : Type 0} (q : Query) (labels : List Text) (e : EntryValue A) (number week : ℕ) (spot : Spot) (is : IsMark labels e number week spot) (inside : Bool)
     (told : (p : Point) → IsSpotOf week spot p → inside ≡ is_inside q p) where
   counted_at : (judges : Text → Bool) → number < 512 → count_of q judges e.rows ≡ cond (inside && verdict_on judges labels number) 1 0
   counted_at judges low =

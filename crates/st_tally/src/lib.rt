@@ -12,4 +12,5 @@ pub mod numbering;
 pub mod page_marks;
 mod spots;
 pub mod summary;
+mod told;
 pub mod verdicts;

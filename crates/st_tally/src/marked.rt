@@ -3,12 +3,12 @@ ghost use Rattle.std.specs.Prelude.{◌≡◌, ◌+◌, ◌<◌, ◌≤◌, ◌^
 ghost use Rattle.st_text.specs.Texts.{Text};
 ghost use Rattle.st_index.specs.Counting.{count_of};
 ghost use Rattle.st_index.specs.Rows.{EntryValue, rows_of};
-ghost use Rattle.st_tally.specs.inner.Marks.{AreMarks, HasAt, MakeUp};
-ghost use Rattle.st_tally.specs.inner.Spots.{IsBoxOf};
+ghost use Rattle.st_tally.specs.inner.Marks.{AreMarks, HasAt, MakeUp, Tells};
 ghost use Rattle.st_tally.specs.inner.Sums.{AreInside};
 
-use crate::page_marks::{MANY, PageMarks};
+use crate::page_marks::PageMarks;
 use crate::spots::SpotBox;
+use crate::told::{has_some, told};
 use st_box::Query;
 use st_index::{Entry, Judge, counting};
 use std::alloc::Allocator;
@@ -35,7 +35,7 @@ fn tally_at<A: Allocator + Copy, J: Judge<A>>(
     entries: &[Entry<A>],
     at: usize,
     marks: &PageMarks,
-    bounds: &SpotBox,
+    inside: bool,
     query: &Query,
     judge: &mut J,
     tally: &mut [u64],
@@ -43,7 +43,7 @@ fn tally_at<A: Allocator + Copy, J: Judge<A>>(
     requires within { at < length entries.now }
     requires not_more { length entries.now ≤ 32 }
     requires marked { (labels : List Text) × AreMarks labels entries.now marks.now }
-    requires bounds { IsBoxOf query.now marks.now.week bounds.now }
+    requires told { Tells query.now marks.now at inside }
     requires few { length tally.old ≤ 512 }
     requires fits { (e : EntryValue A) → HasAt entries.now at e → sum tally.old + length e.rows < 2 ^ 64 }
     ensures count { (labels : List Text) (e : EntryValue A) → AreMarks labels entries.now marks.now → HasAt entries.now at e
@@ -52,13 +52,12 @@ fn tally_at<A: Allocator + Copy, J: Judge<A>>(
     ensures same { J.judges judge.new ≡ J.judges judge.old }
 {
     let number = marks.numbers[at];
-    let inside = bounds.has(marks.spots[at]);
     let index = usize::from(number);
     if index < tally.len() {
         tally[index] += u64::from(inside);
         return 0;
     }
-    if number < MANY && !inside {
+    if !inside {
         return 0;
     }
     count_at(entries, at, query, judge)
@@ -110,10 +109,13 @@ pub fn count_marked<A: Allocator + Copy, J: Judge<A>>(
     ensures most { sum tally.new ≤ sum tally.old + length (rows_of entries.now) }
     ensures same { J.judges judge.new ≡ J.judges judge.old }
 {
-    let bounds = SpotBox::new(query, marks.week);
+    let told = told(marks, &SpotBox::new(query, marks.week));
+    if !has_some(&told) {
+        return 0;
+    }
     let mut count = 0;
     for at in 0..entries.len() {
-        count += tally_at(entries, at, marks, &bounds, query, judge, tally);
+        count += tally_at(entries, at, marks, told[at], query, judge, tally);
     }
     count
 }

@@ -5,7 +5,7 @@ ghost use Rattle.st_index.specs.inner.Changes.{IsChange};
 ghost use Rattle.st_tally.specs.inner.Marks.{AreMarks, ClosesAt, DifferAt, DifferInMarks, HasNone, IsMarkedAt, Keeps, OpensAt};
 
 use crate::numbering::{NO_NUMBER, number_of};
-use crate::spots::{spot_of, week_of};
+use crate::spots::{Spot, spot_of, week_of};
 use st_index::entries::Change;
 use st_index::{Entry, RowsView};
 use st_label::Label;
@@ -21,7 +21,7 @@ pub struct PageMarks {
     pub known: bool,
     pub week: u32,
     pub numbers: [u16; 32],
-    pub spots: [u64; 32],
+    pub spots: [Spot; 32],
 }
 
 // What the numbers of the upper half of a page may be, once it is a page of its own.
@@ -57,7 +57,7 @@ impl PageMarks {
             known: false,
             week: 0,
             numbers: [NO_NUMBER; 32],
-            spots: [0; 32],
+            spots: [Spot::FIRST; 32],
         }
     }
 

@@ -1,5 +1,5 @@
-//! Points near a week, each as one number.
-ghost use Rattle.std.specs.Prelude.{◌≡◌, ℕ, ◌+◌, ◌-◌, ◌*◌, ◌^◌, ◌<◌, ◌≤◌, ◌⊎◌, IfSome, IfNone};
+//! Points near a week, each in 64 bits.
+ghost use Rattle.std.specs.Prelude.{◌≡◌, ℕ, ◌+◌, ◌-◌, ◌*◌, ◌/◌, ◌%◌, ◌^◌, ◌<◌, ◌≤◌, ◌⊎◌, IfSome, IfNone};
 ghost use Rattle.st_key.specs.declared.point.Point.{Point as PointValue};
 ghost use Rattle.st_box.specs.declared.query.Query.{Query as QueryValue};
 ghost use Rattle.st_box.specs.Query.{is_inside};
@@ -11,14 +11,48 @@ use st_key::Point;
 // How many seconds a week has.
 const WEEK: u64 = 604_800;
 
-// How many numbers 21 bits tell, as those of a coordinate: x has the lowest, y the next, and the seconds the 22 highest.
-const SIDE: u64 = 1 << 21;
+// How many numbers 21 bits tell, as those of a coordinate.
+const SIDE: u32 = 1 << 21;
 
-const SQUARE: u64 = 1 << 42;
+// How many numbers the 11 lower bits of y tell, and how many the 10 upper ones.
+const LOWER: u32 = 1 << 11;
+
+const UPPER: u32 = 1 << 10;
 
 // How many seconds from the start of a week on have numbers, almost seven weeks: one fewer than 22 bits tell, so that they tell
 // the end too.
 const SPAN: u64 = (1 << 22) - 1;
+
+/// A point near a week, in two numbers of 32 bits, since a processor compares four of these at once. `low` is x and the 11 lower
+/// bits of y, `high` the 10 upper bits of y and the seconds since the start of the week.
+#[derive(Clone, Copy)]
+pub struct Spot {
+    low: u32,
+    high: u32,
+}
+
+impl Spot {
+    /// That of the first place at the start of a week.
+    pub const FIRST: Spot = Spot { low: 0, high: 0 };
+
+    fn x(&self) -> u32
+        ensures { result ≡ self.now.low % 2 ^ 21 }
+    {
+        self.low % SIDE
+    }
+
+    fn y(&self) -> u32
+        ensures { result ≡ self.now.low / 2 ^ 21 + self.now.high % 2 ^ 10 * 2 ^ 11 }
+    {
+        self.low / SIDE + self.high % UPPER * LOWER
+    }
+
+    fn seconds(&self) -> u32
+        ensures { result ≡ self.now.high / 2 ^ 10 }
+    {
+        self.high / UPPER
+    }
+}
 
 /// The week of a point.
 pub fn week_of(point: &Point) -> u32 {
@@ -32,8 +66,8 @@ fn start_of(week: u32) -> u64
     u64::from(week) * WEEK
 }
 
-/// The number of a point. There is none where the point is before the week, or 2^22 - 1 seconds or more after its start.
-pub fn spot_of(point: &Point, week: u32) -> Option<u64>
+/// The spot of a point. There is none where the point is before the week, or 2^22 - 1 seconds or more after its start.
+pub fn spot_of(point: &Point, week: u32) -> Option<Spot>
     ensures some { IfSome result (λ spot. IsSpotOf week spot point.now) }
     ensures none { IfNone result ((point.now.t < week * 604800) ⊎ (week * 604800 + (2 ^ 22 - 1) ≤ point.now.t)) }
 {
@@ -41,19 +75,23 @@ pub fn spot_of(point: &Point, week: u32) -> Option<u64>
     if seconds >= SPAN {
         return None;
     }
-    Some(u64::from(point.x()) + u64::from(point.y()) * SIDE + seconds * SQUARE)
+    let y = point.y();
+    Some(Spot {
+        low: point.x() + y % LOWER * SIDE,
+        high: y / LOWER + seconds as u32 * UPPER,
+    })
 }
 
-/// The bounds of a query, as the numbers of points near a week are compared with them: those of y times 2^21, and those of t times
-/// 2^42, from the start of the week. The sizes are how far the greatest number, or the end, is from the first.
+/// The bounds of a query, as spots near a week are compared with them: t is in seconds since the start of the week. The sizes are
+/// how many numbers there are from the first to the last.
 #[derive(Clone, Copy)]
 pub struct SpotBox {
-    x_first: u64,
-    x_size: u64,
-    y_first: u64,
-    y_size: u64,
-    t_first: u64,
-    t_size: u64,
+    x_first: u32,
+    x_size: u32,
+    y_first: u32,
+    y_size: u32,
+    t_first: u32,
+    t_size: u32,
 }
 
 impl SpotBox {
@@ -62,38 +100,36 @@ impl SpotBox {
         ensures { IsBoxOf query.now week result }
     {
         let start = start_of(week);
-        let t_first = query.t0().saturating_sub(start).min(SPAN) * SQUARE;
-        let t_end = (query.t1() + 1).saturating_sub(start).min(SPAN) * SQUARE;
+        let t_first = query.t0().saturating_sub(start).min(SPAN);
+        let t_end = (query.t1() + 1).saturating_sub(start).min(SPAN);
         SpotBox {
-            x_first: query.x0().into(),
-            x_size: u64::from(query.x1() - query.x0()) + 1,
-            y_first: u64::from(query.y0()) * SIDE,
-            y_size: (u64::from(query.y1() - query.y0()) + 1) * SIDE,
-            t_first,
-            t_size: t_end.saturating_sub(t_first),
+            x_first: query.x0(),
+            x_size: query.x1() - query.x0() + 1,
+            y_first: query.y0(),
+            y_size: query.y1() - query.y0() + 1,
+            t_first: t_first as u32,
+            t_size: t_end.saturating_sub(t_first) as u32,
         }
     }
 
-    /// Whether the point of a number is inside the query. All is compared, since to branch at each would take longer.
-    pub fn has(&self, spot: u64) -> bool
-        ensures { (query : QueryValue) (week : ℕ) (point : PointValue) → IsBoxOf query week self.now → IsSpotOf week spot point
+    /// Whether the point of a spot is inside the query. All is compared, since to branch at each would take longer.
+    pub fn has(&self, spot: &Spot) -> bool
+        ensures { (query : QueryValue) (week : ℕ) (point : PointValue) → IsBoxOf query week self.now → IsSpotOf week spot.now point
             → result ≡ is_inside query point }
     {
-        let x = spot % SIDE;
-        let place = spot % SQUARE;
-        (x.wrapping_sub(self.x_first) < self.x_size)
-            & (place.wrapping_sub(self.y_first) < self.y_size)
-            & (spot.wrapping_sub(self.t_first) < self.t_size)
+        (spot.x().wrapping_sub(self.x_first) < self.x_size)
+            & (spot.y().wrapping_sub(self.y_first) < self.y_size)
+            & (spot.seconds().wrapping_sub(self.t_first) < self.t_size)
     }
 }
 
-/// The point of a number.
-pub fn point_at(week: u32, spot: u64) -> Point
-    requires { (point : PointValue) × IsSpotOf week spot point }
-    ensures { (point : PointValue) → IsSpotOf week spot point → result ≡ point }
+/// The point of a spot.
+pub fn point_at(week: u32, spot: &Spot) -> Point
+    requires { (point : PointValue) × IsSpotOf week spot.now point }
+    ensures { (point : PointValue) → IsSpotOf week spot.now point → result ≡ point }
 {
-    let t = start_of(week) + spot / SQUARE;
-    let Ok(point) = Point::new(spot % SIDE, spot / SIDE % SIDE, t) else {
+    let t = start_of(week) + u64::from(spot.seconds());
+    let Ok(point) = Point::new(spot.x().into(), spot.y().into(), t) else {
         unreachable!()
     };
     point

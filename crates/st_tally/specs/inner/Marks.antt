@@ -6,6 +6,10 @@ use Rattle.st_index.specs.Rows.{EntryValue}
 use Rattle.st_tally.specs.Pages.{NodeValue, entries_of_pages}
 use Rattle.st_tally.specs.declared.marks.Marks.{Marks}
 use Rattle.st_tally.specs.declared.page_marks.PageMarks.{PageMarks}
+use Rattle.st_key.specs.declared.point.Point.{Point}
+use Rattle.st_box.specs.declared.query.Query.{Query}
+use Rattle.st_box.specs.Query.{is_inside}
+use Rattle.st_tally.specs.declared.spots.Spot.{Spot}
 use Rattle.st_tally.specs.inner.Spots.{IsSpotOf}
 
 -- the list has this at this place
@@ -18,17 +22,26 @@ Keeps old new = (i : ℕ) (l : Text) → HasAt old i l → HasAt new i l
 
 -- a number below 65,535 says that the entry has one row, at the point of this spot, and one below 512 is the number of the
 -- row's label
-abbrev pub IsMark : {A : Type 0} → List Text → EntryValue A → (number week spot : ℕ) → Type 0
+abbrev pub IsMark : {A : Type 0} → List Text → EntryValue A → (number week : ℕ) → Spot → Type 0
 IsMark {A} labels e number week spot = number < 65535
     → (row : Row A) × (e.rows ≡ row ∷ []) × IsSpotOf week spot row.point × (number < 512 → HasAt labels number row.label)
 
 -- what stands at this place is such a mark of the entry
 abbrev pub IsMarkedAt : {A : Type 0} → List Text → PageMarks → ℕ → EntryValue A → Type 0
-IsMarkedAt labels p i e = (number spot : ℕ) → HasAt p.numbers i number → HasAt p.spots i spot → IsMark labels e number p.week spot
+IsMarkedAt labels p i e = (number : ℕ) (spot : Spot) → HasAt p.numbers i number → HasAt p.spots i spot → IsMark labels e number p.week spot
 
 -- each entry has such a mark, at the same place
 abbrev pub AreMarks : {A : Type 0} → List Text → List (EntryValue A) → PageMarks → Type 0
 AreMarks {A} labels es p = (i : ℕ) (e : EntryValue A) → HasAt es i e → IsMarkedAt labels p i e
+
+-- a truth tells whether the row of the entry that has this mark is inside; where there is none, it is true
+abbrev pub Tells : Query → PageMarks → ℕ → Bool → Type 0
+Tells q p i inside = (number : ℕ) (spot : Spot) → HasAt p.numbers i number → HasAt p.spots i spot
+    → (inside ≡ false → number < 65535) × (number < 65535 → (point : Point) → IsSpotOf p.week spot point → inside ≡ is_inside q point)
+
+-- each of these tells it of the entry at its place
+abbrev pub AreTold : {A : Type 0} → Query → List (EntryValue A) → PageMarks → List Bool → Type 0
+AreTold {A} q es p insides = (i : ℕ) (e : EntryValue A) → HasAt es i e → Tells q p i (get_or insides i false)
 
 -- none are known
 abbrev pub HasNone : PageMarks → Type 0

@@ -8,7 +8,7 @@ ghost use Rattle.st_tally.specs.inner.Marks.{AreKnown, AreMarked, HasAt};
 
 use super::{Kids, Node};
 use st_index::{Fields, Judge, field_counting};
-use st_tally::field_marked::count_marked;
+use st_tally::field_marked::{count_inside, count_marked};
 use st_tally::marks::Marks;
 use st_tally::verdicts::Verdicts;
 use std::alloc::Allocator;
@@ -91,6 +91,9 @@ impl<A: Allocator + Copy> Node<A> {
         let Some(page) = verdicts.marks.page(at) else {
             return field_counting::count(entries, judge, fields, counts);
         };
+        if self.sum.lies_in(query) {
+            return count_inside(entries, page, verdicts, judge, fields, counts);
+        }
         count_marked(entries, page, verdicts, judge, fields, counts);
     }
 }

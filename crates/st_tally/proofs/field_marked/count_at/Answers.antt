@@ -1,75 +1,93 @@
-use Rattle.std.proofs.Common.{◌≡◌, List, false, length, get_or, sym, ap, subst, ◌∙◌, arith, rules}
-use Rattle.st_key.specs.declared.point.Point.{Point}
-use Rattle.st_box.specs.Query.{is_inside}
+use Rattle.std.proofs.Common.{◌≡◌, List, length, get_or, refl, sym, ap, subst, ◌∙◌, arith, rules}
 use Rattle.st_index.specs.declared.row.Row.{Row}
 use Rattle.st_index.specs.Fields.{CanAdd, Counts}
 use Rattle.st_index.specs.Rows.{rows_of}
-use Rattle.st_tally.specs.inner.Spots.{IsSpotOf}
+use Rattle.st_tally.specs.declared.spots.Spot.{Spot}
+use Rattle.st_tally.specs.inner.Marks.{Tells}
 use Rattle.st_tally.proofs.ByMarks.{one_entry, rows_of_one}
-use Rattle.st_tally.proofs.Fielding.{marked_counts, marked_fits, marked_spot, outside_counts}
-use Rattle.st_tally.proofs.Placing.{there_is}
-use Rattle.st_tally.proofs.Tallied.{mark_at}
+use Rattle.st_tally.proofs.Fielding.{marked_counts, marked_fits, marked_spot}
+use Rattle.st_tally.proofs.Placing.{read_at, there_is}
+use Rattle.st_tally.proofs.Telling.{none_in_field_at}
 use Rattle.st_tally.proofs.field_marked.count_at.Goals as goal
 
-pub count_numbered-requires-clause-fits : goal.count_numbered-requires-clause-fits
-count_numbered-requires-clause-fits g c =
+abbrev first : Spot
+first = record { low = 0; high = 0 }
+
+pub returns-then-not-inside-clause-counts : goal.returns-then-not-inside-clause-counts
+returns-then-not-inside-clause-counts g c = λ e h.
     let marks = c.args.marks.now in
-    let labels = c.args.verdicts.now.marks.now.labels.items in
+    let q = g.F.Fields.query c.args.fields.now in
     let w = c.requires.within in
     let m = c.requires.not_more in
-    let number = c.from-index.result in
-    let spot = get_or marks.spots c.args.at 0 in
     let numbers : length marks.numbers ≡ 32 = search rules in
     let spots : length marks.spots ≡ 32 = search rules in
-    let some = there_is c.args.entries.now c.args.at w in
-    let mark = mark_at labels c.args.entries.now marks c.args.at some.0 number spot c.requires.marked some.1 (omega (arith, w, m, numbers)) (omega (arith, w, m, spots)) c.from-index.ensures (λ i. spot) in
-    marked_fits (g.F.Fields.query c.args.fields.now) (g.J.Judge.judges c.args.judge.now) (g.F.Fields.field_of c.args.fields.now) labels some.0 number marks.week spot mark c.args.counts.now (omega (arith, c.if-index-lt-MAX_NUMBERS.true)) (c.requires.fits some.0 some.1)
+    none_in_field_at q (g.J.Judge.judges c.args.judge.now) c.args.verdicts.now.marks.now.labels.items c.args.entries.now marks c.requires.marked
+    c.args.at e h (omega (arith, w, m, numbers)) (omega (arith, w, m, spots)) (subst (Tells q marks c.args.at) c.if-not-inside.true c.requires.told)
+    (g.F.Fields.field_of c.args.fields.now) c.args.counts.now
 
 pub count_numbered-requires-clause-spot : goal.count_numbered-requires-clause-spot
 count_numbered-requires-clause-spot g c =
     let marks = c.args.marks.now in
-    let labels = c.args.verdicts.now.marks.now.labels.items in
+    let at = c.args.at in
     let w = c.requires.within in
     let m = c.requires.not_more in
-    let number = c.from-index.result in
-    let spot = get_or marks.spots c.args.at 0 in
     let numbers : length marks.numbers ≡ 32 = search rules in
     let spots : length marks.spots ≡ 32 = search rules in
-    let some = there_is c.args.entries.now c.args.at w in
-    let mark = mark_at labels c.args.entries.now marks c.args.at some.0 number spot c.requires.marked some.1 (omega (arith, w, m, numbers)) (omega (arith, w, m, spots)) c.from-index.ensures (λ i. spot) in
-    marked_spot (g.F.Fields.query c.args.fields.now) (g.J.Judge.judges c.args.judge.now) (g.F.Fields.field_of c.args.fields.now) labels some.0 number marks.week spot mark (omega (arith, c.if-index-lt-MAX_NUMBERS.true))
+    let number = c.from-index.result in
+    let spot = get_or marks.spots at first in
+    let some = there_is c.args.entries.now at w in
+    let labels = c.args.verdicts.now.marks.now.labels.items in
+    let mark = c.requires.marked at some.0 some.1 number spot (read_at marks.numbers at 0 number (omega (arith, w, m, numbers)) c.from-index.ensures)
+    (read_at marks.spots at first spot (omega (arith, w, m, spots)) refl) in
+    marked_spot (g.F.Fields.query c.args.fields.now) (g.J.Judge.judges c.args.judge.now) (g.F.Fields.field_of c.args.fields.now) labels some.0 number marks.week spot mark
+    (omega (arith, c.if-index-lt-MAX_NUMBERS.true))
+
+pub count_numbered-requires-clause-inside : goal.count_numbered-requires-clause-inside
+count_numbered-requires-clause-inside g c = λ point is.
+    let marks = c.args.marks.now in
+    let at = c.args.at in
+    let w = c.requires.within in
+    let m = c.requires.not_more in
+    let numbers : length marks.numbers ≡ 32 = search rules in
+    let spots : length marks.spots ≡ 32 = search rules in
+    let number = c.from-index.result in
+    let spot = get_or marks.spots at first in
+    let told = c.requires.told number spot (read_at marks.numbers at 0 number (omega (arith, w, m, numbers)) c.from-index.ensures)
+    (read_at marks.spots at first spot (omega (arith, w, m, spots)) refl) in
+    sym (told.1 (omega (arith, c.if-index-lt-MAX_NUMBERS.true)) point is) ∙ c.if-not-inside.false
+
+pub count_numbered-requires-clause-fits : goal.count_numbered-requires-clause-fits
+count_numbered-requires-clause-fits g c =
+    let marks = c.args.marks.now in
+    let at = c.args.at in
+    let w = c.requires.within in
+    let m = c.requires.not_more in
+    let numbers : length marks.numbers ≡ 32 = search rules in
+    let spots : length marks.spots ≡ 32 = search rules in
+    let number = c.from-index.result in
+    let spot = get_or marks.spots at first in
+    let some = there_is c.args.entries.now at w in
+    let labels = c.args.verdicts.now.marks.now.labels.items in
+    let mark = c.requires.marked at some.0 some.1 number spot (read_at marks.numbers at 0 number (omega (arith, w, m, numbers)) c.from-index.ensures)
+    (read_at marks.spots at first spot (omega (arith, w, m, spots)) refl) in
+    marked_fits (g.F.Fields.query c.args.fields.now) (g.J.Judge.judges c.args.judge.now) (g.F.Fields.field_of c.args.fields.now) labels some.0 number marks.week spot mark
+    c.args.counts.now (omega (arith, c.if-index-lt-MAX_NUMBERS.true)) (c.requires.fits some.0 some.1)
 
 pub returns-then-index-lt-MAX_NUMBERS-clause-counts : goal.returns-then-index-lt-MAX_NUMBERS-clause-counts
 returns-then-index-lt-MAX_NUMBERS-clause-counts g c = λ e h.
     let marks = c.args.marks.now in
-    let labels = c.args.verdicts.now.marks.now.labels.items in
-    let q = g.F.Fields.query c.args.fields.now in
-    let judges = g.J.Judge.judges c.args.judge.now in
-    let field_of = g.F.Fields.field_of c.args.fields.now in
+    let at = c.args.at in
     let w = c.requires.within in
     let m = c.requires.not_more in
+    let numbers : length marks.numbers ≡ 32 = search rules in
+    let spots : length marks.spots ≡ 32 = search rules in
     let number = c.from-index.result in
-    let spot = get_or marks.spots c.args.at 0 in
-    let numbers : length marks.numbers ≡ 32 = search rules in
-    let spots : length marks.spots ≡ 32 = search rules in
-    let mark = mark_at labels c.args.entries.now marks c.args.at e number spot c.requires.marked h (omega (arith, w, m, numbers)) (omega (arith, w, m, spots)) c.from-index.ensures (λ i. spot) in
-    marked_counts q judges field_of labels e number marks.week spot mark c.args.counts.now c.count_numbered.new.counts c.if-index-lt-MAX_NUMBERS.true c.count_numbered.ensures.counts
-
-pub returns-then-not-has-clause-counts : goal.returns-then-not-has-clause-counts
-returns-then-not-has-clause-counts g c = λ e h.
-    let marks = c.args.marks.now in
+    let spot = get_or marks.spots at first in
     let labels = c.args.verdicts.now.marks.now.labels.items in
-    let q = g.F.Fields.query c.args.fields.now in
-    let w = c.requires.within in
-    let m = c.requires.not_more in
-    let number = get_or marks.numbers c.args.at 0 in
-    let spot = get_or marks.spots c.args.at 0 in
-    let numbers : length marks.numbers ≡ 32 = search rules in
-    let spots : length marks.spots ≡ 32 = search rules in
-    let mark = mark_at labels c.args.entries.now marks c.args.at e number spot c.requires.marked h (omega (arith, w, m, numbers)) (omega (arith, w, m, spots)) (λ i. number) (λ i. spot) in
-    let outside : (p : Point) → IsSpotOf marks.week spot p → is_inside q p ≡ false =
-    λ p at. sym (c.has.ensures q marks.week p c.requires.bounds at) ∙ c.if-not-has.true in
-    outside_counts q (g.J.Judge.judges c.args.judge.now) (g.F.Fields.field_of c.args.fields.now) labels e number marks.week spot mark c.args.counts.now c.if-number-lt-MANY.true outside
+    let mark = c.requires.marked at e h number spot (read_at marks.numbers at 0 number (omega (arith, w, m, numbers)) c.from-index.ensures)
+    (read_at marks.spots at first spot (omega (arith, w, m, spots)) refl) in
+    marked_counts (g.F.Fields.query c.args.fields.now) (g.J.Judge.judges c.args.judge.now) (g.F.Fields.field_of c.args.fields.now) labels e number marks.week spot mark
+    c.args.counts.now c.count_numbered.new.counts c.if-index-lt-MAX_NUMBERS.true c.count_numbered.ensures.counts
 
 pub count-requires-clause-fits : goal.count-requires-clause-fits
 count-requires-clause-fits g c =

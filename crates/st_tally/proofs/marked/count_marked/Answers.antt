@@ -1,10 +1,31 @@
-use Rattle.std.proofs.Common.{◌+◌, ◌<◌, ◌≤◌, length, subst, ◌∙◌, arith}
+use Rattle.std.proofs.Common.{◌≡◌, ◌+◌, ◌<◌, ◌≤◌, length, subst, ◌∙◌, arith, rules}
 use Rattle.st_index.specs.Counting.{count_of}
 use Rattle.st_index.specs.Rows.{EntryValue}
-use Rattle.st_tally.specs.inner.Marks.{MakeUp}
+use Rattle.st_tally.specs.inner.Marks.{MakeUp, Tells}
 use Rattle.st_tally.proofs.Placing.{there_is}
 use Rattle.st_tally.proofs.Tallied.{counted_all, counted_fits, counted_next, most_all, most_fits, most_next}
+use Rattle.st_tally.proofs.Telling.{none_at, none_to}
 use Rattle.st_tally.proofs.marked.count_marked.Goals as goal
+
+pub returns-then-not-has_some-clause-count : goal.returns-then-not-has_some-clause-count
+returns-then-not-has_some-clause-count g c = λ labels are.
+    let marks = c.args.marks.now in
+    let es = c.args.entries.now in
+    let q = c.args.query.now in
+    let judges = g.J.Judge.judges c.args.judge.now in
+    let m = c.requires.not_more in
+    let numbers : length marks.numbers ≡ 32 = search rules in
+    let spots : length marks.spots ≡ 32 = search rules in
+    let none = none_to q judges es (length es) (omega arith) (λ i e h.
+    let l = h.0 in
+    none_at q judges labels es marks are i e h (omega (arith, l, m, numbers)) (omega (arith, l, m, spots))
+    (subst (Tells q marks i) (c.has_some.ensures c.if-not-has_some.true i) (c.told-told.ensures q i c.new.ensures (omega (arith, l, m))))) in
+    counted_all (λ (x : EntryValue g.row.A.Denot). x.rows) es (length es) q judges labels 0 c.args.tally.now c.args.tally.now (omega arith) (omega (arith, none))
+
+pub tally_at-count-requires-clause-told : goal.tally_at-count-requires-clause-told
+tally_at-count-requires-clause-told g c =
+    let m = c.requires.not_more in
+    c.told-told.ensures c.args.query.now c.loop-at.at c.new.ensures (omega (arith, m, c.loop-at-test.true, c.loop-at.auto.at-end))
 
 pub tally_at-count-requires-clause-fits : goal.tally_at-count-requires-clause-fits
 tally_at-count-requires-clause-fits g c = λ e h.

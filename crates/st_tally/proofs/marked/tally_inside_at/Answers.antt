@@ -1,4 +1,4 @@
-use Rattle.std.proofs.Common.{◌≡◌, true, length, get_or, arith, rules}
+use Rattle.std.proofs.Common.{◌≡◌, true, length, arith, rules}
 use Rattle.st_tally.proofs.ByMarks.{inside_at}
 use Rattle.st_tally.proofs.Placing.{there_is}
 use Rattle.st_tally.proofs.Tallied.{below_sum, mark_at, one_in, spot_inside, sum_set, tallied_at}
@@ -14,12 +14,12 @@ overflow_add-tally g c =
     let number = c.from-index.result in
     let numbers : length marks.numbers ≡ 32 = search rules in
     let spots : length marks.spots ≡ 32 = search rules in
+    let spot = there_is marks.spots c.args.at (omega (arith, w, m, spots)) in
     let most_numbers = c.requires.few in
     let low = c.if-index-tally.true in
     let some = there_is c.args.entries.now c.args.at w in
-    let spot = get_or marks.spots c.args.at 0 in
-    let mark = mark_at given.0 c.args.entries.now marks c.args.at some.0 number spot given.1 some.1 (omega (arith, w, m, numbers)) (omega (arith, w, m, spots)) c.from-index.ensures (λ i. spot) in
-    let one = one_in given.0 some.0 number marks.week spot mark (omega (arith, low, most_numbers)) in
+    let mark = mark_at given.0 c.args.entries.now marks c.args.at some.0 number spot.0 given.1 some.1 (omega (arith, w, m, numbers)) c.from-index.ensures spot.1 in
+    let one = one_in given.0 some.0 number marks.week spot.0 mark (omega (arith, low, most_numbers)) in
     let most = below_sum tally number low in
     let fits = c.requires.fits some.0 some.1 in
     omega (arith, one, most, fits)
@@ -34,12 +34,12 @@ returns-then-index-tally-clause-count g c = λ labels e are h.
     let number = c.from-index.result in
     let numbers : length marks.numbers ≡ 32 = search rules in
     let spots : length marks.spots ≡ 32 = search rules in
+    let spot = there_is marks.spots c.args.at (omega (arith, w, m, spots)) in
     let most_numbers = c.requires.few in
     let low = c.if-index-tally.true in
-    let spot = get_or marks.spots c.args.at 0 in
-    let mark = mark_at labels c.args.entries.now marks c.args.at e number spot are h (omega (arith, w, m, numbers)) (omega (arith, w, m, spots)) c.from-index.ensures (λ i. spot) in
-    let inside = spot_inside labels q e number marks.week spot mark (omega (arith, low, most_numbers)) (inside_at q c.args.entries.now c.args.at e h c.requires.inside) in
-    tallied_at q labels e number marks.week spot mark true inside (g.J.Judge.judges c.args.judge.now) tally 1 (omega (arith, low, most_numbers)) low (λ i. 1)
+    let mark = mark_at labels c.args.entries.now marks c.args.at e number spot.0 are h (omega (arith, w, m, numbers)) c.from-index.ensures spot.1 in
+    let inside = spot_inside labels q e number marks.week spot.0 mark (omega (arith, low, most_numbers)) (inside_at q c.args.entries.now c.args.at e h c.requires.inside) in
+    tallied_at q labels e number marks.week spot.0 mark true inside (g.J.Judge.judges c.args.judge.now) tally 1 (omega (arith, low, most_numbers)) low (λ i. 1)
 
 pub returns-then-index-tally-clause-most : goal.returns-then-index-tally-clause-most
 returns-then-index-tally-clause-most g c = λ e h.
@@ -51,11 +51,11 @@ returns-then-index-tally-clause-most g c = λ e h.
     let number = c.from-index.result in
     let numbers : length marks.numbers ≡ 32 = search rules in
     let spots : length marks.spots ≡ 32 = search rules in
+    let spot = there_is marks.spots c.args.at (omega (arith, w, m, spots)) in
     let most_numbers = c.requires.few in
     let low = c.if-index-tally.true in
-    let spot = get_or marks.spots c.args.at 0 in
-    let mark = mark_at given.0 c.args.entries.now marks c.args.at e number spot given.1 h (omega (arith, w, m, numbers)) (omega (arith, w, m, spots)) c.from-index.ensures (λ i. spot) in
-    let one = one_in given.0 e number marks.week spot mark (omega (arith, low, most_numbers)) in
+    let mark = mark_at given.0 c.args.entries.now marks c.args.at e number spot.0 given.1 h (omega (arith, w, m, numbers)) c.from-index.ensures spot.1 in
+    let one = one_in given.0 e number marks.week spot.0 mark (omega (arith, low, most_numbers)) in
     let more = sum_set tally number 1 low in
     omega (arith, one, more)
 

@@ -11,6 +11,7 @@ use Rattle.st_index.specs.Rows.{rows_of}
 use Rattle.st_index.proofs.Tallying.{counts_in_one, counts_none}
 use Rattle.st_tally.specs.Pages.{NodeValue, rows_of_pages, entries_of_pages}
 use Rattle.st_tally.specs.inner.Marks.{AreMarks}
+use Rattle.st_tally.specs.inner.Sums.{AreInside}
 use Rattle.st_ubtree.specs.inner.Nodes.{pages_under, rows_under, width_of}
 use Rattle.st_ubtree.proofs.Counting.{node_fits}
 use Rattle.st_tally.proofs.Fielding.{all_in_one, counts_by}
@@ -56,6 +57,43 @@ returns-in_default-page-clause-counts g c =
     let field_of = g.F.Fields.field_of c.args.fields.now in
     counts_by q field_of c.args.counts.now c.count.new.counts judges judges (rows_of c.as_slice-entries.result.now) (rows_of_pages c.args.self.now.pages) refl
     (sym (rows ∙ ap rows_under c.in-Page.is ∙ ap rows_of (sym c.as_slice-entries.ensures.value))) c.count.ensures.counts
+
+pub count_inside-requires-clause-fits : goal.count_inside-requires-clause-fits
+count_inside-requires-clause-fits g c =
+    let rows : rows_of_pages c.args.self.now.pages ≡ rows_under c.self.inside.kids = ap (λ (v : NodeValue g.row.A.Denot). rows_of_pages v.pages) (sym c.self.view_is) ∙ sym (rows_are (rank c.self.inside.first) c.self.inside.kids) in
+    subst (λ (rs : List (Row g.row.A.Denot)). CanAdd (length rs) c.args.counts.now) (rows ∙ ap rows_under c.in-Page.is ∙ ap rows_of (sym c.as_slice-entries.ensures.value)) c.requires.fits
+
+pub count_inside-requires-clause-marked : goal.count_inside-requires-clause-marked
+count_inside-requires-clause-marked g c =
+    let entries : entries_of_pages c.args.self.now.pages ≡ c.as_slice-entries.result.now =
+    ap (λ (v : NodeValue g.row.A.Denot). entries_of_pages v.pages) (sym c.self.view_is)
+    ∙ ap (λ k. entries_of_pages (pages_under (rank c.self.inside.first) k)) c.in-Page.is
+    ∙ append-nil c.in-Page.entries.items
+    ∙ sym c.as_slice-entries.ensures.value in
+    let given = c.requires.marked in
+    subst (λ es. AreMarks c.args.verdicts.now.marks.now.labels.items es c.in-Some-page.page.now) entries (c.in-Some-page.ensures given.0 c.args.self.now given.2 given.1)
+
+pub count_inside-requires-clause-not_more : goal.count_inside-requires-clause-not_more
+count_inside-requires-clause-not_more g c =
+    let fits = node_fits (rank c.self.inside.first) c.self.inside.height c.self.inside.kids c.self.invariant.0 in
+    let same = ap width_of c.in-Page.is in
+    let here = ap length c.as_slice-entries.ensures.value in
+    omega (arith, fits, same, here)
+
+pub count_inside-requires-clause-inside : goal.count_inside-requires-clause-inside
+count_inside-requires-clause-inside g c =
+    subst (λ q. AreInside q (rows_of c.as_slice-entries.result.now)) c.query-query.ensures
+    (subst (AreInside c.query-query.result.now) (ap rows_under c.in-Page.is ∙ ap rows_of (sym c.as_slice-entries.ensures.value))
+    (c.lies_in.ensures (rows_under c.self.inside.kids) c.self.invariant.1 c.if-lies_in.true))
+
+pub returns-then-lies_in-clause-counts : goal.returns-then-lies_in-clause-counts
+returns-then-lies_in-clause-counts g c =
+    let rows : rows_of_pages c.args.self.now.pages ≡ rows_under c.self.inside.kids = ap (λ (v : NodeValue g.row.A.Denot). rows_of_pages v.pages) (sym c.self.view_is) ∙ sym (rows_are (rank c.self.inside.first) c.self.inside.kids) in
+    let q = g.F.Fields.query c.args.fields.now in
+    let judges = g.J.Judge.judges c.args.judge.now in
+    let field_of = g.F.Fields.field_of c.args.fields.now in
+    counts_by q field_of c.args.counts.now c.count_inside.new.counts judges judges (rows_of c.as_slice-entries.result.now) (rows_of_pages c.args.self.now.pages) refl
+    (sym (rows ∙ ap rows_under c.in-Page.is ∙ ap rows_of (sym c.as_slice-entries.ensures.value))) c.count_inside.ensures.counts
 
 pub count_marked-requires-clause-fits : goal.count_marked-requires-clause-fits
 count_marked-requires-clause-fits g c =

@@ -2,7 +2,7 @@ use Rattle.std.proofs.Common.{◌≡◌}
 use Rattle.st_index.specs.Rows.{EntryValue}
 use Rattle.st_index.proofs.Tallying.{SoFar}
 use Rattle.st_tally.specs.inner.Marks.{AreKnown}
-use Rattle.st_tally.proofs.field_marked.count_marked.Given as goal
+use Rattle.st_tally.proofs.field_marked.count_told.Given as goal
 
 abbrev pub invariant-loop-at : goal.invariant-loop-at
 invariant-loop-at g l = record {
