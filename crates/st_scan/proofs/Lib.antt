@@ -7,6 +7,7 @@ pub mod Visible
 pub mod ExactRanges
 pub mod Positions
 pub mod Fields
+pub mod Factors
 pub mod Past
 pub mod Filling
 pub mod Counting

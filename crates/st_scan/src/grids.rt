@@ -1,5 +1,5 @@
 //! Grids of a scan.
-ghost use Rattle.std.specs.Prelude.{◌≡◌, ◌↔◌, ℕ, ◌+◌, ◌-◌, ◌*◌, ◌/◌, ◌<◌, ◌≤◌, ◌^◌, ◌⊎◌, length, IsOk, IsTrue, IfOk, IfErr, IfSome};
+ghost use Rattle.std.specs.Prelude.{◌≡◌, ◌↔◌, ◌*◌, ◌<◌, ◌≤◌, ◌⊎◌, length, IsOk, IfOk, IfErr};
 ghost use Rattle.std.specs.List.{All};
 ghost use Rattle.st_index.specs.Fields.{Counts};
 ghost use Rattle.st_scan.specs.declared.fault.ScanFault.TheVariants.{BadGrid, BadLimit};
@@ -8,6 +8,7 @@ ghost use Rattle.st_scan.specs.Visible.{visible_rows};
 
 use crate::fault::ScanFault;
 use crate::few::count_few;
+use crate::shares::Shares;
 use crate::sight::Sight;
 use st_auth::Auths;
 use st_box::Query;
@@ -18,75 +19,39 @@ use std::alloc::Allocator;
 /// The most columns of a grid, and the most lines.
 pub const MAX_SHARES: usize = 32;
 
-// Which of so many equal shares of the numbers from one to another a number of them is in.
-fn share_of(first: u32, last: u32, shares: u32, number: u32) -> u32
-    requires some { 1 ≤ shares }
-    requires few { shares ≤ 32 }
-    requires from { first ≤ number }
-    requires to { number ≤ last }
-    requires in_range { last < 2 ^ 21 }
-    ensures value { result ≡ (number - first) * shares / (last - first + 1) }
-    ensures below { result < shares }
-{
-    (number - first) * shares / (last - first + 1)
-}
-
-// The one share that those of the numbers are in that are between two others, if they are found to share one.
-fn one_share(first: u32, last: u32, shares: u32, from: u32, to: u32) -> Option<u32>
-    requires some { 1 ≤ shares }
-    requires few { shares ≤ 32 }
-    requires in_range { last < 2 ^ 21 }
-    ensures some { IfSome result (λ share. (number : ℕ) → first ≤ number → number ≤ last → from ≤ number → number ≤ to
-        → (number - first) * shares / (last - first + 1) ≡ share) }
-    ensures below { IfSome result (λ share. share < shares) }
-{
-    let (from, to) = (from.max(first), to.min(last));
-    // Numbers that are further apart than a share is wide are in several, which needs no division to see.
-    if from > to || (to - from) * shares > last - first {
-        return None;
-    }
-    let share = share_of(first, last, shares, from);
-    if share_of(first, last, shares, to) != share {
-        return None;
-    }
-    Some(share)
-}
-
 // The fields of a grid of so many columns and lines over the query's box.
 #[derive(Clone, Copy)]
 struct GridFields<'q> {
     query: &'q Query,
-    columns: u32,
-    lines: u32,
-    ghost some_columns: { 1 ≤ columns },
-    ghost few_columns: { columns ≤ 32 },
-    ghost some_lines: { 1 ≤ lines },
-    ghost few_lines: { lines ≤ 32 },
+    columns: Shares,
+    lines: Shares,
+    ghost x_first: { columns.first ≡ query.now.x0 },
+    ghost x_last: { columns.last ≡ query.now.x1 },
+    ghost y_first: { lines.first ≡ query.now.y0 },
+    ghost y_last: { lines.last ≡ query.now.y1 },
 }
 
 impl Fields for GridFields<'_> {
     ghost query = { λ g. g.query.now };
 
-    ghost field_of = { λ g p. field_of g.query.now g.columns g.lines p };
+    ghost field_of = { λ g p. field_of g.query.now g.columns.shares g.lines.shares p };
 
-    ghost count = { λ g. g.columns * g.lines };
+    ghost count = { λ g. g.columns.shares * g.lines.shares };
 
     fn query(&self) -> &Query {
         self.query
     }
 
     fn field(&self, point: &Point) -> usize {
-        let query = self.query;
-        let column = share_of(query.x0(), query.x1(), self.columns, point.x());
-        let line = share_of(query.y0(), query.y1(), self.lines, point.y());
-        (line * self.columns + column) as usize
+        let column = self.columns.of(point.x());
+        let line = self.lines.of(point.y());
+        (line * self.columns.shares + column) as usize
     }
 
     fn one_field(&self, x0: u32, x1: u32, y0: u32, y1: u32) -> Option<usize> {
-        let query = self.query;
-        let column = one_share(query.x0(), query.x1(), self.columns, x0, x1)?;
-        let line = one_share(query.y0(), query.y1(), self.lines, y0, y1)?;
-        Some((line * self.columns + column) as usize)
+        let column = self.columns.one(x0, x1)?;
+        let line = self.lines.one(y0, y1)?;
+        Some((line * self.columns.shares + column) as usize)
     }
 }
 
@@ -133,8 +98,8 @@ pub fn grid<I: RowIndex, B: Allocator>(
     let mut counts = vec![in alloc; 0u64; columns * lines]?;
     let fields = GridFields {
         query,
-        columns: columns as u32,
-        lines: lines as u32,
+        columns: Shares::new(query.x0(), query.x1(), columns as u32),
+        lines: Shares::new(query.y0(), query.y1(), lines as u32),
     };
     count_fields(index, &mut sight, &fields, &mut counts);
     Ok(counts)

@@ -12,6 +12,7 @@ mod pages;
 mod paging;
 mod part_ranges;
 mod position;
+mod shares;
 mod sight;
 mod step;
 mod verdicts;

@@ -1,4 +1,4 @@
-use Rattle.std.proofs.Common.{◌≡◌, ℕ, ◌*◌, ◌++◌, length, take, drop, refl, sym, ap, subst, ◌∙◌, arith}
+use Rattle.std.proofs.Common.{◌≡◌, ℕ, ◌*◌, ◌++◌, length, take, drop, refl, sym, ap, ap₂, subst, subst₂, ◌∙◌, arith}
 use Rattle.std.proofs.Math.Seq.{take-append_seam}
 use Rattle.std.proofs.lemmas.List.Elements.{All-replicate}
 use Rattle.std.specs.List.{All}
@@ -23,8 +23,15 @@ returns-clause-grid g c =
     let kept : take held.len (counts ++ drop (length counts) held.items) ≡ counts =
     ap (λ n. take n (counts ++ drop (length counts) held.items)) whole ∙ take-append_seam counts (drop (length counts) held.items) in
     let zeros = subst (All (λ (n : ℕ). n ≡ 0)) (sym (c.deref_mut.ensures.value ∙ c.in_ok-counts.ensures.items_if_clones_equal (λ y e. e))) (All-replicate (λ (n : ℕ). n ≡ 0) (nx * ny) 0 refl) in
-    let by = subst (λ names. Counts q (λ label. is_true (is_among names) label) (field_of q nx ny) content c.deref_mut.result.now counts) c.new-sight.ensures c.count_fields.ensures in
-    kept ∙ are_grid q nx ny auths content c.deref_mut.result.now counts zeros by size
+    let old = c.deref_mut.result.now in
+    let found = subst₂ (λ columns lines. Counts q (λ label. is_true (is_among c.new-sight.result.verdicts) label) (field_of q columns lines) content old counts) c.new.ensures.shares c.new-2.ensures.shares c.count_fields.ensures in
+    let by = subst (λ names. Counts q (λ label. is_true (is_among names) label) (field_of q nx ny) content old counts) c.new-sight.ensures found in
+    kept ∙ are_grid q nx ny auths content old counts zeros by size
+
+pub count_fields-requires-clause-long : goal.count_fields-requires-clause-long
+count_fields-requires-clause-long g c =
+    let fields = ap₂ (λ columns lines. columns * lines) c.new.ensures.shares c.new-2.ensures.shares in
+    omega (arith, ap length c.deref_mut.ensures.value, c.in_ok-counts.ensures.len, fields)
 
 pub count_fields-requires-clause-none : goal.count_fields-requires-clause-none
 count_fields-requires-clause-none g c =

@@ -3,4 +3,6 @@ use Rattle.st_scan.proofs.grids.GridFieldsFields.field.Goals as goal
 
 pub returns-clause-value : goal.returns-clause-value
 unfolding field_of
-returns-clause-value c = cc (c.share_of-line.ensures.value, c.share_of-column.ensures.value, c.x.ensures.value, c.y.ensures.value, c.x0.ensures, c.x1.ensures, c.y0.ensures, c.y1.ensures)
+returns-clause-value c =
+    let grid = c.args.self.now in
+    cc (c.of-line.ensures.value, c.of-column.ensures.value, c.x.ensures.value, c.y.ensures.value, grid.x_first, grid.x_last, grid.y_first, grid.y_last)

@@ -1,6 +1,6 @@
 use Rattle.std.proofs.Common.{◌+◌, ◌-◌, ◌<◌, ℕ, sym, ◌∙◌, arith}
 use Rattle.st_scan.proofs.Fields.{max_at_most, min_at_least, share_between}
-use Rattle.st_scan.proofs.grids.one_share.Goals as goal
+use Rattle.st_scan.proofs.shares.one_share.Goals as goal
 
 some_wide : (n : ℕ) → 0 < n + 1
 some_wide n = omega arith
