@@ -1,3 +1,4 @@
+pub mod Fronts
 pub mod Merge
 pub mod Places
 pub mod Search

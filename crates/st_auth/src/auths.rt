@@ -1,14 +1,15 @@
 //! Sets of authorizations.
 ghost use Rattle.std.specs.Prelude.{◌≡◌, ◌↔◌, ◌<◌, ◌≤◌, [], None, option_map, find, IsTrue, IfSome, IfOk, IfErr, length, map, not};
 ghost use Rattle.std.specs.Prelude.{slice_index_or};
-ghost use Rattle.std.specs.List.{list_all, position, range_with_len};
+ghost use Rattle.std.specs.List.{list_all, position};
 ghost use Rattle.st_text.specs.Texts.{is_among};
 ghost use Rattle.st_auth.specs.Names.{is_auth_name as is_auth_name_of, first_bad, first_missing, RefusesNames};
-ghost use Rattle.st_auth.specs.Order.{IsOrder, name_at};
+ghost use Rattle.st_auth.specs.Order.{IsOrder};
 ghost use Rattle.st_auth.specs.declared.auths.AuthsFault.TheVariants.{NoMemory};
 
+use crate::order::{name_or_empty, places_in_order};
 use st_label::{Names, Term};
-use st_text::Words;
+use st_text::CompactText;
 use std::alloc::{AllocError, AllocFailed, Allocator, Global};
 use std::cmp::Ordering;
 use std::marker::Model;
@@ -52,7 +53,7 @@ impl<T: Drop> From<AllocFailed<T>> for AuthsFault {
 #[derive(Drop)]
 pub struct Auths<A: Allocator = Global> {
     alloc: A,
-    names: Vec<Words<A>, A>,
+    names: Vec<CompactText<A>, A>,
     // The indices of the names, lesser names first.
     order: Vec<usize, A>,
 }
@@ -167,9 +168,9 @@ impl<A: Allocator> Auths<A> {
     pub fn copy_in<B: Allocator + Copy>(&self, alloc: B) -> Result<Auths<B>, AllocError>
         ensures { IfOk result (λ other. other ≡ self.now) }
     {
-        let mut names = Vec::new(alloc);
+        let mut names = Vec::with_capacity(alloc, self.names.len())?;
         for name in &self.names {
-            names.push(Words::new(alloc, name.as_str())?)?;
+            names.push(CompactText::new(alloc, name.as_str())?)?;
         }
         Ok(Auths {
             alloc,
@@ -232,7 +233,7 @@ impl<A: Allocator> Names for Auths<A> {
 }
 
 // Whether the term's name is one of these. It looks at each in turn.
-fn is_one_of<A: Allocator>(term: &Term<'_>, names: &[Words<A>]) -> bool
+fn is_one_of<A: Allocator>(term: &Term<'_>, names: &[CompactText<A>]) -> bool
     ensures { result ≡ is_among names.now term.now }
 {
     names.iter().any(|name| term.is(name.as_str()))
@@ -248,8 +249,8 @@ fn first_lacked<A: Allocator>(set: &Auths<A>, names: &[&str]) -> Option<usize>
 // The first of the names that is not in the set.
 fn first_outside<'b, A: Allocator, B: Allocator>(
     set: &Auths<A>,
-    names: &'b [Words<B>],
-) -> Option<&'b Words<B>>
+    names: &'b [CompactText<B>],
+) -> Option<&'b CompactText<B>>
     ensures { option_map (λ name. name.now) result ≡ find (λ name. not (is_among set.now name)) names.now }
 {
     names.iter().find(|name| !set.has(name.as_str()))
@@ -270,45 +271,15 @@ fn bad_place(names: &[&str]) -> Option<usize>
 }
 
 // Copies of the names.
-fn copies<A: Allocator + Copy>(alloc: A, names: &[&str]) -> Result<Vec<Words<A>, A>, AllocError>
+fn copies<A: Allocator + Copy>(
+    alloc: A,
+    names: &[&str],
+) -> Result<Vec<CompactText<A>, A>, AllocError>
     ensures { IfOk result (λ list. list.items ≡ map (λ name. name.now) names.now) }
 {
-    let mut list = Vec::new(alloc);
+    let mut list = Vec::with_capacity(alloc, names.len())?;
     for name in names {
-        list.push(Words::new(alloc, *name)?)?;
+        list.push(CompactText::new(alloc, *name)?)?;
     }
     Ok(list)
-}
-
-// The name at an index, or the empty text past the end.
-fn name_or_empty<A: Allocator>(names: &[Words<A>], place: usize) -> &str
-    ensures { result.now ≡ name_at names.now place }
-{
-    match names.get(place) {
-        Some(name) => name.as_str(),
-        None => "",
-    }
-}
-
-// The numbers below `count`.
-fn places<A: Allocator>(alloc: A, count: usize) -> Result<Vec<usize, A>, AllocError>
-    ensures { IfOk result (λ list. list.items ≡ range_with_len 0 count) }
-{
-    let mut list = Vec::with_capacity(alloc, count)?;
-    for place in 0..count {
-        list.push(place)?;
-    }
-    Ok(list)
-}
-
-// The indices of the names, lesser names first.
-fn places_in_order<A: Allocator + Copy>(
-    alloc: A,
-    names: &[Words<A>],
-) -> Result<Vec<usize, A>, AllocError>
-    ensures { IfOk result (λ order. IsOrder names.now order.items) }
-{
-    let mut order = places(alloc, names.len())?;
-    order.sort_by(|one, other| name_or_empty(names, *one).cmp(name_or_empty(names, *other)))?;
-    Ok(order)
 }

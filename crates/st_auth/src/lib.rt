@@ -4,6 +4,7 @@
 mod auths;
 mod long_labels;
 mod long_text;
+mod order;
 mod set_verdicts;
 mod short_labels;
 mod table;

@@ -7,11 +7,14 @@ ghost use Rattle.st_grant.specs.inner.Names.{with_name};
 use st_auth::Auths;
 use st_grant::Named;
 use st_sorted::{has, place_of};
-use st_text::{Items, Words};
+use st_text::{CompactText, Items};
 use std::alloc::{AllocError, Allocator};
 
 // Puts in a name, unless it is there.
-fn put<A: Allocator>(names: &mut Vec<Words<A>, A>, name: Words<A>) -> Result<(), AllocError>
+fn put<A: Allocator>(
+    names: &mut Vec<CompactText<A>, A>,
+    name: CompactText<A>,
+) -> Result<(), AllocError>
     requires { Rises name_key names.old.items }
     ensures ok { OnOk result (names.new.items ≡ with_name name names.old.items) }
 {
@@ -30,14 +33,14 @@ fn put<A: Allocator>(names: &mut Vec<Words<A>, A>, name: Words<A>) -> Result<(),
 pub fn each_once<A: Allocator + Copy>(
     alloc: A,
     auths: &Auths<A>,
-) -> Result<Items<Words<A>, A>, AllocError>
+) -> Result<Items<CompactText<A>, A>, AllocError>
     ensures { IfOk result (λ names. names ≡ set_of auths.now) }
 {
-    let mut names = Vec::new(alloc);
+    let mut names = Vec::with_capacity(alloc, auths.len())?;
     let order = auths.order();
     // In byte order, so that each goes to the end.
     for place in order {
-        let name = Words::new(alloc, auths.get(*place))?;
+        let name = CompactText::new(alloc, auths.get(*place))?;
         put(&mut names, name)?;
     }
     Ok(Items::from_vec(names))

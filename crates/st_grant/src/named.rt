@@ -6,7 +6,7 @@ ghost use Rattle.st_sorted.specs.Sorted.{name_key};
 
 use crate::name::Name;
 use st_sorted::Wanted;
-use st_text::Words;
+use st_text::CompactText;
 use std::alloc::Allocator;
 use std::marker::Model;
 
@@ -40,7 +40,7 @@ impl<'n> Wanted<Name> for Named<'n> {
     }
 }
 
-impl<'n, A: Allocator> Wanted<Words<A>> for Named<'n> {
+impl<'n, A: Allocator> Wanted<CompactText<A>> for Named<'n> {
     ghost item_key = { name_key };
 
     ghost key = { name_key };
@@ -49,11 +49,11 @@ impl<'n, A: Allocator> Wanted<Words<A>> for Named<'n> {
 
     ghost exact = { λ name item e. ap name_key (sym (same-eq name item e)) };
 
-    fn is_after(&self, item: &Words<A>) -> bool {
+    fn is_after(&self, item: &CompactText<A>) -> bool {
         item.as_str() < self.0
     }
 
-    fn is_key_of(&self, item: &Words<A>) -> bool {
+    fn is_key_of(&self, item: &CompactText<A>) -> bool {
         self.0 == item.as_str()
     }
 }

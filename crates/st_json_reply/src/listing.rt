@@ -11,10 +11,10 @@ use json::Writer;
 use st_dir::{Account, Grantee, Name, Permission, TableInfo};
 use st_key::Period;
 use st_policy::Entry;
-use st_text::Words;
+use st_text::CompactText;
 use std::alloc::{AllocError, Allocator};
 
-impl<B: Allocator> WriteJson for Words<B> {
+impl<B: Allocator> WriteJson for CompactText<B> {
     ghost written = { string };
 
     fn write_json<A: Allocator>(&self, out: &mut Writer<A>) -> Result<(), AllocError> {

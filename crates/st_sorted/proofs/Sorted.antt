@@ -94,6 +94,14 @@ module _ {X : Type 0} (key : X → List Text) where
   place_from wanted (x ∷ xs) (suc i) inside h =
       (h.0 0 x (omega arith) (omega arith), place_from wanted xs i (omega arith) (λ k d low less. h.0 (suc k) d (omega arith) (omega arith), λ k d low less. h.1 (suc k) d (omega arith) (omega arith)))
 
+  -- where the last key comes before the one wanted, the end is its place
+  pub place_at_end : (wanted : List Text) (xs : List X) → Rises key xs
+      → ((k : ℕ) (d : X) → suc k ≡ length xs → comes_before (key (slice_index_or xs k d)) wanted ≡ true) → IsPlace key wanted xs (length xs)
+  place_at_end wanted [] h last = tt
+  place_at_end wanted (x ∷ []) h last = (last 0 x refl, tt)
+  place_at_end wanted (x ∷ y ∷ ys) h last =
+      let rest = place_at_end wanted (y ∷ ys) h.1 (λ k d e. last (suc k) d (ap suc e)) in (before_trans (key x) (key y) wanted h.0.0 rest.0, rest)
+
   -- ---- lists in order
 
   put_first : (x : X) (ys : List X) → ComesFirst key x ys → put_in_order key x ys ≡ x ∷ ys

@@ -7,13 +7,28 @@ ghost use Rattle.st_sorted.specs.Places.{IsPlace, NoneOf, IsAlone};
 use crate::wanted::Wanted;
 use std::alloc::Allocator;
 
-/// The place of a key in the list: the number of items with a lesser key.
+// Whether the key comes after that of the last item, or there is none.
+fn goes_last<T: Drop, W: Wanted<T>>(items: &[T], wanted: &W) -> bool
+    requires { Rises W.item_key items.now }
+    ensures { result ≡ true → IsPlace W.item_key (W.key wanted.now) items.now (length items.now) }
+{
+    match items.last() {
+        Some(last) => wanted.is_after(last),
+        None => true,
+    }
+}
+
+/// The place of a key in the list: the number of items with a lesser key. It tries the end first, so that items that come in
+/// order are put in without a search.
 pub fn place_of<T: Drop, W: Wanted<T>>(items: &[T], wanted: &W) -> usize
     requires { Rises W.item_key items.now }
     ensures place { IsPlace W.item_key (W.key wanted.now) items.now result }
     ensures inside { result ≤ length items.now }
     ensures alone { IsAlone (W.test wanted.now) items.now result }
 {
+    if goes_last(items, wanted) {
+        return items.len();
+    }
     items.partition_point(|item| wanted.is_after(item))
 }
 
