@@ -9,8 +9,8 @@ A connection is ended after a million reads. 4,000 askings of each kind take few
 Each kind is asked COUNT times (100) in each of ROUNDS rounds (5); with KIND only those whose name has that word. Processor time
 is that of Linux's scheduler (/proc/PID/schedstat), so that a busy machine does not spoil it; but a host that lends its processors
 to others makes single askings slow, so a request is judged by its median. Kinds that show or count rows, or sort them anew, say
-so: their time is in proportion. Build the server first: (cd crates/st_run && rt run < stdin > /dev/null). Begun with
-GLIBC_TUNABLES=glibc.malloc.hugetlb=1, the server has huge pages, as the unit under deploy/ asks for.
+so: their time is in proportion. Memory is as the unit under deploy/ asks for, in huge pages; GLIBC_TUNABLES= takes it as it comes.
+Build the server first: (cd crates/st_run && rt run < stdin > /dev/null).
 """
 from __future__ import annotations
 
@@ -24,6 +24,8 @@ import sys
 import time
 from collections import defaultdict
 from collections.abc import Iterable, Iterator
+
+from tuned import ENVIRONMENT
 
 TOP = pathlib.Path(__file__).resolve().parent.parent
 DIGEST = "66687aadf862bd776c8fc18b8e9f8e20089714856ee233b3902a591d0d5f2925"
@@ -54,7 +56,7 @@ class Server:
 
     def __init__(self, program: str | pathlib.Path) -> None:
         words = [program, "--root", DIGEST, "A", "B", "C"]
-        self.process = subprocess.Popen(words, stdin=subprocess.PIPE, stdout=subprocess.PIPE, bufsize=0)
+        self.process = subprocess.Popen(words, stdin=subprocess.PIPE, stdout=subprocess.PIPE, bufsize=0, env=ENVIRONMENT)
         assert self.process.stdin is not None and self.process.stdout is not None
         self.to, self.back = self.process.stdin.fileno(), self.process.stdout.fileno()
         for pipe in (self.to, self.back):

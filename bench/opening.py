@@ -5,8 +5,8 @@ by requests.
     opening.py [ROWS [FOLDER [opened]]]
 
 1,000,000 rows, in a folder of /var/tmp, where they are left out; with `opened` no server gets them by requests. SQLite writes the rows
-as the server does: some that the server wrote are compared with them first. Memory has huge pages, as the unit under deploy/ asks for;
-GLIBC_TUNABLES= takes it as it comes. It needs the built st_served. Run it with /usr/bin/python3.
+as the server does: some that the server wrote are compared with them first. Memory is as the unit under deploy/ asks for, in huge
+pages; GLIBC_TUNABLES= takes it as it comes. It needs the built st_served. Run it with /usr/bin/python3.
 """
 from __future__ import annotations
 
@@ -30,8 +30,8 @@ sys.path.insert(0, str(TOP / "tests"))
 
 from served import PROGRAM, digest, free_port  # noqa: E402
 from stored import AUTHS, BOX, answer, asked, request  # noqa: E402
+from tuned import ENVIRONMENT  # noqa: E402
 
-ENVIRONMENT = {"GLIBC_TUNABLES": "glibc.malloc.hugetlb=1", **os.environ}
 LABELS = ("", "A", "B", "A&B", "A|B")
 COLUMNS = 'number, "user", request, name, body, result'
 INSERT = f"INSERT INTO changes ({COLUMNS}, time) VALUES (?, 'root', 'put', 'points', ?, '{{\"ok\":true}}', 1700000000000)"
