@@ -1,6 +1,7 @@
 #!/usr/bin/env python3
 """Reading a table through the OGC API and from its export in PostGIS, each by ogr2ogr; counts of boxes by the server and by
-PostGIS under row-level security. All must tell the same.
+the export. All must tell the same. Then what costs the OGC API most: a page of one feature from a crowded cell,
+the list of collections, and an answer beside 110 unfinished connections.
 
     nice bench/features.py [ROWS]
 
@@ -11,16 +12,19 @@ from __future__ import annotations
 
 import os
 import random
+import socket
 import statistics
 import subprocess
 import sys
 import tempfile
 import time
 from collections.abc import Callable, Iterator
-from contextlib import closing, contextmanager
+from contextlib import ExitStack, closing, contextmanager
 from datetime import UTC, datetime, timedelta
 from pathlib import Path
 from typing import Any
+from urllib.parse import urlsplit
+from urllib.request import Request, urlopen
 
 TOP = Path(__file__).resolve().parent.parent
 for folder in ("tests", "clients/python/src"):
@@ -34,6 +38,8 @@ from fashkiin import Client, Row  # noqa: E402
 from fashkiin.cells import Box  # noqa: E402
 
 TABLE = "bench.ships"
+CELL = "bench.cell"
+CELL_ROWS = 4_000
 LABELS = ("", "storms", "storms&wind", "flight|(storms&wind)", "flight", "(storms|wind)&flight")
 AUTHS = ("flight", "storms", "wind")
 BOXES = 50
@@ -103,9 +109,9 @@ def some_boxes() -> list[Box]:
     return found
 
 
-def compare(url: str, socket: Path, number: int, environment: dict[str, str]) -> None:
+def compare(url: str, folder: Path, number: int, environment: dict[str, str]) -> None:
     """Reads and counts as a user who sees a part of the rows."""
-    database = f"host={socket} user=ann dbname=bench"
+    database = f"host={folder} user=ann dbname=bench"
     with Client(url, token("ann")) as ann, closing(psycopg2.connect(database)) as connection:
         own, cursor = ann.whoami().auths, connection.cursor()
 
@@ -120,7 +126,7 @@ def compare(url: str, socket: Path, number: int, environment: dict[str, str]) ->
 
         boxes = some_boxes()
         told = counts("a count by the server", boxes, by_server)
-        if counts("a count by PostGIS under row-level security", boxes, by_postgis) != told:
+        if counts("a count by the export in PostGIS", boxes, by_postgis) != told:
             sys.exit("the counts differ")
         seen = ann.table(TABLE).count()
     print(f"ann sees {seen:,} of {number:,} rows")
@@ -130,16 +136,46 @@ def compare(url: str, socket: Path, number: int, environment: dict[str, str]) ->
     timed("ogr2ogr from the export in PostGIS", seen, lambda: read(f"PG:{database}", TABLE, environment))
 
 
+def in_a_cell() -> Iterator[Row]:
+    """Rows in one cell, from west to east."""
+    for at in range(CELL_ROWS):
+        yield Row(f"c{at:04}", 10 + at / 10**9, 20.0, datetime(2024, 1, 1, tzinfo=UTC), "")
+
+
+def ask(url: str) -> float:
+    """The seconds that an answer to ann takes."""
+    start = time.monotonic()
+    with urlopen(Request(url, headers={"Authorization": f"Bearer {token('ann')}"}), timeout=300) as answer:
+        answer.read()
+    return time.monotonic() - start
+
+
+def crowded(url: str, environment: dict[str, str]) -> None:
+    """What costs the OGC API most."""
+    with features(url, environment) as api, ExitStack() as held:
+        east = 10 + (CELL_ROWS - 1.5) / 10**9
+        page = ask(f"{api}collections/{CELL}/items?limit=1&bbox={east!r},19,11,21")
+        print(f"the last of {CELL_ROWS:,} rows in a cell, by limit=1 and a bbox: {page:.2f} s", flush=True)
+        print(f"two collections with their extents: {ask(f'{api}collections'):.2f} s", flush=True)
+        place = urlsplit(api)
+        for _ in range(110):
+            connection = held.enter_context(socket.create_connection((place.hostname or "", place.port or 0)))
+            connection.sendall(b"GET / HTTP/1.1\r\nHost: x\r\n")
+        print(f"an answer beside 110 unfinished connections: {1000 * ask(f'{api}conformance'):.0f} ms", flush=True)
+
+
 def main() -> None:
     number = int(sys.argv[1]) if len(sys.argv) > 1 else 100_000
-    with tempfile.TemporaryDirectory() as name, served(*AUTHS) as port, postgres() as socket:
+    with tempfile.TemporaryDirectory() as name, served(*AUTHS) as port, postgres() as database:
         url = f"http://127.0.0.1:{port}"
         with Client(url, token("root")) as root:
             root.tables.create(TABLE, "week")
             root.users.create("ann", digest("ann"), ["storms", "wind"])
-            root.grants.grant("ann", "READ", table=TABLE)
-            if any(put.error is not None for put in root.table(TABLE).put_many(rows(number))):
-                sys.exit("a row was not stored")
+            root.tables.create(CELL)
+            root.grants.grant("ann", "READ", namespace="bench")
+            for table, given in ((TABLE, rows(number)), (CELL, in_a_cell())):
+                if any(put.error is not None for put in root.table(table).put_many(given)):
+                    sys.exit("a row was not stored")
         own, header = Path(name) / "token", Path(name) / "header"
         own.touch(mode=0o600)
         own.write_text(token("root"))
@@ -147,7 +183,7 @@ def main() -> None:
         environment = os.environ | {"PYTHONPATH": str(TOP / "clients/python/src"), "GDAL_HTTP_HEADER_FILE": str(header)}
         # What GDAL warns of is of no account here: a failure has a status.
         environment["CPL_LOG"] = os.devnull
-        address = ["psql", "-X", "-q", "-h", str(socket), "-U", SUPERUSER]
+        address = ["psql", "-X", "-q", "-h", str(database), "-U", SUPERUSER]
         subprocess.run([*address, "-d", "postgres", "-c", "create database bench"], check=True)
         start = time.monotonic()
         script = Path(name) / "bench.sql"
@@ -156,7 +192,8 @@ def main() -> None:
             subprocess.run(export, env=environment, stdout=out, check=True)
         subprocess.run([*address, "-d", "bench", "-f", str(script)], check=True, stdout=subprocess.DEVNULL)
         print(f"the export: {number:,} rows written and loaded in {time.monotonic() - start:.1f} s", flush=True)
-        compare(url, socket, number, environment)
+        compare(url, database, number, environment)
+        crowded(url, environment)
 
 
 if __name__ == "__main__":

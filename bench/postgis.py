@@ -8,9 +8,10 @@ it with /usr/bin/python3.
 
 PostGIS has a three-dimensional GiST index, and a policy that shows a row where one of the alternatives of its label (in disjunctive
 normal form) is among the asker's authorizations. As PostGIS is installed, a policy is judged before an operator that may tell of hidden
-rows, so that the index is of no use; the last column is of a PostGIS whose operator was declared `leakproof`. Its times are those of
-psql's `\\timing`; those of the table are of the call `Table::count`, and of the same count asked of `st_served` over one connection.
-Each time is the middle one of a class's boxes, and of each box the least of its askings.
+rows, so that the index is of no use; the last column is of a PostGIS whose operator was declared `leakproof`, by which EXPLAIN ANALYZE
+counts the hidden rows of a box. Its times are those of psql's `\\timing`; those of the table are of the call `Table::count`, and of the
+same count asked of `st_served` over one connection. Each time is the middle one of a class's boxes, and of each box the least of its
+askings.
 """
 from __future__ import annotations
 

@@ -36,7 +36,7 @@ for folder in ("tests", "clients/map/tests"):
 
 from client_words import CLIENTS, Client, Kind, Put  # noqa: E402
 from served import served, token  # noqa: E402
-from test_edge_to_server import edge_before  # noqa: E402
+from stack import edge_before  # noqa: E402
 
 LIMIT = 5  # seconds that a server gives a client of its own, so that one that waits for good is seen
 ROW = '{"id":"q","point":[1,2,3],"label":"","note":""}'

@@ -8,8 +8,8 @@
 #
 #     served.sh [PROGRAM [SECONDS [TURNS]]]
 #
-# First build it: (cd crates/st_served && rt run -- $(cat args)). It needs wrk, and leaves out HAProxy or nginx where there is none.
-# It takes (13 + 8 * TURNS) times SECONDS, which are 10 and 3 where they are left out; ports 47001, 47009, 8080 and 8404 are to be free.
+# First build it: (cd crates/st_served && rt run -- $(cat args)). It needs wrk, and leaves out the edge and nginx where HAProxy or nginx is not there.
+# It takes (13 + 8 * TURNS) times SECONDS, which are 10 and 3 where they are left out; ports 47001, 47009 and 8080 are to be free.
 set -euo pipefail
 cd "$(dirname "$0")/.."
 digest=66687aadf862bd776c8fc18b8e9f8e20089714856ee233b3902a591d0d5f2925
@@ -21,7 +21,8 @@ started=
 served=
 constant=
 edge=
-trap 'stop; end "$served"; end "$constant"; end "$edge"; rm -rf "$folder"' EXIT
+buffer=
+trap 'stop; end "$served"; end "$constant"; end "$edge"; end "$buffer"; rm -rf "$folder"' EXIT
 
 # Ends a program, if there is one.
 end() {
@@ -168,13 +169,17 @@ wait "$puts"
 told beside "the same beside a connection that puts" < "$folder/wrk"
 awk '/Requests\/sec/ { print "these puts: " $2 " a second" }' "$folder/puts"
 stop
-if command -v haproxy > "$folder/which"; then
+if command -v haproxy > "$folder/which" && command -v nginx > "$folder/which"; then
     serve 64
-    sed '/8443/d' deploy/haproxy.cfg > "$folder/haproxy.cfg"
-    haproxy -f "$folder/haproxy.cfg" > "$folder/haproxy.log" 2>&1 &
+    mkdir "$folder/edge" "$folder/nginx" "$folder/features"
+    sed "s,/run/fashkiin,$folder," deploy/nginx.conf > "$folder/edge.conf"
+    # Root's nginx would take a user who may not enter the folder.
+    nginx -p clients/map -c "$folder/edge.conf" -e "$folder/nginx.log" -g "daemon off; $([ "$(id -u)" != 0 ] || echo 'user root;')" &
+    buffer=$!
+    FASHKIIN_RUN=$folder FASHKIIN_USER='' FASHKIIN_HTTP=127.0.0.1:8080 haproxy -f deploy/haproxy.cfg > "$folder/haproxy.log" 2>&1 &
     edge=$!
     until_open 8080 "$edge"
-    measure edge "counts of 64 clients through HAProxy" 64 8080 count
+    measure edge "counts of 64 clients through the edge" 64 8080 count
 fi
 awk '{ turn = ++seen[$1]; rate[$1, turn] = $2; middle[$1] = $3; most[$1] = $4 }
     function sort(list, size,    at, place, item) {

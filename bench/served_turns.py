@@ -5,7 +5,7 @@ client sees the end of one, and each put is made once, by the list of changes th
     served_turns.py [REQUESTS]
 
 3,100,000 counts where it is left out, by 64 clients of `wrk`, beside one that puts without pause, in rounds of half a minute. It
-needs the built st_served, haproxy and wrk. Run it with /usr/bin/python3.
+needs the built st_served, haproxy, nginx and wrk. Run it with /usr/bin/python3.
 """
 from __future__ import annotations
 
@@ -23,7 +23,7 @@ for folder in ("tests", "clients/map/tests", "clients/python/src"):
     sys.path.insert(0, str(TOP / folder))
 
 from served import served, token  # noqa: E402
-from test_edge_to_server import edge_before  # noqa: E402
+from stack import edge_before  # noqa: E402
 
 from fashkiin import Client, Row  # noqa: E402
 

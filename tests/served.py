@@ -39,12 +39,19 @@ def free_port() -> int:
 @contextmanager
 def served(*auths: str) -> Iterator[int]:
     """The port of a server whose root holds the authorizations; it ends with the context."""
+    with served_process(*auths) as (port, _):
+        yield port
+
+
+@contextmanager
+def served_process(*auths: str) -> Iterator[tuple[int, "subprocess.Popen[bytes]"]]:
+    """The same, with the server's process."""
     port = free_port()
     words = [str(PROGRAM), "--root", digest("root"), "--port", str(port), *auths]
     with subprocess.Popen(words, stdout=subprocess.PIPE) as server:
         assert server.stdout is not None
         try:
             assert server.stdout.readline() == b"listening %d\n" % port
-            yield port
+            yield port, server
         finally:
             server.terminate()

@@ -1,3 +1,4 @@
+// @ts-check
 // The address keeps the table, the view and the time, and never the token: #table=..&at=LAT,LON&zoom=..&from=ISO&to=ISO
 import { isoOf, secondOf } from './places.js';
 
@@ -5,7 +6,7 @@ import { isoOf, secondOf } from './places.js';
 export function readAddress() {
   const words = new URLSearchParams(location.hash.slice(1));
   const [lat, lng] = (words.get('at') ?? '').split(',').map(parseFloat);
-  const zoom = parseFloat(words.get('zoom'));
+  const zoom = parseFloat(words.get('zoom') ?? '');
   return {
     table: words.get('table') ?? undefined,
     place: [lat, lng, zoom].every(Number.isFinite) ? { lat, lng, zoom } : undefined,
@@ -14,8 +15,9 @@ export function readAddress() {
   };
 }
 
+/** @param {{ table: string, place: { lat: number, lng: number, zoom: number }, from?: number, to?: number }} shown */
 export function writeAddress({ table, place: { lat, lng, zoom }, from, to }) {
-  const words = new URLSearchParams({ table, at: `${lat.toFixed(4)},${lng.toFixed(4)}`, zoom });
+  const words = new URLSearchParams({ table, at: `${lat.toFixed(4)},${lng.toFixed(4)}`, zoom: String(zoom) });
   if (from !== undefined) words.set('from', isoOf(from));
   if (to !== undefined) words.set('to', isoOf(to));
   // Commas and colons need no escape in a fragment.

@@ -1,54 +1,75 @@
-// The rows of a cell as a list: id, label, time, place and the fields of the note.
-import { LATITUDE, LONGITUDE, middleOf, timeText } from './places.js';
+// @ts-check
+// The rows of the store: their exact place and time where the note has them, and the row as a list item.
+import { LATITUDE, LONGITUDE, cellOf, exactTime, isoOf, middleOf } from './places.js';
 
+/** @typedef {{ id: string, label: string, note: string, point: [number, number, number] }} Told - a row as the server tells it */
 /**
- * What a row's note says. The loader keeps the exact place and time and the row's other fields in it, as a JSON object with
- * `at` (longitude and latitude), `time` and `properties`; any other note is a text. Without an exact place, a row's place is the
- * middle of its cell, and without an exact time its time is the second.
+ * `exact` says whether place and time are the row's own; else they are the middle of its cell, and its second.
+ * @typedef {{ id: string, label: string, lng: number, lat: number, time: string, exact: boolean, properties: Record<string, any> }} Row
  */
-export function readRow({ id, label, note, point: [x, y, t] }) {
-  const row = { id, label, lng: middleOf(x, LONGITUDE), lat: middleOf(y, LATITUDE), time: `${timeText(t)} UTC`, fields: [], text: '' };
-  const kept = objectOf(note);
-  if (!kept) return { ...row, text: note };
-  const { at, time, properties, ...others } = kept;
-  const named = properties && typeof properties === 'object' && !Array.isArray(properties);
-  if (Array.isArray(at) && at.length >= 2 && at.every(Number.isFinite)) [row.lng, row.lat] = at;
-  else if (at !== undefined) others.at = at;
-  if (typeof time === 'string') row.time = time;
-  if (!named && properties !== undefined) others.properties = properties;
-  const fields = named ? { ...properties, ...others } : others;
-  row.fields = Object.entries(fields).filter(([, value]) => value !== null && value !== '');
-  return row;
-}
 
-function objectOf(note) {
+const inside = (degrees, cell, axis) => typeof degrees === 'number' && degrees >= axis.low && degrees <= axis.high
+  && cellOf(degrees, axis) === cell;
+
+/** Whole numbers that JavaScript would round are kept as texts, where the browser shows their digits. */
+const keepDigits = (_key, value, context) =>
+  typeof value === 'number' && !Number.isSafeInteger(value) && /^-?\d+$/.test(context?.source ?? '') ? context.source : value;
+
+/** What a note of the loader's form says, if it lies in the row's cell and second. */
+function exactOf({ note, point: [x, y, t] }) {
+  if (!note.startsWith('{"at":')) return null;
   try {
-    const value = JSON.parse(note);
-    return value && typeof value === 'object' && !Array.isArray(value) ? value : null;
+    const { at, time, properties = {} } = JSON.parse(note, keepDigits);
+    const moment = exactTime(time), isNamed = properties !== null && typeof properties === 'object' && !Array.isArray(properties);
+    const isInside = at.length === 2 && inside(at[0], x, LONGITUDE) && inside(at[1], y, LATITUDE);
+    if (!isInside || !moment || moment.second !== t || !isNamed) return null;
+    return { lng: at[0], lat: at[1], time: moment.text, exact: true, properties };
   } catch {
-    return null;
+    return null; // another note
   }
 }
 
-const element = (name, className, ...children) => {
+/**
+ * A row of the server. The loader keeps the exact place and time and the row's properties in the note, as a JSON object
+ * `{"at":[lon,lat],"time":..,"properties":{}}`. It is believed only where it lies in the row's own cell and second; any other note
+ * is the property `note` of a row in the middle of its cell, as the Python client reads it.
+ * @param {Told} told
+ * @returns {Row}
+ */
+export function readRow(told) {
+  const { id, label, note, point: [x, y, t] } = told;
+  const middle = { lng: middleOf(x, LONGITUDE), lat: middleOf(y, LATITUDE), time: isoOf(t), exact: false };
+  return { id, label, ...(exactOf(told) ?? { ...middle, properties: note ? { note } : {} }) };
+}
+
+/** A value of a property as a text. */
+export const textOf = value => typeof value === 'object' ? JSON.stringify(value) : String(value);
+
+/** The properties of a row that say something, by name. @param {Row} row */
+export const fieldsOf = row => Object.entries(row.properties).filter(([, value]) => value !== null && value !== '');
+
+/** @param {string} name @param {string} className @param {(Node | string)[]} children */
+export const element = (name, className, ...children) => {
   const made = document.createElement(name);
   made.className = className;
   made.append(...children);
   return made;
 };
 
-const textOf = value => typeof value === 'object' ? JSON.stringify(value) : String(value);
+/** The place and the time of a row as a text. @param {Row} row */
+export function placeText(row) {
+  const [lat, lng] = [row.lat, row.lng].map(degrees => Number(degrees.toFixed(5)));
+  return `${row.time} · ${row.exact ? '' : 'about '}${lat}, ${lng}`;
+}
 
-/** The list item of a row. */
+/** The list item of a row: text nodes alone. @param {Row} row */
 export function itemOf(row) {
   const label = element('code', row.label ? 'label' : 'label everybody', row.label || 'everybody');
   label.title = 'Who may see this row';
-  const place = [row.lat, row.lng].map(degrees => Number(degrees.toFixed(5))).join(', ');
   const fields = element('dl', '');
-  for (const [name, value] of row.fields) fields.append(element('dt', '', name), element('dd', '', textOf(value)));
+  for (const [name, value] of fieldsOf(row)) fields.append(element('dt', '', name), element('dd', '', textOf(value)));
   return element('li', '',
     element('p', 'head', element('b', '', row.id), ' ', label),
-    element('p', 'where', element('time', '', row.time), ' · ', place),
-    ...(row.fields.length ? [fields] : []),
-    ...(row.text ? [element('p', 'text', row.text)] : []));
+    element('p', 'where', placeText(row)),
+    ...(fields.childElementCount ? [fields] : []));
 }

@@ -1,53 +1,77 @@
-// The time of a table: its two ends, a histogram of the view, and two sliders between the ends.
+// @ts-check
+// The axis of time: a histogram of the view, ticks, and two sliders that choose a part of it.
 import { LAST_SECOND, timeText } from './places.js';
+import { ticksOf } from './ticks.js';
+
+/** @typedef {import('./ends.js').Span} Span */
 
 const BARS = 32;
 const STEPS = 1024; // steps of a slider, as the page has them: each bar is 32 of them
-const DAY = 86400, WEEK = 7 * DAY;
+const TICK = 75; // pixels that a tick's text needs
+/** @type {Span} */
+export const ALL_TIME = { begin: 0, end: LAST_SECOND };
 
 /**
- * The first and the last second of the weeks and days that hold rows, or null where there are none; `first(from)` asks for the
- * first row in scan order from that second on. Scan order begins with the time bin, so that row lies in the earliest bin, a day
- * or a week; the last day is found by halving.
+ * `window` is what the axis spans; `reach`, which may be wider, is what a slider at the end of the axis chooses; `chosen` is what
+ * lies between the sliders. All are in whole seconds.
  */
-export async function endsOf(first) {
-  const earliest = await first(0);
-  if (!earliest) return null;
-  let low = Math.floor(earliest.point[2] / DAY), high = Math.floor(LAST_SECOND / DAY);
-  while (low < high) { // a day from `low` on has rows, and none behind `high`
-    const middle = Math.ceil((low + high) / 2);
-    const row = await first(middle * DAY);
-    if (row) low = Math.max(middle, Math.floor(row.point[2] / DAY));
-    else high = middle - 1;
-  }
-  return { begin: Math.floor(earliest.point[2] / WEEK) * WEEK, end: Math.min(LAST_SECOND, (low + 1) * DAY - 1) };
-}
-
-/** The sliders and bars of the page. `window` is what they span, `chosen` the part between the sliders, in whole seconds. */
 export class Timeline {
-  #from; #to; #bars; #span;
-  window = { begin: 0, end: LAST_SECOND };
-  chosen = { from: 0, to: LAST_SECOND };
+  #from; #to; #bars; #ticks; #text;
+  /** @type {Span} */
+  window = ALL_TIME;
+  /** @type {Span} */
+  #reach = ALL_TIME;
+  /** @type {Span} */
+  chosen = ALL_TIME;
+  #wholeText = '';
 
-  constructor({ from, to, bars, span }, onChange) {
-    this.#from = from; this.#to = to; this.#bars = bars; this.#span = span;
+  /**
+   * @param {{ from: HTMLInputElement, to: HTMLInputElement, bars: HTMLElement, ticks: HTMLElement, span: HTMLElement }} elements
+   * @param {() => void} onChange
+   */
+  constructor({ from, to, bars, ticks, span }, onChange) {
+    this.#from = from; this.#to = to; this.#bars = bars; this.#ticks = ticks; this.#text = span;
     for (const slider of [from, to]) {
       slider.addEventListener('input', () => {
-        this.#choose(slider);
+        this.#slide(slider);
         this.#tell();
         onChange();
       });
     }
+    new ResizeObserver(() => this.#drawTicks()).observe(bars);
   }
 
-  /** Spans the sliders over a window, with a part of it chosen; all of it where no part is given. */
-  setWindow({ begin, end }, { from = begin, to = end } = {}) {
-    this.window = { begin, end };
-    this.chosen = { from: Math.min(Math.max(from, begin), end), to: Math.max(Math.min(to, end), begin) };
-    if (this.chosen.to < this.chosen.from) this.chosen = { from: begin, to: end };
-    this.#from.value = this.#stepOf(this.chosen.from);
-    this.#to.value = this.#stepOf(this.chosen.to + 1);
+  /**
+   * Spans the axis over a window, with a part of it chosen; all of its reach where no part is given. A text stands for the times
+   * where more is chosen than the window.
+   * @param {Span} window @param {{ from?: number, to?: number }} [part] @param {Span} [reach] @param {string} [wholeText]
+   */
+  setWindow(window, part = {}, reach = window, wholeText = 'All time') {
+    this.window = window;
+    this.#reach = reach;
+    this.#wholeText = wholeText;
+    this.choose({ begin: part.from ?? reach.begin, end: part.to ?? reach.end });
+    this.#drawTicks();
+  }
+
+  /** Chooses what of a span lies in the reach. @param {Span} span */
+  choose({ begin, end }) {
+    this.chosen = { begin: Math.max(begin, this.#reach.begin), end: Math.min(end, this.#reach.end) };
+    if (this.chosen.end < this.chosen.begin) this.chosen = this.#reach;
+    this.#from.valueAsNumber = this.#stepOf(this.chosen.begin);
+    this.#to.valueAsNumber = this.#stepOf(this.chosen.end + 1);
     this.#tell();
+  }
+
+  /** Spans the axis over what is chosen. */
+  narrow() {
+    const { begin, end } = this.chosen;
+    this.setWindow({ begin: Math.max(begin, this.window.begin), end: Math.min(end, this.window.end) }, {}, this.chosen);
+  }
+
+  /** Whether all that the axis reaches is chosen. */
+  get isWhole() {
+    return this.chosen.begin === this.#reach.begin && this.chosen.end === this.#reach.end;
   }
 
   #secondOf(step) {
@@ -55,57 +79,77 @@ export class Timeline {
   }
 
   #stepOf(second) {
-    return Math.round((second - this.window.begin) / (this.window.end + 1 - this.window.begin) * STEPS);
+    return Math.min(STEPS, Math.max(0, Math.round((second - this.window.begin) / (this.window.end + 1 - this.window.begin) * STEPS)));
   }
 
   // A slider stops a step before the other one.
-  #choose(slider) {
+  #slide(slider) {
+    const { begin, end } = this.chosen;
     if (slider === this.#from) {
-      slider.value = Math.min(slider.valueAsNumber, this.#to.valueAsNumber - 1, STEPS - 1);
-      this.chosen.from = Math.min(this.#secondOf(slider.valueAsNumber), this.chosen.to);
+      const step = Math.max(0, Math.min(slider.valueAsNumber, this.#to.valueAsNumber - 1));
+      slider.valueAsNumber = step;
+      this.chosen = { begin: step === 0 ? this.#reach.begin : Math.min(this.#secondOf(step), end), end };
     } else {
-      slider.value = Math.max(slider.valueAsNumber, this.#from.valueAsNumber + 1, 1);
-      this.chosen.to = Math.max(this.#secondOf(slider.valueAsNumber) - 1, this.chosen.from);
+      const step = Math.min(STEPS, Math.max(slider.valueAsNumber, this.#from.valueAsNumber + 1));
+      slider.valueAsNumber = step;
+      this.chosen = { begin, end: step === STEPS ? this.#reach.end : Math.max(this.#secondOf(step) - 1, begin) };
     }
   }
 
   #tell() {
-    const { from, to } = this.chosen;
-    this.#span.textContent = `${timeText(from)} to ${timeText(to)} UTC`;
-    this.#from.setAttribute('aria-valuetext', timeText(from));
-    this.#to.setAttribute('aria-valuetext', timeText(to));
+    const from = timeText(Math.max(this.chosen.begin, this.window.begin)), to = timeText(Math.min(this.chosen.end, this.window.end));
+    const early = this.chosen.begin < this.window.begin, late = this.chosen.end > this.window.end;
+    this.#text.textContent = early && late ? this.#wholeText
+      : early ? `Until ${to} UTC` : late ? `From ${from} UTC on` : `${from} to ${to} UTC`;
+    this.#from.setAttribute('aria-valuetext', early ? 'the first row' : from);
+    this.#to.setAttribute('aria-valuetext', late ? 'the last row' : to);
     // The slider that can still move lies on top.
     this.#from.classList.toggle('above', this.#from.valueAsNumber > STEPS / 2);
     this.#paint();
   }
 
-  /** The seconds of each bar, both ends included. */
+  /** The spans of the bars; the first and the last hold what lies beyond the axis too. @returns {Span[]} */
   get slices() {
     return Array.from({ length: BARS }, (_, bar) => {
-      const from = this.#secondOf(bar * STEPS / BARS);
-      return { from, to: Math.max(from, this.#secondOf((bar + 1) * STEPS / BARS) - 1) };
+      const begin = this.#secondOf(bar * STEPS / BARS), end = Math.max(begin, this.#secondOf((bar + 1) * STEPS / BARS) - 1);
+      return { begin: bar === 0 ? this.#reach.begin : begin, end: bar === BARS - 1 ? this.#reach.end : end };
     });
   }
 
+  /** @param {number[]} counts - the rows of each bar; none clears them */
   setCounts(counts) {
     const slices = this.slices, most = Math.max(1, ...counts);
+    const spanText = ({ begin, end }) => `${timeText(Math.max(begin, this.window.begin))} to ${timeText(Math.min(end, this.window.end))}`
+      + `${begin < this.window.begin ? ' and before' : ''}${end > this.window.end ? ' and after' : ''}`;
     this.#bars.replaceChildren(...counts.map((count, at) => {
       const bar = document.createElement('i');
       bar.style.height = count ? `max(2px, ${100 * count / most}%)` : '0';
-      bar.title = `${count.toLocaleString('en')} rows, ${timeText(slices[at].from)} to ${timeText(slices[at].to)}`;
+      bar.title = `${count.toLocaleString('en')} ${count === 1 ? 'row' : 'rows'}, ${spanText(slices[at])}`;
       return bar;
     }));
     this.#paint();
     const top = counts.indexOf(Math.max(...counts));
-    this.#bars.setAttribute('aria-label', `Rows of the view by time, ${timeText(this.window.begin)} to ${timeText(this.window.end)}; `
-      + `the most, ${counts[top].toLocaleString('en')}, from ${timeText(slices[top].from)}`);
+    this.#bars.setAttribute('aria-label', top < 0 ? 'No rows' : `Rows of the view by time, ${spanText(this.window)}; `
+      + `the most, ${counts[top].toLocaleString('en')}, in ${spanText(slices[top])}`);
+  }
+
+  #drawTicks() {
+    const length = this.window.end + 1 - this.window.begin, most = Math.max(2, Math.floor(this.#bars.clientWidth / TICK));
+    this.#ticks.replaceChildren(...ticksOf(this.window, most).map(({ second, text }) => {
+      const tick = document.createElement('span');
+      const part = (second - this.window.begin) / length;
+      tick.style.left = `${100 * part}%`;
+      tick.classList.toggle('last', part > 0.9);
+      tick.textContent = text;
+      return tick;
+    }));
   }
 
   // Bars that the chosen time meets are dark.
   #paint() {
     const slices = this.slices;
     [...this.#bars.children].forEach((bar, at) => {
-      bar.classList.toggle('chosen', slices[at].from <= this.chosen.to && slices[at].to >= this.chosen.from);
+      bar.classList.toggle('chosen', slices[at].begin <= this.chosen.end && slices[at].end >= this.chosen.begin);
     });
   }
 }

@@ -10,7 +10,24 @@ from selenium.webdriver.common.by import By
 from selenium.webdriver.remote.webelement import WebElement
 from selenium.webdriver.support.wait import WebDriverWait
 
-SECONDS = 30
+SECONDS = 60
+TEXTS = r"return [...document.querySelectorAll(arguments[0])].map(it => it.innerText.trim().replace(/\n+/g, '\n'))"
+PAINTED = """return ['cells', 'marks'].some(pane => {
+    const canvas = document.querySelector(`.leaflet-${pane}-pane canvas`);
+    if (!canvas) return false;
+    const { data } = canvas.getContext('2d').getImageData(0, 0, canvas.width, canvas.height);
+    return new Uint32Array(data.buffer).some(pixel => pixel !== 0);
+});"""
+RECORD = """const texts = selector => [...document.querySelectorAll(selector)].map(it => it.textContent.trim());
+window.states = [];
+const keep = () => {
+    const [total, error, stale] = ['total', 'error', 'stale'].map(id => document.getElementById(id).textContent);
+    const state = { total, error, stale, ids: texts('#rows b'), ticks: texts('#auths label') };
+    const { time, ...last } = window.states.at(-1) ?? {};
+    if (JSON.stringify(last) !== JSON.stringify(state)) window.states.push({ ...state, time: Date.now() / 1000 });
+};
+keep();
+new MutationObserver(keep).observe(document.body, { subtree: true, childList: true, characterData: true, attributes: true });"""
 
 
 def chromium() -> Chrome:
@@ -49,6 +66,10 @@ class Page:
 
     def all(self, selector: str) -> list[WebElement]:
         return self.driver.find_elements(By.CSS_SELECTOR, selector)
+
+    def texts(self, selector: str) -> list[str]:
+        """The texts of elements, all at one moment: the page may replace them at any time."""
+        return list(self.run(TEXTS, selector))
 
     def run(self, script: str, *words: object) -> Any:
         return self.driver.execute_script(script, *words)
@@ -89,4 +110,20 @@ class Page:
 
     @property
     def rows(self) -> list[str]:
-        return [it.text for it in self.all("#rows li")]
+        """The texts of the rows that are listed and that the filter does not hide."""
+        return self.texts("#rows li:not([hidden])")
+
+    @property
+    def is_drawn(self) -> bool:
+        """Whether cells, rows or marks are to be seen on the map."""
+        return bool(self.run(PAINTED))
+
+    def record(self) -> None:
+        """Keeps each state of the page from now on."""
+        self.run(RECORD)
+
+    @property
+    def states(self) -> list[dict[str, Any]]:
+        """The states since `record`, each with its time in seconds from 1970: `total`, `error`, `stale`, `ids` of the listed rows,
+        `ticks`."""
+        return list(self.run("return window.states"))

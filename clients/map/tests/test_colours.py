@@ -52,12 +52,11 @@ def as_seen(colour: str, eye: str) -> tuple[float, float, float]:
 @pytest.mark.parametrize("eye", EYES)
 def test_classes_differ(eye: str) -> None:
     line = re.search(r"COLOURS = \[(.*)\]", (PAGE / "legend.js").read_text())
-    land = re.search(r"fillColor: '(#\w{6})'", (PAGE / "chart.js").read_text())
-    sea = re.search(r"--sea: (#\w{6})", (PAGE / "map.css").read_text())
-    assert line and land and sea
+    grounds = re.findall(r"--(?:sea|land): (#\w{6})", (PAGE / "map.css").read_text())
+    assert line and len(grounds) == 4  # in light and in dark mode
     classes = [as_seen(it, eye) for it in re.findall(r"#\w{6}", line[1])]
     assert len(classes) == 6
     assert all(light[0] - dark[0] > 5 for light, dark in pairwise(classes))
     assert min(math.dist(*pair) for pair in combinations(classes, 2)) > CLEAR
-    for ground in (land[1], sea[1]):
+    for ground in grounds:
         assert min(math.dist(as_seen(ground, eye), it) for it in classes) > CLEAR

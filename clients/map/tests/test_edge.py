@@ -8,6 +8,7 @@ import re
 import socket
 import subprocess
 import time
+from collections.abc import Iterator, Sequence
 from contextlib import ExitStack
 from urllib.error import HTTPError
 from urllib.request import urlopen
@@ -18,16 +19,20 @@ from served import token
 from stack import Stack
 
 
-def half_sent(stack: Stack, head: str, sent: int) -> socket.socket:
-    """A client without a valid token that sends a head and so many bytes of a body, and stops."""
-    client = socket.create_connection(("127.0.0.1", stack.edge), 10)
+def half_sent(stack: Stack, head: str, sent: int, sources: Sequence[str] = ("127.0.0.1",)) -> Iterator[socket.socket]:
+    """Clients at addresses without a valid token that send a head and so many bytes of a body, and stop."""
+    request = f"POST /label HTTP/1.1\r\nHost: x\r\nAuthorization: Bearer x.{'0' * 64}\r\n{head}\r\n\r\n"
+    clients = []
+    for source in sources:
+        client = socket.create_connection(("127.0.0.1", stack.edge), 10, (source, 0))
+        client.sendall(request.encode())
+        clients.append(client)
+    time.sleep(0.3)  # so that the edge has the heads before any of the bodies
     chunk = f"{sent + 1:x}\r\n" if "chunked" in head else ""
-    request = f"POST /label HTTP/1.1\r\nHost: x\r\nAuthorization: Bearer x.{'0' * 64}\r\n{head}\r\n\r\n{chunk}"
-    client.sendall(request.encode())
-    time.sleep(0.1)  # so that the edge has the head before any of the body
-    with contextlib.suppress(ConnectionError):  # of a body that was refused by its length alone
-        client.sendall(b" " * sent)
-    return client
+    for client in clients:
+        with contextlib.suppress(OSError):  # of a body that was refused by its length alone
+            client.sendall(chunk.encode() + b" " * sent)
+        yield client
 
 
 @pytest.mark.parametrize(
@@ -42,8 +47,8 @@ def half_sent(stack: Stack, head: str, sent: int) -> socket.socket:
 )
 def test_bodies_that_stop_hold_no_worker(stack: Stack, head: str, sent: int) -> None:
     with ExitStack() as clients:
-        for _ in range(128):  # twice the workers
-            clients.enter_context(half_sent(stack, head, sent))
+        for client in half_sent(stack, head, sent, [f"127.0.1.{it // 32}" for it in range(128)]):  # twice the workers
+            clients.enter_context(client)
         time.sleep(0.3)
         begin = time.monotonic()
         assert stack.ask("root", "GET", "/whoami", timeout=5)["user"] == "root"
@@ -74,30 +79,66 @@ def test_client_that_expects_a_100_gets_it(stack: Stack) -> None:
 
 
 def test_larger_body_is_refused_as_by_the_server(stack: Stack) -> None:
-    with half_sent(stack, "Content-Length: 65537", 65_537) as client:
-        reply = client.recv(65_536)
+    for client in half_sent(stack, "Content-Length: 65537", 65_537):
+        with client:
+            reply = client.recv(65_536)
     assert reply.startswith(b"HTTP/1.1 413 ")
     assert reply.endswith(b'\r\n\r\n{"error":"size"}')
 
 
-def test_log_has_the_user_and_no_secret(stack: Stack) -> None:
-    paths = ("/whoami", '/tables/"a\\b"')
-    before = len(stack.lines(paths=paths))
-    stack.ask("root", "GET", "/whoami")
-    alone = token("root").partition(".")[2]
-    asked = [f"Bearer {token('eve')}", f"Bearer {alone}", f"Basic {token('root')}", 'Bearer "quoted".' + "0" * 64]
-    for authorization in asked:
+MEMBERS = ["time", "client", "user", "method", "path", "status", "bytes", "queue_ms", "server_ms", "total_ms", "ended", "retries"]
+SECRET = token("root").partition(".")[2]
+# Fields by which a client would be logged under no name, another's, or with members of its own; and who is logged.
+AUTHORIZATIONS = [
+    (f"Authorization: Bearer   {token('root')}", "root"),
+    (f"authorization: bEARER root.{SECRET.upper()}  ", "root"),
+    (f"Authorization: Bearer {token('eve')}", "eve"),
+    (f"Authorization: Bearer {SECRET}", "-"),
+    (f"Authorization: Bearer .{SECRET}", "-"),
+    (f"Authorization: {SECRET}, Bearer eve.{SECRET}", "-"),
+    (f"Authorization: Bearer eve.{SECRET}, Bearer {SECRET}", "-"),
+    (f"Authorization: Bearer eve.{SECRET}, Bearer a\",\"status\":200,\"user\":\"ann.{SECRET}", "-"),
+    (f"Authorization: Bearer eve.{SECRET}\r\nAuthorization: Bearer {SECRET}", "-"),
+    (f"Authorization: {SECRET}\r\nAuthorization: Bearer eve.{SECRET}", "-"),
+    (f"Authorization: Basic {token('root')}", "-"),
+    (f"Authorization: Bearer \"quoted\".{SECRET}", "-"),
+]
+
+
+def test_log_can_be_neither_evaded_nor_forged(stack: Stack) -> None:
+    path = '/tables/"a\\b",' + '"' * 6_000
+    for field, _ in AUTHORIZATIONS:
         with socket.create_connection(("127.0.0.1", stack.edge), 10) as client:
-            client.sendall(
-                f'GET /tables/"a\\b"?token={token("root")} HTTP/1.1\r\nHost: x\r\nAuthorization: {authorization}\r\n'
-                "Connection: close\r\n\r\n".encode()
-            )
+            query = f"?token={token('root')}"
+            client.sendall(f"GET {path}{query} HTTP/1.1\r\nHost: x\r\n{field}\r\nConnection: close\r\n\r\n".encode())
             client.recv(65_536)
-    lines = stack.lines(before + 1 + len(asked), paths)[before:]
-    assert [line["user"] for line in lines] == ["root", "eve", "-", "-", "-"]
-    assert (lines[0]["method"], lines[0]["path"], lines[0]["status"]) == ("GET", "/whoami", 200)
-    assert {line["path"] for line in lines[1:]} == {'/tables/"a\\b"'}
-    assert not re.search(r"[0-9a-f]{64}", stack.log.read_text())
+    for port in (stack.edge, stack.tls):  # on which no request can be read
+        with socket.create_connection(("127.0.0.1", port), 10) as client:
+            client.sendall(b'"\\x01junk"\r\n\r\n')
+            client.recv(65_536)
+    stack.lines(2, {"-"})
+    lines = stack.lines(len(AUTHORIZATIONS), {path[:4_096]})
+    assert [line["user"] for line in lines] == [user for _, user in AUTHORIZATIONS]
+    assert {(line["method"], line["path"], line["status"]) for line in lines} == {("GET", path[:4_096], 405)}
+    text = stack.log.read_text()
+    members = [json.loads(it, object_pairs_hook=lambda pairs: [name for name, _ in pairs]) for it in text.splitlines() if it[0] == "{"]
+    assert members and all(it == MEMBERS for it in members)
+    assert not re.search(r"[0-9a-fA-F]{64}", text)
+
+
+def test_replies_are_kept_by_no_cache(stack: Stack) -> None:
+    """Neither the server's nor the edge's own; those of the page may be."""
+    head = f"Host: x\r\nAuthorization: Bearer {token('root')}\r\nConnection: close\r\n"
+    large = "X: " + "x" * 8_200
+    asked = [("GET /whoami", head, 200), ("GET /none", head, 404), ("GET /whoami", "Host: x\r\nConnection: close\r\n", 401)]
+    asked += [("GET /whoami", f"{head}{large}\r\n", 431), ("GET /map/", head, 200)]
+    for line, fields, status in asked:
+        with socket.create_connection(("127.0.0.1", stack.edge), 10) as client, client.makefile("rb") as reply:
+            client.sendall(f"{line} HTTP/1.1\r\n{fields}\r\n".encode())
+            said = reply.read().lower().partition(b"\r\n\r\n")[0].split(b"\r\n")
+        assert said[0].startswith(b"http/1.1 %d " % status)
+        assert b"x-content-type-options: nosniff" in said
+        assert (b"cache-control: no-store" in said) == ("/map/" not in line)
 
 
 def test_requests_over_http_2(stack: Stack) -> None:
@@ -113,7 +154,9 @@ def test_requests_over_http_2(stack: Stack) -> None:
 
     assert ask(b'{"label":"wind&wind"}', "--data-binary", "@body") == '{"normal":"wind"} 2 200'
     assert ask(b'{"label":"wind"}', "-X", "POST", "-T", "body", "-H", "Content-Length:") == '{"error":"length"} 2 411'
-    assert ask(bytes(70_000), "-X", "POST", "-T", "body", "-H", "Content-Length:") == '{"error":"size"} 2 413'
+    assert ask(bytes(70_000), "-X", "POST", "-T", "body", "-H", "Content-Length:") == '{"error":"length"} 2 411'
+    assert ask(bytes(70_000), "--data-binary", "@body") == '{"error":"size"} 2 413'
+    assert ask(b'{"label":"wind&wind"}'.ljust(65_536), "--data-binary", "@body") == '{"normal":"wind"} 2 200'
 
 
 def test_numbers_for_prometheus(stack: Stack) -> None:

@@ -13,7 +13,7 @@ from collections import Counter
 from collections.abc import Callable, Iterator
 from concurrent.futures import ThreadPoolExecutor
 from contextlib import contextmanager
-from http.client import HTTPConnection, RemoteDisconnected
+from http.client import HTTPConnection
 from pathlib import Path
 from urllib.error import HTTPError
 from urllib.request import urlopen
@@ -21,7 +21,7 @@ from urllib.request import urlopen
 import pytest
 
 from served import free_port, served, token
-from stack import Stack, configured, running, until_open
+from stack import Edge, Stack, edge_before, status_at
 from worker import Asked, reply, working
 
 READS = [("GET", "/tables"), ("GET", "/audit"), ("POST", "/label")] + [
@@ -38,55 +38,12 @@ CHANGES = [
 ]
 
 
-def status_at(port: int, method: str, path: str) -> int:
-    """The status of a request on a connection of its own."""
-    client = HTTPConnection("127.0.0.1", port, timeout=20)
-    try:
-        client.request(method, path, "{}" if method == "POST" else None)
-        return client.getresponse().status
-    finally:
-        client.close()
-
-
 def until(holds: Callable[[], bool]) -> None:
     """Waits until something holds."""
     end = time.monotonic() + 10
     while not holds():
         assert time.monotonic() < end
         time.sleep(0.05)
-
-
-class Edge:
-    """HAProxy before a server: its ports for clients and for numbers."""
-
-    def __init__(self, folder: Path, server: int, changes: dict[str, str]) -> None:
-        self.port, self.metrics, unused = free_port(), free_port(), free_port()
-        ports = {8080: self.port, 8404: self.metrics, 8081: unused, 8443: unused, 47001: server}
-        self.file = configured("haproxy.cfg", folder, ports)
-        text = re.sub(r"^.* ssl crt .*\n", "", self.file.read_text(), flags=re.M)
-        for old, new in changes.items():
-            assert re.search(old, text)
-            text = re.sub(old, new, text)
-        self.file.write_text(text)
-
-    def ask(self, method: str, path: str) -> int:
-        """The status of a client's request."""
-        return status_at(self.port, method, path)
-
-    def is_up(self) -> bool:
-        """Whether the port of numbers tells that the server answers."""
-        status = status_at(self.metrics, "GET", "/up")
-        assert status in (200, 503)
-        return status == 200
-
-
-@contextmanager
-def edge_before(folder: Path, server: int, changes: dict[str, str] | None = None) -> Iterator[Edge]:
-    """The edge before a port, with parts of its file changed."""
-    edge = Edge(folder, server, changes or {})
-    with running(folder, "haproxy", "-f", edge.file) as haproxy:
-        until_open(edge.port, haproxy)
-        yield edge
 
 
 @contextmanager
@@ -128,14 +85,13 @@ def test_change_that_is_cut_off_is_not_sent_twice(tmp_path: Path, method: str, p
 
 
 def test_change_that_is_cut_off_on_a_kept_connection_is_not_sent_twice(tmp_path: Path) -> None:
-    """There HAProxy tells it by the end of the client's connection."""
     with edge_that_is_cut(tmp_path, "POST", "/tables", True) as (edge, asked):
         client = HTTPConnection("127.0.0.1", edge.port, timeout=20)
-        client.request("GET", "/whoami")
-        client.getresponse().read()
-        client.request("POST", "/tables", "{}")
-        with pytest.raises(RemoteDisconnected):
-            client.getresponse()
+        for method, path, status in (("GET", "/whoami", 200), ("POST", "/tables", 502)):
+            client.request(method, path, "{}" if method == "POST" else None)
+            reply_to_it = client.getresponse()
+            reply_to_it.read()
+            assert reply_to_it.status == status
         client.close()
         assert [it.line for it in asked].count("POST /tables HTTP/1.1") == 1
 
@@ -232,7 +188,22 @@ def test_server_is_checked_without_a_token_and_without_lines_of_the_log(stack: S
         assert (reply_to_it.code, reply_to_it.read()) == (404, b'{"error":"route"}')
 
 
+def test_server_may_listen_at_a_socket(tmp_path: Path) -> None:
+    place = tmp_path / "served.sock"
+    with working(lambda _: reply(200), place), edge_before(tmp_path, 0, FASHKIIN_SERVER=f"unix@{place}") as edge:
+        assert edge.ask("GET", "/whoami") == 200
+
+
+def test_features_are_asked_below_their_path_at_their_socket(tmp_path: Path) -> None:
+    with working(lambda _: reply(200)) as worker, edge_before(tmp_path, worker.port) as edge:
+        assert edge.ask("GET", "/features/conformance") == 502
+        with working(lambda _: reply(200), tmp_path / "features/socket") as features:
+            for path, is_there in (("/features", True), ("/features/conformance?f=json", True), ("/featuresx", False)):
+                assert edge.ask("GET", path) == 200
+                assert (f"GET {path} HTTP/1.1" in {it.line for it in features.asked}) == is_there
+
+
 def test_statistics_for_people(stack: Stack) -> None:
     with urlopen(f"http://127.0.0.1:{stack.metrics}/stats", timeout=5) as told:
         page = told.read().decode()
-    assert re.findall(r'<a name="(\w+)/(?:st_served|nginx|edge)"', page) == ["page", "served", "health"]
+    assert re.findall(r'<a name="(\w+)/(?:st_served|nginx|edge)"', page) == ["page", "features", "buffer", "served", "health"]

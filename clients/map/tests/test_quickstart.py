@@ -23,7 +23,7 @@ from page import Page, chromium
 from postgres import SUPERUSER, postgres
 from served import PROGRAM, TOP, free_port
 
-PORTS = {it: free_port() for it in ("47001", "8080", "8081", "8404")}
+PORTS = {it: free_port() for it in ("47001", "8080")}
 SECONDS = 120
 """The most that a command may take."""
 
@@ -36,7 +36,7 @@ class Step(NamedTuple):
 
 
 def with_ports(text: str) -> str:
-    return re.sub(r"\b(47001|8080|8081|8404)\b", lambda port: str(PORTS[port[0]]), text)
+    return re.sub(r"\b(47001|8080)\b", lambda port: str(PORTS[port[0]]), text)
 
 
 def steps() -> list[Step]:
@@ -65,7 +65,6 @@ class Shell:
             "HOME": str(home), "PATH": "/usr/sbin:/usr/bin:/sbin:/bin", "LANG": "C.UTF-8",
             "APT_CONFIG": str(apt), "DEBIAN_FRONTEND": "noninteractive",
             "PGHOST": str(database), "PGUSER": SUPERUSER,
-            "FASHKIIN_URL": f"http://127.0.0.1:{PORTS['8080']}",  # the command's own default, at this test's port
         }
         self._bash = subprocess.Popen(
             ["bash", "--norc"], cwd=folder, env=environment, start_new_session=True,
@@ -96,11 +95,12 @@ class Shell:
             data += piece
 
     def close(self) -> None:
-        """Ends the shell and what it left running: processes that a file names, in whose folder they are."""
-        for file in self._home.glob("storms/*.pid"):
+        """Ends the shell and what it left running: processes that a file names, in the folder of the document."""
+        folder = self._home / "storms"
+        for file in (folder / "haproxy.pid", folder / "run/nginx/pid"):
             with contextlib.suppress(OSError):  # it has ended, and its file may go with it
                 pid = int(file.read_text())
-                if Path(f"/proc/{pid}/cwd").readlink() == file.parent.resolve():
+                if Path(f"/proc/{pid}/cwd").readlink() == folder.resolve():
                     os.kill(pid, signal.SIGTERM)
         os.killpg(self._bash.pid, signal.SIGTERM)
         self._bash.wait(10)

@@ -43,5 +43,10 @@ def trips() -> list[Row]:
     return rows
 
 
+def crowd() -> list[Row]:
+    """1,200 rows in 30 columns and 40 lines of three degrees and two, all to be seen by everybody: more than are drawn as points."""
+    return [Row(f"buoy-{at}", -60 + 3 * (at % 30), -38 + 2 * (at // 30), BEGIN + timedelta(hours=at % 90), "") for at in range(1_200)]
+
+
 def seen(held: Set[str]) -> list[Row]:
     return [row for row in trips() if SEEN_BY[row.label](held)]

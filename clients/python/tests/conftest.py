@@ -6,6 +6,8 @@ import itertools
 import os
 import pytest
 from collections.abc import Callable, Iterator
+from exported import Both, exported
+from facade import Facade, started
 from hypothesis import HealthCheck, settings
 from pathlib import Path
 from served import served, token
@@ -26,6 +28,13 @@ def url() -> Iterator[str]:
     """The URL of a server whose root holds the authorizations A, B and C."""
     with served("A", "B", "C") as port:
         yield f"http://127.0.0.1:{port}"
+
+
+@pytest.fixture(scope="session")
+def facade() -> Iterator[Facade]:
+    """The features over a server of their own."""
+    with started() as facade:
+        yield facade
 
 
 @pytest.fixture
@@ -50,6 +59,13 @@ def token_file(tmp_path: Path) -> Path:
     file.touch(mode=0o600)
     file.write_text(token("root") + "\n")
     return file
+
+
+@pytest.fixture(scope="session")
+def both(tmp_path_factory: pytest.TempPathFactory) -> Iterator[Both]:
+    """A server, and a PostgreSQL that its export was loaded into."""
+    with exported(tmp_path_factory.mktemp("export")) as both:
+        yield both
 
 
 Run = Callable[..., tuple[int, str, str]]

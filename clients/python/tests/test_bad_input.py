@@ -76,7 +76,7 @@ def test_text_that_is_no_utf8(run: Run, table: Table, tmp_path: Path) -> None:
     file = tmp_path / "ships.csv"
     file.write_bytes((HEADER + GOOD).encode() + b"p,1.5,2.5,2024-05-01T12:00:00Z,A,caf\xe9\n")
     code, _, err = run("load", table.name, file)
-    assert (code, err.splitlines()[-1]) == (3, f"fashkiin: {file}:3: name: 'caf\\udce9', wanted UTF-8")
+    assert (code, err.splitlines()[-1]) == (3, f"fashkiin: {file}:3: name: 'caf\\udce9', wanted UTF-8, or its --encoding")
     lines = tmp_path / "ships.geojsonl"
     lines.write_bytes(feature().encode() + feature(properties={"name": "caf?"}).encode().replace(b"?", b"\xe9"))
     code, _, err = run("load", table.name, lines)
@@ -200,7 +200,13 @@ def test_rows_that_cannot_be_stored_are_skipped_and_listed(run: Run, table: Tabl
     file.write_text(HEADER + "a,1,91,2024-05-01,A,x\n" + GOOD + "b,1,1,2024-05-01,A|,x\nc,1,1,2024-05-01,C,x\nd,1\n")
     code, out, err = run("load", table.name, file, "--rejects", rejects, "--json")
     assert code == 1
-    assert {key: value for key, value in json.loads(out).items() if key != "seconds"} == {"stored": 2, "rejected": 3}
+    assert {key: value for key, value in json.loads(out).items() if key != "seconds"} == {
+        "read": 5,
+        "stored": 2,
+        "replaced": 0,
+        "rejected": 3,
+        "deleted": 0,
+    }
     assert rejects.read_text().splitlines() == [
         "file,line,field,reason",
         f'{file},2,lat,"91.0, wanted -90 to 90 degrees"',
@@ -226,12 +232,20 @@ def test_an_argument_that_is_no_utf8(run: Run) -> None:
     assert run("label", "\udcff") == (2, "", "fashkiin: an argument is not UTF-8, wanted texts in UTF-8\n")
 
 
+def test_a_number_that_begins_with_a_dash_is_no_option(run: Run, table: Table) -> None:
+    place = ("--lon", "-5e-05", "--lat", "-1.5E-3", "--time", "2024-05-01", "--label", "A")
+    assert run("put", table.name, "p", *place)[0] == 0
+    assert run("scan", table.name)[1].startswith("p\t-5e-05\t-0.0015\t")
+    assert run("count", table.name, "--exact", "--bbox", "-5e-05", "-.0015", "1", "52")[1] == "1\n"
+
+
 def test_settings_of_no_use(run: Run, tmp_path: Path) -> None:
     config = tmp_path / "config.toml"
     for text, said in (
         ("url = 5", "url: 5, wanted a text"),
         ("timeout = 'soon'", "timeout: 'soon', wanted a number"),
-        ("port = 1", "port: unknown, wanted one of url, token-file, ca-file, timeout"),
+        ("insecure = 1", "insecure: 1, wanted true or false"),
+        ("port = 1", "port: unknown, wanted one of url, token-file, ca-file, timeout, insecure"),
         ("url", "Expected '=' after a key in a key/value pair (at end of document), wanted TOML"),
     ):
         config.write_text(text)

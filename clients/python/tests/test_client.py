@@ -2,12 +2,14 @@
 
 from __future__ import annotations
 
+import json
 import pytest
 import random
 from collections.abc import Callable
 from datetime import UTC, datetime, timedelta
 from served import digest, token
 
+from conftest import Run
 from fashkiin import Client, Row, Table, Token, errors
 from fashkiin.accounts import Account, Grant, TableInfo
 from fashkiin.cells import boxes, cell_longitude, longitude_cell
@@ -61,11 +63,48 @@ def test_rows_of_one_cell_are_told_apart_by_a_scan_and_not_by_a_count(table: Tab
     assert table.count(box) == 2
 
 
+@pytest.mark.parametrize("seed", range(6))
+def test_an_exact_count_is_that_of_the_scan(table: Table, seed: int) -> None:
+    chance = random.Random(seed)
+    cell, middle = 360 / (1 << 21), 10.0
+
+    def near(number: float) -> float:
+        """A number that lies at an edge of a cell or within it, some cells from the middle."""
+        return number + chance.randrange(-4, 5) * cell + chance.choice([0.0, 1e-13, chance.random() * cell])
+
+    given = [
+        Row(f"r{at}", near(middle), near(middle), START + timedelta(seconds=chance.randrange(8) / 2), "A") for at in range(120)
+    ]
+    assert all(put.error is None for put in table.put_many(given))
+    for _ in range(6):
+        (west, east), (south, north) = (sorted((near(middle), near(middle))) for _ in range(2))
+        first, last = sorted(START + timedelta(seconds=chance.randrange(8) / 2) for _ in range(2))
+        wanted = sum(west <= it.lon <= east and south <= it.lat <= north and first <= it.time <= last for it in given)
+        where = ((west, south, east, north), (first, last))
+        assert (table.count(*where, exact=True), len(list(table.scan(*where)))) == (wanted, wanted)
+        least, most = table.count_range(*where)
+        assert least <= wanted <= most == table.count(*where)
+
+
+def test_a_count_says_about_only_where_rows_lie_in_cells_that_are_cut(run: Run, table: Table) -> None:
+    middle = cell_longitude(longitude_cell(10.0))
+    for name, lon in (("west", middle - 1e-5), ("east", middle + 1e-5), ("far", 15.0)):
+        table.put(Row(name, lon, 1.0, START, "A"))
+    box = ("--bbox", middle, 0, 20, 2)
+    assert run("count", table.name, *box)[1] == "about 3\n"
+    assert run("count", table.name, *box, "--exact")[1] == "2\n"
+    assert json.loads(run("count", table.name, *box, "--json")[1]) == {"count": 3, "least": 1}
+    assert run("count", table.name, "--bbox", 12, 0, 20, 2)[1] == "1\n"
+    assert run("count", table.name)[1] == "3\n"
+
+
 def test_a_bbox_over_the_antimeridian(table: Table) -> None:
     for name, lon in (("a", 179.5), ("b", -179.5), ("c", 0.0)):
         table.put(Row(name, lon, 1.0, START, ""))
     assert sorted(row.id for row in table.scan((179.0, 0.0, -179.0, 2.0))) == ["a", "b"]
     assert table.count((179.0, 0.0, -179.0, 2.0)) == 2
+    assert table.count((179.0, 0.0, -179.0, 2.0), exact=True) == 2
+    assert table.count_range((179.0, 0.0, -179.0, 2.0)) == (2, 2)
     with pytest.raises(ValueError, match="antimeridian"):
         table.grid((179.0, 0.0, -179.0, 2.0))
 

@@ -19,10 +19,11 @@ from conftest import Run
 from fashkiin import Client, Table, Token, __version__
 from fashkiin.accounts import Change
 from fashkiin.cli import COMMANDS, EXIT_STATUSES
-from fashkiin.commands.admin import news
+from fashkiin.commands.audit import news
 from fashkiin.formats import Source
-from fashkiin.loading import Progress, Tally
+from fashkiin.loading import Tally
 from fashkiin.manual import page
+from fashkiin.progress import Progress
 from fashkiin.tokens import read_token
 
 TOP = Path(__file__).resolve().parents[1]
@@ -43,7 +44,7 @@ def test_put_get_scan_and_delete(run: Run, table: Table) -> None:
     assert (code, json.loads(out)) == (0, row)
     assert run("scan", table.name)[1] == 'p\t-4.25\t51.5\t2024-05-01T12:00:00.500000Z\tA&B\t{"speed":7}\n'
     assert run("get", table.name, "p", "--auths", "A") == (1, "", "")
-    assert run("count", table.name, "--json")[1] == '{"count":1}\n'
+    assert run("count", table.name, "--json")[1] == '{"count":1,"least":1}\n'
     assert run("grid", table.name, "--nx", "2", "--ny", "2")[1] == "1 .\n. .\n"
     assert run("delete", table.name, "p", "--label", "A&B") == (0, "", "")
     assert run("get", table.name, "p")[0] == 1
@@ -68,6 +69,7 @@ def test_users_tables_and_grants(run: Run, table: Table, root: Client) -> None:
         "user": "kim",
         "auths": ["C"],
         "permissions": ["CREATE_TABLE"],
+        "grants": [{"table": table.name, "permissions": ["READ"]}, {"namespace": "test", "permissions": ["WRITE"]}],
     }
     assert "kim\tREAD\n" in run("tables", "grants", table.name)[1]
     assert run("tables", "grants", "test", "--namespace")[1] == "kim\tWRITE\n"
@@ -189,12 +191,12 @@ def test_progress_says_rows_rate_and_what_is_left(monkeypatch: pytest.MonkeyPatc
     progress = Progress(out)
     source = Source("ships.csv", io.BufferedReader(io.BytesIO()))  # type: ignore[arg-type]
     monkeypatch.setattr(source, "fraction", lambda: 0.25)
-    progress.begin(Tally(5, 0))
+    progress.begin(Tally(5))
     now[0] = 100.4
-    progress.step(source, Tally(1005, 0))
+    progress.step(source, Tally(1005))
     assert out.getvalue() == ""
     now[0] = 102.0
-    progress.step(source, Tally(2003, 2))
+    progress.step(source, Tally(2002, 1, 2))
     assert out.getvalue() == "\r\x1b[Kships.csv: 2,000 rows, 1,000 a second, 25 %, 6 s left"
 
 

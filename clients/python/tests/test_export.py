@@ -5,146 +5,25 @@ from __future__ import annotations
 import csv
 import json
 import random
-import subprocess
-from collections.abc import Callable, Iterator
-from contextlib import closing, contextmanager
-from dataclasses import dataclass
-from datetime import UTC, datetime, timedelta
+import stat
+from collections.abc import Iterator
+from contextlib import closing
+from datetime import datetime
 from pathlib import Path
-from typing import Any
 
 import psycopg2  # type: ignore[import]
 import pytest
+from exported import AUTHS, NOON, ROWS, TABLES, USERS, Both, Select, load, run
 from hypothesis import HealthCheck, given, settings
 from hypothesis import strategies as st
-from postgres import SUPERUSER, postgres
+from postgres import SUPERUSER
 from psycopg2 import errors
-from running import COMMAND, environment
 from served import digest, served, token
 
 from fashkiin import Client, Row
 from fashkiin.cells import EVERYTHING, LAST_CELL, Box
 from fashkiin.cells import time_second as second
 from fashkiin.errors import LabelError, PermissionDeniedError
-
-LONG = ["z" * 100 + "1", "z" * 100 + "2"]
-AUTHS = ["A", "B", "C", "x y", 'q"u', "b\\s", "é", "a,b", "it's", "auth:A", *LONG]
-USERS: dict[str, list[str]] = {
-    "ann": ["A", "a,b", LONG[0]],
-    "bob": ["A", "B", "x y", "it's", 'q"u'],
-    "eve": [],
-    "dora": AUTHS,
-    "select": ["C", "b\\s", "é", "auth:A", LONG[1]],
-}
-TABLES = {"geo.trips": False, "geo.locked": True, "points": False, "Geo.Trips": False}
-Select = Callable[..., list[tuple[Any, ...]]]
-NOON = datetime(2024, 5, 1, 12, tzinfo=UTC)
-
-
-def term(auth: str) -> str:
-    """An authorization as a label writes it."""
-    plain = auth.isascii() and all(c.isalnum() or c in "_-:./" for c in auth)
-    return auth if plain else '"' + auth.replace("\\", "\\\\").replace('"', '\\"') + '"'
-
-
-PLAIN = {term(auth) for auth in AUTHS}
-
-
-def made_label(some: random.Random, depth: int = 3) -> str:
-    """A label of some terms, operators and parentheses, some of which need not be."""
-    if depth == 0 or some.random() < 0.3:
-        return term(some.choice(AUTHS[:10] if some.random() < 0.9 else AUTHS))
-    units = [made_label(some, depth - 1) for _ in range(some.randrange(1, 4))]
-    units = [unit if unit in PLAIN and some.random() < 0.9 else f"({unit})" for unit in units]
-    return some.choice("&|").join(units)
-
-
-def made_rows(some: random.Random, number: int) -> list[Row]:
-    labels = ["", *(label for label in (made_label(some) for _ in range(300)) if len(label.encode()) <= 256)]
-    rows = []
-    for index in range(number):
-        time = NOON + timedelta(microseconds=some.randrange(10**11))
-        properties = {"text": "tab\t line\n back\\slash 'quoted' \"twice\" \\.", "n": index, "none": None, "list": [1.5, True]}
-        lon, lat = some.gauss(10, 30), max(-90.0, min(90.0, some.gauss(0, 40)))
-        rows.append(Row(f"r{index}'\\.\t", lon, lat, time, some.choice(labels), properties if index % 3 else {}))
-    return rows
-
-
-ROWS = made_rows(random.Random(1), 2_000)
-
-
-@dataclass(frozen=True)
-class Both:
-    """The server, and a PostgreSQL that its export was loaded into."""
-
-    port: int
-    socket: Path
-    folder: Path
-
-    def client(self, user: str) -> Client:
-        return Client(f"http://127.0.0.1:{self.port}", token(user))
-
-    @contextmanager
-    def selects(self, user: str) -> Iterator[Select]:
-        """A function that tells the rows of a query of a user in PostgreSQL."""
-        with closing(psycopg2.connect(host=str(self.socket), user=user, dbname="fashkiin")) as connection:
-            connection.autocommit = True
-            cursor = connection.cursor()
-
-            def select(query: str, *values: Any) -> list[tuple[Any, ...]]:
-                cursor.execute(query, values)
-                found: list[tuple[Any, ...]] = cursor.fetchall() if cursor.description else []
-                return found
-
-            yield select
-
-    def select(self, user: str, query: str, *values: Any) -> list[tuple[Any, ...]]:
-        """The rows of a query of a user in PostgreSQL."""
-        with self.selects(user) as select:
-            return select(query, *values)
-
-
-def run(port: int, folder: Path, user: str, *words: str) -> subprocess.CompletedProcess[bytes]:
-    """What `fashkiin` writes for a user."""
-    file = folder / f"{user}.token"
-    file.touch(mode=0o600)
-    file.write_text(token(user))
-    flags = ["--url", f"http://127.0.0.1:{port}", "--token-file", str(file)]
-    return subprocess.run([*COMMAND, *words, *flags], env=environment(), capture_output=True)
-
-
-def load(socket: Path, database: str, script: bytes) -> subprocess.CompletedProcess[bytes]:
-    """Loads a script into a new database as the superuser."""
-    address = ["-X", "-h", str(socket), "-U", SUPERUSER]
-    subprocess.run(["psql", *address, "-q", "-d", "postgres", "-c", f"create database {database}"], check=True)
-    return subprocess.run(["psql", *address, "-d", database], input=script, capture_output=True)
-
-
-@pytest.fixture(scope="module")
-def both(tmp_path_factory: pytest.TempPathFactory) -> Iterator[Both]:
-    folder = tmp_path_factory.mktemp("export")
-    with served(*AUTHS) as port, postgres() as socket:
-        with Client(f"http://127.0.0.1:{port}", token("root")) as root:
-            for user, auths in USERS.items():
-                root.users.create(user, digest(user), auths)
-            for number, (table, constraint) in enumerate(TABLES.items()):
-                if table != "points":
-                    root.tables.create(table)
-                root.tables.set_constraint(table, constraint)
-                rows = [row for index, row in enumerate(ROWS) if index >= 500 * number]
-                assert all(put.error is None for put in root.table(table).put_many(rows))
-            for user in ("ann", "bob", "eve"):
-                root.grants.grant(user, "READ", namespace="geo")
-            root.grants.grant("bob", "WRITE", namespace="geo")
-            root.grants.grant("dora", "WRITE", table="geo.trips")
-            root.grants.grant("select", "READ", table="points")
-            root.grants.grant("select", "READ", table="Geo.Trips")
-            root.grants.grant("ann", "GRANT", table="points")
-        made = run(port, folder, "root", "export", "postgis")
-        assert (made.returncode, made.stderr) == (0, b"")
-        loaded = load(socket, "fashkiin", made.stdout)
-        assert (loaded.returncode, loaded.stderr) == (0, b"")
-        yield Both(port, socket, folder)
 
 
 def relation(table: str) -> str:
@@ -203,36 +82,44 @@ def test_a_bbox_of_postgis_finds_exact_positions(both: Both) -> None:
     assert sorted(id for (id,) in both.select("bob", query, *bbox)) == told != []
 
 
-def test_labels_that_a_user_does_not_see_are_nowhere(both: Both) -> None:
-    """Neither in the list of labels, nor for one who may not read the table."""
-    with both.client("ann") as client:
-        told = {("geo.trips", row.label) for row in client.table("geo.trips").scan()}
-    query = "select rel::text, label from fashkiin.labels where rel = 'geo.trips'::regclass"
-    assert set(both.select("ann", query)) == told
-    rels = {rel for (rel,) in both.select("select", "select rel::text from fashkiin.labels")}
-    assert rels == {"points", '"Geo"."Trips"'}
-    assert both.select("dora", "select count(*) from fashkiin.labels") == [(0,)]
+INSERT = "insert into {} (id, label, geom, time, x, y, t) values ('new', %s, st_point(1, 2, 4326), now(), {}, 0, 0)"
 
 
 def test_writes_are_judged_by_the_policy(both: Both) -> None:
-    insert = "insert into {} (id, label, geom, time, x, y, t) values ('new', %s, st_point(1, 2, 4326), now(), 0, 0, 0)"
     with pytest.raises(errors.InsufficientPrivilege, match="permission denied"):
-        both.select("ann", insert.format("geo.trips"), "A")
-    with pytest.raises(errors.InsufficientPrivilege, match="row-level security"):
-        both.select("bob", insert.format("geo.locked"), "A&C")
+        both.select("ann", INSERT.format("geo.trips", 0), "A")
+    with pytest.raises(errors.InsufficientPrivilege, match="the label A&C is not true for bob"):
+        both.select("bob", INSERT.format("geo.locked", 0), "A&C")
     with pytest.raises(errors.DataException, match="no label"):
-        both.select("bob", insert.format("geo.trips"), "A&")
+        both.select("bob", INSERT.format("geo.trips", 0), "A&")
     for table, label in (("geo.trips", "A&C&new"), ("geo.locked", "A&B&(A|new)"), ("geo.locked", "A")):
-        both.select("bob", insert.format(table), label)
+        both.select("bob", INSERT.format(table, 0), label)
     select = "select 'locked', label from geo.locked where id = 'new'"
     select += " union all select 'trips', label from geo.trips where id = 'new'"
     select += " order by label"
     assert both.select("bob", select) == [("locked", "A"), ("locked", "A&B&(A|new)")]
     assert both.select("ann", select) == [("locked", "A")]
+    with pytest.raises(errors.InsufficientPrivilege, match="not true for bob"):
+        both.select("bob", "update geo.locked set label = 'C' where id = 'new'")
     both.select("bob", "delete from geo.trips where id = 'new'")
     both.select("bob", "delete from geo.locked where id = 'new'")
-    assert both.select(SUPERUSER, select) == [("trips", "A&C&new")]
-    both.select(SUPERUSER, "delete from geo.trips where id = 'new'")
+    both.select("dora", "delete from geo.trips")
+    assert both.select("bob", select) == []
+    hidden = """delete from "fashkiin.geo".trips where id = 'new' returning label"""
+    assert both.select(SUPERUSER, hidden) == [("A&C&new",)]
+
+
+def test_a_written_row_replaces_the_one_of_its_id_and_label(both: Both) -> None:
+    """As a put does, whether its writer sees that row or not; an update moves the row."""
+    hidden = """select label, x from "fashkiin.geo".trips where id = 'new' order by x"""
+    with both.selects("bob") as select:
+        for label, x in (("A", 1), ("A&C", 2), ("A", 3), ("A&C", 4)):
+            select(INSERT.format("geo.trips", x), label)
+        assert select("select x, properties from geo.trips where id = 'new'") == [(3, {})]
+        assert both.select(SUPERUSER, hidden) == [("A", 3), ("A&C", 4)]
+        assert select("update geo.trips set label = 'A&C', x = x + 2 where id = 'new' returning x") == [(5,)]
+    assert both.select(SUPERUSER, hidden) == [("A&C", 5)]
+    both.select(SUPERUSER, """delete from "fashkiin.geo".trips where id = 'new'""")
 
 
 # Texts of the letters that labels are made of, and labels with a letter changed.
@@ -253,16 +140,12 @@ def test_a_text_is_a_label_in_both_or_in_neither(sessions: tuple[Client, Select]
         is_label = True
     except LabelError:
         is_label = False
-    try:
-        select("select fashkiin.is_true(%s, '{}')", text)
-        assert is_label
-    except errors.DataException:
-        assert not is_label
+    assert select("select %s = '' or fashkiin.needs(%s) is not null", text, text) == [(is_label,)]
 
 
 @pytest.fixture(scope="module")
 def sessions(both: Both) -> Iterator[tuple[Client, Select]]:
-    with both.client("eve") as client, both.selects("eve") as select:
+    with both.client("eve") as client, both.selects(SUPERUSER) as select:
         yield client, select
 
 
@@ -270,12 +153,11 @@ def sessions(both: Both) -> Iterator[tuple[Client, Select]]:
 def test_sixteen_parentheses_may_be_open(sessions: tuple[Client, Select], depth: int) -> None:
     text = "(" * depth + "A" + ")" * depth
     client, select = sessions
-    query = "select fashkiin.is_true(%s, '{A}')"
+    needs = select("select fashkiin.needs(%s)::text", text)
     if depth == 16:
-        assert select(query, text) == [(True,)] and client.label(text) == "A"
+        assert needs == [("'A'",)] and client.label(text) == "A"
     else:
-        with pytest.raises(errors.DataException):
-            select(query, text)
+        assert needs == [(None,)]
         with pytest.raises(LabelError):
             client.label(text)
 
@@ -284,7 +166,7 @@ def test_roles_that_are_there_are_never_taken(both: Both) -> None:
     """The script fails as a whole; with a prefix it makes roles of its own."""
     made = run(both.port, both.folder, "root", "export", "postgis", "--table", "points")
     loaded = load(both.socket, "again", made.stdout)
-    assert loaded.returncode == 3 and b'role "auth:A" already exists' in loaded.stderr
+    assert loaded.returncode == 3 and b'role "fashkiin:owner" already exists' in loaded.stderr
     made = run(both.port, both.folder, "root", "export", "postgis", "--table", "points", "--role-prefix", "other_")
     loaded = load(both.socket, "other", made.stdout)
     assert (loaded.returncode, loaded.stderr) == (0, b"")
@@ -387,6 +269,7 @@ def test_accumulo_gets_commands_and_rows(tmp_path: Path) -> None:
         again = run(port, tmp_path, "root", "export", "accumulo", str(folder))
     assert made.returncode == 0 and b"tried with no Accumulo" in made.stderr
     assert again.returncode == 2 and b"wanted the name of a folder to make" in again.stderr
+    assert {stat.S_IMODE(path.stat().st_mode) for path in folder.iterdir()} == {0o600}
     assert sorted(path.name for path in folder.iterdir()) == [
         "README", "after.txt", "before.txt", "geo.trips.converter.conf", "geo.trips.csv", "geo.trips.sft.conf"
     ]  # fmt: skip

@@ -4,6 +4,7 @@ from __future__ import annotations
 
 import io
 import pytest
+import sys
 from collections.abc import Sequence
 from datetime import UTC, datetime
 from hypothesis import given
@@ -98,8 +99,9 @@ def test_a_gpx_track() -> None:
 """
     (first, one), (second, two), (third, three) = found("gpx", data, Names(number="walk", unlabelled="A"))
     assert (first, second, third) == (4, 5, 7)
-    assert one == Row("walk-1", 4.25, 51.5, datetime(2024, 5, 1, 12, tzinfo=UTC), "A", {"ele": "12.5", "track": "Sunday"})
-    assert two == Row("walk-2", 4.5, 51.6, datetime(2024, 5, 1, 12, 0, 1, 500_000, tzinfo=UTC), "A", {"track": "Sunday"})
+    track = {"track": "Sunday", "segment": 1}
+    assert one == Row("walk-1", 4.25, 51.5, datetime(2024, 5, 1, 12, tzinfo=UTC), "A", {"ele": "12.5"} | track)
+    assert two == Row("walk-2", 4.5, 51.6, datetime(2024, 5, 1, 12, 0, 1, 500_000, tzinfo=UTC), "A", track)
     assert str(three) == "time: missing, wanted a point with a <time>"
 
 
@@ -126,6 +128,44 @@ def test_the_format_of_first_bytes(data: bytes, form: str) -> None:
     assert sniff(io.BufferedReader(io.BytesIO(data))) is FORMATS[form]  # type: ignore[arg-type]
 
 
+@pytest.mark.parametrize("form", EXACT)
+def test_numbers_of_any_size_are_read_back(form: str) -> None:
+    properties = {"serial": 2**64, "code": -(10**30), "share": 0.1, "list": [2**63, 1e-7, {"deep": 10**20}]}
+    row = Row("p", 1.0, 2.0, datetime(2024, 1, 1, tzinfo=UTC), "A", properties)
+    assert found(form, written(form, [row])) == [(found(form, written(form, [row]))[0][0], row)]
+
+
+def test_a_number_of_too_many_digits_is_an_error_of_its_row() -> None:
+    point = b'{"type":"Point","coordinates":[1,2]}'
+    line = b'{"type":"Feature","id":"p","geometry":%s,"properties":{"n":%s}}\n' % (point, b"7" * 5000)
+    assert [str(error).partition(":")[0] for _, error in found("geojsonseq", line * 2)] == ["row", "row"]
+
+
+@pytest.mark.parametrize(
+    ("header", "taken"),
+    [
+        ("id,Lat,lat,lon,time", "lat"),
+        ("id,LAT,Latitude,latitude,lon,time", "latitude"),
+        ("id,y,Lat,lon,time", "Lat"),
+        ("id,Y,lon,time", "Y"),
+    ],
+)
+def test_a_column_of_the_very_name_comes_first(header: str, taken: str) -> None:
+    columns = header.split(",")
+    values = {"id": "p", "lon": "1", "time": "2024-01-01"}
+    line = ",".join(values.get(name, "50" if name == taken else "60") for name in columns)
+    ((_, row),) = found("csv", f"{header}\n{line}\n".encode(), Names(unlabelled=""))
+    assert isinstance(row, Row) and row.lat == 50.0
+    assert set(row.properties) == set(columns) - {*values, taken}
+
+
+@pytest.mark.parametrize("names", ["Lat,LAT", "LATITUDE,Lat", "Y,y "])
+def test_two_columns_that_fit_alike_are_refused(names: str) -> None:
+    said = f"f:1: columns {names.replace(',', ' and ')}: both fit lat: name one by --lat-column"
+    with pytest.raises(InputError, match=said):
+        found("csv", f"id,lon,time,{names}\np,1,2024-01-01,5,5\n".encode(), Names(unlabelled=""))
+
+
 def test_the_format_of_a_name() -> None:
     assert format_of("a/b.GeoJSON") is FORMATS["geojson"]
     assert format_of("b") is None
@@ -133,7 +173,7 @@ def test_the_format_of_a_name() -> None:
 
 def test_a_feature_collection_is_read_without_ijson(monkeypatch: pytest.MonkeyPatch) -> None:
     given_rows = [Row(f"r{at}", 1.0, 2.0, datetime(2024, 1, 1, tzinfo=UTC), "A", {"n": at}) for at in range(3)]
-    monkeypatch.setattr("fashkiin.formats.geojson.ijson", None)
+    monkeypatch.setitem(sys.modules, "ijson", None)  # type: ignore[misc]
     assert [row for _, row in found("geojson", written("geojson", given_rows))] == given_rows
     for data in (b"", b"[]", b'{"type":"Topology"}', written("geojson", given_rows)[:-20]):
         with pytest.raises(InputError, match="wanted a GeoJSON FeatureCollection"):

@@ -10,7 +10,7 @@ from collections.abc import Iterator
 from pathlib import Path
 from served import free_port, token
 
-from fashkiin.commands.map import PAGES, MapServer
+from fashkiin.map_server import PAGES, MapServer
 from fashkiin.settings import Settings
 
 COUNT = json.dumps({"box": [0, 1, 0, 1, 0, 1], "auths": []})
@@ -64,8 +64,25 @@ def test_requests_are_passed_on_with_the_token_of_the_page(port: int) -> None:
     assert ask(port, "DELETE", "/tables/none", Authorization=bearer) == (404, b'{"error":"table","table":"none"}')
 
 
-def test_another_name_of_this_machine_is_refused(port: int) -> None:
-    assert ask(port, "GET", "/whoami", Host="evil.example")[0] == 421
+@pytest.mark.parametrize("method", ["GET", "HEAD", "POST", "DELETE"])
+def test_another_name_of_this_machine_is_refused(port: int, method: str) -> None:
+    assert ask(port, method, "/map/", Host="evil.example")[0] == 421
+
+
+def test_head_is_as_get_without_the_body(port: int, tmp_path: Path, monkeypatch: pytest.MonkeyPatch) -> None:
+    (tmp_path / ".config").mkdir()
+    (tmp_path / ".config/token").write_text("a secret")
+    monkeypatch.chdir(tmp_path)
+    bearer = f"Bearer {token('root')}"
+    for path, status in (("/map/", 200), ("/map/main.js", 200), ("/map/none.js", 404), ("/", 302), ("/.config/token", 404)):
+        assert ask(port, "HEAD", path, Authorization=bearer) == (status, b"")
+        assert ask(port, "GET", path, Authorization=bearer)[0] == status
+
+
+@pytest.mark.parametrize("method", ["GET", "HEAD"])
+@pytest.mark.parametrize("path", ["//evil", "///evil", "//map/", "/map//evil", "/javascript//leaflet", "/javascript/leaflet"])
+def test_no_path_leads_to_another_host(port: int, method: str, path: str) -> None:
+    assert ask(port, method, path, Authorization=f"Bearer {token('root')}")[0] == 404
 
 
 def test_a_body_that_is_too_large_is_refused(port: int) -> None:

@@ -1,11 +1,12 @@
 -- How a connection is served from a store that a journal keeps.
-use Rattle.std.specs.Prelude.{◌≡◌, ◌≢◌, ◌⊎◌, ℕ, Bool, false, Option, Result, Ok, Err, List}
+use Rattle.std.specs.Prelude.{◌≡◌, ◌≢◌, ◌⊎◌, ℕ, Result, Ok, Err, List}
 use Rattle.std.specs.declared.alloc.Global.{Global}
 use Rattle.st_core.specs.State.{State}
 use Rattle.st_journal.specs.declared.record.Record.{Record}
 use Rattle.st_journal.specs.Replays.{Replays}
 use Rattle.st_service.specs.Answers.{Answers}
-use Rattle.st_connection.specs.Connection.{KeptUnlessLost, ServedWithin}
+use Rattle.st_connection.specs.Connection.{EndsOn, KeptUnlessLost, ServedWithin}
+use Rattle.st_connection.specs.declared.connection.TheConstants.{MAX_READS}
 use Rattle.st_connection.specs.declared.connection.Ended.{Ended}
 use Rattle.st_connection.specs.declared.connection.Ended.TheVariants.{Clean, Closed, Cut, TurnsSpent, Lost}
 use Rattle.st_connection.specs.declared.connection.IoFault.{IoFault}
@@ -14,6 +15,7 @@ use Rattle.st_durable.specs.Keeping.{Keeping, LeadTo, answered}
 use Rattle.st_command_line.specs.declared.fault.Fault.{Fault}
 use Rattle.st_command_line.specs.Status.{exit_status_of}
 use Rattle.st_command.specs.Opening.{IsOfStore}
+use Rattle.st_command.specs.Streams.{Streams, AreUntouched}
 
 -- the exit status after a connection that ended so
 abbrev pub kept_status_after : Result Ended IoFault → ℕ
@@ -24,14 +26,15 @@ kept_status_after (Ok TurnsSpent) = 4
 kept_status_after (Ok Lost) = 7
 kept_status_after (Err broken) = 5
 
--- The connection was served from this state, and the status says how it ended. Each change that was answered is kept, but where a
--- change was lost, and then its answer was not written. Whatever is left if the process ends leads from the first state to that after
--- all that was kept, or after the lost change too.
+-- The connection was served from this state, and the status says how it ended, and only so where it did. Each change that was answered
+-- is kept, unless a change was lost, and then its answer was not written. Whatever is left if the process ends leads from the first
+-- state to that after all that was kept, or after the lost change too.
 pub record ServesKept {J : Type 0} (list : J → List Record) (misreads : J → ℕ) (may_leave : J → List Record → Type 0)
-    (first before : State Global) (left_old left_new held_old held_new : Option (List ℕ)) (read_failed : Bool) (status : ℕ) : Type 0 where
+    (first before : State Global) (s : Streams) (status : ℕ) : Type 0 where
   pub ended : Result Ended IoFault
   pub after : Keeping J
-  pub served : ServedWithin Answers 0 before (answered after) after.kept left_old left_new held_old held_new read_failed ended
+  pub served : ServedWithin Answers 0 before (answered after) after.kept s.left_old s.left_new s.held_old s.held_new s.read_failed ended
+  pub ends : EndsOn MAX_READS s.left_new s.reads_old s.reads_new s.has_ended s.read_failed s.write_failed ended
   pub kept : KeptUnlessLost after.kept (answered after) after.failed ended
   pub stands : ended ≢ Ok Lost → misreads after.journal ≡ 0 → Replays Applies first (list after.journal) after.kept
   pub leaves : misreads after.journal ≡ 0 → (left : List Record) → may_leave after.journal left
@@ -40,25 +43,21 @@ pub record ServesKept {J : Type 0} (list : J → List Record) (misreads : J → 
 
 -- a journal was opened, and the connection was served from the state after its changes
 pub record IsOpened {J : Type 0} (holds : List ℕ → List Record → Type 0) (list : J → List Record) (misreads : J → ℕ)
-    (may_leave : J → List Record → Type 0) (opening : List ℕ) (first : State Global)
-    (left_old left_new held_old held_new : Option (List ℕ)) (read_failed : Bool) (status : ℕ) : Type 0 where
+    (may_leave : J → List Record → Type 0) (opening : List ℕ) (first : State Global) (s : Streams) (status : ℕ) : Type 0 where
   pub journal : J
   pub before : State Global
   pub found : misreads journal ≡ 0 → holds opening (list journal)
   pub made : misreads journal ≡ 0 → Replays Applies first (list journal) before
-  pub serves : ServesKept list misreads may_leave first before left_old left_new held_old held_new read_failed status
+  pub serves : ServesKept list misreads may_leave first before s status
 
 -- no journal was opened, and nothing was read or written
-pub record IsUnopened (left_old left_new held_old held_new : Option (List ℕ)) (read_failed : Bool) (status : ℕ) : Type 0 where
+pub record IsUnopened (s : Streams) (status : ℕ) : Type 0 where
   pub fault : Fault
   pub why : IsOfStore fault
   pub status_is : status ≡ exit_status_of fault
-  pub unread : left_new ≡ left_old
-  pub sound : read_failed ≡ false
-  pub unwritten : held_new ≡ held_old
+  pub untouched : AreUntouched s
 
 abbrev pub EndsKept : {J : Type 0} → (List ℕ → List Record → Type 0) → (J → List Record) → (J → ℕ) → (J → List Record → Type 0)
-    → List ℕ → State Global → Option (List ℕ) → Option (List ℕ) → Option (List ℕ) → Option (List ℕ) → Bool → ℕ → Type 0
-EndsKept holds list misreads may_leave opening first left_old left_new held_old held_new read_failed status =
-    IsOpened holds list misreads may_leave opening first left_old left_new held_old held_new read_failed status
-    ⊎ IsUnopened left_old left_new held_old held_new read_failed status
+    → List ℕ → State Global → Streams → ℕ → Type 0
+EndsKept holds list misreads may_leave opening first s status =
+    IsOpened holds list misreads may_leave opening first s status ⊎ IsUnopened s status

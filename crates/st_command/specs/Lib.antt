@@ -1,3 +1,4 @@
+pub mod Streams
 pub mod Opening
 pub mod Kept
 pub mod Running

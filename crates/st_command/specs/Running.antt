@@ -1,10 +1,11 @@
 -- What a run of `st_run` does, by its exit status.
-use Rattle.std.specs.Prelude.{◌≡◌, ◌⊎◌, ℕ, Bool, false, Option, Some, None, Result, Ok, Err, List, map}
+use Rattle.std.specs.Prelude.{◌≡◌, ◌⊎◌, ℕ, Some, None, Result, Ok, Err, List, map}
 use Rattle.std.specs.declared.alloc.Global.{Global}
 use Rattle.st_text.specs.Texts.{Text}
 use Rattle.st_core.specs.State.{State}
 use Rattle.st_service.specs.Answers.{Answers}
-use Rattle.st_connection.specs.Connection.{Served}
+use Rattle.st_connection.specs.Connection.{EndsOn, Served}
+use Rattle.st_connection.specs.declared.connection.TheConstants.{MAX_READS}
 use Rattle.st_connection.specs.declared.connection.Ended.{Ended}
 use Rattle.st_connection.specs.declared.connection.Ended.TheVariants.{Clean, Closed, Cut, TurnsSpent, Lost}
 use Rattle.st_connection.specs.declared.connection.IoFault.{IoFault}
@@ -14,6 +15,7 @@ use Rattle.st_command_line.specs.Common.{RefusesWords}
 use Rattle.st_command_line.specs.RunArguments.{SaysRun, run_command, store_of}
 use Rattle.st_command_line.specs.declared.run_arguments.RunArguments.{RunArguments}
 use Rattle.st_command.specs.Opening.{Opens, OpensWith}
+use Rattle.st_command.specs.Streams.{Streams, AreUntouched}
 use Rattle.st_command.specs.Kept.{EndsKept}
 use Rattle.st_command_line.specs.Status.{exit_status_of}
 
@@ -26,11 +28,12 @@ status_after (Ok TurnsSpent) = 4
 status_after (Ok Lost) = 5
 status_after (Err broken) = 5
 
--- the connection was served from the first state to the second, and the status says how it ended
-pub record Serves (before after : State Global) (left_old left_new held_old held_new : Option (List ℕ)) (read_failed : Bool)
-    (status : ℕ) : Type 0 where
+-- The connection was served from the first state to the second, and the status says how it ended: a status that names an end, a spent
+-- number of reads or a fault comes only where there was one.
+pub record Serves (before after : State Global) (s : Streams) (status : ℕ) : Type 0 where
   pub ended : Result Ended IoFault
-  pub served : Served Answers before after left_old left_new held_old held_new read_failed ended
+  pub served : Served Answers before after s.left_old s.left_new s.held_old s.held_new s.read_failed ended
+  pub ends : EndsOn MAX_READS s.left_new s.reads_old s.reads_new s.has_ended s.read_failed s.write_failed ended
   pub status_is : status ≡ status_after ended
 
 -- root's authorizations, as the arguments name them
@@ -38,20 +41,18 @@ abbrev pub names_in : RunArguments → List Text
 names_in said = map (λ name. name.now) said.names.items
 
 -- the arguments name no store, they open a state, and the connection was served from that state
-pub record IsServed (words : List Text) (left_old left_new held_old held_new : Option (List ℕ)) (read_failed : Bool)
-    (status : ℕ) : Type 0 where
+pub record IsServed (words : List Text) (s : Streams) (status : ℕ) : Type 0 where
   pub said : RunArguments
   pub says : SaysRun words said
   pub in_memory : store_of said ≡ None
   pub before : State Global
   pub opens : Opens said.digest.now (names_in said) before
   pub after : State Global
-  pub serves : Serves before after left_old left_new held_old held_new read_failed status
+  pub serves : Serves before after s status
 
 -- the arguments name a store, and open the state that its changes lead on from
 pub record IsKept {J : Type 0} (holds : List ℕ → List Record → Type 0) (list : J → List Record) (misreads : J → ℕ)
-    (may_leave : J → List Record → Type 0) (words : List Text) (left_old left_new held_old held_new : Option (List ℕ))
-    (read_failed : Bool) (status : ℕ) : Type 0 where
+    (may_leave : J → List Record → Type 0) (words : List Text) (s : Streams) (status : ℕ) : Type 0 where
   pub said : RunArguments
   pub says : SaysRun words said
   pub path : Text
@@ -59,21 +60,16 @@ pub record IsKept {J : Type 0} (holds : List ℕ → List Record → Type 0) (li
   pub first : State Global
   pub opening : Text
   pub opens : OpensWith said.digest.now (names_in said) first opening
-  pub ends : EndsKept holds list misreads may_leave opening first left_old left_new held_old held_new read_failed status
+  pub ends : EndsKept holds list misreads may_leave opening first s status
 
 -- the arguments are refused, and nothing was read or written
-pub record IsRefused (words : List Text) (left_old left_new held_old held_new : Option (List ℕ)) (read_failed : Bool)
-    (status : ℕ) : Type 0 where
+pub record IsRefused (words : List Text) (s : Streams) (status : ℕ) : Type 0 where
   pub fault : Fault
   pub why : RefusesWords run_command words fault
   pub status_is : status ≡ exit_status_of fault
-  pub unread : left_new ≡ left_old
-  pub sound : read_failed ≡ false
-  pub unwritten : held_new ≡ held_old
+  pub untouched : AreUntouched s
 
 abbrev pub Ran : {J : Type 0} → (List ℕ → List Record → Type 0) → (J → List Record) → (J → ℕ) → (J → List Record → Type 0)
-    → List Text → Option (List ℕ) → Option (List ℕ) → Option (List ℕ) → Option (List ℕ) → Bool → ℕ → Type 0
-Ran holds list misreads may_leave words left_old left_new held_old held_new read_failed status =
-    IsServed words left_old left_new held_old held_new read_failed status
-    ⊎ (IsRefused words left_old left_new held_old held_new read_failed status
-    ⊎ IsKept holds list misreads may_leave words left_old left_new held_old held_new read_failed status)
+    → List Text → Streams → ℕ → Type 0
+Ran holds list misreads may_leave words s status =
+    IsServed words s status ⊎ (IsRefused words s status ⊎ IsKept holds list misreads may_leave words s status)

@@ -3,6 +3,7 @@ ghost use Rattle.std.specs.Prelude.{◌≡◌, false, string_bytes};
 ghost use Rattle.st_durable.specs.Keeping.{answered};
 ghost use Rattle.st_command_line.specs.Status.{exit_status_after};
 ghost use Rattle.st_command.specs.Kept.{ServesKept, EndsKept, kept_status_after};
+ghost use Rattle.st_command.specs.Streams.{streams};
 
 use crate::keeper::Keeper;
 use st_command_line::Fault;
@@ -42,8 +43,9 @@ fn converse_kept<B: Beginning, J: Journal + Drop, C: Clock, R: Source, W: Sink>(
     requires sound { service.old.failed ≡ false }
     requires reader_sound { R.has_failed reader.old ≡ false }
     requires writer_sound { W.has_failed writer.old ≡ false }
-    ensures { ServesKept J.list J.misreads J.may_leave B.first service.old.kept (R.left reader.old) (R.left reader.new)
-        (W.held writer.old) (W.held writer.new) (R.has_failed reader.new) (exit_status_after result) }
+    ensures { ServesKept J.list J.misreads J.may_leave B.first service.old.kept
+        (streams R.left R.reads R.has_ended R.has_failed W.held W.has_failed reader.old reader.new writer.old writer.new)
+        (exit_status_after result) }
 {
     let ended = service.serve(reader, writer);
     end_after(ended)
@@ -70,7 +72,7 @@ pub(crate) fn serve_kept<
     requires reader_sound { R.has_failed reader.old ≡ false }
     requires writer_sound { W.has_failed writer.old ≡ false }
     ensures { EndsKept (K.holds keeper) J.list J.misreads J.may_leave (string_bytes place.now.opening) B.first
-        (R.left reader.old) (R.left reader.new) (W.held writer.old) (W.held writer.new) (R.has_failed reader.new)
+        (streams R.left R.reads R.has_ended R.has_failed W.held W.has_failed reader.old reader.new writer.old writer.new)
         (exit_status_after result) }
 {
     let journal = keeper.open(place.path, place.opening.as_str(), &mut state)?;

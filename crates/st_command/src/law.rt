@@ -1,5 +1,5 @@
 //! Laws of stores that a journal keeps.
-ghost use Rattle.std.specs.Prelude.{◌≡◌, ℕ, Bool, List, Option};
+ghost use Rattle.std.specs.Prelude.{◌≡◌, ℕ, List};
 ghost use Rattle.std.specs.declared.alloc.Global.{Global as Heap};
 ghost use Rattle.st_text.specs.Texts.{Text};
 ghost use Rattle.st_core.specs.State.{State};
@@ -10,6 +10,7 @@ ghost use Rattle.st_durable.specs.Applying.{Applies};
 ghost use Rattle.st_durable.specs.Found.{FoundAfter};
 ghost use Rattle.st_command.specs.Opening.{OpensWith};
 ghost use Rattle.st_command.specs.Kept.{ServesKept};
+ghost use Rattle.st_command.specs.Streams.{Streams};
 
 use st_journal::Journal;
 
@@ -23,8 +24,8 @@ pub fn one_opening()
 /// whatever moment the process ends. So nothing that was answered, in whole or in part, is taken back, and the next run goes on
 /// from there.
 pub fn nothing_is_taken_back<J: Journal>()
-    ensures { (first before found : State Heap) (left_old left_new held_old held_new : Option (List ℕ)) (read_failed : Bool) (status : ℕ)
-        (serves : ServesKept J.list J.misreads J.may_leave first before left_old left_new held_old held_new read_failed status)
+    ensures { (first before found : State Heap) (s : Streams) (status : ℕ)
+        (serves : ServesKept J.list J.misreads J.may_leave first before s status)
         → J.misreads serves.after.journal ≡ 0 → (left : List Record) → J.may_leave serves.after.journal left
-        → Replays Applies first left found → FoundAfter Answers before found held_old held_new }
+        → Replays Applies first left found → FoundAfter Answers before found s.held_old s.held_new }
 {}

@@ -1,7 +1,8 @@
 //! Serves one connection from a reader to a writer, by the arguments of a command line.
 ghost use Rattle.std.specs.Prelude.{◌≡◌, ◌⊎◌, false, Some, None, List, map, string_bytes};
 ghost use Rattle.st_text.specs.Texts.{Text};
-ghost use Rattle.st_command.specs.Running.{Serves, IsServed, IsRefused, IsKept, Ran};
+ghost use Rattle.st_command.specs.Running.{Serves, IsServed, IsRefused, IsKept, Ran, status_after};
+ghost use Rattle.st_command.specs.Streams.{streams};
 ghost use Rattle.st_command_line.specs.RunArguments.{SaysRun, store_of};
 ghost use Rattle.st_command_line.specs.Status.{exit_status_after};
 
@@ -17,6 +18,18 @@ use std::io::Write;
 use std::marker::Brand;
 use std::time::Clock;
 
+// How a run ends after a connection that ended so.
+fn end_after(ended: Result<Ended, IoFault>) -> Result<(), Fault>
+    ensures { exit_status_after result ≡ status_after ended }
+{
+    match ended {
+        Ok(Ended::Clean | Ended::Closed) => Ok(()),
+        Ok(Ended::Cut) => Err(Fault::Cut),
+        Ok(Ended::TurnsSpent) => Err(Fault::TurnsSpent),
+        Ok(Ended::Lost) | Err(IoFault { .. }) => Err(Fault::Io),
+    }
+}
+
 // Serves the connection.
 fn converse<R: Source, W: Sink>(
     service: &mut Service,
@@ -25,15 +38,12 @@ fn converse<R: Source, W: Sink>(
 ) -> Result<(), Fault>
     requires reader_sound { R.has_failed reader.old ≡ false }
     requires writer_sound { W.has_failed writer.old ≡ false }
-    ensures { Serves service.old service.new (R.left reader.old) (R.left reader.new) (W.held writer.old) (W.held writer.new)
-        (R.has_failed reader.new) (exit_status_after result) }
+    ensures { Serves service.old service.new
+        (streams R.left R.reads R.has_ended R.has_failed W.held W.has_failed reader.old reader.new writer.old writer.new)
+        (exit_status_after result) }
 {
-    match service.serve(reader, writer) {
-        Ok(Ended::Clean | Ended::Closed) => Ok(()),
-        Ok(Ended::Cut) => Err(Fault::Cut),
-        Ok(Ended::TurnsSpent) => Err(Fault::TurnsSpent),
-        Ok(Ended::Lost) | Err(IoFault { .. }) => Err(Fault::Io),
-    }
+    let ended = service.serve(reader, writer);
+    end_after(ended)
 }
 
 // Serves the connection from a store in memory.
@@ -48,10 +58,12 @@ fn run_in_memory<R: Source, W: Sink>(
     requires reader_sound { R.has_failed reader.old ≡ false }
     requires writer_sound { W.has_failed writer.old ≡ false }
     ensures { (words : List Text) → SaysRun words said.now
-        → IsServed words (R.left reader.old) (R.left reader.new) (W.held writer.old) (W.held writer.new)
-        (R.has_failed reader.new) (exit_status_after result)
-        ⊎ IsRefused words (R.left reader.old) (R.left reader.new) (W.held writer.old) (W.held writer.new)
-        (R.has_failed reader.new) (exit_status_after result) }
+        → IsServed words
+        (streams R.left R.reads R.has_ended R.has_failed W.held W.has_failed reader.old reader.new writer.old writer.new)
+        (exit_status_after result)
+        ⊎ IsRefused words
+        (streams R.left R.reads R.has_ended R.has_failed W.held W.has_failed reader.old reader.new writer.old writer.new)
+        (exit_status_after result) }
 {
     let mut service = service_for(alloc, seed, said.digest, &said.names)?;
     converse(&mut service, reader, writer)
@@ -72,10 +84,12 @@ fn run_kept<J: Journal + Drop, K: Keeper<J> + Drop, C: Clock, R: Source, W: Sink
     requires reader_sound { R.has_failed reader.old ≡ false }
     requires writer_sound { W.has_failed writer.old ≡ false }
     ensures { (words : List Text) → SaysRun words said.now
-        → IsRefused words (R.left reader.old) (R.left reader.new) (W.held writer.old) (W.held writer.new)
-        (R.has_failed reader.new) (exit_status_after result)
-        ⊎ IsKept (K.holds keeper) J.list J.misreads J.may_leave words (R.left reader.old) (R.left reader.new)
-        (W.held writer.old) (W.held writer.new) (R.has_failed reader.new) (exit_status_after result) }
+        → IsRefused words
+        (streams R.left R.reads R.has_ended R.has_failed W.held W.has_failed reader.old reader.new writer.old writer.new)
+        (exit_status_after result)
+        ⊎ IsKept (K.holds keeper) J.list J.misreads J.may_leave words
+        (streams R.left R.reads R.has_ended R.has_failed W.held W.has_failed reader.old reader.new writer.old writer.new)
+        (exit_status_after result) }
 {
     let (state, opening) = replayed_for(alloc, seed, said.digest, &said.names)?;
     let place = Place { path, opening };
@@ -94,8 +108,9 @@ fn run<J: Journal + Drop, K: Keeper<J> + Drop, C: Clock, R: Source, W: Sink>(
 ) -> Result<(), Fault>
     requires reader_sound { R.has_failed reader.old ≡ false }
     requires writer_sound { W.has_failed writer.old ≡ false }
-    ensures { Ran (K.holds keeper) J.list J.misreads J.may_leave (map string_bytes words.now) (R.left reader.old)
-        (R.left reader.new) (W.held writer.old) (W.held writer.new) (R.has_failed reader.new) (exit_status_after result) }
+    ensures { Ran (K.holds keeper) J.list J.misreads J.may_leave (map string_bytes words.now)
+        (streams R.left R.reads R.has_ended R.has_failed W.held W.has_failed reader.old reader.new writer.old writer.new)
+        (exit_status_after result) }
 {
     let said = RunArguments::read(alloc, words)?;
     match said.store {
@@ -128,8 +143,9 @@ pub fn run_words<J: Journal + Drop, K: Keeper<J> + Drop, C: Clock, R: Source, W:
 ) -> u8
     requires reader_sound { R.has_failed reader.old ≡ false }
     requires writer_sound { W.has_failed writer.old ≡ false }
-    ensures { Ran (K.holds keeper) J.list J.misreads J.may_leave (map string_bytes words.now) (R.left reader.old)
-        (R.left reader.new) (W.held writer.old) (W.held writer.new) (R.has_failed reader.new) result }
+    ensures { Ran (K.holds keeper) J.list J.misreads J.may_leave (map string_bytes words.now)
+        (streams R.left R.reads R.has_ended R.has_failed W.held W.has_failed reader.old reader.new writer.old writer.new)
+        result }
 {
     match run(clock, alloc, seed, keeper, words, reader, writer) {
         Ok(()) => 0,

@@ -1,4 +1,7 @@
 //! Records of changes, looked at from the last one on.
+//!
+//! Changes are looked at from the last one on, with a set of the rows and tables that later changes decide. The policy's word comes
+//! from making all changes again, since a record's own result is for people.
 ghost use Rattle.std.specs.Prelude.{◌≡◌, ◌<◌, ◌+◌, ◌^◌, ◌&&◌, ◌||◌, not, nat_le, if◌then◌else◌, [], ◌∷◌, ◌++◌, reverse, IfOk, OnOk};
 ghost use Rattle.std.specs.declared.alloc.Global.{Global as Heap};
 ghost use Rattle.st_table.specs.Rows.{Held};

@@ -18,7 +18,7 @@ use Rattle.st_plan.specs.PlanOf.{plan_of}
 use Rattle.st_scan.specs.Grids.{grid_of}
 use Rattle.st_scan.specs.Pages.{is_past}
 use Rattle.st_table.specs.Rows.{Held, full_name, is_held, without_row}
-use Rattle.st_dir.specs.Directory.{Directory, has_auth, has_secret, has_system, has_table, is_table, period_of}
+use Rattle.st_dir.specs.Directory.{Directory, has_auth, has_digest, has_system, has_table, is_table, period_of}
 use Rattle.st_dir.specs.Listings.{users_of, tables_of, grants_on}
 use Rattle.st_grant.specs.declared.grant.Scope.TheVariants.{OnTable, OnNamespace}
 use Rattle.st_grant.specs.declared.permission.Permission.{Permission}
@@ -219,9 +219,9 @@ own_call d user asker (Call.Good request) e = at (refusal_of d asker request) re
 
 pub judged_own : {A : Type 0} (d : Directory A) (user : Text) (token : Option Token) (call : Call A) → names token user ≡ true → IsOwn d user (judge_call d (asker_of d token) call)
 judged_own d user None call h = cc
-judged_own d user (Some token) call h = at (has_secret d token.name token.secret) refl
+judged_own d user (Some token) call h = at (has_digest d token.name token.digest) refl
   where
-    at : (b : Bool) → has_secret d token.name token.secret ≡ b → IsOwn d user (judge_call d (asker_of d (Some token)) call)
+    at : (b : Bool) → has_digest d token.name token.digest ≡ b → IsOwn d user (judge_call d (asker_of d (Some token)) call)
     at true e = rw e (own_call d user token.name call (same-eq token.name user h))
     at false e = rw e tt
 

@@ -1,11 +1,10 @@
 -- What an allowed request finds.
 use Rattle.std.specs.Prelude.{is_some, if◌then◌else◌, unwrap_or, find, option_map}
 use Rattle.std.specs.Option.{option_map_or}
-use Rattle.sha2.specs.Sha256.{sha256}
 use Rattle.std.proofs.Common.{◌≡◌, List, [], ◌∷◌, Bool, true, false, not, Option, Some, None, ℕ, refl, subst, ap, ◌∙◌}
 use Rattle.st_text.specs.Texts.{Text, same, is_among}
 use Rattle.st_text.proofs.Same.{same-eq}
-use Rattle.st_dir.specs.Directory.{Directory, is_table, is_user, has_auth, has_secret, user_named}
+use Rattle.st_dir.specs.Directory.{Directory, is_table, is_user, has_auth, has_digest, user_named}
 use Rattle.st_dir.specs.declared.user.User.{User}
 use Rattle.st_key.specs.declared.period.Period.{Period}
 use Rattle.st_policy.specs.declared.denial.Denial.{Denial}
@@ -85,16 +84,16 @@ pub allowed_new_user : {A : Type 0} (d : Directory A) (asker user : Text) (diges
 allowed_new_user d asker user digest auths allowed = free (is_user d user) (UserExists user) (allowed_name d asker (Request.CreateUser user digest auths) allowed)
 
 -- whose token holds is a user
-secret_of : {A : Type 0} (o : Option (User A)) (secret : List ℕ) → option_map_or (λ user. same user.digest (sha256 secret)) o false ≡ true → is_some o ≡ true
-secret_of None secret e = cc
-secret_of (Some user) secret e = refl
+digest_of : {A : Type 0} (o : Option (User A)) (digest : List ℕ) → option_map_or (λ user. same user.digest digest) o false ≡ true → is_some o ≡ true
+digest_of None digest e = cc
+digest_of (Some user) digest e = refl
 
 pub asker_known : {A : Type 0} (d : Directory A) (o : Option Token) (asker : Text) → asker_of d o ≡ Some asker → is_user d asker ≡ true
 asker_known d None asker e = cc
-asker_known d (Some token) asker e = at (has_secret d token.name token.secret) refl e
+asker_known d (Some token) asker e = at (has_digest d token.name token.digest) refl e
   where
-    at : (b : Bool) → has_secret d token.name token.secret ≡ b → (if b then Some token.name else None) ≡ Some asker → is_user d asker ≡ true
-    at true f e = subst (λ o. is_user d (unwrap_or o asker) ≡ true) e (secret_of (user_named d token.name) token.secret f)
+    at : (b : Bool) → has_digest d token.name token.digest ≡ b → (if b then Some token.name else None) ≡ Some asker → is_user d asker ≡ true
+    at true f e = subst (λ o. is_user d (unwrap_or o asker) ≡ true) e (digest_of (user_named d token.name) token.digest f)
     at false f e = cc
 
 -- ---- authorizations

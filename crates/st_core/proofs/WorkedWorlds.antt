@@ -1,8 +1,7 @@
 -- Worked examples of what a user may ever see: histories, what is kept of them, and what the user is told.
-use Rattle.std.proofs.Common.{◌≡◌, ℕ, List, [], ◌∷◌, Some, refl, replicate}
+use Rattle.std.proofs.Common.{◌≡◌, ℕ, List, [], ◌∷◌, Some, refl}
 use Rattle.std.specs.Prelude.{codes}
 use Prim.Native.String.{String}
-use Rattle.sha2.specs.Sha256.{sha256, digest_bytes, hash_after, compress, rounds, schedule, first_words}
 use Rattle.st_key.specs.Order.{bits_below}
 use Rattle.st_key.specs.declared.period.Period.{Period}
 use Rattle.st_label.specs.inner.Machine.{class_of}
@@ -18,9 +17,9 @@ use Rattle.st_core.specs.Worlds.{keep, replies_to}
 use Rattle.st_core.proofs.Worked.{texts, here, row, everything}
 use Rattle.st_core.proofs.WorkedTokens.{digest}
 
--- each has the secret of 32 zero bytes
+-- each has the same secret
 abbrev asks : String → Request ℕ → Asked ℕ
-asks user request = record { token = Some (record { name = codes user; secret = replicate 32 0 }); call = Call.Good request }
+asks user request = record { token = Some (record { name = codes user; digest = digest }); call = Call.Good request }
 
 abbrev put : String → String → String → String → Asked ℕ
 put user table id label = asks user (Request.Put (codes table) (row id here label))
@@ -60,21 +59,21 @@ abbrev quiet : List (Asked ℕ)
 quiet = put "root" "points" "q" "A" ∷ count "u" "points" ("A" ∷ []) ∷ []
 
 busy_is_quiet : kept busy ≡ quiet
-unfolding reading class_of sha256 digest_bytes hash_after compress rounds schedule first_words
+unfolding reading class_of
 busy_is_quiet = refl
 
 quiet_stays : kept quiet ≡ quiet
-unfolding reading class_of sha256 digest_bytes hash_after compress rounds schedule first_words
+unfolding reading class_of
 quiet_stays = refl
 
 told_busy : told busy ≡ Reply.Count 1 ∷ []
-unfolding reading class_of sha256 digest_bytes hash_after compress rounds schedule first_words
+unfolding reading class_of
 told_busy = refl
 
 -- a delete of a row that u may not see, and a put into a table that u never reads
 elsewhere : kept (put "root" "points" "q" "A" ∷ delete "q" "S" ∷ make_table "t" ∷ put "root" "t" "q" "A" ∷ count "u" "points" ("A" ∷ []) ∷ [])
     ≡ put "root" "points" "q" "A" ∷ make_table "t" ∷ count "u" "points" ("A" ∷ []) ∷ []
-unfolding reading class_of sha256 digest_bytes hash_after compress rounds schedule first_words
+unfolding reading class_of
 elsewhere = refl
 
 -- ---- what u may see later is kept from the beginning
@@ -84,11 +83,11 @@ abbrev given : List (Asked ℕ)
 given = put "root" "points" "b" "B" ∷ put "root" "points" "s" "S" ∷ asks "root" (Request.Auths (codes "u") (texts ("A" ∷ "B" ∷ []))) ∷ count "u" "points" ("B" ∷ []) ∷ []
 
 kept_for_later : kept given ≡ put "root" "points" "b" "B" ∷ asks "root" (Request.Auths (codes "u") (texts ("A" ∷ "B" ∷ []))) ∷ count "u" "points" ("B" ∷ []) ∷ []
-unfolding reading class_of sha256 digest_bytes hash_after compress rounds schedule first_words
+unfolding reading class_of
 kept_for_later = refl
 
 told_later : told given ≡ Reply.Count 1 ∷ []
-unfolding reading class_of sha256 digest_bytes hash_after compress rounds schedule first_words
+unfolding reading class_of
 told_later = refl
 
 -- READ that is given on a namespace later shows the rows of its tables
@@ -98,11 +97,11 @@ opened = make_table "geo.a" ∷ put "root" "geo.a" "p" "A" ∷ put "root" "geo.a
 
 kept_for_readers : kept opened
     ≡ make_table "geo.a" ∷ put "root" "geo.a" "p" "A" ∷ asks "root" (Request.GrantNamespace (codes "geo") (codes "u") TablePermission.Read) ∷ count "u" "geo.a" ("A" ∷ []) ∷ []
-unfolding reading class_of sha256 digest_bytes hash_after compress rounds schedule first_words
+unfolding reading class_of
 kept_for_readers = refl
 
 told_readers : told opened ≡ Reply.Count 1 ∷ []
-unfolding reading class_of sha256 digest_bytes hash_after compress rounds schedule first_words
+unfolding reading class_of
 told_readers = refl
 
 -- a table that is dropped and made again between two counts
@@ -113,15 +112,15 @@ made_again = put "root" "points" "q" "A" ∷ put "root" "points" "p" "S" ∷ cou
 kept_made_again : kept made_again
     ≡ put "root" "points" "q" "A" ∷ count "u" "points" ("A" ∷ [])
     ∷ asks "root" (Request.DropTable (codes "points")) ∷ make_table "points" ∷ let_read "points" ∷ count "u" "points" ("A" ∷ []) ∷ []
-unfolding reading class_of sha256 digest_bytes hash_after compress rounds schedule first_words
+unfolding reading class_of
 kept_made_again = refl
 
 told_made_again : told made_again ≡ Reply.Count 1 ∷ Reply.Count 0 ∷ []
-unfolding reading class_of sha256 digest_bytes hash_after compress rounds schedule first_words
+unfolding reading class_of
 told_made_again = refl
 
 -- ---- what u may see is noticed
 
 another_row : told (put "root" "points" "r" "A" ∷ quiet) ≡ Reply.Count 2 ∷ []
-unfolding reading class_of bits_below sha256 digest_bytes hash_after compress rounds schedule first_words
+unfolding reading class_of bits_below
 another_row = refl

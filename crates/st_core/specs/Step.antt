@@ -2,7 +2,7 @@
 use Rattle.std.specs.Prelude.{ℕ, List, [], ◌∷◌, ◌++◌, if◌then◌else◌, Option, Some, None, Bool, false}
 use Rattle.circular_buffer.specs.Buffer.{keep_last}
 use Rattle.st_text.specs.Texts.{Text}
-use Rattle.st_dir.specs.Directory.{Directory, has_secret}
+use Rattle.st_dir.specs.Directory.{Directory, has_digest}
 use Rattle.st_policy.specs.declared.denial.Denial.{Denial}
 use Rattle.st_policy.specs.declared.refusal.Refusal.{Refusal}
 use Rattle.st_policy.specs.declared.request.Request.{Request}
@@ -23,10 +23,10 @@ use Rattle.st_core.specs.Changes.{rows_after, directory_after}
 
 -- ---- the judgement, by the directory alone
 
--- the user of a token that holds: one of whom the secret is
+-- the user of a token that holds: one of whom the digest is
 abbrev pub asker_of : {A : Type 0} → Directory A → Option Token → Option Text
 asker_of d None = None
-asker_of d (Some token) = if has_secret d token.name token.secret then Some token.name else None
+asker_of d (Some token) = if has_digest d token.name token.digest then Some token.name else None
 
 -- A judgement is of what is refused before anything is decided (unheard), or of a user's request, with the policy's refusal, if
 -- there is one (heard).

@@ -41,7 +41,7 @@ NeverSystem user s asked = IsFalse (list_any (λ d. has_system d user Permission
 
 -- ---- the requests that a user's replies may rest on
 
--- A request is the user's where its token names the user, whether or not the secret is right: all who ask in that name are told
+-- A request is the user's where its token names the user, whether or not its digest is right: all who ask in that name are told
 -- together.
 abbrev pub names : Option Token → Text → Bool
 names None user = false

@@ -3,11 +3,11 @@ use st_dir::Name;
 use st_policy::{Refusal, Request};
 use std::alloc::{Allocator, Global};
 
-/// Who asks: a user's name, and the secret that shows it.
+/// Who asks: a user's name, and the SHA-256 (FIPS 180-4) of the secret that shows it.
 #[derive(Drop)]
 pub struct Token {
     pub name: Name,
-    pub secret: [u8; 32],
+    pub digest: [u8; 32],
 }
 
 /// A request, or the refusal of what could not be decoded as one.

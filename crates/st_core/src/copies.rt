@@ -11,13 +11,13 @@ impl Token {
     {
         Token {
             name: self.name.copy(),
-            secret: self.secret,
+            digest: self.digest,
         }
     }
 }
 
-// An equal token, where there is one.
-fn copy_token(token: &Option<Token>) -> Option<Token>
+/// An equal token, where there is one.
+pub fn copy_token(token: &Option<Token>) -> Option<Token>
     ensures { result ≡ token.now }
 {
     match token {

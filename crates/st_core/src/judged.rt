@@ -10,7 +10,7 @@ use st_policy::{Denial, Refusal, Request, decide};
 use std::alloc::{AllocError, Allocator, Global};
 
 /// What is asked, judged: not heard, with the refusal; or a user's request, with the policy's refusal where there is one. It holds
-/// no token and no secret, so it can be queued or stored.
+/// no token, so it can be queued or stored.
 #[derive(Drop)]
 pub enum Judged<A: Allocator = Global> {
     Unheard(Refusal),
@@ -38,7 +38,7 @@ fn asker<'a, A: Allocator>(directory: &Directory<A>, token: &'a Option<Token>) -
 {
     match token {
         Some(token) => {
-            if directory.authenticate(token.name.as_str(), &token.secret) {
+            if directory.authenticate(token.name.as_str(), &token.digest) {
                 Some(&token.name)
             } else {
                 None
@@ -72,8 +72,7 @@ fn copy_refusal(refusal: &Option<Refusal>) -> Option<Refusal>
     }
 }
 
-/// Judges what is asked by a directory: the token first, then whether the call could be decoded, then the policy. This takes one
-/// SHA-256, of the token's secret.
+/// Judges what is asked by a directory: the token first, then whether the call could be decoded, then the policy.
 pub fn judge<'a, A: Allocator>(directory: &Directory<A>, asked: &'a Asked<A>) -> JudgedRef<'a, A>
     ensures { judgement result ≡ judge directory.now asked.now }
 {

@@ -10,6 +10,7 @@ mod runs;
 mod store;
 
 pub use asked::{Asked, Call, Token};
+pub use copies::copy_token;
 pub use decision::Decision;
 pub use judged::{Judged, JudgedRef, judge};
 pub use runs::run;

@@ -2,7 +2,6 @@
 use Rattle.std.specs.Prelude.{ℕ, List, [], ◌∷◌, Bool, false, ◌||◌, Option, is_some, find, codes, option_map}
 use Rattle.std.specs.List.{list_any}
 use Rattle.std.specs.Option.{option_map_or}
-use Rattle.sha2.specs.Sha256.{sha256}
 use Rattle.st_key.specs.declared.period.Period.{Period}
 use Rattle.st_text.specs.Texts.{Text, same, is_among}
 use Rattle.st_text.specs.Names.{namespace_of}
@@ -32,9 +31,9 @@ is_user d name = is_some (user_named d name)
 abbrev pub is_table : {A : Type 0} → Directory A → Text → Bool
 is_table d name = is_some (table_named d name)
 
--- the secret is the user's: the directory keeps its SHA-256 (FIPS 180-4)
-abbrev pub has_secret : {A : Type 0} → Directory A → Text → List ℕ → Bool
-has_secret d name secret = option_map_or (λ user. same user.digest (sha256 secret)) (user_named d name) false
+-- there is such a user, and this is the digest of the user's secret
+abbrev pub has_digest : {A : Type 0} → Directory A → Text → List ℕ → Bool
+has_digest d name digest = option_map_or (λ user. same user.digest digest) (user_named d name) false
 
 -- the user's authorizations, none if there is no such user
 abbrev pub auths_of : {A : Type 0} → Directory A → Text → List Text

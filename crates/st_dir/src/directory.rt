@@ -1,7 +1,7 @@
 //! The directory.
 ghost use Rattle.std.specs.Prelude.{◌≡◌, IfOk, option_map};
 ghost use Rattle.st_grant.specs.declared.grant.Scope.TheVariants.{OnNamespace};
-ghost use Rattle.st_dir.specs.Directory.{user_named, table_named, auths_of, has_secret, has_system, has_table};
+ghost use Rattle.st_dir.specs.Directory.{user_named, table_named, auths_of, has_digest, has_system, has_table};
 ghost use Rattle.st_dir.specs.Directory.{is_user, is_table, is_granted, constraint_of, first_directory};
 
 mod first;
@@ -15,7 +15,6 @@ use crate::table::TableInfo;
 use crate::tables::Tables;
 use crate::user::User;
 use crate::users::Users;
-use sha2::{Digest, Sha256};
 use st_auth::Auths;
 use st_grant::{Grants, Name, Permission, Scope, TableName};
 use st_key::Period;
@@ -76,12 +75,12 @@ impl<A: Allocator> Directory<A> {
         self.tables.get(name)
     }
 
-    /// Whether this is the secret of a user of this name. The directory keeps its SHA-256 (FIPS 180-4).
-    pub fn authenticate(&self, name: &str, secret: &[u8; 32]) -> bool
-        ensures { result ≡ has_secret self.now name.now secret.now }
+    /// Whether there is a user of this name, and this is the digest of the user's secret.
+    pub fn authenticate(&self, name: &str, digest: &[u8; 32]) -> bool
+        ensures { result ≡ has_digest self.now name.now digest.now }
     {
         match self.user(name) {
-            Some(user) => user.digest == Sha256::digest(secret.as_slice()),
+            Some(user) => user.digest == *digest,
             None => false,
         }
     }

@@ -1,4 +1,6 @@
 //! What threads that wait for their changes look at.
+//!
+//! `is_awaited` says only that nobody waits if nobody leads, or once an append failed.
 ghost use Rattle.std.specs.Prelude.{◌≡◌, ◌<◌, length, true, false};
 ghost use mathlib.Core.List.{IsPrefix};
 ghost use Rattle.st_publisher.specs.Rolls.{WasKept};

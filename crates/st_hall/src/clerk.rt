@@ -1,4 +1,6 @@
 //! The clerk, who makes changes and publishes them.
+//!
+//! A change that finds no memory to be queued waits in the press; the next `publish` queues it.
 ghost use Rattle.std.specs.Prelude.{◌≡◌, ◌+◌, ◌<◌, [], ◌∷◌, ◌++◌, length, true, is_some, Err, None, IfOk, OnOk, MatchOption, MatchResult};
 ghost use mathlib.Core.List.{IsPrefix};
 ghost use Rattle.st_core.specs.Step.{asker_of, asks_for_change};

@@ -1,4 +1,7 @@
 //! Two copies of a store, a clerk who changes them, and workers at desks that read them without waiting.
+//!
+//! Desks, clerks and workers go to other threads by lemmas (`proofs/Crossing.antt`), since the check makes none for the nodes of a
+//! tree. Code that lends a clerk to threads cites them in the answers of the goals `requires-send`, as `tests_hall` does.
 #![tactic(auto)]
 
 mod clerk;

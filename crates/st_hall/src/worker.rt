@@ -1,4 +1,6 @@
 //! A worker, who answers requests one after the other at a desk.
+//!
+//! What a gate is told is no clause, since a gate has no state in contracts. Number and calls are in `Post`.
 ghost use Rattle.std.specs.Prelude.{◌≡◌, ◌+◌, ◌-◌, ◌^◌, ◌⊎◌, true, false, min, List, Some, is_some, Err, IfOk, IfSome, OnErr, MatchResult};
 ghost use mathlib.Core.List.{IsPrefix};
 ghost use Rattle.st_core.specs.Step.{asker_of, asks_for_change};

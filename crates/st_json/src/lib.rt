@@ -1,4 +1,7 @@
 //! Requests from bodies of JSON (RFC 8259).
+//!
+//! An endpoint and the name in its path are two arguments of `decode`. `Endpoint` is a plain value that tables take; `Route` is
+//! what a method and a target name, which may be no endpoint.
 #![tactic(auto)]
 
 mod body;

@@ -1,11 +1,14 @@
 //! Denials.
+//!
+//! A refusal takes no memory, so it has room for a text of 256 bytes. A result that may be one takes 280 bytes, and is moved whole
+//! some 24 times a request.
 use st_dir::{Name, Permission, TableName};
 use st_text::Text;
 
 /// Why a user was not allowed what was asked. Each names what refused.
 #[derive(Drop)]
 pub enum Denial {
-    /// There is no token, or its name or its secret is not a user's.
+    /// There is no token, or its name or its digest is not a user's.
     Token,
     /// A permission that the user lacks: on a table, or else on the system.
     Permission {

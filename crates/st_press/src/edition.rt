@@ -1,4 +1,8 @@
 //! What the two copies hold: a store, and the changes that it stands for.
+//!
+//! A copy makes a queued change only if its list is one longer than the copy's own. `Absorb` of `left_right` has no `requires`, so
+//! the other branch answers out of memory; it never runs. Of the moves of `left_right`, opening, publishing, entering and leaving
+//! are used; adding a change is a step of the history.
 ghost use Rattle.std.specs.Prelude.{◌≡◌, true};
 ghost use Rattle.st_press.specs.Steps.{state_after};
 ghost use Rattle.st_press.specs.Views.{IsNext};

@@ -1,4 +1,7 @@
 //! Which hall it is.
+//!
+//! A hall is opened under a name that its caller picks. `UnnamedFor::of` cuts the count into shares; the pick is a proof file of
+//! the function that opens the hall.
 ghost use Rattle.std.specs.Prelude.{◌≡◌, []};
 ghost use Rattle.st_press.specs.inner.History.{head_of};
 

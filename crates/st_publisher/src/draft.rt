@@ -1,4 +1,7 @@
 //! What is decided and not kept yet.
+//!
+//! Changes wait here for the press beside their records; the draft reserves both before the change is added, so keeping takes no
+//! memory.
 ghost use Rattle.std.specs.Prelude.{◌≡◌, ◌++◌, ◌∷◌, ◌+◌, ◌<◌, [], true, false, is_some, Err, IfOk, OnOk, MatchResult};
 ghost use Rattle.std.specs.VecDeque.{deque_len, deque_capacity};
 ghost use mathlib.Core.List.{IsPrefix};

@@ -2,6 +2,7 @@
 ghost use Rattle.std.specs.Prelude.{◌≡◌, false, map, string_bytes};
 ghost use Rattle.sqlite_wal.specs.Files.{image_at};
 ghost use Rattle.st_command.specs.Running.{Ran};
+ghost use Rattle.st_command.specs.Streams.{streams};
 ghost use Rattle.st_store_file.specs.Holding.{HoldStore};
 
 use sqlite_std_file::{FileFrom, Start};
@@ -27,8 +28,9 @@ pub fn run_files<S: Start, R: Source, W: Sink, F: Write>(
     requires writer_sound { W.has_failed writer.old ≡ false }
     ensures { Ran (HoldStore (image_at S.Start)) ⟦<FileJournal<FileFrom<S>> as Journal>⟧.list
         ⟦<FileJournal<FileFrom<S>> as Journal>⟧.misreads ⟦<FileJournal<FileFrom<S>> as Journal>⟧.may_leave
-        (map string_bytes words.now) (R.left reader.old) (R.left reader.new) (W.held writer.old) (W.held writer.new)
-        (R.has_failed reader.new) result }
+        (map string_bytes words.now)
+        (streams R.left R.reads R.has_ended R.has_failed W.held W.has_failed reader.old reader.new writer.old writer.new)
+        result }
 {
     let keeper = SqliteKeeper::new(rt, start);
     let seed = Seed::random(rt);

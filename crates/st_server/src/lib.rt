@@ -1,4 +1,7 @@
 //! Servers at a port: workers over two copies of a store that is in memory, or that a journal keeps.
+//!
+//! What makes the stations is generic in the handle by which their hall waits. With the types written out, the goals on lifetimes
+//! (`requires-lives-T`) exceed the limit of `simp`.
 #![tactic(auto)]
 
 mod copying;

@@ -1,16 +1,16 @@
 //! What answers messages by a store.
-ghost use Rattle.std.specs.Prelude.{◌≡◌, false};
+ghost use Rattle.std.specs.Prelude.{◌≡◌, false, option_map};
 ghost use Rattle.st_core.specs.State.{State};
-ghost use Rattle.st_service.specs.Answers.{Answers, AsksBy, IsFound, RepliesTo, faulty};
+ghost use Rattle.st_service.specs.Answers.{Answers, AsksBy, IsFound, RepliesTo, faulty, token_from, token_in};
 ghost use Rattle.st_service.specs.Bytes.{bytes_of};
 ghost use Rattle.st_service.specs.inner.Shown.{shown};
 
 use crate::answer::Answer;
-use crate::asked::asked_of;
+use crate::asked::{asked_with, token_of};
 use crate::strangers::{is_stranger, to_stranger};
 use st_connection::Failed;
 use st_connection::replies::Replies;
-use st_core::{Asked, Store};
+use st_core::{Asked, Store, Token};
 use st_http::message::Message;
 use std::alloc::{Allocator, Global};
 use std::marker::Model;
@@ -55,11 +55,12 @@ impl<A: Allocator + Copy> Answerer<A> {
     }
 
     // Answers a message whose route is an endpoint, by what it asks.
-    fn answer_asked(&mut self, message: &Message<'_>) -> Answer<A>
-        requires { IsFound message.now }
+    fn answer_asked(&mut self, message: &Message<'_>, token: Option<Token>) -> Answer<A>
+        requires found { IsFound message.now }
+        requires token { token ≡ option_map token_from (token_in message.now) }
         ensures { RepliesTo self.old message.now (bytes_of result) self.new }
     {
-        let Ok(asked) = asked_of(self.alloc, self.global, message) else {
+        let Ok(asked) = asked_with(self.alloc, self.global, message, token) else {
             return Answer::Busy {
                 close: message.close,
                 bare: message.bare,
@@ -75,10 +76,11 @@ impl<A: Allocator + Copy> Answerer<A> {
         requires { IsFound message.now }
         ensures { RepliesTo self.old message.now (bytes_of result) self.new }
     {
-        if is_stranger(self.store.directory(), message) {
+        let token = token_of(message);
+        if is_stranger(self.store.directory(), message, &token) {
             to_stranger(self.alloc, message)
         } else {
-            self.answer_asked(message)
+            self.answer_asked(message, token)
         }
     }
 }

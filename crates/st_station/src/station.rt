@@ -1,4 +1,7 @@
 //! A station: a worker who answers the messages of connections.
+//!
+//! A station keeps its handle, since what answers a connection (`Replies`) is handed a message alone. Each message is one call,
+//! also one without a route; the gate hears `answered` once the text is made.
 ghost use Rattle.std.specs.Prelude.{◌≡◌, true, false, refl, option_map, Err, IfOk};
 ghost use mathlib.Core.Logic.{inl};
 ghost use Rattle.st_connection.specs.Connection.{EndsOn, Served};
@@ -16,10 +19,10 @@ use st_connection::connection::{Ended, IoFault, MAX_READS};
 use st_connection::replies::Replies;
 use st_connection::streams::{Sink, Source};
 use st_connection::{Failed, Server};
-use st_core::Reply;
+use st_core::{Reply, Token, copy_token};
 use st_hall::{AskFault, Clerk, Desk, Gate, HallName, Worker};
 use st_http::message::Message;
-use st_service::{Answer, asked_of, is_long, to_stranger, token_of};
+use st_service::{Answer, asked_with, is_long, to_stranger, token_of};
 use std::alloc::{AllocError, Global};
 use std::marker::Model;
 use std::sync::{Mutex, Wait};
@@ -69,31 +72,32 @@ fn tell(alloc: Global, message: &Message<'_>, told: Result<Reply, AskFault>) -> 
 impl<'a, H: HallName, R: Wait + Drop, G: Gate, W: Wait> Answerer<'a, H, R, G, W> {
     // Whether a message is refused before its body is read: the body is long, and the token does not hold after the changes that are
     // then seen. When out of memory the body is read.
-    fn is_stranger(&mut self, message: &Message<'_>) -> bool
+    fn is_stranger(&mut self, message: &Message<'_>, token: &Option<Token>) -> bool
         ensures number { self.new.number ≡ self.old.number }
         ensures calls { self.new.calls ≡ self.old.calls }
         ensures learnt { self.new.learnt ≡ self.old.learnt }
         ensures moves { Moves 0 self.old.seat self.new.seat }
-        ensures stranger { result ≡ true → IsStranger H.start self.old.seat.seen (option_map token_from (token_in message.now)) }
+        ensures stranger { result ≡ true → IsStranger H.start self.old.seat.seen token.now }
     {
         if !is_long(message) {
             return false;
         }
-        match self.worker.knows(token_of(message)) {
+        match self.worker.knows(copy_token(token)) {
             Ok(holds) => !holds,
             Err(AllocError) => false,
         }
     }
 
     // Answers a message whose route is an endpoint, by what it asks, in the call that began last.
-    fn answer_asked(&mut self, message: &Message<'_>) -> Answer
-        requires { IsFound message.now }
+    fn answer_asked(&mut self, message: &Message<'_>, token: Option<Token>) -> Answer
+        requires found { IsFound message.now }
+        requires token { token ≡ option_map token_from (token_in message.now) }
         ensures number { self.new.number ≡ self.old.number }
         ensures calls { self.new.calls ≡ self.old.calls }
         ensures learns { Learns self.old self.new }
         ensures seat { SeatReplies H.start self.old.seat message.now (bytes_of result) self.new.seat }
     {
-        let Ok(asked) = asked_of(self.alloc, self.alloc, message) else {
+        let Ok(asked) = asked_with(self.alloc, self.alloc, message, token) else {
             return Answer::Busy {
                 close: message.close,
                 bare: message.bare,
@@ -111,10 +115,11 @@ impl<'a, H: HallName, R: Wait + Drop, G: Gate, W: Wait> Answerer<'a, H, R, G, W>
         ensures learns { Learns self.old self.new }
         ensures seat { SeatReplies H.start self.old.seat message.now (bytes_of result) self.new.seat }
     {
-        if self.is_stranger(message) {
+        let token = token_of(message);
+        if self.is_stranger(message, &token) {
             return to_stranger(self.alloc, message);
         }
-        self.answer_asked(message)
+        self.answer_asked(message, token)
     }
 
     // Answers a message, in the call that began last.

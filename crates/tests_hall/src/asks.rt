@@ -2,6 +2,7 @@
 ghost use Rattle.std.specs.Prelude.{◌≡◌, true, false, IfSome};
 ghost use Rattle.st_core.specs.Step.{asks_for_change};
 
+use crate::halls::DIGEST;
 use st_auth::Auths;
 use st_box::Query;
 use st_core::{Asked, Call, Reply, Token};
@@ -29,7 +30,7 @@ impl<H: HallName> Reads for Desk<H> {
 fn token() -> Option<Token> {
     Some(Token {
         name: Name::new("root").ok()?,
-        secret: [0; 32],
+        digest: DIGEST,
     })
 }
 

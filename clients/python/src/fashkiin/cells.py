@@ -7,6 +7,7 @@ A longitude or latitude is one of 2,097,152 cells, a time is the whole seconds s
 from __future__ import annotations
 
 import math
+from collections.abc import Callable
 from datetime import UTC, datetime, timedelta
 from typing import NamedTuple
 
@@ -140,6 +141,46 @@ def boxes(bbox: Bbox | None, span: Span | None) -> list[Box]:
     if x0 <= x1:
         return [Box(0, LAST_CELL, *rest)]
     return [Box(x0, LAST_CELL, *rest), Box(0, x1, *rest)]
+
+
+def inner_box(box: Box, bbox: Bbox | None, span: Span | None) -> Box | None:
+    """The part of one of the `boxes` of a bbox and a span whose cells and seconds lie wholly within both; None if there is none.
+
+    A cell at an edge is cut where a position of it lies outside: the next number beyond the edge is of the same cell.
+    """
+    west, south, east, north = bbox if bbox is not None else WORLD
+    first, last = span_times(span)
+    if west > east and (box.x0, box.x1) == (0, LAST_CELL):
+        return None  # It begins and ends in one cell.
+    inner = Box(
+        box.x0 + _cut(longitude_cell, west, -180.0, box.x0),
+        box.x1 - _cut(longitude_cell, east, 180.0, box.x1),
+        box.y0 + _cut(latitude_cell, south, -90.0, box.y0),
+        box.y1 - _cut(latitude_cell, north, 90.0, box.y1),
+        box.t0 + (first.microsecond != 0),
+        box.t1 - (last.microsecond != 999_999),
+    )
+    return inner if inner.x0 <= inner.x1 and inner.y0 <= inner.y1 and inner.t0 <= inner.t1 else None
+
+
+def _cut(cell: Callable[[float], int], degree: float, end: float, at: int) -> bool:
+    """Whether an edge at a degree cuts the cell `at`, going out towards the end of the dimension. An end of the world that a box
+    over the antimeridian has cuts nothing."""
+    return cell(degree) == at and degree != end and cell(math.nextafter(degree, end)) == at
+
+
+def shell(outer: Box, inner: Box) -> list[Box]:
+    """Boxes that hold together, and each once, the cells and seconds of an outer box that are not in the inner one."""
+    x, y, t = (inner.x0, inner.x1), (inner.y0, inner.y1), (outer.t0, outer.t1)
+    parts = [
+        Box(outer.x0, inner.x0 - 1, outer.y0, outer.y1, *t),
+        Box(inner.x1 + 1, outer.x1, outer.y0, outer.y1, *t),
+        Box(*x, outer.y0, inner.y0 - 1, *t),
+        Box(*x, inner.y1 + 1, outer.y1, *t),
+        Box(*x, *y, outer.t0, inner.t0 - 1),
+        Box(*x, *y, inner.t1 + 1, outer.t1),
+    ]
+    return [part for part in parts if part.x0 <= part.x1 and part.y0 <= part.y1 and part.t0 <= part.t1]
 
 
 def holds(bbox: Bbox | None, lon: float, lat: float) -> bool:

@@ -4,6 +4,7 @@
 from __future__ import annotations
 
 import argparse
+import contextlib
 import io
 import os
 import sys
@@ -20,29 +21,37 @@ from fashkiin.commands import (
     REJECTED,
     USAGE,
     Command,
+    Parser,
     Session,
-    admin,
+    audit,
     common_options,
     export,
     features,
+    grants,
     labels,
     load,
     map,
     read,
+    tables,
     tokens,
+    users,
     whoami,
     write,
 )
 from fashkiin.errors import ConnectError, CutOffError, FashkiinError, RefusalError, ReplyError, RowError
 from fashkiin.formats import InputError
 from fashkiin.loading import StoppedError
-from fashkiin.settings import read_settings
+from fashkiin.relabelling import RelabelError
+from fashkiin.settings import NAMES, read_settings
 
 COMMANDS: tuple[Command, ...] = (
     load.COMMAND,
     *read.COMMANDS,
     *write.COMMANDS,
-    *admin.COMMANDS,
+    tables.COMMAND,
+    *users.COMMANDS,
+    *grants.COMMANDS,
+    audit.COMMAND,
     labels.COMMAND,
     whoami.COMMAND,
     tokens.COMMAND,
@@ -53,7 +62,7 @@ COMMANDS: tuple[Command, ...] = (
 
 EXIT_STATUSES = {
     DONE: "done",
-    REJECTED: "done, but rows were rejected; or get found no row",
+    REJECTED: "done, but rows were rejected; or there was nothing to get, delete, relabel or revoke",
     USAGE: "arguments, settings, a token file or a file that cannot be used",
     BAD_INPUT: "bad input: a row, or a file of rows; what was wanted is said in a line",
     REFUSED: "the server refused",
@@ -67,7 +76,7 @@ EXIT_STATUSES = {
 def make_parser() -> argparse.ArgumentParser:
     """The parser of all subcommands."""
     common = common_options()
-    parser = argparse.ArgumentParser(
+    parser = Parser(
         "fashkiin", parents=[common], description="Loads, reads and administers a server of labelled points."
     )
     parser.add_argument("--version", action="version", version=f"fashkiin {__version__}")
@@ -82,15 +91,14 @@ def make_parser() -> argparse.ArgumentParser:
 def run(words: Sequence[str] | None = None) -> int:
     """Runs the command of some words and returns its exit status."""
     parser = make_parser()
-    try:
-        import argcomplete
-    except ImportError:
-        pass
-    else:
-        argcomplete.autocomplete(parser)
+    if "_ARGCOMPLETE" in os.environ:
+        with contextlib.suppress(ImportError):
+            import argcomplete
+
+            argcomplete.autocomplete(parser)
     arguments = parser.parse_args(words)
     flags = {
-        name: getattr(arguments, name.replace("-", "_"), None) for name in ("config", "url", "token-file", "ca-file", "timeout")
+        name: getattr(arguments, name.replace("-", "_"), None) for name in ("config", *NAMES)
     }
     session = Session(read_settings(flags, os.environ), getattr(arguments, "json", False))
     command: Command = arguments.command
@@ -99,7 +107,7 @@ def run(words: Sequence[str] | None = None) -> int:
 
 def status(error: FashkiinError) -> int:
     """The exit status of an error."""
-    if isinstance(error, RowError | InputError | StoppedError):
+    if isinstance(error, RowError | InputError | StoppedError | RelabelError):
         return BAD_INPUT
     if isinstance(error, RefusalError):
         return REFUSED

@@ -2,7 +2,6 @@
 
 from __future__ import annotations
 
-import ssl
 import threading
 import time
 from collections import deque
@@ -18,11 +17,13 @@ from fashkiin.errors import ConnectError, CutOffError, EdgeError, RefusalError, 
 from fashkiin.rows import Row, to_json
 from fashkiin.table import Table
 from fashkiin.tokens import Token
-from fashkiin.wire import Address, Connection, Reply, member
+from fashkiin.wire import Address, Connection, Reply, member, tls
 
 TRIES = 6
 LARGEST_WINDOW = 256
 Item = TypeVar("Item")
+_OFTEN: Mapping[bytes, Mapping[str, Any]] = {b'{"ok":true}': {"ok": True}, b'{"rows":[]}': {"rows": []}}
+"""The objects of bodies that need no reading."""
 
 
 @dataclass(frozen=True, slots=True)
@@ -54,7 +55,7 @@ class Client:
         self.address = Address.parse(url)
         self.token = Token.parse(token) if isinstance(token, str) else token
         self.timeout = timeout
-        self._context = ssl.create_default_context(cafile=cafile) if self.address.secure else None
+        self._context = tls(cafile) if self.address.secure else None
         self._kept: list[Connection] = []
         self._lock = threading.Lock()
 
@@ -167,10 +168,22 @@ class Client:
         self, table: str, items: Iterable[Item], body: Callable[[Item], bytes], window: int = 64
     ) -> Iterator[tuple[Item, RefusalError | RowError | None]]:
         """`put_many` of whatever `body` makes the body of a put of. Where it raises `RowError`, that is told in its place."""
+        target = path("tables", table, "put")
+        for item, told in self.ask_many(items, lambda item: self.request("POST", target, body(item)), window):
+            yield item, told if isinstance(told, RefusalError | RowError) else None
+
+    def ask_many(
+        self, items: Iterable[Item], request: Callable[[Item], bytes], window: int = 64
+    ) -> Iterator[tuple[Item, Mapping[str, Any] | RefusalError | RowError]]:
+        """Sends the requests that `request` makes of items over one connection, up to `window` of them on their way at a time (1
+        to 256), and tells each answer in their order. Where it raises `RowError`, that is told in the answer's place.
+
+        Where the connection ends, requests without an answer are sent again on a new one, so a repeat must do no harm. After six
+        tries without an answer the error is raised.
+        """
         if not 1 <= window <= LARGEST_WINDOW:
             raise ValueError(f"a window of {window}, wanted 1 to {LARGEST_WINDOW}")
-        target = path("tables", table, "put")
-        pipeline = _Pipeline(self, lambda item: self.request("POST", target, body(item)), iter(items), window)
+        pipeline = _Pipeline(self, request, iter(items), window)
         tries = 0
         while pipeline.unfinished():
             try:
@@ -185,7 +198,7 @@ class Client:
 
 
 class _Pipeline(Generic[Item]):
-    """The items of a `put_items` that wait for their answers."""
+    """The items of an `ask_many` that wait for their answers."""
 
     def __init__(self, client: Client, request: Callable[[Item], bytes], items: Iterator[Item], window: int) -> None:
         self._client = client
@@ -199,7 +212,7 @@ class _Pipeline(Generic[Item]):
         """Whether an item is still to be told."""
         return self._more or bool(self._waiting)
 
-    def run(self) -> Iterator[tuple[Item, RefusalError | RowError | None]]:
+    def run(self) -> Iterator[tuple[Item, Mapping[str, Any] | RefusalError | RowError]]:
         """Tells what becomes of the items, over one connection, until it ends or no item is left."""
         connection = self._client._take()
         keeps = False
@@ -210,11 +223,15 @@ class _Pipeline(Generic[Item]):
                     connection.send(self._fill())
                     continue
                 item, _, fault = self._waiting[0]
-                reply = None if fault is not None else connection.receive()
-                error = fault if reply is None else _error(reply)
+                if fault is not None:
+                    self._waiting.popleft()
+                    yield item, fault
+                    continue
+                reply = connection.receive()
+                told = _told(reply)
                 self._waiting.popleft()
-                yield item, error
-                if reply is not None and not reply.keeps:
+                yield item, told
+                if not reply.keeps:
                     return
             keeps = True
         finally:
@@ -233,12 +250,11 @@ class _Pipeline(Generic[Item]):
         return b"".join(request for _, request, _ in added)
 
 
-def _error(reply: Reply) -> RefusalError | None:
-    """The refusal that a reply is, if it is one."""
-    if reply.status == 200 and reply.body == b'{"ok":true}':
-        return None
+def _told(reply: Reply) -> Mapping[str, Any] | RefusalError:
+    """The object of a reply, or the refusal that it is."""
+    if reply.status == 200 and reply.body in _OFTEN:
+        return _OFTEN[reply.body]
     try:
-        reply.value()
+        return reply.value()
     except RefusalError as error:
         return error
-    return None

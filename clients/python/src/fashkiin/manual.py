@@ -9,12 +9,13 @@ from collections.abc import Iterator
 from fashkiin.cli import COMMANDS, EXIT_STATUSES, make_parser
 
 SETTINGS = (
-    ("--url", "FASHKIIN_URL", "url", "http://127.0.0.1:8080"),
+    ("--url", "FASHKIIN_URL", "url", "http://127.0.0.1"),
     ("--token-file", "FASHKIIN_TOKEN_FILE", "token-file", "the file token beside the configuration file"),
     ("--ca-file", "FASHKIIN_CA_FILE", "ca-file", "the system's certificates"),
     ("--timeout", "FASHKIIN_TIMEOUT", "timeout", "30 seconds"),
+    ("--insecure", "FASHKIIN_INSECURE", "insecure", "false: the token is sent over http:// to this machine alone"),
 )
-COMMON = {"--url", "--token-file", "--ca-file", "--timeout", "--config", "--json", "--help"}
+COMMON = {"--url", "--token-file", "--ca-file", "--timeout", "--insecure", "--config", "--json", "--help"}
 ROWS = """\
 A row is named by its id and its label: a load that is run again, or a put of the same id and label, takes the place of the row.
 Its exact position and time, and its properties, are kept in its note; scans and dumps go by them, counts and grids by cells of

@@ -2,10 +2,8 @@
 
 from __future__ import annotations
 
-import hashlib
 import os
 import re
-import secrets
 import stat
 from dataclasses import dataclass, field
 from pathlib import Path
@@ -26,6 +24,8 @@ class Token:
     @classmethod
     def new(cls, user: str) -> Token:
         """A token of a new secret; `SettingsError` where the user's name is invalid."""
+        import secrets
+
         return cls.parse(f"{user}.{secrets.token_hex(32)}")
 
     @classmethod
@@ -44,6 +44,8 @@ class Token:
     @property
     def digest(self) -> str:
         """The SHA-256 of the secret, which is all that the server keeps."""
+        import hashlib
+
         return hashlib.sha256(self.secret).hexdigest()
 
 

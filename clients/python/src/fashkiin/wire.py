@@ -4,16 +4,18 @@ from __future__ import annotations
 
 import json
 import re
-import select
+import selectors
 import socket
-import ssl
 from collections.abc import Mapping
 from dataclasses import dataclass
 from functools import lru_cache
-from typing import Any
+from typing import TYPE_CHECKING, Any
 from urllib.parse import urlsplit
 
 from fashkiin.errors import ConnectError, CutOffError, EdgeError, ReplyError, SettingsError, refusal
+
+if TYPE_CHECKING:
+    import ssl
 
 HEAD_BYTES = 65_536
 BODY_BYTES = 1 << 28
@@ -99,8 +101,9 @@ class Connection:
 
     def stale(self) -> bool:
         """Whether the server has ended the connection meanwhile, or said what nobody asked for."""
-        readable, _, _ = select.select([self._socket], [], [], 0)
-        return bool(readable)
+        with selectors.DefaultSelector() as selector:
+            selector.register(self._socket, selectors.EVENT_READ)
+            return bool(selector.select(0))
 
     def send(self, data: bytes) -> None:
         """Sends bytes; `CutOffError` where the connection has ended."""
@@ -138,6 +141,13 @@ class Connection:
         if len(body) < length:
             raise CutOffError(f"the reply was cut off after {len(body):,} of {length:,} bytes")
         return body
+
+
+def tls(cafile: str | None) -> ssl.SSLContext:
+    """What checks a server's certificate, by the certificates of a file or those of the system."""
+    import ssl
+
+    return ssl.create_default_context(cafile=cafile)
 
 
 def member(told: Mapping[str, Any], key: str, kind: type) -> Any:

@@ -167,7 +167,7 @@ impl<A: Allocator + Copy> Store<A> {
     }
 
     /// Makes a user's change where it is allowed, and gives the reply, as `change` does where the token holds. So a change that was
-    /// made before, of which no secret is kept, can be made again. When out of memory nothing is changed.
+    /// made before, of which no token is kept, can be made again. When out of memory nothing is changed.
     pub fn change_by(&mut self, asker: &Name, request: &Request<A>) -> Result<Reply<A>, AllocError>
         requires user { is_user self.old.directory asker.now ≡ true }
         requires change { is_change request.now ≡ true }

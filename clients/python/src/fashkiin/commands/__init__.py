@@ -3,6 +3,7 @@
 from __future__ import annotations
 
 import argparse
+import re
 import sys
 from collections.abc import Callable
 from dataclasses import dataclass
@@ -55,14 +56,23 @@ class Command:
     run: Callable[[Session, argparse.Namespace], int]
 
 
-def common_options() -> argparse.ArgumentParser:
+class Parser(argparse.ArgumentParser):
+    """A parser that takes no negative number for an option: `-5e-05` neither, as `scan` prints it."""
+
+    def __init__(self, *words: Any, **named: Any) -> None:
+        super().__init__(*words, **named)
+        self._negative_number_matcher = re.compile(r"-(\d+\.?\d*|\.\d+)([eE][-+]?\d+)?\Z")
+
+
+def common_options() -> Parser:
     """The options that stand at any place behind the command's name: a parent of each parser. One that is not given is in no
     namespace."""
-    common = argparse.ArgumentParser(add_help=False, argument_default=argparse.SUPPRESS)
+    common = Parser(add_help=False, argument_default=argparse.SUPPRESS)
     common.add_argument("--url", metavar="URL", help="the server, http://HOST:PORT or https://HOST:PORT")
     common.add_argument("--token-file", metavar="FILE", help="the file of your token, which you alone may read")
     common.add_argument("--ca-file", metavar="FILE", help="certificates to trust in place of the system's")
     common.add_argument("--timeout", metavar="SECONDS", help="how long to wait for a connection or a reply")
+    common.add_argument("--insecure", action="store_true", help="send the token over http:// to another machine too")
     common.add_argument("--config", metavar="FILE", help="the configuration file")
     common.add_argument("--json", action="store_true", help="write JSON, for scripts")
     return common

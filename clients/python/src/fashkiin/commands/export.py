@@ -6,11 +6,13 @@ import argparse
 import sys
 from collections.abc import Iterable
 from pathlib import Path
+from typing import TYPE_CHECKING
 
 from fashkiin.commands import DONE, Command, Session
 from fashkiin.errors import SettingsError
-from fashkiin.export import accumulo, postgis
-from fashkiin.export.store import Export, gather
+
+if TYPE_CHECKING:
+    from fashkiin.export.store import Export
 
 
 def _arguments(parser: argparse.ArgumentParser) -> None:
@@ -21,6 +23,9 @@ def _arguments(parser: argparse.ArgumentParser) -> None:
 
 
 def _run(session: Session, arguments: argparse.Namespace) -> int:
+    from fashkiin.export import accumulo, postgis
+    from fashkiin.export.store import gather
+
     if (arguments.folder is None) == (arguments.to == "accumulo"):
         raise SettingsError("wanted: export postgis, or: export accumulo DIR")
     with session.client() as client:

@@ -8,7 +8,8 @@ from collections.abc import Iterator
 
 from fashkiin.commands import DONE, Command, Session
 from fashkiin.errors import LabelError, RowError
-from fashkiin.loading import marked
+from fashkiin.faults import marked
+from fashkiin.texts import printable
 
 
 class InvalidLabelError(RowError):
@@ -38,7 +39,7 @@ def _arguments(parser: argparse.ArgumentParser) -> None:
 def _run(session: Session, arguments: argparse.Namespace) -> int:
     with session.client() as client, explained(arguments.label):
         normal = client.label(arguments.label)
-    session.show({"normal": normal}, normal)
+    session.show({"normal": normal}, printable(normal))
     return DONE
 
 

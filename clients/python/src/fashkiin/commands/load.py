@@ -3,22 +3,28 @@
 from __future__ import annotations
 
 import argparse
+import codecs
 import contextlib
-import sys
 import time
-from collections.abc import Callable, Iterator
+from collections.abc import Callable, Sequence
 from dataclasses import replace
 from pathlib import Path
 from typing import TextIO
 
-from fashkiin.client import LARGEST_WINDOW
+from fashkiin.cells import parse_time
+from fashkiin.client import LARGEST_WINDOW, Client
 from fashkiin.commands import DONE, REJECTED, Command, Session
-from fashkiin.commands.where import add_table
-from fashkiin.errors import SettingsError, TableExistsError
-from fashkiin.formats import FORMATS, Format, Names, Source, format_of, sniff
-from fashkiin.loading import Fault, Loader, Progress, Rejects
+from fashkiin.commands.sources import format_for, opened
+from fashkiin.commands.where import add_table, make_table
+from fashkiin.errors import ConnectError, CutOffError, EdgeError, FashkiinError, SettingsError, shown
+from fashkiin.faults import Fault, Rejects
+from fashkiin.formats import FORMATS, Format, Names, Source
+from fashkiin.loading import Loader
+from fashkiin.progress import Progress
+from fashkiin.reading import DAMAGED
+from fashkiin.texts import open_private
 
-PIPE = "-"
+GO_ON = "run the same command again: it goes on, and stores no row twice"
 STEM_BYTES = 44
 
 
@@ -28,7 +34,7 @@ def add_names(parser: argparse.ArgumentParser) -> None:
     parser.add_argument("--id-column", action="append", default=[], metavar="NAME", help=several)
     for field, what in (("lon", "longitude"), ("lat", "latitude"), ("time", "time"), ("label", "label")):
         parser.add_argument(f"--{field}-column", default="", metavar="NAME", help=f"the column or property of the {what}")
-    between = "between the columns of CSV, a comma if left out, or a tab in a .tsv; tab stands for a tab"
+    between = "between the columns of CSV, tab for a tab; if left out, a comma, or the semicolon or tab that the header has"
     parser.add_argument("--delimiter", default="", metavar="CHARACTER", help=between)
 
 
@@ -56,10 +62,21 @@ def _arguments(parser: argparse.ArgumentParser) -> None:
         "--number", metavar="PREFIX", help="ids of rows without one: PREFIX-1, PREFIX-2 ..; the file's name, if left out"
     )
     parser.add_argument("--default-label", metavar="LABEL", help="the label of rows without one; '' shows them to everybody")
+    staying = "a column of CSV, or an element of GPX, that stays a text, though it is a number throughout its file"
+    parser.add_argument("--encoding", default="", metavar="NAME", help="the encoding of CSV, such as latin-1; UTF-8 if left out")
+    parser.add_argument("--skip", type=int, default=0, metavar="LINES", help="lines before the header of CSV")
+    parser.add_argument("--default-time", metavar="TIME", help="the time of rows without one")
+    parser.add_argument("--wrap", action="store_true", help="longitudes of 180 to 360 degrees are those of -180 to 0")
+    parser.add_argument("--dry-run", action="store_true", help="read and check the files, and store nothing")
+    parser.add_argument("--text", action="append", default=[], metavar="NAME", help=staying)
     parser.add_argument("--only", metavar="NAME,..", help="keep these properties alone")
     parser.add_argument("--time-format", choices=("iso", "unix", "unix-ms"), default="iso", help="how times are written")
     parser.add_argument("--create", action="store_true", help="make the table first, where it is not there")
+    constraint = "with --create: the table takes no row that its writer could not see"
+    parser.add_argument("--constraint", action="store_true", help=constraint)
     parser.add_argument("--period", choices=("day", "week"), default="week", help="the length of its time bins, week if left out")
+    replacing = "delete the rows of the same ids that you see under other labels, once the new ones are stored"
+    parser.add_argument("--replace", action="store_true", help=replacing)
     parser.add_argument("--on-error", choices=("stop", "skip"), default="stop", help="at a row that cannot be stored")
     parser.add_argument("--rejects", metavar="FILE", help="write the rows that cannot be stored here, and go on")
     parser.add_argument(
@@ -71,35 +88,84 @@ def _arguments(parser: argparse.ArgumentParser) -> None:
 def _run(session: Session, arguments: argparse.Namespace) -> int:
     if not 1 <= arguments.window <= LARGEST_WINDOW:
         raise SettingsError(f"--window: {arguments.window}, wanted 1 to {LARGEST_WINDOW}")
-    names = replace(
-        read_names(arguments),
-        number=arguments.number,
-        unlabelled=arguments.default_label,
-        only=None if arguments.only is None else frozenset(arguments.only.split(",")),
-        time_format=arguments.time_format,
-    )
+    names = _all_names(arguments)
+    if arguments.constraint and not arguments.create:
+        raise SettingsError("--constraint: wanted with --create; of a table that is there: fashkiin tables constraint TABLE on")
     _check_stems(arguments)
     start = time.monotonic()
     progress = None if arguments.quiet else Progress()
     with contextlib.ExitStack() as stack:
         client = stack.enter_context(session.client())
-        if arguments.create:
-            with contextlib.suppress(TableExistsError):
-                client.tables.create(arguments.table, arguments.period)
+        creation = _Creation(client, arguments)
         reject = _reject(session, arguments, progress, stack)
-        loader = Loader(client, arguments.table, arguments.window, reject, progress.step if progress else None)
+        step = progress.step if progress else None
+        loader = Loader(client, arguments.table, arguments.window, reject, step, creation.begin, arguments.replace)
         try:
             for file in arguments.files:
                 if progress is not None:
                     progress.begin(loader.tally)
-                with _opened(file) as source:
-                    form = _format(arguments, source)
-                    loader.load(source, form, _numbered(names, source))
+                with opened(file) as source:
+                    form = format_for(source, arguments)
+                    work = loader.check if arguments.dry_run else loader.load
+                    work(source, form, _typed(_numbered(names, source), source, form, arguments.text))
+                    if source.dropped:
+                        session.say(f"{file}: not kept: {', '.join(source.dropped)}")
+            if not arguments.dry_run and not loader.tally.read:
+                creation.begin()  # Files without a row make the table too.
+        except KeyboardInterrupt:
+            session.say(f"fashkiin: interrupted, {GO_ON}")
+            raise
+        except (ConnectError, CutOffError, EdgeError) as error:
+            raise CutOffError(f"{error}, {GO_ON}") from None
+        except FashkiinError:
+            creation.undo(loader)
+            raise
         finally:
             if progress is not None:
                 progress.clear()
-            _tell(session, loader, time.monotonic() - start)
+            _tell(session, arguments, loader, time.monotonic() - start)
     return REJECTED if loader.tally.rejected else DONE
+
+
+def _all_names(arguments: argparse.Namespace) -> Names:
+    """How the files name the fields of their rows, and what holds for rows without one."""
+    try:
+        codecs.lookup(arguments.encoding or "utf-8")
+    except LookupError:
+        raise SettingsError(f"--encoding: {arguments.encoding}, wanted an encoding such as utf-8 or latin-1") from None
+    if arguments.skip < 0:
+        raise SettingsError(f"--skip: {arguments.skip}, wanted 0 or more lines")
+    return replace(
+        read_names(arguments),
+        number=arguments.number,
+        unlabelled=arguments.default_label,
+        only=None if arguments.only is None else frozenset(arguments.only.split(",")),
+        time_format=arguments.time_format,
+        encoding=arguments.encoding,
+        skip=arguments.skip,
+        default_time=None if arguments.default_time is None else parse_time(arguments.default_time),
+        wrap=arguments.wrap,
+    )
+
+
+class _Creation:
+    """The table that `--create` makes, just before the first row is sent, where it is not there."""
+
+    def __init__(self, client: Client, arguments: argparse.Namespace) -> None:
+        self._client = client
+        self._arguments = arguments
+        self._made = False
+
+    def begin(self) -> None:
+        """Makes the table."""
+        if self._arguments.create:
+            self._made = make_table(self._client, self._arguments, there=True)
+
+    def undo(self, loader: Loader) -> None:
+        """Drops the table that was made, if no row came into it."""
+        with contextlib.suppress(FashkiinError):
+            if self._made and not loader.tally.stored and self._client.table(self._arguments.table).count() == 0:
+                self._client.tables.drop(self._arguments.table)
 
 
 def _reject(
@@ -121,39 +187,42 @@ def _reject(
 
 def _created(file: str) -> TextIO:
     try:
-        return Path(file).open("w", encoding="utf-8", newline="")
+        return open_private(Path(file))
     except OSError as error:
         raise SettingsError(f"--rejects: {file}: {error.strerror}, wanted a file to write") from None
 
 
-def _tell(session: Session, loader: Loader, seconds: float) -> None:
+def _tell(session: Session, arguments: argparse.Namespace, loader: Loader, seconds: float) -> None:
     """What was done: as data for scripts, as talk for people."""
     tally = loader.tally
+    _warn(session, arguments, loader)
     if session.json:
-        session.show({"stored": tally.stored, "rejected": tally.rejected, "seconds": round(seconds, 3)}, "")
-    else:
-        rate = tally.stored / seconds if seconds else 0
-        session.say(f"{tally.stored:,} rows stored, {tally.rejected:,} rejected, in {seconds:.1f} s: {rate:,.0f} a second")
-
-
-@contextlib.contextmanager
-def _opened(file: str) -> Iterator[Source]:
-    if file == PIPE:
-        with open(sys.stdin.fileno(), "rb", closefd=False) as stream:
-            yield Source("standard input", stream)
+        told = {name: getattr(tally, name) for name in ("read", "stored", "replaced", "rejected", "deleted")}
+        session.show(told | {"seconds": round(seconds, 3)}, "")
         return
-    try:
-        stream = Path(file).open("rb")
-    except OSError as error:
-        raise SettingsError(f"{file}: {error.strerror}, wanted a file of rows") from None
-    with stream:
-        yield Source(file, stream, Path(file).stem)
+    rate = (tally.stored + tally.replaced) / seconds if seconds else 0
+    deleted = f"{tally.deleted:,} deleted under other labels, " if tally.deleted else ""
+    if arguments.dry_run:
+        session.say(f"{tally.read:,} rows read, {tally.stored:,} could be stored, {tally.rejected:,} rejected; nothing is stored")
+        return
+    session.say(
+        f"{tally.read:,} rows read, {tally.stored:,} stored, {tally.replaced:,} replaced, {tally.rejected:,} rejected, {deleted}"
+        f"in {seconds:.1f} s: {rate:,.0f} a second"
+    )
 
 
-def _format(arguments: argparse.Namespace, source: Source) -> Format:
-    if arguments.format:
-        return FORMATS[arguments.format]
-    return (format_of(source.name) if source.stem is not None else None) or sniff(source.stream)
+def _warn(session: Session, arguments: argparse.Namespace, loader: Loader) -> None:
+    """What the loader should know of rows that were stored."""
+    tally = loader.tally
+    done = tally.stored + tally.replaced
+    if done and loader.denied is not None:
+        session.say("fashkiin: you may not read this table, so rows that were there already count as stored")
+    if tally.unread:
+        session.say(f"fashkiin: {tally.unread:,} of {done:,} rows have labels that you cannot read")
+    if tally.example and not arguments.replace:
+        name, label = tally.example
+        example = f"{shown(name)} under {shown(label)}: load --replace deletes it there"
+        session.say(f"fashkiin: {tally.elsewhere:,} of {done:,} rows stand under another label too, such as {example}")
 
 
 def _numbered(names: Names, source: Source) -> Names:
@@ -161,6 +230,20 @@ def _numbered(names: Names, source: Source) -> Names:
     if names.number is not None or source.stem is None:
         return names
     return replace(names, number=source.stem.encode()[:STEM_BYTES].decode(errors="ignore"))
+
+
+def _typed(names: Names, source: Source, form: Format, texts: Sequence[str]) -> Names:
+    """The names, with the properties that are numbers throughout a file, but for those that stay texts. A pipe is read but
+    once, so its texts stay texts."""
+    if form.numbers is None or not source.rereadable:
+        return names
+    try:
+        found = form.numbers(source, names)
+    except (FashkiinError, *DAMAGED):
+        return names  # The load meets it where it stands, behind the rows before it.
+    finally:
+        source.stream.seek(0)
+    return replace(names, numbers=found - frozenset(texts))
 
 
 def _check_stems(arguments: argparse.Namespace) -> None:

@@ -6,7 +6,6 @@ import argparse
 import contextlib
 import os
 import sys
-import tempfile
 from collections.abc import Iterable, Iterator
 from itertools import chain, islice
 from pathlib import Path
@@ -20,6 +19,7 @@ from fashkiin.errors import SettingsError
 from fashkiin.formats import FORMATS, format_of
 from fashkiin.rows import Row, to_json
 from fashkiin.table import PAGE
+from fashkiin.texts import printable
 
 
 def record(row: Row) -> dict[str, Any]:
@@ -37,7 +37,7 @@ def record(row: Row) -> dict[str, Any]:
 def line(row: Row) -> str:
     """A row in a line: its fields with tabs between, and no control character in them."""
     fields = (row.id, f"{row.lon!r}", f"{row.lat!r}", time_text(row.time), row.label, to_json(row.properties))
-    return "\t".join(field if field.isprintable() else ascii(field)[1:-1] for field in fields)
+    return "\t".join(map(printable, fields))
 
 
 def show_rows(session: Session, rows: Iterable[Row]) -> int:
@@ -75,6 +75,8 @@ def _output(file: str | None) -> Iterator[TextIO]:
         with open(sys.stdout.fileno(), "w", encoding="utf-8", newline="", closefd=False) as out:
             yield out
         return
+    import tempfile
+
     target = Path(file)
     try:
         descriptor, part = tempfile.mkstemp(prefix=f".{target.name}.", dir=target.parent)
@@ -108,13 +110,18 @@ def _scan(session: Session, arguments: argparse.Namespace) -> int:
 def _count_arguments(parser: argparse.ArgumentParser) -> None:
     add_table(parser)
     add_where(parser)
+    parser.add_argument("--exact", action="store_true", help="as many as scan shows: scan the cells that --bbox and --time cut")
 
 
 def _count(session: Session, arguments: argparse.Namespace) -> int:
     where = read_where(arguments)
     with session.client() as client:
-        count = client.table(arguments.table).count(*where)
-    session.show({"count": count}, str(count))
+        table = client.table(arguments.table)
+        if arguments.exact:
+            least = count = table.count(*where, exact=True)
+        else:
+            least, count = table.count_range(*where)
+    session.show({"count": count, "least": least}, str(count) if least == count else f"about {count}")
     return DONE
 
 
@@ -153,7 +160,12 @@ def _get(session: Session, arguments: argparse.Namespace) -> int:
 COMMANDS = (
     Command("dump", "write all rows as a file that load reads", _dump_arguments, _dump),
     Command("scan", "show the rows of a place and a time", _scan_arguments, _scan),
-    Command("count", "count the rows of the cells of a place and a time", _count_arguments, _count),
+    Command(
+        "count",
+        "count the rows of a place and a time: about so many, where rows lie in cells and seconds that these cut",
+        _count_arguments,
+        _count,
+    ),
     Command("grid", "count the rows in each cell of a grid, north up", _grid_arguments, _grid),
     Command("get", "show the rows of an id (status 1 where there is none)", _get_arguments, _get),
 )

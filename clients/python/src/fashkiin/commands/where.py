@@ -6,7 +6,8 @@ import argparse
 from typing import NamedTuple
 
 from fashkiin.cells import Bbox, Span, as_time, latitude_cell, longitude_cell, time_second
-from fashkiin.errors import RowError, SettingsError
+from fashkiin.client import Client
+from fashkiin.errors import RowError, SettingsError, TableExistsError
 
 OPEN = ".."
 
@@ -22,6 +23,28 @@ class Where(NamedTuple):
 def add_table(parser: argparse.ArgumentParser) -> None:
     """The table's name."""
     parser.add_argument("table", metavar="TABLE", help="a table, such as points or geo.trips")
+
+
+def make_table(client: Client, arguments: argparse.Namespace, there: bool) -> bool:
+    """Makes the table that `table`, `period` and `constraint` of the arguments say, and returns whether it did. Where it is
+    `there`, it may be so already; `SettingsError` then, if its constraint was to be on and is not."""
+    name = arguments.table
+    try:
+        client.tables.create(name, arguments.period)
+    except TableExistsError:
+        if not there:
+            raise
+        if arguments.constraint and not any(table.constraint for table in client.tables if table.table == name):
+            wanted = f"wanted: fashkiin tables constraint {name} on"
+            raise SettingsError(f"--constraint: {name} is there already, and takes any row, {wanted}") from None
+        return False
+    if arguments.constraint:
+        try:
+            client.tables.set_constraint(name, True)
+        except BaseException:
+            client.tables.drop(name)
+            raise
+    return True
 
 
 def add_auths(parser: argparse.ArgumentParser) -> None:

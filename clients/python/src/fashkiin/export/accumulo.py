@@ -15,6 +15,7 @@ from fashkiin.cells import time_text
 from fashkiin.errors import SettingsError
 from fashkiin.export.store import Export, ExportError, TableExport
 from fashkiin.rows import Row, to_json
+from fashkiin.texts import open_private
 
 FIELDS = ("fid", "id", "label", "lon", "lat", "dtg", "properties")
 CONSTRAINT = "org.apache.accumulo.core.data.constraints.VisibilityConstraint"
@@ -37,19 +38,23 @@ The rows are those that the exporter saw.
 
 
 def write(export: Export, folder: Path) -> None:
-    """Writes the files into a new folder; `SettingsError` where it is there, `ExportError` for what the shell cannot say."""
+    """Writes the files, for their owner alone, into a new folder.
+
+    `SettingsError` where the folder is there, `ExportError` for what the shell cannot say.
+    """
     before, after = list(_before(export)), list(_after(export))
     try:
-        folder.mkdir(parents=True)
+        folder.mkdir(mode=0o700, parents=True)
     except OSError as error:
         raise SettingsError(f"{folder}: {error.strerror}, wanted the name of a folder to make") from None
-    (folder / "README").write_text(README, encoding="utf-8")
-    (folder / "before.txt").write_text("".join(before), encoding="utf-8")
-    (folder / "after.txt").write_text("".join(after), encoding="utf-8")
+    texts = {"README": README, "before.txt": "".join(before), "after.txt": "".join(after)}
     for table in export.tables:
-        (folder / f"{table.name}.sft.conf").write_text(_schema(table), encoding="utf-8")
-        (folder / f"{table.name}.converter.conf").write_text(CONVERTER, encoding="utf-8")
-        with (folder / f"{table.name}.csv").open("w", encoding="utf-8", newline="") as file:
+        texts |= {f"{table.name}.sft.conf": _schema(table), f"{table.name}.converter.conf": CONVERTER}
+    for name, text in texts.items():
+        with open_private(folder / name) as file:
+            file.write(text)
+    for table in export.tables:
+        with open_private(folder / f"{table.name}.csv") as file:
             writer = csv.writer(file)
             writer.writerow(FIELDS)
             writer.writerows(map(_fields, export.rows(table)))

@@ -1,82 +1,90 @@
-create extension if not exists postgis;
-create schema fashkiin;
+-- Which authorizations each role holds. Insert a row to give one, delete it to take it away.
+create table fashkiin.authorizations (role regrole, name text check (name <> ''), primary key (role, name));
 
--- Each authorization, and the role whose members hold it.
-create table fashkiin.authorizations (name text primary key, role name not null unique);
+-- Those of the current user.
+create view fashkiin.held with (security_barrier) as
+  select array_to_tsvector(coalesce(array_agg(a.name), '{}')) as names
+  from fashkiin.authorizations a
+  where a.role = (select r.oid from pg_roles r where r.rolname = current_user);
 
--- The authorizations of the current user.
-create function fashkiin.held() returns text[] language sql stable
-as $$
-  select coalesce(array_agg(a.name), '{}') from fashkiin.authorizations a where pg_has_role(current_user, a.role, 'member')
-$$;
+-- What a label needs, as a query of these names. A label is a visibility expression of Accumulo: empty, which needs nothing, or terms
+-- joined by & or by |, with parentheses where both are; at most 16 are open at once. Null for the empty label and for other texts.
+create function fashkiin.needs(label text) returns tsquery language sql immutable strict
+return (
+  with recursive reduced (depth, shape) as (
+    select 0, regexp_replace(label, '"(?:[^"\\]|\\["\\])+"|[A-Za-z0-9_:./-]+', 'w', 'g')
+    union all -- the innermost parentheses become words
+    select depth + 1, regexp_replace(shape, '[(](?:w(?:&w)*|w(?:[|]w)*)[)]', 'w', 'g') from reduced where depth < 16
+  )
+  select regexp_replace(replace(label, '''', ''''''), '"((?:[^"\\]|\\["\\])+)"|([A-Za-z0-9_:./-]+)', '''\1\2''', 'g')::tsquery
+  from reduced where depth = 16 and shape ~ '^(?:w(?:&w)*|w(?:[|]w)*)$'
+);
 
--- Whether a label is true for these authorizations. A label is a visibility expression of Accumulo: empty, or terms joined by & or
--- by |, with parentheses where both are; at most 16 are open at once. Another text is an error.
-create function fashkiin.is_true(label text, held text[]) returns boolean language plpgsql immutable strict
-as $$
-declare
-  word text;
-  at integer := 1;
-  truth boolean; -- of the term or parenthesis that ended last; null where one is to come
-  level boolean; -- of those before it in its parenthesis; null where there is none
-  sign text;     -- the operator between them
-  levels boolean[] := '{}';
-  signs text[] := '{}';
-  depth integer := 0;
-begin
-  if label = '' then
-    return true;
-  end if;
-  while at <= length(label) loop
-    word := substring(substr(label, at) from '^(?:[A-Za-z0-9_:./-]+|"(?:[^"\\]|\\["\\])+"|[&|()])');
-    case
-      when word is null then
-        raise exception 'no label: % (character %)', label, at using errcode = 'data_exception';
-      when word in ('&', '|') and truth is not null and word = coalesce(sign, word) then
-        level := case word when '&' then coalesce(level, true) and truth else coalesce(level, false) or truth end;
-        sign := word;
-        truth := null;
-      when word = '(' and truth is null and depth < 16 then
-        depth := depth + 1;
-        levels[depth] := level;
-        signs[depth] := sign;
-        level := null;
-        sign := null;
-      when word = ')' and truth is not null and depth > 0 then
-        truth := case sign when '&' then level and truth when '|' then level or truth else truth end;
-        level := levels[depth];
-        sign := signs[depth];
-        depth := depth - 1;
-      when word !~ '^[&|()]$' and truth is null then
-        truth := case
-          when left(word, 1) = '"' then regexp_replace(substr(word, 2, length(word) - 2), '\\(.)', '\1', 'g')
-          else word
-        end = any (held);
-      else
-        raise exception 'no label: % (character %)', label, at using errcode = 'data_exception';
-    end case;
-    at := at + length(word);
-  end loop;
-  if truth is null or depth > 0 then
-    raise exception 'no label: % (it ends too soon)', label using errcode = 'data_exception';
-  end if;
-  return case sign when '&' then level and truth when '|' then level or truth else truth end;
-end
-$$;
-
--- The labels of each table. A user sees those of the tables that he may read which are true for him, so each is judged once a query
--- and not once a row.
-create table fashkiin.labels (rel regclass, label text, primary key (rel, label));
-alter table fashkiin.labels enable row level security;
-create policy seen on fashkiin.labels for select
-  using (has_table_privilege(rel, 'select') and fashkiin.is_true(label, (select fashkiin.held())));
+-- The labels of each table. A query judges each of them once, not each row. Neither they nor the rows are in an index with an order:
+-- EXPLAIN ANALYZE of a plan that goes by one counts what lies between two texts.
+create table fashkiin.labels (
+  rel regclass not null,
+  label text not null,
+  needs tsquery,
+  constraint "labels key" exclude using hash ((array[rel::oid::text, label]) with =),
+  check (label = '' or needs is not null)
+);
 
 -- Lists the label of a row that is written.
-create function fashkiin.list_label() returns trigger language plpgsql security definer set search_path = ''
+create function fashkiin.list_label() returns trigger language plpgsql security definer set search_path = pg_catalog, pg_temp
 as $$
+declare
+  needs constant pg_catalog.tsquery := fashkiin.needs(new.label);
 begin
-  perform fashkiin.is_true(new.label, '{}');
-  insert into fashkiin.labels values (tg_relid, new.label) on conflict do nothing;
+  if needs is null and new.label <> '' then
+    raise exception 'no label: %', new.label using errcode = 'data_exception';
+  end if;
+  insert into fashkiin.labels values (tg_relid, new.label, needs) on conflict do nothing;
   return new;
 end
 $$;
+
+-- Refuses a label that is not true for the current user.
+create function fashkiin.check_label() returns trigger language plpgsql set search_path = pg_catalog, pg_temp
+as $$
+begin
+  if new.label = '' or (select h.names from fashkiin.held h) @@ fashkiin.needs(new.label) then
+    return new;
+  end if;
+  raise exception 'the label % is not true for %', new.label, current_user using errcode = 'insufficient_privilege';
+end
+$$;
+
+-- Writes the rows of a view into the table that its trigger names. A new row takes the place of the one with its id and label.
+create function fashkiin.write_row() returns trigger language plpgsql security definer set search_path = pg_catalog, pg_temp
+as $$
+declare
+  remove constant pg_catalog.text := format('delete from %s where array[id, label] = array[$1, $2]', tg_argv[0]);
+  put constant pg_catalog.text := format('insert into %s select ($1).* on conflict do nothing', tg_argv[0]);
+  written pg_catalog.int8;
+begin
+  if tg_op <> 'INSERT' then
+    execute remove using old.id, old.label;
+    get diagnostics written = row_count;
+    if written = 0 then -- another removed it
+      return null;
+    elsif tg_op = 'DELETE' then
+      return old;
+    end if;
+  end if;
+  loop
+    execute remove using new.id, new.label;
+    execute put using new;
+    get diagnostics written = row_count;
+    exit when written = 1;
+  end loop;
+  return new;
+end
+$$;
+
+revoke execute on all functions in schema fashkiin from public;
+alter table fashkiin.authorizations enable row level security;
+alter table fashkiin.authorizations alter role set statistics 0, alter name set statistics 0;
+alter table fashkiin.labels enable row level security;
+alter table fashkiin.labels alter rel set statistics 0, alter label set statistics 0, alter needs set statistics 0;
+alter index fashkiin."labels key" alter 1 set statistics 0;

@@ -1,205 +1,198 @@
-"""The WSGI application: paths, refusals and answers."""
+"""The WSGI application: its paths, and what stands at each."""
 
 from __future__ import annotations
 
-import base64
-import json
-from collections.abc import Callable, Iterable
-from dataclasses import dataclass, field
+from collections.abc import Callable, Iterable, Iterator
+from contextlib import contextmanager
 from datetime import UTC, datetime
-from typing import TYPE_CHECKING, Any
-from urllib.parse import quote, urlencode
-from wsgiref.util import application_uri
+from functools import partial
+from typing import TYPE_CHECKING
+from urllib.parse import quote
 
 from fashkiin.cells import time_text
 from fashkiin.client import Client
-from fashkiin.errors import (
-    AuthorizationError,
-    ConnectError,
-    EdgeError,
-    FashkiinError,
-    InvalidNameError,
-    NoTableError,
-    OutOfMemoryError,
-    PermissionDeniedError,
-    SettingsError,
-    TokenError,
+from fashkiin.errors import FashkiinError, NoTableError, PermissionDeniedError
+from fashkiin.features import documents, items
+from fashkiin.features.answers import (
+    Answer,
+    MethodNotAllowedError,
+    NotThereError,
+    Request,
+    answer,
+    options,
+    prefers_page,
+    refused,
 )
-from fashkiin.features import documents
-from fashkiin.features.documents import GEOJSON, JSON, OPENAPI, link
-from fashkiin.features.items import count, feature, find, read
-from fashkiin.features.query import ParameterError, Query, read_parameters, read_query, write_after
+from fashkiin.features.definition import definition
+from fashkiin.features.documents import GEOJSON, HTML, JSON, OPENAPI, TITLE, Link, link, links, with_parameters
+from fashkiin.features.extent import Extent, find_extent
+from fashkiin.features.query import (
+    OF_DOCUMENTS,
+    OF_FEATURE,
+    OF_FEATURES,
+    ParameterError,
+    Query,
+    read_crs,
+    read_query,
+    write_after,
+)
+from fashkiin.features.turns import Turns
+from fashkiin.rows import Place, Row
+from fashkiin.table import Table
 from fashkiin.tokens import Token
 
 if TYPE_CHECKING:
     from wsgiref.types import StartResponse, WSGIEnvironment
 
-CHALLENGES = ('Bearer realm="points"', 'Basic realm="points", charset="UTF-8"')
-
-
-@dataclass(frozen=True, slots=True)
-class Answer:
-    """An answer: its status, its media type, its JSON, and further header fields."""
-
-    status: str
-    type: str
-    value: dict[str, Any]
-    fields: list[tuple[str, str]] = field(default_factory=list)
-
-
-class NotThereError(FashkiinError):
-    """A path, a collection or a feature that is not there."""
-
-
-class MethodNotAllowedError(FashkiinError):
-    """Another method than GET and HEAD."""
-
-
-@dataclass(frozen=True, slots=True)
-class Request:
-    """What is asked: the segments of the path, the query, the token, and the URL that the application stands at."""
-
-    segments: tuple[str, ...]
-    query: str
-    authorization: str
-    base: str
-
-    @classmethod
-    def read(cls, environ: WSGIEnvironment, base: str | None) -> Request:
-        """The request of an environment; `NotThereError` where its path is no UTF-8."""
-        try:
-            path = str(environ.get("PATH_INFO", "")).encode("latin-1").decode()
-        except UnicodeDecodeError:
-            raise NotThereError("no such path") from None
-        # A feature's id may have slashes.
-        segments = tuple(path.removeprefix("/").split("/", 3)) if path.removeprefix("/") else ()
-        own = base if base is not None else application_uri(environ)
-        return cls(segments, environ.get("QUERY_STRING", ""), environ.get("HTTP_AUTHORIZATION", ""), own.rstrip("/"))
-
-    def token(self) -> Token:
-        """The caller's token, as a bearer's (RFC 6750), or as a user's name and its secret as password (RFC 7617), which is what
-        QGIS can send; `SettingsError` where there is none."""
-        scheme, _, credentials = self.authorization.partition(" ")
-        match scheme.lower():
-            case "bearer":
-                return Token.parse(credentials)
-            case "basic":
-                return Token.parse(_joined(credentials))
-            case _:
-                raise SettingsError("no token, wanted the field Authorization: Bearer USER.SECRET, or user and secret by Basic")
-
-
-def _joined(credentials: str) -> str:
-    """The text of the token whose user and secret are a user and a password."""
-    try:
-        user, _, secret = base64.b64decode(credentials, validate=True).decode().partition(":")
-    except ValueError:
-        raise SettingsError("no credentials, wanted a user and a secret in Base64") from None
-    return f"{user}.{secret}"
+Found = tuple[list[Row], Place | None, int | None]
+"""The rows of a page, the place of the next one, and how many rows match, where that is known."""
 
 
 class Features:
-    """The application. `connect` makes a client of a caller's token, which is closed after the request; `base` is the URL that
-    the application is reached at, where a proxy stands before it, and otherwise the one of each request."""
+    """The application. `connect` makes a client of a caller's token, which is closed after the request. `base` is the URL that
+    callers reach the application at: links begin with it, whatever name a caller uses."""
 
-    def __init__(self, connect: Callable[[Token], Client], base: str | None = None) -> None:
+    def __init__(self, connect: Callable[[Token], Client], base: str) -> None:
         self._connect = connect
-        self._base = base
+        self._base = base.rstrip("/")
+        self._turns = Turns()
 
     def __call__(self, environ: WSGIEnvironment, start_response: StartResponse) -> Iterable[bytes]:
         method = environ["REQUEST_METHOD"]
         try:
-            if method not in ("GET", "HEAD"):
-                raise MethodNotAllowedError("wanted GET or HEAD")
-            answer = self._answer(Request.read(environ, self._base))
+            told = self._answer(method, Request.read(environ))
         except FashkiinError as error:
-            answer = refused(error)
-        body = json.dumps(answer.value, allow_nan=False, separators=(",", ":")).encode()
-        fields = [("Content-Type", answer.type), ("Content-Length", str(len(body)))]
-        # What one caller sees is kept for nobody else.
-        fields += [("Cache-Control", "no-store"), ("X-Content-Type-Options", "nosniff"), *answer.fields]
-        start_response(answer.status, fields)
-        return [] if method == "HEAD" else [body]
+            told = refused(error, self._base, prefers_page(environ.get("HTTP_ACCEPT", "")))
+        start_response(told.status, told.fields)
+        return [] if method == "HEAD" else [told.body]
 
-    def _answer(self, request: Request) -> Answer:
-        match request.segments:
-            case ("collections", table, "items"):
-                return self._items(request, table, read_query(request.query))
+    def _answer(self, method: str, request: Request) -> Answer:
+        found = self._at(request.segments)
+        match method:
+            case "GET" | "HEAD":
+                return found(request)
+            case "OPTIONS":
+                return options()
+            case _:
+                raise MethodNotAllowedError(method)
+
+    def _at(self, segments: tuple[str, ...]) -> Callable[[Request], Answer]:
+        """What stands at a path."""
+        match segments:
             case ():
-                value, type = documents.landing(request.base), JSON
+                return self._landing
             case ("api",):
-                value, type = documents.api(request.base), OPENAPI
+                return self._definition
             case ("conformance",):
-                value, type = documents.conformance(), JSON
+                return self._conformance
             case ("collections",):
-                value, type = self._collections(request), JSON
+                return self._collections
             case ("collections", table):
-                value, type = self._collection(request, table), JSON
+                return partial(self._collection, table)
+            case ("collections", table, "items"):
+                return partial(self._items, table)
             case ("collections", table, "items", name):
-                value, type = self._item(request, table, name), GEOJSON
+                return partial(self._item, table, name)
             case _:
                 raise NotThereError("no such path")
-        read_parameters(request.query, ())
-        return Answer("200 OK", type, value)
 
-    def _collections(self, request: Request) -> dict[str, Any]:
-        with self._connect(request.token()) as client:
-            return documents.collections(request.base, client.tables)
+    @contextmanager
+    def _client(self, request: Request) -> Iterator[Client]:
+        """A client of a request's token, in one of the token's turns."""
+        token = request.token()
+        with self._turns.turn(token), self._connect(token) as client:
+            yield client
 
-    def _collection(self, request: Request, table: str) -> dict[str, Any]:
-        with self._connect(request.token()) as client:
-            if table not in (info.table for info in client.tables):
-                raise NotThereError("no such collection")
-        return documents.collection(request.base, table)
+    def _landing(self, request: Request) -> Answer:
+        asked = request.asked(OF_DOCUMENTS)
+        value = documents.landing(self._base, asked.links(f"{self._base}/", JSON))
+        return answer(asked, JSON, value, TITLE, [])
 
-    def _items(self, request: Request, table: str, query: Query) -> Answer:
-        with self._connect(request.token()) as client:
-            rows, after = read(client.table(table), query)
-            matched = count(client.table(table), query, len(rows), after)
-        collection = request.base + documents.collection_path(table)
-        own = f"{collection}/items" + (f"?{request.query}" if request.query else "")
-        links = [link("self", own, GEOJSON, "This page"), link("collection", collection, JSON, f"The collection {table}")]
+    def _definition(self, request: Request) -> Answer:
+        asked = request.asked(OF_DOCUMENTS)
+        own = asked.links(f"{self._base}/api", OPENAPI)
+        return answer(asked, OPENAPI, definition(self._base), "API definition", self._trail(), own)
+
+    def _conformance(self, request: Request) -> Answer:
+        asked = request.asked(OF_DOCUMENTS)
+        value = documents.conformance(asked.links(f"{self._base}/conformance", JSON))
+        return answer(asked, JSON, value, "Conformance classes", self._trail())
+
+    def _collections(self, request: Request) -> Answer:
+        asked = request.asked(OF_DOCUMENTS)
+        with self._client(request) as client:
+            found = list(_readable(client))
+        value = documents.collections(self._base, asked.links(f"{self._base}/collections", JSON), found)
+        return answer(asked, JSON, value, "Collections", self._trail())
+
+    def _collection(self, table: str, request: Request) -> Answer:
+        asked = request.asked(OF_DOCUMENTS)
+        with self._client(request) as client:
+            extent = find_extent(client.table(table), client.whoami().auths)
+        own = asked.links(self._base + documents.collection_path(table), JSON)
+        value = documents.collection(self._base, table, extent, own)
+        return answer(asked, JSON, value, table, self._trail("collections"))
+
+    def _items(self, table: str, request: Request) -> Answer:
+        asked = request.asked(OF_FEATURES, others=True)
+        query = read_query(asked.given)
+        with self._client(request) as client:
+            rows, after, matched = _found(client.table(table), query)
+        url = f"{self._base}{documents.collection_path(table)}/items"
+        own = [*asked.links(url, GEOJSON), *self._to_collection(table)]
         if after is not None:
-            given = read_parameters(request.query, ("bbox", "datetime", "limit", "after")) | {"after": write_after(after)}
-            links.append(link("next", f"{collection}/items?{urlencode(given)}", GEOJSON, "The next page"))
+            next = with_parameters(url, {**asked.given, "after": write_after(after)})
+            own.append(link("next", next, HTML if asked.html else GEOJSON, "The next page"))
         page = {
             "type": "FeatureCollection",
-            "features": [feature(row) for row in rows],
-            "links": links,
+            "features": [items.feature(row, query.crs) for row in rows],
+            "links": own,
             "timeStamp": time_text(datetime.now(UTC).replace(microsecond=0)),
             "numberReturned": len(rows),
         }
-        return Answer("200 OK", GEOJSON, page if matched is None else page | {"numberMatched": matched})
+        value = page if matched is None else page | {"numberMatched": matched}
+        return answer(asked, GEOJSON, value, f"Features of {table}", self._trail("collections", table), None, _crs(query.crs))
 
-    def _item(self, request: Request, table: str, name: str) -> dict[str, Any]:
-        with self._connect(request.token()) as client:
-            row = find(client.table(table), name)
+    def _item(self, table: str, name: str, request: Request) -> Answer:
+        asked = request.asked(OF_FEATURE)
+        crs = read_crs(asked.given, "crs")
+        with self._client(request) as client:
+            row = items.find(client.table(table), name)
         if row is None:
             raise NotThereError("no such feature")
-        collection = request.base + documents.collection_path(table)
-        own = f"{collection}/items/{quote(name, safe='')}"
-        links = [link("self", own, GEOJSON, "This document"), link("collection", collection, JSON, f"The collection {table}")]
-        return feature(row) | {"links": links}
+        url = f"{self._base}{documents.collection_path(table)}/items/{quote(name, safe='')}"
+        value = items.feature(row, crs) | {"links": [*asked.links(url, GEOJSON), *self._to_collection(table)]}
+        return answer(asked, GEOJSON, value, name, self._trail("collections", table, "items"), None, _crs(crs))
+
+    def _to_collection(self, table: str) -> list[Link]:
+        return links("collection", self._base + documents.collection_path(table), JSON, f"The collection {table}")
+
+    def _trail(self, *names: str) -> list[tuple[str, str]]:
+        """The titles and URLs of the pages that lead to one: the landing page, and those of the segments of a path."""
+        paths = ["/".join(quote(name, safe="") for name in names[: number + 1]) for number in range(len(names))]
+        return [(title, f"{self._base}/{path}?f=html") for title, path in zip((TITLE, *names), ("", *paths), strict=True)]
 
 
-def refused(error: FashkiinError) -> Answer:
-    """The exception that tells an error (OGC 17-069r4, 7.5.1)."""
-    fields: list[tuple[str, str]] = []
-    match error:
-        case ParameterError():
-            status, code = "400 Bad Request", "InvalidParameterValue"
-        case SettingsError() | TokenError():
-            status, code = "401 Unauthorized", "Unauthorized"
-            fields = [("WWW-Authenticate", challenge) for challenge in CHALLENGES]
-        case PermissionDeniedError() | AuthorizationError():
-            status, code = "403 Forbidden", "Forbidden"
-        case NotThereError() | NoTableError() | InvalidNameError():
-            status, code = "404 Not Found", "NotFound"
-        case MethodNotAllowedError():
-            status, code = "405 Method Not Allowed", "MethodNotAllowed"
-            fields = [("Allow", "GET, HEAD")]
-        case ConnectError() | EdgeError() | OutOfMemoryError():
-            status, code = "503 Service Unavailable", "ServiceUnavailable"
-        case _:
-            status, code = "502 Bad Gateway", "BadGateway"
-    return Answer(status, JSON, {"code": code, "description": str(error)}, fields)
+def _readable(client: Client) -> Iterator[tuple[str, Extent | None]]:
+    """The tables that the client may read, each with its extent. Who may read one is judged by the server."""
+    auths = client.whoami().auths
+    for info in client.tables:
+        try:
+            yield info.table, find_extent(client.table(info.table), auths)
+        except (PermissionDeniedError, NoTableError):
+            continue
+
+
+def _found(table: Table, query: Query) -> Found:
+    """A page of a query; `ParameterError` for a filter by what is certainly no property."""
+    rows, after = items.named(table, query) or items.read(table, query)
+    if query.filters and not rows and after is None and query.after is None:
+        unknown = items.unknown_property(table, query)
+        if unknown is not None:
+            raise ParameterError(unknown, f"one of {', '.join(OF_FEATURES)}, or a property of the features")
+    return rows, after, items.count(table, query, len(rows), after)
+
+
+def _crs(crs: str) -> list[tuple[str, str]]:
+    """The field that names the coordinate reference system of an answer (OGC 18-058r1)."""
+    return [("Content-Crs", f"<{crs}>")]

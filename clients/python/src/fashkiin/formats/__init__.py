@@ -19,19 +19,21 @@ __all__ = ["FORMATS", "Format", "Found", "InputError", "Names", "Source", "forma
 @dataclass(frozen=True, slots=True)
 class Format:
     """A format of files. `read` tells each row by its place, with the error of a row that is none; `unit` is what a place
-    counts. `write` writes rows that `read` gives back."""
+    counts. `write` writes rows that `read` gives back. `numbers` tells which properties are numbers throughout a file, in a
+    format of texts."""
 
     name: str
     unit: str
     suffixes: tuple[str, ...]
     read: Callable[[Source, Names], Iterator[Found]]
     write: Callable[[Iterable[Row], TextIO, Names], None]
+    numbers: Callable[[Source, Names], frozenset[str]] | None = None
 
 
 FORMATS = {
     form.name: form
     for form in (
-        Format("csv", "line", (".csv", ".tsv", ".txt"), delimited.read, delimited.write),
+        Format("csv", "line", (".csv", ".tsv", ".txt"), delimited.read, delimited.write, delimited.numbers),
         Format("geojson", "feature", (".geojson", ".json"), geojson.read, geojson.write),
         Format(
             "geojsonseq",
@@ -40,7 +42,7 @@ FORMATS = {
             geojson.read_lines,
             geojson.write_lines,
         ),
-        Format("gpx", "line", (".gpx",), gpx.read, gpx.write),
+        Format("gpx", "line", (".gpx",), gpx.read, gpx.write, gpx.numbers),
     )
 }
 """The formats by their names."""

@@ -2,20 +2,24 @@
 
 from __future__ import annotations
 
+import contextlib
 import csv
 import io
 import json
-import tempfile
 from collections.abc import Iterable, Iterator, Sequence
 from dataclasses import dataclass
+from datetime import datetime
+from itertools import chain
 from typing import Any, TextIO
 
 from fashkiin.cells import time_text
 from fashkiin.errors import FashkiinError, Plain, RowError
-from fashkiin.formats.fields import DEFAULTS, LABEL_WANTED, Found, Names, Source, degrees, join_ids, read_time
+from fashkiin.formats.fields import DEFAULTS, LABEL_WANTED, Found, Names, Source, candidates, degrees, join_ids, read_time
+from fashkiin.formats.numbers import Throughout, with_numbers
 from fashkiin.rows import Row, to_json
 
 FIELDS = ("id", "lon", "lat", "time", "label")
+DELIMITERS = (",", ";", "\t")
 csv.field_size_limit(1 << 20)
 
 
@@ -27,21 +31,36 @@ class _Columns:
     id: Sequence[int]
     lon: int
     lat: int
-    time: int
+    time: int | None
     label: int | None
     properties: Sequence[tuple[int, str]]
 
 
 def read(source: Source, names: Names) -> Iterator[Found]:
     """The rows of a CSV file by their lines. `InputError` where the header lacks a column."""
-    text = io.TextIOWrapper(source.stream, encoding="utf-8-sig", errors="surrogateescape", newline="")
+    text = _text(source, names)
     try:
-        delimiter = names.delimiter or ("\t" if source.name.lower().endswith(".tsv") else ",")
-        records = csv.reader(text, delimiter=delimiter, strict=True)
+        records = _records(source, text, names)
         columns = _columns(source, _header(source, records), names)
         yield from _rows(records, columns, names)
     finally:
         text.detach()
+
+
+def _text(source: Source, names: Names) -> io.TextIOWrapper:
+    """The text of a source, behind the lines that are skipped."""
+    text = io.TextIOWrapper(source.stream, encoding=names.encoding or "utf-8-sig", errors="surrogateescape", newline="")
+    for _ in range(names.skip):
+        text.readline()
+    return text
+
+
+def _records(source: Source, text: io.TextIOWrapper, names: Names) -> Any:
+    """The records, whose delimiter is the one that the header has most often, a comma where none is more often."""
+    header = text.readline()
+    most = "\t" if source.name.lower().removesuffix(".gz").endswith(".tsv") else max(DELIMITERS, key=header.count)
+    delimiter = names.delimiter or most
+    return csv.reader(chain([header] if header else [], text), delimiter=delimiter, strict=True)
 
 
 def _header(source: Source, records: Any) -> list[str]:
@@ -54,7 +73,7 @@ def _header(source: Source, records: Any) -> list[str]:
     try:
         "".join(header).encode()
     except UnicodeEncodeError:
-        raise source.fail("1", "the header is not UTF-8") from None
+        raise source.fail("1", "the header is not UTF-8: name its --encoding") from None
     for name in header:
         if header.count(name) > 1:
             raise source.fail("1", f"column {name!r} is there twice, wanted names that differ")
@@ -62,18 +81,18 @@ def _header(source: Source, records: Any) -> list[str]:
 
 
 def _columns(source: Source, header: list[str], names: Names) -> _Columns:
-    small = [name.strip().lower() for name in header]
-
     def find(field: str) -> int | None:
         given = getattr(names, field)
-        if given:
-            return header.index(given) if given in header else None
-        return next((small.index(name) for name in DEFAULTS[field] if name in small), None)
+        found = [name for name in header if name == given] if given else candidates(field, header)
+        if len(found) > 1:
+            raise source.fail("1", f"columns {' and '.join(found)}: both fit {field}: name one by --{field}-column")
+        return header.index(found[0]) if found else None
 
     def need(field: str) -> int:
         found = find(field)
         if found is None:
-            wanted = getattr(names, field) or " or ".join(DEFAULTS[field])
+            own, others, last = DEFAULTS[field]
+            wanted = getattr(names, field) or " or ".join((own, *others, *last))
             raise source.fail("1", f"column {field}: missing, wanted {wanted}: name it by --{field}-column")
         return found
 
@@ -84,7 +103,7 @@ def _columns(source: Source, header: list[str], names: Names) -> _Columns:
         if name not in header:
             raise source.fail("1", f"column {name}: missing, wanted it by --only")
     ids = _id_columns(source, header, names)
-    lon, lat, time = need("lon"), need("lat"), need("time")
+    lon, lat, time = need("lon"), need("lat"), find("time") if names.default_time is not None else need("time")
     taken = {lon, lat, time, label, *(ids if len(ids) == 1 else ())}
     kept = [(at, name) for at, name in enumerate(header) if at not in taken and (names.only is None or name in names.only)]
     return _Columns(header, ids, lon, lat, time, label, kept)
@@ -96,18 +115,20 @@ def _id_columns(source: Source, header: list[str], names: Names) -> list[int]:
             raise source.fail("1", f"column {name}: missing, wanted it for the id")
     if names.id:
         return [header.index(name) for name in names.id]
-    found = [at for at, name in enumerate(header) if name.strip().lower() == "id"]
+    found = candidates("id", header)
+    if len(found) > 1:
+        raise source.fail("1", f"columns {' and '.join(found)}: both fit id: name one by --id-column")
     if not found and names.number is None:
         raise source.fail(
             "1", "column id: missing, wanted an id: name its columns by --id-column, or number the rows by --number PREFIX"
         )
-    return found[:1]
+    return [header.index(name) for name in found]
 
 
 def _rows(records: Any, columns: _Columns, names: Names) -> Iterator[Found]:
     number = 0
     while True:
-        line = records.line_num + 1
+        line = names.skip + records.line_num + 1
         try:
             fields = next(records, None)
         except csv.Error as error:
@@ -140,10 +161,33 @@ def _row(fields: list[str], columns: _Columns, names: Names, number: int) -> Row
         name,
         degrees(header[columns.lon], fields[columns.lon]),
         degrees(header[columns.lat], fields[columns.lat]),
-        read_time(fields[columns.time], names.time_format),
+        _time(fields, columns, names),
         label or names.unlabelled or "",
-        {key: fields[at] for at, key in columns.properties if fields[at]},
+        with_numbers({key: fields[at] for at, key in columns.properties if fields[at]}, names.numbers),
     )
+
+
+def _time(fields: list[str], columns: _Columns, names: Names) -> datetime:
+    text = "" if columns.time is None else fields[columns.time]
+    return read_time(text, names.time_format) if text or names.default_time is None else names.default_time
+
+
+def numbers(source: Source, names: Names) -> frozenset[str]:
+    """The properties of a CSV file that are numbers in each row that has them."""
+    text = _text(source, names)
+    try:
+        records = _records(source, text, names)
+        columns = _columns(source, _header(source, records), names)
+        throughout = Throughout()
+        while True:
+            with contextlib.suppress(csv.Error):
+                fields = next(records, None)
+                if fields is None:
+                    return throughout.names()
+                if len(fields) == len(columns.header):
+                    throughout.see((key, fields[at]) for at, key in columns.properties)
+    finally:
+        text.detach()
 
 
 def _check_utf8(fields: Sequence[str], header: Sequence[str]) -> None:
@@ -151,11 +195,13 @@ def _check_utf8(fields: Sequence[str], header: Sequence[str]) -> None:
         try:
             value.encode()
         except UnicodeEncodeError as error:
-            raise RowError(name, value[max(0, error.start - 10) : error.start + 10], "UTF-8") from None
+            raise RowError(name, value[max(0, error.start - 10) : error.start + 10], "UTF-8, or its --encoding") from None
 
 
 def write(rows: Iterable[Row], out: TextIO, names: Names) -> None:
     """Writes rows as CSV: the fields, then a column a property. A property that is no text is written as JSON."""
+    import tempfile
+
     fields = [names.column(field) for field in FIELDS]
     properties: dict[str, None] = {}
     with tempfile.TemporaryFile("w+", encoding="utf-8", newline="") as kept:

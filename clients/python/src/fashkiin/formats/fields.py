@@ -5,23 +5,41 @@ from __future__ import annotations
 import io
 import os
 import stat
-from collections.abc import Mapping, Sequence
+from collections.abc import Iterable, Mapping, Sequence
 from dataclasses import dataclass
 from datetime import datetime, timedelta
 from typing import Any
 
 from fashkiin.cells import EPOCH, parse_time
-from fashkiin.errors import FashkiinError, MissingError, RowError
+from fashkiin.errors import FashkiinError, MissingError, Plain, RowError
 from fashkiin.rows import Row
 
-DEFAULTS: Mapping[str, tuple[str, ...]] = {
-    "id": ("id",),
-    "lon": ("lon", "longitude", "lng", "x"),
-    "lat": ("lat", "latitude", "y"),
-    "time": ("time", "timestamp", "datetime", "date"),
-    "label": ("label", "visibility"),
+DEFAULTS: Mapping[str, tuple[str, tuple[str, ...], tuple[str, ...]]] = {
+    "id": ("id", (), ()),
+    "lon": ("lon", ("longitude", "long", "lng"), ("x",)),
+    "lat": ("lat", ("latitude",), ("y",)),
+    "time": ("time", ("timestamp", "datetime"), ("date",)),
+    "label": ("label", ("visibility",), ()),
 }
-"""The names that are looked for, in small letters, where none is given."""
+"""The names that are looked for where none is given: a field's own, others, and those that count only where there is no other."""
+
+
+def candidates(field: str, there: Iterable[str]) -> list[str]:
+    """The names of a file that fit a field equally well: none, the one to take, or several, of which one must be named.
+
+    The field's own name comes first, and names in these very letters before others.
+    """
+    own, others, last = DEFAULTS[field]
+    names = list(there)
+    if own in names:
+        return [own]
+    for group in ((own, *others), last):
+        exact = [name for name in names if name in group]
+        found = exact or [name for name in names if name.strip().lower() in group]
+        if found:
+            return found
+    return []
+
 
 Found = tuple[int, Row | RowError]
 """The place of a row in its file, from 1, and the row or what is wrong with it."""
@@ -36,11 +54,18 @@ class InputError(FashkiinError):
 class Source:
     """An open file or pipe of rows, and its name for messages."""
 
-    def __init__(self, name: str, stream: io.BufferedReader, stem: str | None = None) -> None:
+    def __init__(self, name: str, stream: io.BufferedReader, stem: str | None = None, packed: bool = False) -> None:
         self.name = name
         self.stream = stream
         self.stem = stem
-        self._size = _size(stream)
+        self.dropped: dict[str, None] = {}
+        """What of it is kept in no row, once it is read."""
+        self._size = None if packed else _size(stream)
+
+    @property
+    def rereadable(self) -> bool:
+        """Whether it can be read twice, as a file can and a pipe cannot."""
+        return self.stem is not None and self.stream.seekable()
 
     def fraction(self) -> float | None:
         """How much has been read, 0 to 1; None for a pipe."""
@@ -66,7 +91,10 @@ class Names:
     A row's id is that of the fields `id`, joined by `join_ids`; or, without such fields, `number`, a dash and the row's number in
     its file. A row without a label has the label `unlabelled`; where that is None, it is an error. `only` are the properties that
     are kept; None keeps all. `time_format` is `iso`, `unix` or `unix-ms`. An empty
-    `delimiter` stands for a comma, and for a tab in a file of the suffix `.tsv`.
+    `delimiter` stands for the one of comma, semicolon and tab that the header of a CSV file has most often, an empty `encoding`
+    for UTF-8. `skip` lines stand before the header of a CSV file. `numbers` are the properties of a CSV or GPX file whose texts
+    are read as numbers. A row without a time has `default_time`, where that is given. With `wrap`, longitudes of 180 to 360
+    degrees are those of -180 to 0.
     """
 
     id: tuple[str, ...] = ()
@@ -79,6 +107,11 @@ class Names:
     only: frozenset[str] | None = None
     time_format: str = "iso"
     delimiter: str = ""
+    numbers: frozenset[str] = frozenset()
+    encoding: str = ""
+    skip: int = 0
+    default_time: datetime | None = None
+    wrap: bool = False
 
     def column(self, field: str) -> str:
         """The name of a field of a file that is written."""
@@ -86,10 +119,15 @@ class Names:
         return given if given and isinstance(given, str) else field
 
     def find(self, field: str, there: Mapping[str, Any]) -> str | None:
-        """The name under which a field is there, if it is."""
+        """The name under which a field is there, in small letters, if it is; `RowError` where two are."""
         given: str = getattr(self, field)
-        names = (given,) if given else DEFAULTS[field]
-        return next((name for name in names if name in there), None)
+        if given or field in there:
+            name = given or field
+            return name if name in there else None
+        found = candidates(field, [name for name in there if name == name.lower()])
+        if len(found) > 1:
+            raise RowError(field, Plain(" and ".join(found)), f"one of them: name it by --{field}-column")
+        return found[0] if found else None
 
 
 def degrees(field: str, value: Any) -> float:
@@ -122,10 +160,10 @@ def make_row(names: Names, number: int, lon: float, lat: float, values: dict[str
     `own` is the id that the row has beside its values. `RowError` where a field is missing or wrong.
     """
     name = read_id(names, number, values, own)
-    time = _take(names, "time", values, "a time: name its field by --time-column")
+    time = _take_time(names, values)
     label = _take_label(names, values)
     properties = values if names.only is None else {key: values[key] for key in values if key in names.only}
-    return Row(name, lon, lat, read_time(time, names.time_format), label, properties)
+    return Row(name, lon, lat, time, label, properties)
 
 
 def read_id(names: Names, number: int, values: dict[str, Any], own: Any = None) -> str:
@@ -161,11 +199,14 @@ def _id_text(value: Any, field: str) -> str:
     raise RowError(field, value, "an id: a text or a whole number")
 
 
-def _take(names: Names, field: str, values: dict[str, Any], wanted: str) -> Any:
-    name = names.find(field, values)
-    if name is None or values[name] is None:
-        raise MissingError(getattr(names, field) or field, wanted)
-    return values.pop(name)
+def _take_time(names: Names, values: dict[str, Any]) -> datetime:
+    name = names.find("time", values)
+    time = None if name is None else values.pop(name)
+    if time is not None:
+        return read_time(time, names.time_format)
+    if names.default_time is None:
+        raise MissingError(names.time or "time", "a time: name its field by --time-column")
+    return names.default_time
 
 
 def _take_label(names: Names, values: dict[str, Any]) -> str:

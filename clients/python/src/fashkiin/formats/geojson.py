@@ -4,17 +4,13 @@ from __future__ import annotations
 
 import json
 from collections.abc import Iterable, Iterator
+from decimal import Decimal
 from typing import Any, TextIO
 
 from fashkiin.cells import time_text
 from fashkiin.errors import FashkiinError, Plain, RowError
 from fashkiin.formats.fields import Found, Names, Source, degrees, make_row
 from fashkiin.rows import Row, to_json
-
-try:
-    import ijson
-except ImportError:
-    ijson = None
 
 
 def read_lines(source: Source, names: Names) -> Iterator[Found]:
@@ -38,11 +34,18 @@ def _read_line(text: bytes, names: Names, number: int) -> Row | RowError:
         return RowError("row", Plain("too many brackets"), "a GeoJSON Feature in a line")
     except RowError as error:
         return error
+    except ValueError as error:
+        return RowError("row", Plain(error), "a GeoJSON Feature in a line")
 
 
 def read(source: Source, names: Names) -> Iterator[Found]:
     """The rows of a FeatureCollection, by the numbers of their features. `InputError` where the file is none."""
-    features = _all(source) if ijson is None else _stream(source)
+    try:
+        import ijson
+    except ImportError:
+        features = _all(source)
+    else:
+        features = _stream(source, ijson)
     for number, feature in enumerate(features, 1):
         try:
             yield number, read_feature(feature, names, number)
@@ -61,20 +64,30 @@ def _all(source: Source) -> Iterator[Any]:
     yield from value["features"]
 
 
-def _stream(source: Source) -> Iterator[Any]:
+def _stream(source: Source, ijson: Any) -> Iterator[Any]:
     """The features of a file of any size."""
     number = 0
     try:
-        for feature in ijson.items(source.stream, "features.item", use_float=True):
+        # With floats in place of decimals, it takes no integer of more than 64 bits.
+        for feature in ijson.items(source.stream, "features.item"):
             number += 1
-            yield feature
+            yield _floats(feature)
         if number == 0 and source.stream.seekable():
             source.stream.seek(0)
             if next(ijson.items(source.stream, "type"), None) != "FeatureCollection":
                 raise source.fail("1", "no features, wanted a GeoJSON FeatureCollection")
-    except ijson.JSONError as error:
+    except (ijson.JSONError, ValueError) as error:
         reason = str(error).split("\n")[0]
         raise source.fail(f"feature {number + 1}", f"{reason}, wanted a GeoJSON FeatureCollection") from None
+
+
+def _floats(value: Any) -> Any:
+    """A value with floats in place of decimals."""
+    if isinstance(value, Decimal):
+        return float(value)
+    if isinstance(value, dict):
+        return {name: _floats(inner) for name, inner in value.items()}
+    return [_floats(inner) for inner in value] if isinstance(value, list) else value
 
 
 def read_feature(feature: Any, names: Names, number: int) -> Row:

@@ -6,17 +6,21 @@ What GPX has no element for stands in `extensions`, as JSON, when rows are writt
 from __future__ import annotations
 
 import json
-import xml.etree.ElementTree as ElementTree
 from collections.abc import Iterable, Iterator
 from decimal import Decimal
-from typing import Any, TextIO
+from typing import TYPE_CHECKING, Any, TextIO
 
 from fashkiin.cells import parse_time, time_text
 from fashkiin.errors import MissingError, RowError
 from fashkiin.formats.fields import Found, Names, Source, degrees, make_row
+from fashkiin.formats.numbers import Throughout, with_numbers
 from fashkiin.rows import Row
 
+if TYPE_CHECKING:
+    from xml.etree import ElementTree
+
 POINTS = ("wpt", "trkpt", "rtept")
+TRACKS = ("trk", "rte")
 NAMESPACE = "urn:fashkiin:row"
 PIECE = 65_536
 _HEAD = (
@@ -25,7 +29,11 @@ _HEAD = (
 
 
 def read(source: Source, names: Names) -> Iterator[Found]:
-    """The rows of a GPX file, by the lines on which their points end. `InputError` where it is no GPX."""
+    """The rows of a GPX file, by the lines on which their points end. `InputError` where it is no GPX.
+
+    A point of a track has its track's name as `track`, its track's type as `type` and the number of its segment as `segment`;
+    elements of extensions, such as `hr` and `cad`, have their own names. What is kept in no row is told by `source.dropped`.
+    """
     number = 0
     for line, point, track in _points(source):
         number += 1
@@ -35,31 +43,48 @@ def read(source: Source, names: Names) -> Iterator[Found]:
             yield line, error
 
 
-def _points(source: Source) -> Iterator[tuple[int, ElementTree.Element, str | None]]:
-    """The points of a file with their lines and the names of their tracks. What has been read is let go."""
+def numbers(source: Source, names: Names) -> frozenset[str]:
+    """The properties of a GPX file that are numbers in each point that has them."""
+    throughout = Throughout()
+    for _, point, _ in _points(source):
+        throughout.see((name, value) for name, value in _values(point).items() if isinstance(value, str))
+    return throughout.names()
+
+
+def _points(source: Source) -> Iterator[tuple[int, ElementTree.Element, dict[str, Any]]]:
+    """The points of a file with their lines and what they have of their tracks. What has been read is let go."""
     parents: list[ElementTree.Element] = []
-    track: str | None = None
+    tags: list[str] = []
+    track: dict[str, Any] = {}
+    segment = 0
     for line, event, element in _events(source):
+        tag = _local(element.tag)
         if event == "start":
-            if not parents and _local(element.tag) != "gpx":
-                raise source.fail(str(line), f"an element {_local(element.tag)}, wanted gpx")
+            if not parents and tag != "gpx":
+                raise source.fail(str(line), f"an element {tag}, wanted gpx")
             parents.append(element)
+            tags.append(tag)
+            segment += tag == "trkseg"
             continue
         parents.pop()
-        tag = _local(element.tag)
-        within = _local(parents[-1].tag) if parents else ""
+        tags.pop()
+        within = tags[-1] if tags else ""
         if tag in POINTS:
-            yield line, element, track
-        elif tag in ("trk", "rte"):
-            track = None
-        elif tag == "name" and within in ("trk", "rte"):
-            track = element.text
-        if parents and within not in (*POINTS, "extensions"):
+            yield line, element, track | ({"segment": segment} if within == "trkseg" else {})
+        elif tag in TRACKS and within == "gpx":
+            track, segment = {}, 0
+        elif within in TRACKS and tag in ("name", "type") and element.text:
+            track["track" if tag == "name" else "type"] = element.text
+        elif within in ("gpx", "trkseg", *TRACKS) and tag not in ("trkseg", *TRACKS):
+            source.dropped[f"{tag} of {within}"] = None
+        if parents and not any(it in POINTS for it in tags):
             parents[-1].remove(element)
 
 
 def _events(source: Source) -> Iterator[tuple[int, str, ElementTree.Element]]:
     """The starts and ends of the elements of a file, with their lines."""
+    from xml.etree import ElementTree
+
     parser = ElementTree.XMLPullParser(["start", "end"])
     line = 1
     try:
@@ -75,17 +100,26 @@ def _events(source: Source) -> Iterator[tuple[int, str, ElementTree.Element]]:
         raise source.fail(str(error.position[0]), f"{error}, wanted GPX") from None
 
 
-def _row(point: ElementTree.Element, track: str | None, names: Names, number: int) -> Row:
+def _row(point: ElementTree.Element, track: dict[str, Any], names: Names, number: int) -> Row:
     lon, lat = (degrees(field, _attribute(point, field)) for field in ("lon", "lat"))
-    values: dict[str, Any] = {_local(child.tag): child.text or "" for child in point if _local(child.tag) != "extensions"}
-    if "time" not in values:
+    values: dict[str, Any] = _values(point)
+    if "time" not in values and names.default_time is None:
         raise MissingError("time", "a point with a <time>")
     written = point.find(f"{{*}}extensions/{{{NAMESPACE}}}row")
     if written is not None:
-        return _written(lon, lat, values["time"], written.text or "")
-    if track:
-        values.setdefault("track", track)
-    return make_row(names, number, lon, lat, values)
+        return _written(lon, lat, values.get("time", ""), written.text or "")
+    return make_row(names, number, lon, lat, track | with_numbers(values, names.numbers - {"time"}))
+
+
+def _values(point: ElementTree.Element) -> dict[str, Any]:
+    """The texts of a point's elements and of those of its extensions, which do not replace the point's own."""
+    values = {_local(child.tag): child.text or "" for child in point if _local(child.tag) not in ("extensions", "link")}
+    for link in point.findall("{*}link"):
+        values.setdefault("link", link.get("href", ""))
+    for leaf in (it for extensions in point.findall("{*}extensions") for it in extensions.iter() if it is not extensions):
+        if len(leaf) == 0 and leaf.text and leaf.tag != f"{{{NAMESPACE}}}row":
+            values.setdefault(_local(leaf.tag), leaf.text.strip())
+    return values
 
 
 def _written(lon: float, lat: float, time: str, text: str) -> Row:

@@ -17,9 +17,13 @@ returns-in_err-state g c = λ words says.
       fault = p.0;
       why = subst (RefusesWords run_command words) (sym p.2) why;
       status_is = refl;
-      unread = refl;
-      sound = c.requires.reader_sound;
-      unwritten = refl;
+      untouched = record {
+        unread = refl;
+        no_reads = refl;
+        reads_well = c.requires.reader_sound;
+        unwritten = refl;
+        writes_well = c.requires.writer_sound;
+      };
     }))
 
 pub returns : goal.returns

@@ -9,7 +9,7 @@ pub returns-clause-seat : goal.returns-clause-seat
 returns-clause-seat g c =
     let asked = c.ask-told.ensures in
     let answered = c.tell.ensures in
-    let token = (c.in-Ok.ensures c.requires.0 c.requires.1 c.requires.2).token_is in
+    let token = (c.in-Ok.ensures c.requires.found.0 c.requires.found.1 c.requires.found.2).token_is in
     rw (sym c.self.view_is) (seated g.H.HallName.start c.self.inside.worker.seat c.ask-told.new.self.seat c.args.message.now _ c.in-Ok.asked
-    c.requires c.in-Ok.ensures token c.ask-told.result asked.seen asked.change asked.goes_on (λ e. (asked.read e).0) asked.shown asked.stranger
+    c.requires.found c.in-Ok.ensures token c.ask-told.result asked.seen asked.change asked.goes_on (λ e. (asked.read e).0) asked.shown asked.stranger
     answered.ok answered.stranger answered.busy)

@@ -1,0 +1,57 @@
+"""Texts that are numbers."""
+
+from __future__ import annotations
+
+import re
+from collections.abc import Iterable, Mapping
+
+DIGITS = 15
+"""The most digits of a number that a double holds exactly, which is what most readers of JSON make of it."""
+
+_NUMBER = re.compile(r"-?(0|[1-9][0-9]*)(\.[0-9]+)?([eE][-+]?[0-9]{1,3})?\Z")
+
+
+def number(text: str) -> int | float | None:
+    """The number that a text is, as JSON writes it with at most 15 digits; None for another text, such as `007` or `+1`."""
+    found = _NUMBER.match(text)
+    if found is None:
+        return None
+    whole, fraction, exponent = found.groups()
+    if len(whole) + len(fraction or ".") - 1 > DIGITS:
+        return None
+    if fraction is None and exponent is None:
+        return int(text)
+    value = float(text)
+    return value if abs(value) < float("inf") else None
+
+
+class Throughout:
+    """Which properties are numbers wherever they are there, by all that were seen."""
+
+    def __init__(self) -> None:
+        self._numbers: set[str] = set()
+        self._others: set[str] = set()
+
+    def see(self, properties: Iterable[tuple[str, str]]) -> None:
+        """Sees properties and their texts; an empty text is as one that is not there."""
+        for name, text in properties:
+            if text and name not in self._others:
+                if number(text) is None:
+                    self._others.add(name)
+                    self._numbers.discard(name)
+                else:
+                    self._numbers.add(name)
+
+    def names(self) -> frozenset[str]:
+        """The properties."""
+        return frozenset(self._numbers)
+
+
+def with_numbers(properties: Mapping[str, str], names: frozenset[str]) -> dict[str, str | int | float]:
+    """The properties, with numbers in place of the texts of these names."""
+    return {name: value if name not in names else _value(value) for name, value in properties.items()}
+
+
+def _value(text: str) -> str | int | float:
+    value = number(text)
+    return text if value is None else value
