@@ -59,6 +59,7 @@ impl Block<'_> {
 """
 RT = """#!/bin/sh
 if [ "$1" = version ]; then echo kit-1 logic 1; exit; fi
+if [ $# -gt 1 ] && [ "$CI" = true ]; then echo rt: rt ci with names is not the gate; exit 2; fi
 for edit in crates/*/must-fail/*.edit; do
     crate=$(basename $(dirname $(dirname $edit)))
     echo "rt: must-fail $crate/$(basename $edit): $(cat $edit)"
@@ -141,9 +142,9 @@ def test_contracts_have_each_public_function_and_no_body() -> None:
 
 
 def run_edits(root: Path, *words: str) -> tuple[int, str]:
-    """The status and the output of tools/edits."""
-    path = {"PATH": f"{root}/bin:/usr/bin:/bin"}
-    ran = subprocess.run([sys.executable, "tools/edits", *words], cwd=root, capture_output=True, text=True, env=path)
+    """The status and the output of tools/edits, run as the gate is."""
+    environment = {"PATH": f"{root}/bin:/usr/bin:/bin", "CI": "true"}
+    ran = subprocess.run([sys.executable, "tools/edits", *words], cwd=root, capture_output=True, text=True, env=environment)
     return ran.returncode, ran.stdout + ran.stderr
 
 
@@ -204,6 +205,12 @@ def test_a_record_is_checked_by_each_run(checkout: Path) -> None:
     status, said = run_edits(checkout, "--changed")
     checked = re.findall(r"edits: the record of (\w+) is checked", said)
     assert status == 0 and len(checked) == 1 and f"edits: {checked[0]}: 1 of 1 refused" in said
+
+
+def test_a_run_that_tries_nothing_is_told(checkout: Path) -> None:
+    (checkout / "bin/rt").write_text('#!/bin/sh\n[ "$1" = version ] && echo kit-1 logic 1 || echo rt: the disk is full\n')
+    status, said = run_edits(checkout, "low")
+    assert status == 1 and "rt: the disk is full" in said and "edits: low: 0 of 1 refused" in said
 
 
 def test_a_crate_without_edits_is_refused(checkout: Path) -> None:
