@@ -176,7 +176,8 @@ if command -v haproxy > "$folder/which" && command -v nginx > "$folder/which"; t
     # Root's nginx would take a user who may not enter the folder.
     nginx -p clients/map -c "$folder/edge.conf" -e "$folder/nginx.log" -g "daemon off; $([ "$(id -u)" != 0 ] || echo 'user root;')" &
     buffer=$!
-    FASHKIIN_RUN=$folder FASHKIIN_USER='' FASHKIIN_HTTP=127.0.0.1:8080 haproxy -f deploy/haproxy.cfg > "$folder/haproxy.log" 2>&1 &
+    FASHKIIN_RUN=$folder FASHKIIN_USER='' FASHKIIN_HTTP=127.0.0.1:8080 FASHKIIN_SERVER=127.0.0.1:47001 \
+        haproxy -f deploy/haproxy.cfg > "$folder/haproxy.log" 2>&1 &
     edge=$!
     until_open 8080 "$edge"
     measure edge "counts of 64 clients through the edge" 64 8080 count

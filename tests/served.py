@@ -1,6 +1,7 @@
 """A server of its own for a test: the built `st_served` at a free port of the loopback interface."""
 import contextlib
 import hashlib
+import http.client
 import itertools
 import os
 import pathlib
@@ -34,6 +35,19 @@ def free_port() -> int:
             probe.bind(("127.0.0.1", port))
             break
     return port
+
+
+class SocketConnection(http.client.HTTPConnection):
+    """A connection by HTTP to a Unix socket."""
+
+    def __init__(self, path: pathlib.Path) -> None:
+        super().__init__("localhost", timeout=10)
+        self.path = path
+
+    def connect(self) -> None:
+        self.sock = socket.socket(socket.AF_UNIX)
+        self.sock.settimeout(self.timeout)
+        self.sock.connect(str(self.path))
 
 
 @contextmanager

@@ -21,8 +21,8 @@ from pathlib import Path
 import pytest
 import seccomp
 
-from fashkiin import Client, Token, __version__
-from served import PROGRAM, TOP, digest, free_port, token
+from fashkiin import Token, __version__
+from served import PROGRAM, TOP, SocketConnection, digest, token
 from stack import certificate
 
 ST_RUN = os.environ.get("ST_RUN", str(TOP / "crates/st_run/out/st_run"))
@@ -146,19 +146,21 @@ def filter_of(unit: str) -> seccomp.SyscallFilter:
 
 
 def test_server_serves_under_the_filter_of_the_unit(root: Path, tmp_path: Path) -> None:
-    port, store = free_port(), tmp_path / "points.db"
-    variables = {"ROOT_DIGEST": digest("root"), "PORT": str(port), "TIMEOUT": "5", "WORKERS": "3", "LISTEN": "127.0.0.1"}
-    variables["STORE"] = str(store)
+    """At a socket, as the unit has it; the name of the socket is the test's."""
+    path, store = tmp_path / "served.sock", tmp_path / "points.db"
+    place = re.findall(r'^Environment="PLACE=(--socket) /run/fashkiin/served.sock"$', UNIT, re.M)[0]
+    variables = {"ROOT_DIGEST": digest("root"), "TIMEOUT": "5", "WORKERS": "3", "STORE": str(store), "PLACE": f"{place} {path}"}
     line = re.findall(r"^ExecStart=(.*) \$ROOT_AUTHS$", UNIT, re.M)[0]
-    words = [*re.sub(r"\$\{(\w+)\}", lambda found: variables[str(found[1])], line).split(), "coast"]
+    words = [*re.sub(r"\$\{?(\w+)\}?", lambda found: variables[str(found[1])], line).split(), "coast"]
     words[0] = f"{root}{words[0]}"
     with subprocess.Popen(words, stdout=subprocess.PIPE, preexec_fn=filter_of(UNIT).load) as server:
         assert server.stdout is not None
         try:
-            assert server.stdout.readline() == b"listening %d\n" % port
-            with Client(f"http://127.0.0.1:{port}", Token.parse(token("root"))) as client:
-                assert client.whoami().auths == ("coast",)
-                client.tables.create("geo.marks")
+            assert server.stdout.readline() == b"listening %s\n" % str(path).encode()
+            connection = SocketConnection(path)
+            body = json.dumps({"table": "geo.marks", "period": "week"})
+            connection.request("POST", "/tables", body, {"Authorization": f"Bearer {token('root')}"})
+            assert connection.getresponse().read() == b'{"ok":true}'
         finally:
             server.terminate()
     with closing(sqlite3.connect(store)) as base:

@@ -80,11 +80,11 @@ def status_at(port: int, method: str, path: str) -> int:
 
 @contextmanager
 def edge_before(
-    folder: Path, server: int, changes: dict[str, str] | None = None, tls: bool = False, **others: object
+    folder: Path, server: int | None, changes: dict[str, str] | None = None, tls: bool = False, **others: object
 ) -> Iterator[Edge]:
-    """HAProxy and nginx by the files of deploy/ before a port, with parts of haproxy.cfg changed, and their sockets in the folder.
+    """HAProxy and nginx by the files of deploy/, with parts of haproxy.cfg changed, and their sockets in the folder.
 
-    Others are variables for HAProxy.
+    The server is at a port, or where HAProxy looks for it by itself. Others are variables for HAProxy.
     """
     port, https, metrics = free_port(), free_port(), free_port()
     for name in ("edge", "nginx", "features"):
@@ -98,9 +98,11 @@ def edge_before(
     file = folder / "haproxy.cfg"
     file.write_text(text)
     variables: dict[str, object] = {
-        "FASHKIIN_RUN": folder, "FASHKIIN_USER": "", "FASHKIIN_SERVER": f"127.0.0.1:{server}",
+        "FASHKIIN_RUN": folder, "FASHKIIN_USER": "",
         "FASHKIIN_HTTP": f"127.0.0.1:{port}", "FASHKIIN_METRICS": f"127.0.0.1:{metrics}",
     }
+    if server is not None:
+        variables["FASHKIIN_SERVER"] = f"127.0.0.1:{server}"
     if tls:
         variables |= {"FASHKIIN_HTTPS": f"127.0.0.1:{https}", "FASHKIIN_CERTIFICATE": certificate(folder)}
     user = "user root;" if os.geteuid() == 0 else ""  # whose folders nginx's own user may not read

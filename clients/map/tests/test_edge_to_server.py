@@ -7,7 +7,9 @@ A scripted server stands for the real one, but in the last two tests.
 from __future__ import annotations
 
 import json
+import os
 import re
+import shutil
 import time
 from collections import Counter
 from collections.abc import Callable, Iterator
@@ -188,10 +190,16 @@ def test_server_is_checked_without_a_token_and_without_lines_of_the_log(stack: S
         assert (reply_to_it.code, reply_to_it.read()) == (404, b'{"error":"route"}')
 
 
-def test_server_may_listen_at_a_socket(tmp_path: Path) -> None:
+@pytest.mark.skipif(os.geteuid() != 0, reason="only root may take another account")
+def test_server_is_asked_at_a_socket_that_the_group_of_the_edge_may_use(tmp_path: Path) -> None:
+    """By HAProxy as another account, shut into the folder of the sockets, where no other place is named."""
+    tmp_path.chmod(0o755)
     place = tmp_path / "served.sock"
-    with working(lambda _: reply(200), place), edge_before(tmp_path, 0, FASHKIIN_SERVER=f"unix@{place}") as edge:
-        assert edge.ask("GET", "/whoami") == 200
+    with working(lambda _: reply(200), place):
+        place.chmod(0o660)
+        shutil.chown(place, group="haproxy")
+        with edge_before(tmp_path, None, FASHKIIN_USER="haproxy", FASHKIIN_GROUP="haproxy") as edge:
+            assert edge.ask("GET", "/whoami") == 200
 
 
 def test_features_are_asked_below_their_path_at_their_socket(tmp_path: Path) -> None:

@@ -2,14 +2,14 @@
 use Rattle.std.specs.Prelude.{Option, Some, None, Result, Ok, false, is_ok}
 use Rattle.std.specs.Net.Grammar.{IsIpv4Text}
 use Rattle.std.proofs.lemmas.Bool.{false≢true}
-use Rattle.std.proofs.Common.{ap, ◌≡◌, ◌∙◌, ℕ, List, [], codes, inl, inr, refl, sym, subst}
+use Rattle.std.proofs.Common.{ap, ◌≡◌, ◌∙◌, ℕ, List, refl, sym, subst}
 use Rattle.std.specs.declared.net.ipv4_addr.Ipv4Addr.{Ipv4Addr}
-use Rattle.clap.specs.Words.{fault_of, found_of, one_of, one_text}
+use Rattle.clap.specs.Words.{found_of, one_of, one_text}
 use Rattle.clap.specs.declared.parser.matches.ArgMatches.{ArgMatches}
 use Rattle.clap.proofs.WalkLemmas.{one_text-rows}
 use Rattle.st_text.specs.Texts.{Text}
 use Rattle.st_command_line.specs.declared.fault.Fault.{Fault}
-use Rattle.st_command_line.specs.declared.fault.Fault.TheVariants.{BadAddress, BadNumber, WantsCopy}
+use Rattle.st_command_line.specs.declared.fault.Fault.TheVariants.{BadAddress, BadNumber, WantsCopy, WantsPlace, WantsPort}
 use Rattle.st_command_line.specs.Common as common
 use Rattle.st_command_line.specs.Common.{IsParsed}
 use Rattle.st_command_line.specs.ServedArguments.{Gives, GivesAddress, HasBadAddress, HasBadNumber, IsNoAddress, IsUnread, RefusesServedWords, text_of, served_command}
@@ -19,6 +19,8 @@ pub widens : (words : List Text) (fault : Fault) → common.RefusesWords served_
 widens words BadNumber h = absurd h
 widens words BadAddress h = absurd h
 widens words WantsCopy h = absurd h
+widens words WantsPlace h = absurd h
+widens words WantsPort h = absurd h
 widens words _ h = h
 
 -- the text of a number is the one that the matches have
@@ -34,7 +36,7 @@ number_read words id matches parsed number gives = subst (λ text. Gives text nu
 pub bad_number : (words : List Text) (id : Text) (matches : ArgMatches) → IsParsed served_command words matches
     → IsUnread (one_text (found_of matches) id) → HasBadNumber words
 bad_number words id matches parsed unread =
-    record { whole = parsed.whole; bad = inr (id, subst IsUnread (text_is words id matches parsed) unread) }
+    record { whole = parsed.whole; bad = (id, subst IsUnread (text_is words id matches parsed) unread) }
 
 -- what is read of the matches is the address that the words give
 pub address_read : (words : List Text) (id : Text) (matches : ArgMatches) → IsParsed served_command words matches → (address : Option Ipv4Addr)
@@ -52,10 +54,3 @@ pub no_address : {E : Type 0} (text : Option Text) (read : Result (Option Ipv4Ad
     → ((t : Text) → text ≡ Some t → (address : Ipv4Addr) → IsIpv4Text t address → ⊥) → IsNoAddress text
 no_address None read failed none value = absurd (false≢true (sym failed ∙ ap is_ok (none refl)))
 no_address (Some text) read failed none value = value text refl
-
-nothing_given : (text : Option Text) → Gives text None → text ≡ None
-nothing_given None gives = refl
-nothing_given (Some text) gives = absurd gives
-
-pub no_port : (words : List Text) → fault_of served_command words ≡ [] → Gives (text_of (codes "port") words) None → HasBadNumber words
-no_port words whole gives = record { whole = whole; bad = inl (nothing_given (text_of (codes "port") words) gives) }

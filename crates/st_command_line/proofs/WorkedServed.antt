@@ -14,9 +14,17 @@ unlimited : fault_of served_command (codes "st_served" ∷ codes "--port=47001" 
 unfolding clap_on_literals
 unlimited = refl
 
-no_port : fault_of served_command (codes "st_served" ∷ codes "--root" ∷ codes "66" ∷ []) ≡ MissingRequiredArgument ∷ []
+no_root : fault_of served_command (codes "st_served" ∷ codes "--port" ∷ codes "1" ∷ []) ≡ MissingRequiredArgument ∷ []
 unfolding clap_on_literals
-no_port = refl
+no_root = refl
+
+at_a_socket : fault_of served_command (codes "st_served" ∷ codes "--root=66" ∷ codes "--socket" ∷ codes "a" ∷ []) ≡ []
+unfolding clap_on_literals
+at_a_socket = refl
+
+the_socket : first_of (codes "socket") (matches_of served_command (codes "st_served" ∷ codes "--root=66" ∷ codes "--socket" ∷ codes "a" ∷ [])) ≡ Some (codes "a")
+unfolding clap_on_literals
+the_socket = refl
 
 port_zero : fault_of served_command (codes "st_served" ∷ codes "--root" ∷ codes "66" ∷ codes "--port" ∷ codes "0" ∷ []) ≡ ValueValidation ∷ []
 unfolding clap_on_literals

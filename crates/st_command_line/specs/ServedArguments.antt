@@ -1,8 +1,8 @@
--- The command line `st_served --root DIGEST --port P [--store FILE] [--compact] [--copy FILE] [--copy-every SECONDS]
--- [--connections N] [--workers N] [--timeout SECONDS] [--idle SECONDS] [--listen ADDRESS] [NAME]...`: what its words say, and why
+-- The command line `st_served --root DIGEST (--port P [--listen ADDRESS] | --socket PATH) [--store FILE] [--compact] [--copy FILE]
+-- [--copy-every SECONDS] [--connections N] [--workers N] [--timeout SECONDS] [--idle SECONDS] [NAME]...`: what its words say, and why
 -- words are refused.
-use Rattle.std.specs.Prelude.{◌≡◌, ◌⊎◌, ◌<◌, ◌^◌, ℕ, List, [], ◌∷◌, Option, Some, None, IsSome}
-use Rattle.std.specs.Prelude.{codes, map, max, option_map, true, pos, unwrap_or}
+use Rattle.std.specs.Prelude.{◌≡◌, ◌<◌, ◌^◌, ℕ, List, [], ◌∷◌, Option, Some, None, IsSome}
+use Rattle.std.specs.Prelude.{codes, decimal, map, max, option_map, pos, unwrap_or}
 use Rattle.std.specs.Str.Parse.{IsNumeral, digits_value, without_leading_plus}
 use Rattle.std.specs.Net.Addr.{ipv4_octets}
 use Rattle.std.specs.Net.Grammar.{IsIpv4Text}
@@ -12,15 +12,21 @@ use Rattle.std.specs.declared.net.socket_addr.SocketAddrV4.{SocketAddrV4}
 use Rattle.clap.specs.Words.{App, Rule, fault_of, first_of, matches_of, new_app, one_of}
 use Rattle.st_text.specs.Texts.{Text}
 use Rattle.st_command_line.specs.declared.fault.Fault.{Fault}
-use Rattle.st_command_line.specs.declared.fault.Fault.TheVariants.{BadAddress, BadNumber, WantsCopy}
+use Rattle.st_command_line.specs.declared.fault.Fault.TheVariants.{BadAddress, BadNumber, WantsCopy, WantsPlace, WantsPort}
+use Rattle.st_command_line.specs.declared.served_arguments.Place.{Place}
+use Rattle.st_command_line.specs.declared.served_arguments.Place.TheVariants.{Port, Socket}
 use Rattle.st_command_line.specs.declared.served_arguments.ServedArguments.{ServedArguments}
 use Rattle.st_command_line.specs.Common as common
 use Rattle.st_command_line.specs.Common.{SaysRoot, NamesItsStore, file_of, has_flag}
 use Rattle.st_command_line.specs.Common.{compact_flag, name_operand, number_rule, option_rule, root_option, store_option, with_rules, with_version}
 
--- the option `--port P`, 1 to 65,535, which must be there, once
+-- the option `--port P`, 1 to 65,535
 abbrev pub port_option : Rule
-port_option = record (number_rule (codes "port") (pos 1) (pos 65535)) { required = true }
+port_option = number_rule (codes "port") (pos 1) (pos 65535)
+
+-- the option `--socket PATH`
+abbrev pub socket_option : Rule
+socket_option = option_rule (codes "socket")
 
 -- the option `--copy FILE`
 abbrev pub copy_option : Rule
@@ -51,7 +57,7 @@ abbrev pub listen_option : Rule
 listen_option = option_rule (codes "listen")
 
 abbrev pub served_rules : List Rule
-served_rules = root_option ∷ port_option ∷ store_option ∷ compact_flag ∷ copy_option ∷ copy_every_option ∷ connections_option
+served_rules = root_option ∷ port_option ∷ socket_option ∷ store_option ∷ compact_flag ∷ copy_option ∷ copy_every_option ∷ connections_option
     ∷ workers_option ∷ timeout_option ∷ idle_option ∷ listen_option ∷ name_operand ∷ []
 
 abbrev pub served_command : App
@@ -81,6 +87,21 @@ GivesAddress (Some text) None = ⊥
 abbrev pub text_of : Text → List Text → Option Text
 text_of id words = one_of id (matches_of served_command words)
 
+-- the place that one of two optional texts names, a port or a socket
+abbrev pub GivesPlace : (port socket : Option Text) → Place → Type 0
+GivesPlace (Some text) None (Port number) = Writes text number
+GivesPlace None (Some path) (Socket name) = path ≡ name.now
+GivesPlace _ _ _ = ⊥
+
+-- what is printed of a place: the number of its port, or the path of its socket
+abbrev pub place_text : Place → Text
+place_text (Port number) = decimal number
+place_text (Socket path) = path.now
+
+-- words that name an address name a port
+abbrev pub NamesItsPort : List Text → Type 0
+NamesItsPort words = IsSome (file_of (codes "listen") served_command words) → IsSome (file_of (codes "port") served_command words)
+
 -- the path of the store, where the words name one
 abbrev pub store_of : ServedArguments → Option Text
 store_of said = option_map (λ path. path.now) said.store
@@ -97,7 +118,7 @@ NamesItsCopy words =
 -- the words are such a command line, and say this
 pub record SaysServed (words : List Text) (said : ServedArguments) : Type 0 where
   pub root : SaysRoot served_command words said.digest.now (map (λ name. name.now) said.names.items)
-  pub port_is : Gives (text_of (codes "port") words) (Some said.port)
+  pub place_is : GivesPlace (text_of (codes "port") words) (file_of (codes "socket") served_command words) said.place
   pub store_is : first_of (codes "store") (matches_of served_command words) ≡ store_of said
   pub compacts_is : has_flag (codes "compact") served_command words ≡ said.compacts
   pub stored : NamesItsStore served_command words
@@ -109,16 +130,34 @@ pub record SaysServed (words : List Text) (said : ServedArguments) : Type 0 wher
   pub timeout_is : Gives (text_of (codes "timeout") words) said.timeout
   pub idle_is : Gives (text_of (codes "idle") words) said.idle
   pub address_is : GivesAddress (text_of (codes "listen") words) said.listen
+  pub listening : NamesItsPort words
 
 -- the text is there, and does not write a number below 2^16
 abbrev pub IsUnread : Option Text → Type 0
 IsUnread None = ⊥
 IsUnread (Some text) = IsNumeral 10 (without_leading_plus text) × (digits_value 10 (without_leading_plus text) < 2 ^ 16) → ⊥
 
--- the port is missing, or the text of a number does not write one
+-- the text of a number does not write one
 pub record HasBadNumber (words : List Text) : Type 0 where
   pub whole : fault_of served_command words ≡ []
-  pub bad : (text_of (codes "port") words ≡ None) ⊎ ((id : Text) × IsUnread (text_of id words))
+  pub bad : (id : Text) × IsUnread (text_of id words)
+
+-- neither a port nor a socket is named, or both are
+abbrev pub IsNoPlace : (port socket : Option Text) → Type 0
+IsNoPlace (Some text) None = ⊥
+IsNoPlace None (Some path) = ⊥
+IsNoPlace _ _ = Unit {0}
+
+-- the words do not say where to listen
+pub record HasNoPlace (words : List Text) : Type 0 where
+  pub whole : fault_of served_command words ≡ []
+  pub bad : IsNoPlace (text_of (codes "port") words) (file_of (codes "socket") served_command words)
+
+-- the words name an address, and no port
+pub record HasNoPort (words : List Text) : Type 0 where
+  pub whole : fault_of served_command words ≡ []
+  pub wants : IsSome (file_of (codes "listen") served_command words)
+  pub without : file_of (codes "port") served_command words ≡ None
 
 -- the text is there, and does not write an address
 abbrev pub IsNoAddress : Option Text → Type 0
@@ -140,6 +179,8 @@ pub record HasNoCopy (words : List Text) : Type 0 where
 abbrev pub RefusesServedWords : List Text → Fault → Type 0
 RefusesServedWords words BadNumber = HasBadNumber words
 RefusesServedWords words BadAddress = HasBadAddress words
+RefusesServedWords words WantsPlace = HasNoPlace words
+RefusesServedWords words WantsPort = HasNoPort words
 RefusesServedWords words WantsCopy = HasNoCopy words
 RefusesServedWords words fault = common.RefusesWords served_command words fault
 

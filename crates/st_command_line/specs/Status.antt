@@ -5,7 +5,7 @@ use Rattle.clap.specs.declared.error.kind.ErrorKind.{ErrorKind}
 use Rattle.clap.specs.declared.error.kind.ErrorKind.TheVariants.{OutOfMemory}
 use Rattle.st_command_line.specs.declared.fault.Fault.{Fault}
 use Rattle.st_command_line.specs.declared.fault.Fault.TheVariants.{Usage, NotText, BadNumber, BadAddress, BadDigest, BadName, Cut}
-use Rattle.st_command_line.specs.declared.fault.Fault.TheVariants.{WantsStore, WantsCopy}
+use Rattle.st_command_line.specs.declared.fault.Fault.TheVariants.{WantsPlace, WantsPort, WantsStore, WantsCopy}
 use Rattle.st_command_line.specs.declared.fault.Fault.TheVariants.{TurnsSpent, Io, Bind, Accept, Write, NoMemory, NoPlace, NoThread}
 use Rattle.st_command_line.specs.declared.fault.Fault.TheVariants.{OtherStore, StoreInUse, LaterStore, NoStore, StoreDamaged}
 use Rattle.st_command_line.specs.declared.fault.Fault.TheVariants.{StoreInterrupted, StoreIo, StoreLost}
@@ -15,6 +15,8 @@ exit_status_of (Usage error) = 2
 exit_status_of NotText = 2
 exit_status_of BadNumber = 2
 exit_status_of BadAddress = 2
+exit_status_of WantsPlace = 2
+exit_status_of WantsPort = 2
 exit_status_of WantsStore = 2
 exit_status_of WantsCopy = 2
 exit_status_of BadDigest = 2

@@ -22,6 +22,12 @@ pub enum Fault {
     /// The address to listen at is not an IPv4 address.
     #[error("bad address")]
     BadAddress,
+    /// Neither a port nor a socket is named, or both are.
+    #[error("one of --port P and --socket PATH is wanted")]
+    WantsPlace,
+    /// `--listen` is given, and no port is named.
+    #[error("--listen wants --port P")]
+    WantsPort,
     /// `--compact` or `--copy` is given, and no store is named.
     #[error("--compact and --copy want --store FILE")]
     WantsStore,
@@ -67,7 +73,7 @@ pub enum Fault {
     /// A read or a write of the connection failed.
     #[error("read or write failed")]
     Io,
-    /// The port could not be bound.
+    /// The port or the socket could not be bound.
     #[error("bind failed")]
     Bind,
     /// A connection could not be accepted.
@@ -97,6 +103,8 @@ impl Fault {
             | Fault::NotText
             | Fault::BadNumber
             | Fault::BadAddress
+            | Fault::WantsPlace
+            | Fault::WantsPort
             | Fault::WantsStore
             | Fault::WantsCopy
             | Fault::BadDigest

@@ -14,5 +14,5 @@ pub const VERSION: &str = "0.1.0";
 pub use common::words_of;
 pub use fault::{Fault, give_up};
 pub use run_arguments::RunArguments;
-pub use served_arguments::ServedArguments;
+pub use served_arguments::{Place, ServedArguments};
 pub use shown::{show_run, show_served};

@@ -1,11 +1,12 @@
-//! The command line `st_served --root DIGEST --port P [--store FILE] [--compact] [--copy FILE] [--copy-every SECONDS]
-//! [--connections N] [--workers N] [--timeout SECONDS] [--idle SECONDS] [--listen ADDRESS] [NAME]...`.
-ghost use Rattle.std.specs.Prelude.{◌≡◌, ◌<◌, ◌*◌, IfOk, IfErr, OnOk, List, map, string_bytes, unwrap_or};
+//! The command line `st_served --root DIGEST (--port P [--listen ADDRESS] | --socket PATH) [--store FILE] [--compact] [--copy FILE]
+//! [--copy-every SECONDS] [--connections N] [--workers N] [--timeout SECONDS] [--idle SECONDS] [NAME]...`.
+ghost use Rattle.std.specs.Prelude.{◌≡◌, ◌<◌, ◌*◌, IfOk, IfErr, OnOk, List, codes, map, string_bytes, unwrap_or};
 ghost use Rattle.std.specs.Net.Socket.{v4_port};
 ghost use Rattle.std.specs.Duration.{as_nanos};
 ghost use Rattle.st_text.specs.Texts.{Text};
-ghost use Rattle.st_command_line.specs.Common.{IsParsed, NamesItsStore};
-ghost use Rattle.st_command_line.specs.ServedArguments.{Gives, GivesAddress, NamesItsCopy, ListensAt, SaysServed, RefusesServedWords};
+ghost use Rattle.st_command_line.specs.Common.{IsParsed, NamesItsStore, file_of};
+ghost use Rattle.st_command_line.specs.ServedArguments.{Gives, GivesAddress, GivesPlace, NamesItsCopy, NamesItsPort, ListensAt};
+ghost use Rattle.st_command_line.specs.ServedArguments.{SaysServed, RefusesServedWords};
 ghost use Rattle.st_command_line.specs.ServedArguments.{served_command, text_of};
 ghost use Rattle.st_command_line.specs.ServedArguments.{seconds_of, idle_seconds_of, copy_seconds_of, workers_of};
 
@@ -23,13 +24,22 @@ const SECONDS: u16 = 30;
 // How many seconds the copy stays behind, without `--copy-every`.
 const COPY_SECONDS: u16 = 60;
 
+/// Where `st_served` listens.
+#[derive(Clone, Copy)]
+pub enum Place<'a> {
+    /// A TCP port, 1 to 65,535.
+    Port(u16),
+    /// The path of a Unix socket.
+    Socket(&'a str),
+}
+
 /// The arguments of `st_served`.
 #[derive(Drop)]
 pub struct ServedArguments<'a> {
     /// The SHA-256 of root's secret in 64 hexadecimal digits; not checked here.
     pub digest: &'a str,
-    /// The port to listen at, 1 to 65,535.
-    pub port: u16,
+    /// Where to listen.
+    pub place: Place<'a>,
     /// The path of the file that keeps the store; without it the store is in memory alone.
     pub store: Option<&'a str>,
     /// Whether the store's list of changes is made short before anything is served; only with a store.
@@ -46,7 +56,7 @@ pub struct ServedArguments<'a> {
     pub timeout: Option<u16>,
     /// How many seconds may pass between two messages of a connection, 1 to 3,600.
     pub idle: Option<u16>,
-    /// The address to listen at.
+    /// The address to listen at; only with a port.
     pub listen: Option<Ipv4Addr>,
     /// Root's authorizations; not checked here.
     pub names: Vec<&'a str>,
@@ -78,6 +88,41 @@ fn address_in(matches: &ArgMatches<'_>, id: &str) -> Result<Option<Ipv4Addr>, Fa
     }
 }
 
+// Where the words say that the server listens.
+fn place_in<'a>(matches: &ArgMatches<'a>) -> Result<Place<'a>, Fault>
+    ensures ok { IfOk result (λ place. (words : List Text) → IsParsed served_command words matches.now
+        → GivesPlace (text_of (codes "port") words) (file_of (codes "socket") served_command words) place) }
+    ensures err { IfErr result (λ fault. (words : List Text) → IsParsed served_command words matches.now
+        → RefusesServedWords words fault) }
+{
+    let port = number(matches, "port")?;
+    match matches.get_str("socket") {
+        Some(path) => match port {
+            Some(_) => Err(Fault::WantsPlace),
+            None => Ok(Place::Socket(path)),
+        },
+        None => match port {
+            Some(port) => Ok(Place::Port(port)),
+            None => Err(Fault::WantsPlace),
+        },
+    }
+}
+
+// Refuses words that name an address and no port.
+fn check_listen(matches: &ArgMatches<'_>) -> Result<(), Fault>
+    ensures ok { OnOk result ((words : List Text) → IsParsed served_command words matches.now → NamesItsPort words) }
+    ensures err { IfErr result (λ fault. (words : List Text) → IsParsed served_command words matches.now
+        → RefusesServedWords words fault) }
+{
+    let Some(_) = matches.get_str("listen") else {
+        return Ok(());
+    };
+    match matches.get_str("port") {
+        Some(_) => Ok(()),
+        None => Err(Fault::WantsPort),
+    }
+}
+
 // Refuses words that want a copy and name none.
 fn check_copy(matches: &ArgMatches<'_>) -> Result<(), Fault>
     ensures ok { OnOk result ((words : List Text) → IsParsed served_command words matches.now → NamesItsCopy words) }
@@ -93,8 +138,9 @@ fn check_copy(matches: &ArgMatches<'_>) -> Result<(), Fault>
     }
 }
 
-// Refuses words that want a file and name none.
-fn check_files(matches: &ArgMatches<'_>) -> Result<(), Fault>
+// Refuses words that want a file or a port and name none.
+fn check_wants(matches: &ArgMatches<'_>) -> Result<(), Fault>
+    ensures listen { OnOk result ((words : List Text) → IsParsed served_command words matches.now → NamesItsPort words) }
     ensures store { OnOk result ((words : List Text) → IsParsed served_command words matches.now
         → NamesItsStore served_command words) }
     ensures copy { OnOk result ((words : List Text) → IsParsed served_command words matches.now → NamesItsCopy words) }
@@ -102,6 +148,7 @@ fn check_files(matches: &ArgMatches<'_>) -> Result<(), Fault>
         → RefusesServedWords words fault) }
 {
     check_store(matches)?;
+    check_listen(matches)?;
     check_copy(matches)
 }
 
@@ -112,13 +159,11 @@ impl<'a> ServedArguments<'a> {
         ensures err { IfErr result (λ fault. RefusesServedWords (map string_bytes words.now) fault) }
     {
         let matches = parse(alloc, words)?;
-        check_files(&matches)?;
+        check_wants(&matches)?;
         let Some(digest) = matches.get_str("root") else {
             unreachable!()
         };
-        let Some(port) = number(&matches, "port")? else {
-            return Err(Fault::BadNumber);
-        };
+        let place = place_in(&matches)?;
         let store = matches.get_str("store");
         let compacts = flag(&matches, "compact");
         let copy = matches.get_str("copy");
@@ -131,7 +176,7 @@ impl<'a> ServedArguments<'a> {
         let names = matches.get_strs("NAME").unwrap_or(&[]);
         Ok(ServedArguments {
             digest,
-            port,
+            place,
             store,
             compacts,
             copy,
@@ -145,12 +190,12 @@ impl<'a> ServedArguments<'a> {
         })
     }
 
-    /// The address to listen at, with the port: 127.0.0.1 without `--listen`.
-    pub fn address(&self) -> SocketAddrV4
+    /// The address to listen at, with a port: 127.0.0.1 without `--listen`.
+    pub fn address(&self, port: u16) -> SocketAddrV4
         ensures ip { ListensAt self.now.listen result }
-        ensures port { v4_port result ≡ self.now.port }
+        ensures port { v4_port result ≡ port }
     {
-        SocketAddrV4::new(self.listen.unwrap_or(Ipv4Addr::LOCALHOST), self.port)
+        SocketAddrV4::new(self.listen.unwrap_or(Ipv4Addr::LOCALHOST), port)
     }
 
     /// How many workers serve, at least one: without `--workers` 2 for a number of connections, and 64 for all that come.

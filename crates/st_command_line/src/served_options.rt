@@ -3,7 +3,7 @@ ghost use Rattle.std.specs.Prelude.{◌≡◌, IfOk, IfErr, IsSome, codes, map, 
 ghost use Rattle.clap.specs.Built.{FitsChain};
 ghost use Rattle.clap.specs.Words.{first_value, found_of, rule_of};
 ghost use Rattle.st_command_line.specs.Common.{IsParsed, RefusesWords, number_rule};
-ghost use Rattle.st_command_line.specs.ServedArguments.{served_command, port_option, connections_option};
+ghost use Rattle.st_command_line.specs.ServedArguments.{served_command, port_option, socket_option, connections_option};
 ghost use Rattle.st_command_line.specs.ServedArguments.{copy_option, copy_every_option, workers_option};
 ghost use Rattle.st_command_line.specs.ServedArguments.{timeout_option, idle_option, listen_option};
 ghost use Rattle.st_command_line.specs.inner.Commands.{Builds, is_own};
@@ -14,7 +14,7 @@ use clap::builder::ValueParser;
 use clap::{Arg, ArgAction, ArgMatches, Command};
 use std::alloc::{AllocError, Global};
 
-const ABOUT: &str = "Serves labelled points in place and time at a TCP port";
+const ABOUT: &str = "Serves labelled points in place and time at a TCP port or a Unix socket";
 
 // An option with this name, which takes a number from the least to the most.
 fn number<'a>(
@@ -44,7 +44,28 @@ fn port<'a>(alloc: Global) -> Arg<'a>
     ensures rule { rule_of result ≡ port_option }
     ensures fits { FitsChain result }
 {
-    number(alloc, "port", "P", "The TCP port, 1 to 65535", 1, 65535).required(true)
+    number(
+        alloc,
+        "port",
+        "P",
+        "The TCP port, 1 to 65535; this or --socket is wanted",
+        1,
+        65535,
+    )
+}
+
+// The option `--socket PATH`.
+fn socket<'a>(alloc: Global) -> Arg<'a>
+    ensures id { result.id.now ≡ codes "socket" }
+    ensures rule { rule_of result ≡ socket_option }
+    ensures fits { FitsChain result }
+{
+    option(
+        alloc,
+        "socket",
+        "PATH",
+        "The Unix socket to listen at in place of a port, for this account and its group",
+    )
 }
 
 // The option `--copy FILE`.
@@ -151,7 +172,7 @@ fn listen<'a>(alloc: Global) -> Arg<'a>
         alloc,
         "listen",
         "ADDRESS",
-        "The IPv4 address to listen at; without it 127.0.0.1",
+        "The IPv4 address to listen at with --port; without it 127.0.0.1",
     )
 }
 
@@ -162,6 +183,7 @@ fn command<'a>(alloc: Global) -> Result<Command<'a>, AllocError>
     let command = named(alloc, "st_served", ABOUT)
         .arg(root(alloc))?
         .arg(port(alloc))?
+        .arg(socket(alloc))?
         .arg(store(alloc))?
         .arg(compact(alloc))?
         .arg(copy(alloc))?

@@ -1,4 +1,4 @@
-//! A server at a port, by the words of a command line.
+//! A server at a port or a socket, by the words of a command line.
 #![tactic(auto)]
 
 mod served;

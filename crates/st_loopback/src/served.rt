@@ -1,4 +1,4 @@
-//! A server at a port, by the words of a command line.
+//! A server at a port or a socket, by the words of a command line.
 ghost use Rattle.std.specs.Prelude.{map, string_bytes};
 ghost use Rattle.st_loopback.specs.Serving.{Ran};
 ghost use Rattle.st_command_line.specs.Status.{exit_status_after};
@@ -10,6 +10,7 @@ use st_core::Seed;
 use st_journal::ReadBack;
 use st_server::{run_in_memory, run_kept};
 use std::alloc::Global;
+use std::fs::Files;
 use std::io::{Eprint, Write};
 use std::net::{Net, TcpListener, TcpStream};
 use std::sync::Wait;
@@ -21,7 +22,13 @@ fn run<
     J: ReadBack + Drop + Send,
     K: Keeper<J> + Drop,
     L: Copier + Drop + Send,
-    R: Net<Listener = TcpListener, Stream = TcpStream> + Threads + Wait + Clock + Eprint + Sync,
+    R: Net<Listener = TcpListener, Stream = TcpStream>
+        + Files
+        + Threads
+        + Wait
+        + Clock
+        + Eprint
+        + Sync,
     O: Write,
 >(
     rt: &R,
@@ -48,13 +55,13 @@ fn run<
     }
 }
 
-/// Opens the store that the words name (the program's own name is the first word), binds the port, tells `listening` and
-/// the port, serves connections by as many workers as the words say, each on a thread of its own, over two
+/// Opens the store that the words name (the program's own name is the first word), binds the port or the socket, tells `listening` and
+/// which, serves connections by as many workers as the words say, each on a thread of its own, over two
 /// copies of the store, tells `served` and their number, and gives the status: 0 after so many connections as
 /// the words say; 2 where the words are no command line, the digest is not 64 hexadecimal digits, or a name is
-/// no authorization; 5 where the port was not bound, a connection was not accepted, or the output took no
+/// no authorization; 5 where the port or the socket was not bound, a connection was not accepted, or the output took no
 /// more; 6 where there was no memory, no place or no thread. Each but 0 has its text in `faults`. Where the words name no store, it
-/// is in memory. Where they name one, the keeper opens its journal before the port is bound: 5 and 8 to 13 say why it does not
+/// is in memory. Where they name one, the keeper opens its journal before that: 5 and 8 to 13 say why it does not
 /// (`Fault`). Each change is kept before it is answered, and 7 says that one was not, or may not have been. Where the words name a
 /// copy, the copier takes a turn when connections are served first, and after each time that they say, and a last one at the end;
 /// standard error is told when it begins to fail, and when it copies again.
@@ -62,7 +69,13 @@ pub fn serve_words<
     J: ReadBack + Drop + Send,
     K: Keeper<J> + Drop,
     L: Copier + Drop + Send,
-    R: Net<Listener = TcpListener, Stream = TcpStream> + Threads + Wait + Clock + Eprint + Sync,
+    R: Net<Listener = TcpListener, Stream = TcpStream>
+        + Files
+        + Threads
+        + Wait
+        + Clock
+        + Eprint
+        + Sync,
     O: Write,
     F: Write,
 >(

@@ -2,8 +2,9 @@
 ghost use Rattle.std.specs.Prelude.{◌≡◌, ◌*◌, min};
 ghost use Rattle.std.specs.Duration.{as_nanos};
 
+use crate::listener::Listener;
 use std::io::{self, Eprint};
-use std::net::OpenListener;
+use std::net::TcpStream;
 use std::thread;
 use std::time::{Clock, Duration};
 use thiserror::Error;
@@ -54,16 +55,16 @@ fn longer(wait: Duration) -> Duration
 /// Accepts the connections of a listener. While the machine is short of files or memory it waits, and says on standard error
 /// when that begins and when it ends.
 #[derive(Drop)]
-pub struct Acceptor<'a, L> {
-    listener: &'a L,
+pub struct Acceptor<'a> {
+    listener: &'a Listener,
     program: &'a str,
     is_short: bool,
     is_bad: bool,
 }
 
-impl<'a, L: OpenListener> Acceptor<'a, L> {
+impl<'a> Acceptor<'a> {
     /// Accepts the connections of this listener, for the program of this name.
-    pub fn new(listener: &'a L, program: &'a str) -> Self {
+    pub fn new(listener: &'a Listener, program: &'a str) -> Self {
         Acceptor {
             listener,
             program,
@@ -83,14 +84,14 @@ impl<'a, L: OpenListener> Acceptor<'a, L> {
 
     /// The next connection. An error that is about one connection is passed over; one about the machine is waited out, 10 ms at
     /// first and then twice as long each time, up to a second. Any other is the listener's, which is then bad for good (accept(2)).
-    pub fn next<R: Clock + Eprint>(&mut self, rt: &R) -> Result<L::Stream, BadListener> {
+    pub fn next<R: Clock + Eprint>(&mut self, rt: &R) -> Result<TcpStream, BadListener> {
         let mut wait = Duration::from_millis(FIRST_WAIT);
         for _ in 0..u64::MAX {
             if self.is_bad {
                 return Err(BadListener);
             }
             match self.listener.accept() {
-                Ok((stream, _)) => {
+                Ok(stream) => {
                     self.tell(rt, false, "accepting again");
                     return Ok(stream);
                 }

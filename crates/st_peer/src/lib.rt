@@ -1,14 +1,17 @@
-//! The client at the other end of a TCP connection: how it is accepted, how long it may take, and how the server parts from it.
+//! The client at the other end of a connection, by TCP or by a Unix socket: how it is accepted, how long it may take, and how the
+//! server parts from it.
 #![tactic(auto)]
 
 mod accepting;
 mod incoming;
+mod listener;
 mod outgoing;
 mod parting;
 mod watching;
 
 pub use accepting::{Acceptor, BadListener};
 pub use incoming::Incoming;
+pub use listener::{Listener, SocketListener};
 pub use outgoing::Outgoing;
 pub use parting::part;
 pub use watching::Crowd;

@@ -1,5 +1,6 @@
-//! `st_served --root DIGEST --port P [--store FILE] [--compact] [--copy FILE] [--copy-every SECONDS] [--listen ADDRESS]
-//! [--workers N] [--connections N] [--timeout SECONDS] [--idle SECONDS] [NAME]...` serves connections at a port.
+//! `st_served --root DIGEST (--port P [--listen ADDRESS] | --socket PATH) [--store FILE] [--compact] [--copy FILE]
+//! [--copy-every SECONDS] [--workers N] [--connections N] [--timeout SECONDS] [--idle SECONDS] [NAME]...` serves connections at a port
+//! or a socket.
 #![tactic(auto)]
 
 mod sqlite;

@@ -10,6 +10,7 @@ use st_journal::Journal;
 use st_journal_file::FileJournal;
 use st_loopback::serve_words;
 use st_store_file::{SqliteCopier, SqliteKeeper};
+use std::fs::Files;
 use std::io::{Eprint, Write};
 use std::net::{Net, TcpListener, TcpStream};
 use std::sync::Wait;
@@ -19,7 +20,13 @@ use std::time::Clock;
 /// Serves connections by the arguments of `st_served`, as `serve_words` does: from a store in memory, or from the store in the SQLite
 /// file that they name, which `files` opens. `start` says what is supposed of a crash, and stands for what the files held.
 pub fn serve_files<
-    R: Net<Listener = TcpListener, Stream = TcpStream> + Threads + Wait + Clock + Eprint + Sync,
+    R: Net<Listener = TcpListener, Stream = TcpStream>
+        + Files
+        + Threads
+        + Wait
+        + Clock
+        + Eprint
+        + Sync,
     S: Start + Send,
     O: Write,
     F: Write,

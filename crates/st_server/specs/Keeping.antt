@@ -10,15 +10,15 @@ use Rattle.st_durable.specs.Applying.{Applies}
 use Rattle.st_command_line.specs.declared.fault.Fault.{Fault}
 use Rattle.st_command_line.specs.declared.fault.Fault.TheVariants.{StoreLost}
 use Rattle.st_command_line.specs.declared.served_arguments.ServedArguments.{ServedArguments}
-use Rattle.st_command_line.specs.ServedArguments.{SaysServed, store_of}
+use Rattle.st_command_line.specs.ServedArguments.{SaysServed, place_text, store_of}
 use Rattle.st_command_line.specs.Status.{exit_status_of, exit_status_after}
 use Rattle.st_command.specs.Opening.{IsOfStore, OpensWith}
 use Rattle.st_workers.specs.Telling.{Tells, line}
 
 -- What is told of it: as of any server, and it may end since its store is lost, which is said on standard error.
-abbrev pub TellsKept : ℕ → Option ℕ → Option (List ℕ) → Option (List ℕ) → Result Unit Fault → Type 0
-TellsKept port connections old new (Err StoreLost) = Appends old new (line (codes "listening") port)
-TellsKept port connections old new ended = Tells port connections old new ended
+abbrev pub TellsKept : Text → Option ℕ → Option (List ℕ) → Option (List ℕ) → Result Unit Fault → Type 0
+TellsKept place connections old new (Err StoreLost) = Appends old new (line (codes "listening") place)
+TellsKept place connections old new ended = Tells place connections old new ended
 
 -- a journal was opened, and connections were served from the state after its changes
 pub record IsOpened {J : Type 0} (holds : List ℕ → List Record → Type 0) (list : J → List Record) (misreads : J → ℕ)
@@ -28,7 +28,7 @@ pub record IsOpened {J : Type 0} (holds : List ℕ → List Record → Type 0) (
   pub found : misreads journal ≡ 0 → holds opening (list journal)
   pub made : misreads journal ≡ 0 → Replays Applies first (list journal) before
   pub ended : Result Unit Fault
-  pub tells : TellsKept said.port said.connections old new ended
+  pub tells : TellsKept (place_text said.place) said.connections old new ended
   pub status_is : status ≡ exit_status_after ended
 
 -- no journal was opened, and nothing was told

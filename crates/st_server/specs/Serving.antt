@@ -6,7 +6,7 @@ use Rattle.st_core.specs.State.{State}
 use Rattle.st_command_line.specs.declared.fault.Fault.{Fault}
 use Rattle.st_command.specs.Opening.{Opens}
 use Rattle.st_command_line.specs.declared.served_arguments.ServedArguments.{ServedArguments}
-use Rattle.st_command_line.specs.ServedArguments.{SaysServed, RefusesServedWords, store_of}
+use Rattle.st_command_line.specs.ServedArguments.{SaysServed, RefusesServedWords, place_text, store_of}
 use Rattle.st_command_line.specs.Status.{exit_status_of, exit_status_after}
 use Rattle.st_workers.specs.Telling.{Tells}
 
@@ -18,7 +18,7 @@ pub record IsServed (words : List Text) (old new : Option (List ℕ)) (status : 
   pub state : State Global
   pub opens : Opens said.digest.now (map (λ name. name.now) said.names.items) state
   pub ended : Result Unit Fault
-  pub tells : Tells said.port said.connections old new ended
+  pub tells : Tells (place_text said.place) said.connections old new ended
   pub status_is : status ≡ exit_status_after ended
 
 -- the words are refused, and nothing was told

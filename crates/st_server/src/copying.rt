@@ -10,8 +10,10 @@ use st_durable::Beginning;
 use st_durable_hall::DurableHall;
 use st_hall::HallName;
 use st_journal::{ReadBack, ReadError, Record};
+use st_peer::Listener;
 use st_workers::{PROGRAM, attend};
 use std::alloc::Global;
+use std::fs::Files;
 use std::io::Eprint;
 use std::net::{Net, TcpListener, TcpStream};
 use std::sync::{Condvar, CondvarTimeouts, Mutex, Wait};
@@ -135,11 +137,17 @@ pub(crate) fn attend_and_copy<
     T: Attend + Send + Drop,
     L: Source + Drop + Send,
     K: Copier + Drop + Send,
-    R: Net<Listener = TcpListener, Stream = TcpStream> + Threads + Wait + Clock + Eprint + Sync,
+    R: Net<Listener = TcpListener, Stream = TcpStream>
+        + Files
+        + Threads
+        + Wait
+        + Clock
+        + Eprint
+        + Sync,
 >(
     rt: &R,
     alloc: Global,
-    listener: &TcpListener,
+    listener: &Listener,
     said: &ServedArguments<'_>,
     list: L,
     copying: Option<Copying<'_, K>>,

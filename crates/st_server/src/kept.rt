@@ -1,11 +1,11 @@
-//! A server at a port whose store a journal keeps.
+//! A server whose store a journal keeps.
 ghost use Rattle.std.specs.Prelude.{◌≡◌, ◌<◌, ◌⊎◌, Some, List, string_bytes};
 ghost use Rattle.st_text.specs.Texts.{Text};
 ghost use Rattle.st_journal.specs.Replays.{Replays};
 ghost use Rattle.st_durable.specs.Applying.{Applies};
 ghost use Rattle.st_server.specs.Keeping.{EndsKept, IsKept, TellsKept};
 ghost use Rattle.st_server.specs.Serving.{IsRefused};
-ghost use Rattle.st_command_line.specs.ServedArguments.{SaysServed, store_of};
+ghost use Rattle.st_command_line.specs.ServedArguments.{SaysServed, place_text, store_of};
 ghost use Rattle.st_command_line.specs.Status.{exit_status_after};
 
 use crate::copying::{Copying, KeptList, attend_and_copy};
@@ -21,6 +21,7 @@ use st_hall::{Desk, Hall, HallFault, HallName, UnnamedFor};
 use st_journal::{Journal, ReadBack};
 use st_workers::{begin, tell};
 use std::alloc::{AllocError, Global};
+use std::fs::Files;
 use std::io::{Eprint, Write};
 use std::marker::Brand;
 use std::net::{Net, TcpListener, TcpStream};
@@ -41,7 +42,13 @@ fn announce<
     T: Attend + Send + Drop,
     L: Source + Drop + Send,
     K: Copier + Drop + Send,
-    R: Net<Listener = TcpListener, Stream = TcpStream> + Threads + Wait + Clock + Eprint + Sync,
+    R: Net<Listener = TcpListener, Stream = TcpStream>
+        + Files
+        + Threads
+        + Wait
+        + Clock
+        + Eprint
+        + Sync,
     O: Write,
 >(
     rt: &R,
@@ -53,7 +60,7 @@ fn announce<
     attendants: Vec<T>,
     output: &mut O,
 ) -> Result<(), Fault>
-    ensures { TellsKept said.now.port said.now.connections (O.contents output.old) (O.contents output.new) result }
+    ensures { TellsKept (place_text said.now.place) said.now.connections (O.contents output.old) (O.contents output.new) result }
 {
     let listener = match begin(rt, alloc, said, output) {
         Ok(listener) => listener,
@@ -96,7 +103,13 @@ fn seat_workers<
     C: Wait + Drop + Send,
     J: ReadBack + Drop + Send,
     K: Copier + Drop + Send,
-    R: Net<Listener = TcpListener, Stream = TcpStream> + Threads + Wait + Clock + Eprint + Sync,
+    R: Net<Listener = TcpListener, Stream = TcpStream>
+        + Files
+        + Threads
+        + Wait
+        + Clock
+        + Eprint
+        + Sync,
     O: Write,
 >(
     rt: &R,
@@ -107,7 +120,7 @@ fn seat_workers<
     desks: Vec<Desk<H>>,
     output: &mut O,
 ) -> Result<(), Fault>
-    ensures { TellsKept said.now.port said.now.connections (O.contents output.old) (O.contents output.new) result }
+    ensures { TellsKept (place_text said.now.place) said.now.connections (O.contents output.old) (O.contents output.new) result }
 {
     let alarm = AtomicBool::new(false);
     let stations = stations_at(rt, alloc, hall, &alarm, desks)?;
@@ -121,7 +134,13 @@ fn open_hall<
     H: HallName + Send + Sync,
     J: ReadBack + Drop + Send,
     K: Copier + Drop + Send,
-    R: Net<Listener = TcpListener, Stream = TcpStream> + Threads + Wait + Clock + Eprint + Sync,
+    R: Net<Listener = TcpListener, Stream = TcpStream>
+        + Files
+        + Threads
+        + Wait
+        + Clock
+        + Eprint
+        + Sync,
     O: Write,
 >(
     rt: &R,
@@ -139,7 +158,7 @@ fn open_hall<
     requires alike { (both.0 ≡ H.start) × (both.1 ≡ H.start) }
     requires ready { J.Journal.is_ready journal }
     requires stands { J.Journal.misreads journal ≡ 0 → Replays Applies B.first (J.Journal.list journal) H.start }
-    ensures { TellsKept said.now.port said.now.connections (O.contents output.old) (O.contents output.new) result }
+    ensures { TellsKept (place_text said.now.place) said.now.connections (O.contents output.old) (O.contents output.new) result }
 {
     match Hall::<H>::open_for(rt, alloc, name, both.0, both.1, workers) {
         Ok((clerk, desks)) => {
@@ -176,7 +195,13 @@ fn serve_kept<
     J: ReadBack + Drop + Send,
     K: Keeper<J>,
     L: Copier + Drop + Send,
-    R: Net<Listener = TcpListener, Stream = TcpStream> + Threads + Wait + Clock + Eprint + Sync,
+    R: Net<Listener = TcpListener, Stream = TcpStream>
+        + Files
+        + Threads
+        + Wait
+        + Clock
+        + Eprint
+        + Sync,
     O: Write,
 >(
     rt: &R,
@@ -207,7 +232,13 @@ pub fn run_kept<
     J: ReadBack + Drop + Send,
     K: Keeper<J> + Drop,
     L: Copier + Drop + Send,
-    R: Net<Listener = TcpListener, Stream = TcpStream> + Threads + Wait + Clock + Eprint + Sync,
+    R: Net<Listener = TcpListener, Stream = TcpStream>
+        + Files
+        + Threads
+        + Wait
+        + Clock
+        + Eprint
+        + Sync,
     O: Write,
 >(
     rt: &R,

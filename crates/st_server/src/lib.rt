@@ -1,4 +1,4 @@
-//! Servers at a port: workers over two copies of a store that is in memory, or that a journal keeps.
+//! Servers at a port or a socket: workers over two copies of a store that is in memory, or that a journal keeps.
 //!
 //! What makes the stations is generic in the handle by which their hall waits. With the types written out, the goals on lifetimes
 //! (`requires-lives-T`) exceed the limit of `simp`.

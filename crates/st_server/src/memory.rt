@@ -1,10 +1,10 @@
-//! A server at a port whose store is in memory.
+//! A server whose store is in memory.
 ghost use Rattle.std.specs.Prelude.{◌≡◌, ◌<◌, ◌⊎◌, None, List, map};
 ghost use Rattle.st_text.specs.Texts.{Text};
 ghost use Rattle.st_command.specs.Opening.{Opens};
 ghost use Rattle.st_server.specs.Serving.{IsRefused, IsServed};
 ghost use Rattle.st_workers.specs.Telling.{Tells};
-ghost use Rattle.st_command_line.specs.ServedArguments.{SaysServed, store_of};
+ghost use Rattle.st_command_line.specs.ServedArguments.{SaysServed, place_text, store_of};
 ghost use Rattle.st_command_line.specs.Status.{exit_status_after};
 
 use st_command::stores_for;
@@ -15,6 +15,7 @@ use st_hall::{Clerk, Desk, Gate, Hall, HallFault, HallName, UnnamedFor};
 use st_station::Station;
 use st_workers::{attend, begin, tell};
 use std::alloc::{AllocError, Global};
+use std::fs::Files;
 use std::io::{Eprint, Write};
 use std::marker::Brand;
 use std::net::{Net, TcpListener, TcpStream};
@@ -39,7 +40,13 @@ impl Gate for Open {
 // Tells that the server listens, serves connections, and tells how many were served.
 fn announce<
     T: Attend + Send + Drop,
-    R: Net<Listener = TcpListener, Stream = TcpStream> + Threads + Wait + Clock + Eprint + Sync,
+    R: Net<Listener = TcpListener, Stream = TcpStream>
+        + Files
+        + Threads
+        + Wait
+        + Clock
+        + Eprint
+        + Sync,
     O: Write,
 >(
     rt: &R,
@@ -48,7 +55,7 @@ fn announce<
     attendants: Vec<T>,
     output: &mut O,
 ) -> Result<(), Fault>
-    ensures { Tells said.now.port said.now.connections (O.contents output.old) (O.contents output.new) result }
+    ensures { Tells (place_text said.now.place) said.now.connections (O.contents output.old) (O.contents output.new) result }
 {
     let listener = match begin(rt, alloc, said, output) {
         Ok(listener) => listener,
@@ -80,7 +87,13 @@ fn stations_at<'a, H: HallName, C: Wait + Drop, R: Wait>(
 fn seat_workers<
     H: HallName + Send + Sync,
     C: Wait + Drop + Send,
-    R: Net<Listener = TcpListener, Stream = TcpStream> + Threads + Wait + Clock + Eprint + Sync,
+    R: Net<Listener = TcpListener, Stream = TcpStream>
+        + Files
+        + Threads
+        + Wait
+        + Clock
+        + Eprint
+        + Sync,
     O: Write,
 >(
     rt: &R,
@@ -90,7 +103,7 @@ fn seat_workers<
     desks: Vec<Desk<H>>,
     output: &mut O,
 ) -> Result<(), Fault>
-    ensures { Tells said.now.port said.now.connections (O.contents output.old) (O.contents output.new) result }
+    ensures { Tells (place_text said.now.place) said.now.connections (O.contents output.old) (O.contents output.new) result }
 {
     let stations = stations_at(rt, alloc, clerk, desks)?;
     announce(rt, alloc, said, stations, output)
@@ -99,7 +112,13 @@ fn seat_workers<
 // Opens a hall over the two stores, with a desk for each worker, and serves at its desks.
 fn open_hall<
     H: HallName + Send + Sync,
-    R: Net<Listener = TcpListener, Stream = TcpStream> + Threads + Wait + Clock + Eprint + Sync,
+    R: Net<Listener = TcpListener, Stream = TcpStream>
+        + Files
+        + Threads
+        + Wait
+        + Clock
+        + Eprint
+        + Sync,
     O: Write,
 >(
     rt: &R,
@@ -114,7 +133,7 @@ fn open_hall<
     requires workers { (name.blank.parts ≡ workers) × (H.parts ≡ workers) × (0 < workers) }
     requires alike { (both.0 ≡ H.start) × (both.1 ≡ H.start) }
     requires opens { Opens said.now.digest.now (map (λ name. name.now) said.now.names.items) both.0 }
-    ensures { Tells said.now.port said.now.connections (O.contents output.old) (O.contents output.new) result }
+    ensures { Tells (place_text said.now.place) said.now.connections (O.contents output.old) (O.contents output.new) result }
 {
     match Hall::<H>::open_for(rt, alloc, name, both.0, both.1, workers) {
         Ok((clerk, desks)) => seat_workers(rt, alloc, said, &Mutex::new(clerk), desks, output),
@@ -125,7 +144,13 @@ fn open_hall<
 
 /// Opens the stores in memory, and serves as the words say.
 pub fn run_in_memory<
-    R: Net<Listener = TcpListener, Stream = TcpStream> + Threads + Wait + Clock + Eprint + Sync,
+    R: Net<Listener = TcpListener, Stream = TcpStream>
+        + Files
+        + Threads
+        + Wait
+        + Clock
+        + Eprint
+        + Sync,
     O: Write,
 >(
     rt: &R,

@@ -3,6 +3,7 @@ ghost use Rattle.std.specs.Prelude.{◌≡◌, Some, true, IfOk};
 ghost use Rattle.sqlite_wal.specs.Files.{image_at};
 ghost use Rattle.st_store_file.specs.Copying.{Copied, HoldCopy};
 
+use crate::private::make_private;
 use crate::time::milliseconds;
 use sqlite_std_file::{FileFrom, Start, Unknown};
 use st_copy::{Copier, CopyFault, Counting, Source, bring_up, has_more};
@@ -46,6 +47,9 @@ pub fn copy_into<S: Start, L: Source>(
     ensures { IfOk result (Copied (HoldCopy (image_at S.Start) opening.now) ⟦<FileJournal<FileFrom<S>> as Journal>⟧.list
         ⟦<FileJournal<FileFrom<S>> as Journal>⟧.misreads (L.gives source.new) left) }
 {
+    if make_private(rt, path).is_err() {
+        return Err(CopyFault::Io);
+    }
     let mut counting = Counting::new();
     let time = milliseconds(rt);
     let mut copy = match FileJournal::open(rt, path, opening, time, &mut counting, start) {

@@ -2,6 +2,7 @@
 ghost use Rattle.std.specs.Prelude.{◌≡◌};
 ghost use Rattle.st_command.specs.Opening.{IsOfStore};
 
+use crate::private::make_private;
 use crate::time::milliseconds;
 use sqlite_std_file::{FileFrom, Start};
 use st_command::Keeper;
@@ -52,6 +53,9 @@ impl<S: Start> Keeper<FileJournal<FileFrom<S>>> for SqliteKeeper<'_, S> {
         opening: &str,
         state: &mut R,
     ) -> Result<FileJournal<FileFrom<S>>, Fault> {
+        if make_private(self.runtime, path).is_err() {
+            return Err(Fault::StoreIo);
+        }
         let time = milliseconds(self.runtime);
         match FileJournal::open(self.runtime, path, opening, time, state, self.start) {
             Ok(journal) => Ok(journal),

@@ -8,6 +8,7 @@ mod counts;
 mod file;
 mod journal;
 mod keeper;
+mod private;
 mod time;
 mod words;
 

@@ -13,7 +13,7 @@ use std::time::{Clock, Duration};
 /// How long a client may take.
 #[derive(Clone, Copy)]
 pub struct Limits {
-    /// For a message, from its first byte to its last, and so for a reply.
+    /// For a message, from its first byte to its last, and for a reply at most.
     pub message: Duration,
     /// From an answer to the first byte of the next message.
     pub idle: Duration,
@@ -87,7 +87,7 @@ fn converse_in<T: Attend, R: Clock>(
     let Ok(mut reader) = Incoming::new(rt, &stream, limits.message, limits.idle, crowd) else {
         return Ok(());
     };
-    let Ok(outgoing) = Outgoing::new(&stream, limits.message) else {
+    let Ok(outgoing) = Outgoing::new(rt, &stream, limits.message) else {
         return Ok(());
     };
     let mut writer = FromWrite::new(outgoing);

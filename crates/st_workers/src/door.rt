@@ -1,5 +1,5 @@
 //! Where connections are accepted.
-use st_peer::{Acceptor, Crowd};
+use st_peer::{Acceptor, Crowd, Listener};
 use std::io::{Eprint, ErrorKind};
 use std::net::{Net, TcpListener, TcpStream};
 use std::sync::atomic::{AtomicBool, Ordering};
@@ -17,7 +17,7 @@ const KNOCK: u64 = 1_000;
 
 const WAIT: u64 = 100;
 
-// Connects to a listener, so that who accepts there goes on. While the machine is short of files or memory it tries again. Where
+// Connects to a port, so that who accepts there goes on. While the machine is short of files or memory it tries again. Where
 // nobody answers in time so many connections wait there that who accepts goes on without it.
 fn knock<R: Net<Listener = TcpListener, Stream = TcpStream> + Clock>(
     rt: &R,
@@ -38,16 +38,16 @@ fn knock<R: Net<Listener = TcpListener, Stream = TcpStream> + Clock>(
 // Where connections are accepted, one at a time. It is closed for good when it has no acceptor, and when it is shut.
 #[derive(Drop)]
 pub(crate) struct Door<'a> {
-    pub(crate) acceptor: Mutex<Option<Acceptor<'a, TcpListener>>>,
+    pub(crate) acceptor: Mutex<Option<Acceptor<'a>>>,
     // The connections that were let in and are being answered.
     pub(crate) crowd: Crowd,
-    listener: &'a TcpListener,
+    listener: &'a Listener,
     is_shut: AtomicBool,
 }
 
 impl<'a> Door<'a> {
     // A door at a listener, for as many processors as the program may use.
-    pub(crate) fn new<R: Threads>(rt: &R, listener: &'a TcpListener) -> Door<'a> {
+    pub(crate) fn new<R: Threads>(rt: &R, listener: &'a Listener) -> Door<'a> {
         let processors = match available_parallelism(rt) {
             Ok(number) => number.get(),
             Err(_) => 1,
@@ -77,6 +77,9 @@ impl<'a> Door<'a> {
     // Shuts the door, and lets who waits at it see so.
     pub(crate) fn shut<R: Net<Listener = TcpListener, Stream = TcpStream> + Clock>(&self, rt: &R) {
         self.is_shut.store(true, Ordering::SeqCst);
-        knock(rt, self.listener);
+        match self.listener {
+            Listener::Port(port) => knock(rt, port),
+            Listener::Socket(socket) => socket.shut(),
+        }
     }
 }

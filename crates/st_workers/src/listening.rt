@@ -1,36 +1,54 @@
-//! Listening at a port, and what is told of it.
-ghost use Rattle.std.specs.Prelude.{◌≡◌, ◌⊎◌, Err, Some, IfOk, IfErr, OnOk, codes};
+//! Listening at a port or a socket, and what is told of it.
+ghost use Rattle.std.specs.Prelude.{◌≡◌, ◌⊎◌, Err, Some, IfOk, IfErr, OnOk, codes, decimal};
 ghost use Rattle.std.specs.Io.KnownBytes.{Appends};
 ghost use Rattle.st_workers.specs.Telling.{Stops, Tells, line};
+ghost use Rattle.st_command_line.specs.ServedArguments.{place_text};
 ghost use Rattle.st_command_line.specs.declared.fault.Fault.TheVariants.{Bind, Write as Unwritten, NoMemory};
 
 use crate::connection::Limits;
 use crate::workers::{serve_all, serve_number};
-use st_command_line::{Fault, ServedArguments};
+use st_command_line::{Fault, Place, ServedArguments};
 use st_connection::Attend;
+use st_peer::{Listener, SocketListener};
 use std::alloc::Global;
+use std::fs::Files;
 use std::io::{Eprint, Write};
-use std::net::{Net, SocketAddr, SocketAddrV4, TcpListener, TcpStream};
+use std::net::{Net, SocketAddr, TcpListener, TcpStream};
 use std::sync::Wait;
 use std::thread::Threads;
 use std::time::Clock;
 
-// Listens at the address.
-fn listen<R: Net<Listener = TcpListener, Stream = TcpStream>>(
+// Listens where the words say.
+fn listen<R: Net<Listener = TcpListener, Stream = TcpStream> + Files>(
     rt: &R,
-    address: SocketAddrV4,
-) -> Result<TcpListener, Fault>
+    said: &ServedArguments<'_>,
+) -> Result<Listener, Fault>
     ensures { IfErr result (λ fault. fault ≡ Bind) }
 {
-    match TcpListener::bind(rt, SocketAddr::V4(address)) {
-        Ok(listener) => Ok(listener),
-        Err(_) => Err(Fault::Bind),
+    match said.place {
+        Place::Port(port) => match TcpListener::bind(rt, SocketAddr::V4(said.address(port))) {
+            Ok(listener) => Ok(Listener::Port(listener)),
+            Err(_) => Err(Fault::Bind),
+        },
+        Place::Socket(path) => match SocketListener::bind(rt, path) {
+            Ok(listener) => Ok(Listener::Socket(listener)),
+            Err(_) => Err(Fault::Bind),
+        },
     }
 }
 
-/// Writes a line.
+// Removes the socket, where the listener has one.
+fn leave<R: Files>(rt: &R, listener: &Listener, said: &ServedArguments<'_>) {
+    if let Listener::Socket(socket) = listener {
+        if let Place::Socket(path) = said.place {
+            socket.remove(rt, path);
+        }
+    }
+}
+
+/// Writes a line with a number.
 pub fn tell<O: Write>(alloc: Global, output: &mut O, what: &str, number: u16) -> Result<(), Fault>
-    ensures ok { OnOk result (Appends (O.contents output.old) (O.contents output.new) (line what.now number)) }
+    ensures ok { OnOk result (Appends (O.contents output.old) (O.contents output.new) (line what.now (decimal number))) }
     ensures err { IfErr result (λ fault. (fault ≡ Unwritten)
         ⊎ ((fault ≡ NoMemory) × (O.contents output.new ≡ O.contents output.old))) }
 {
@@ -41,30 +59,68 @@ pub fn tell<O: Write>(alloc: Global, output: &mut O, what: &str, number: u16) ->
     }
 }
 
-/// Listens at the port, and tells so.
-pub fn begin<R: Net<Listener = TcpListener, Stream = TcpStream>, O: Write>(
+// Writes a line with a path.
+fn tell_path<O: Write>(alloc: Global, output: &mut O, what: &str, path: &str) -> Result<(), Fault>
+    ensures ok { OnOk result (Appends (O.contents output.old) (O.contents output.new) (line what.now path.now)) }
+    ensures err { IfErr result (λ fault. (fault ≡ Unwritten)
+        ⊎ ((fault ≡ NoMemory) × (O.contents output.new ≡ O.contents output.old))) }
+{
+    let text = format!(in alloc; "{what} {path}\n")?;
+    match output.write_all(text.as_bytes()) {
+        Ok(()) => Ok(()),
+        Err(_) => Err(Fault::Write),
+    }
+}
+
+// Tells where the server listens.
+fn tell_place<O: Write>(alloc: Global, output: &mut O, place: Place<'_>) -> Result<(), Fault>
+    ensures ok { OnOk result (Appends (O.contents output.old) (O.contents output.new)
+        (line (codes "listening") (place_text place.entry))) }
+    ensures err { IfErr result (λ fault. (fault ≡ Unwritten)
+        ⊎ ((fault ≡ NoMemory) × (O.contents output.new ≡ O.contents output.old))) }
+{
+    match place {
+        Place::Port(port) => tell(alloc, output, "listening", port),
+        Place::Socket(path) => tell_path(alloc, output, "listening", path),
+    }
+}
+
+/// Listens at the port or the socket, and tells so.
+pub fn begin<R: Net<Listener = TcpListener, Stream = TcpStream> + Files, O: Write>(
     rt: &R,
     alloc: Global,
     said: &ServedArguments<'_>,
     output: &mut O,
-) -> Result<TcpListener, Fault>
-    ensures ok { OnOk result (Appends (O.contents output.old) (O.contents output.new) (line (codes "listening") said.now.port)) }
-    ensures err { IfErr result (λ fault. Tells said.now.port said.now.connections
+) -> Result<Listener, Fault>
+    ensures ok { OnOk result (Appends (O.contents output.old) (O.contents output.new)
+        (line (codes "listening") (place_text said.now.place))) }
+    ensures err { IfErr result (λ fault. Tells (place_text said.now.place) said.now.connections
         (O.contents output.old) (O.contents output.new) (Err fault)) }
 {
-    let listener = listen(rt, said.address())?;
-    tell(alloc, output, "listening", said.port)?;
-    Ok(listener)
+    let listener = listen(rt, said)?;
+    match tell_place(alloc, output, said.place) {
+        Ok(()) => Ok(listener),
+        Err(fault) => {
+            leave(rt, &listener, said);
+            Err(fault)
+        }
+    }
 }
 
-/// Serves as many connections as the words say, or all that come, and gives their number.
+/// Serves as many connections as the words say, or all that come, and gives their number. At the end a socket is removed from its path.
 pub fn attend<
     T: Attend + Send + Drop,
-    R: Net<Listener = TcpListener, Stream = TcpStream> + Threads + Wait + Clock + Eprint + Sync,
+    R: Net<Listener = TcpListener, Stream = TcpStream>
+        + Files
+        + Threads
+        + Wait
+        + Clock
+        + Eprint
+        + Sync,
 >(
     rt: &R,
     alloc: Global,
-    listener: &TcpListener,
+    listener: &Listener,
     said: &ServedArguments<'_>,
     attendants: Vec<T>,
 ) -> Result<u16, Fault>
@@ -76,8 +132,12 @@ pub fn attend<
         idle: said.idle_limit(),
     };
     let Some(connections) = said.connections else {
-        return Err(serve_all(rt, listener, limits, attendants));
+        let fault = serve_all(rt, listener, limits, attendants);
+        leave(rt, listener, said);
+        return Err(fault);
     };
-    serve_number(rt, alloc, listener, connections, limits, attendants)?;
+    let served = serve_number(rt, alloc, listener, connections, limits, attendants);
+    leave(rt, listener, said);
+    served?;
     Ok(connections)
 }

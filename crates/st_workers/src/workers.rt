@@ -10,7 +10,7 @@ use crate::door::Door;
 use crossbeam_channel::{Receiver, Sender, unbounded};
 use st_command_line::Fault;
 use st_connection::Attend;
-use st_peer::Crowd;
+use st_peer::{Crowd, Listener};
 use std::alloc::{AllocError, Global};
 use std::io::Eprint;
 use std::net::{Net, TcpListener, TcpStream};
@@ -83,7 +83,7 @@ pub fn serve_number<
 >(
     rt: &R,
     alloc: Global,
-    listener: &TcpListener,
+    listener: &Listener,
     connections: u16,
     limits: Limits,
     attendants: Vec<T>,
@@ -142,7 +142,7 @@ fn work_at_door<
 pub fn serve_all<
     T: Attend + Send + Drop,
     R: Net<Listener = TcpListener, Stream = TcpStream> + Threads + Wait + Clock + Eprint + Sync,
->(rt: &R, listener: &TcpListener, limits: Limits, attendants: Vec<T>) -> Fault
+>(rt: &R, listener: &Listener, limits: Limits, attendants: Vec<T>) -> Fault
     ensures { Stops result }
 {
     let door = Door::new(rt, listener);

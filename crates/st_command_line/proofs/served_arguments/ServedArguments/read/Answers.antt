@@ -4,8 +4,8 @@ use Rattle.std.proofs.lemmas.Result.{err_from_is_err_and}
 use Rattle.clap.specs.Words.{all_of, first_of, found_of}
 use Rattle.clap.proofs.WalkLemmas.{first_value-rows, raw_values-rows}
 use Rattle.st_command_line.specs.Common.{says_true}
-use Rattle.st_command_line.specs.ServedArguments.{Gives, RefusesServedWords, served_command}
-use Rattle.st_command_line.proofs.Numbers.{no_port, widens}
+use Rattle.st_command_line.specs.ServedArguments.{RefusesServedWords, served_command}
+use Rattle.st_command_line.proofs.Numbers.{widens}
 use Rattle.st_command_line.proofs.Refusing.{names_given}
 use Rattle.st_command_line.proofs.Wanting.{file_is}
 use Rattle.st_command_line.proofs.served_arguments.ServedArguments.read.Goals as goal
@@ -16,17 +16,11 @@ returns-in_err-matches-clause-err c =
     let p = err_from_is_err_and c.from_residual.result c.from_residual.ensures.1 in
     rw p.1 (subst (RefusesServedWords words) (sym p.2) (widens words _ c.in_err-matches.ensures.err))
 
-pub returns-in_default-2-clause-err : goal.returns-in_default-2-clause-err
-returns-in_default-2-clause-err c =
+pub returns-in_err-check_wants-clause-err : goal.returns-in_err-check_wants-clause-err
+returns-in_err-check_wants-clause-err c =
     let words = map string_bytes c.args.words.now in
-    let parsed = c.in_ok-matches.ensures.ok in
-    no_port words parsed.whole (subst (Gives _) c.in_default-2.is (c.in_ok-port.ensures.ok words parsed))
-
-pub returns-in_err-check_files-clause-err : goal.returns-in_err-check_files-clause-err
-returns-in_err-check_files-clause-err c =
-    let words = map string_bytes c.args.words.now in
-    let p = err_from_is_err_and c.from_residual-in_err-check_files.result c.from_residual-in_err-check_files.ensures.1 in
-    rw p.1 (subst (RefusesServedWords words) (sym p.2) (c.in_err-check_files.ensures.err words c.in_ok-matches.ensures.ok))
+    let p = err_from_is_err_and c.from_residual-in_err-check_wants.result c.from_residual-in_err-check_wants.ensures.1 in
+    rw p.1 (subst (RefusesServedWords words) (sym p.2) (c.in_err-check_wants.ensures.err words c.in_ok-matches.ensures.ok))
 
 pub returns-in_err-copy_every-clause-err : goal.returns-in_err-copy_every-clause-err
 returns-in_err-copy_every-clause-err c =
@@ -34,11 +28,11 @@ returns-in_err-copy_every-clause-err c =
     let p = err_from_is_err_and c.from_residual-in_err-copy_every.result c.from_residual-in_err-copy_every.ensures.1 in
     rw p.1 (subst (RefusesServedWords words) (sym p.2) (c.in_err-copy_every.ensures.err words c.in_ok-matches.ensures.ok))
 
-pub returns-in_err-port-clause-err : goal.returns-in_err-port-clause-err
-returns-in_err-port-clause-err c =
+pub returns-in_err-place-clause-err : goal.returns-in_err-place-clause-err
+returns-in_err-place-clause-err c =
     let words = map string_bytes c.args.words.now in
-    let p = err_from_is_err_and c.from_residual-in_err-port.result c.from_residual-in_err-port.ensures.1 in
-    rw p.1 (subst (RefusesServedWords words) (sym p.2) (c.in_err-port.ensures.err words c.in_ok-matches.ensures.ok))
+    let p = err_from_is_err_and c.from_residual-in_err-place.result c.from_residual-in_err-place.ensures.1 in
+    rw p.1 (subst (RefusesServedWords words) (sym p.2) (c.in_err-place.ensures.err words c.in_ok-matches.ensures.ok))
 
 pub returns-in_err-connections-clause-err : goal.returns-in_err-connections-clause-err
 returns-in_err-connections-clause-err c =
@@ -81,16 +75,17 @@ returns-clause-ok c =
         digits_are = sym (ap (first_of (codes "root")) parsed.rows_are) ∙ (sym (first_value-rows found (codes "root")) ∙ (sym c.get_str.ensures ∙ ap (option_map (λ s. s.now)) c.in-Some.is));
         names_are = ap (λ rows. unwrap_or (all_of (codes "NAME") rows) []) (sym parsed.rows_are) ∙ (ap (λ o. unwrap_or o []) (sym (raw_values-rows found (codes "NAME"))) ∙ (names_given _ c.get_strs.result _ c.unwrap_or-names.result c.get_strs.ensures c.unwrap_or-names.ensures refl ∙ ap (map (λ name. name.now)) (sym c.in_ok-from_slice.ensures.items)));
       };
-      port_is = subst (Gives _) c.in-Some-2.is (c.in_ok-port.ensures.ok words parsed);
+      place_is = c.in_ok-place.ensures.ok words parsed;
       store_is = ap (first_of (codes "store")) (sym parsed.rows_are) ∙ (sym (first_value-rows found (codes "store")) ∙ sym c.get_str-store.ensures);
       compacts_is = ap says_true (sym (file_is served_command words (codes "compact") c.in_ok-matches.matches parsed)) ∙ sym c.flag-compacts.ensures;
-      stored = c.in_ok-check_files.ensures.store words parsed;
+      stored = c.in_ok-check_wants.ensures.store words parsed;
       copy_is = ap (first_of (codes "copy")) (sym parsed.rows_are) ∙ (sym (first_value-rows found (codes "copy")) ∙ sym c.get_str-copy.ensures);
       copy_every_is = c.in_ok-copy_every.ensures.ok words parsed;
-      copied = c.in_ok-check_files.ensures.copy words parsed;
+      copied = c.in_ok-check_wants.ensures.copy words parsed;
       connections_are = c.in_ok-connections.ensures.ok words parsed;
       workers_are = c.in_ok-workers.ensures.ok words parsed;
       timeout_is = c.in_ok-timeout.ensures.ok words parsed;
       idle_is = c.in_ok-idle.ensures.ok words parsed;
       address_is = c.in_ok-listen.ensures.ok words parsed;
+      listening = c.in_ok-check_wants.ensures.listen words parsed;
     }
