@@ -195,9 +195,9 @@ class ConstraintError(RefusalError):
 
 
 class DropSelfError(RefusalError):
-    """Nobody drops oneself."""
+    """You cannot drop yourself."""
 
-    meaning = "nobody drops oneself"
+    meaning = "you cannot drop yourself"
 
 
 class RouteError(RefusalError):
