@@ -22,7 +22,7 @@ import pytest
 import seccomp
 
 from fashkiin import Client, Token, __version__
-from served import PROGRAM, TOP, digest, free_port, token
+from served import PROGRAM, TOP, digest, free_port, listening, token
 from stack import certificate
 
 ST_RUN = os.environ.get("ST_RUN", str(TOP / "crates/st_run/out/st_run"))
@@ -152,15 +152,10 @@ def test_server_serves_under_the_filter_of_the_unit(root: Path, tmp_path: Path) 
     line = re.findall(r"^ExecStart=(.*) \$ROOT_AUTHS$", UNIT, re.M)[0]
     words = [*re.sub(r"\$\{(\w+)\}", lambda found: variables[str(found[1])], line).split(), "coast"]
     words[0] = f"{root}{words[0]}"
-    with subprocess.Popen(words, stdout=subprocess.PIPE, preexec_fn=filter_of(UNIT).load) as server:
-        assert server.stdout is not None
-        try:
-            assert server.stdout.readline() == b"listening %d\n" % port
-            with Client(f"http://127.0.0.1:{port}", Token.parse(token("root"))) as client:
-                assert client.whoami().auths == ("coast",)
-                client.tables.create("geo.marks")
-        finally:
-            server.terminate()
+    with listening(words, port, preexec_fn=filter_of(UNIT).load):
+        with Client(f"http://127.0.0.1:{port}", Token.parse(token("root"))) as client:
+            assert client.whoami().auths == ("coast",)
+            client.tables.create("geo.marks")
     with closing(sqlite3.connect(store)) as base:
         assert base.execute("PRAGMA integrity_check").fetchall() == [("ok",)]
         kept = base.execute("SELECT user, request, json_extract(body, '$.table') FROM changes WHERE number = 1").fetchall()
