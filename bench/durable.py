@@ -29,7 +29,7 @@ TOP = Path(__file__).resolve().parent.parent
 sys.path.insert(0, str(TOP / "tests"))
 
 from postgres import PROGRAMS, SUPERUSER, postgres  # noqa: E402
-from served import PROGRAM, digest, free_port, token  # noqa: E402
+from served import free_port, serving, token  # noqa: E402
 
 TABLE = """CREATE TABLE changes (number {serial}, time BIGINT NOT NULL, "user" TEXT NOT NULL, request TEXT NOT NULL, name TEXT NOT NULL,
 body TEXT NOT NULL, result TEXT NOT NULL)"""
@@ -101,16 +101,9 @@ def constant(folder: Path) -> Iterator[int]:
 @contextmanager
 def stored(file: Path, library: Path | None = None) -> Iterator[int]:
     """The port of a server that keeps its changes in the file, with 64 workers. A library is loaded before the C library."""
-    port = free_port()
-    words = [str(PROGRAM), "--root", digest("root"), "--port", str(port), "--store", str(file), "--timeout", "60", "--workers", "64"]
     environment = {**os.environ, "LD_PRELOAD": str(library)} if library else None
-    with subprocess.Popen(words, stdout=subprocess.PIPE, env=environment) as server:
-        assert server.stdout is not None
-        try:
-            assert server.stdout.readline() == b"listening %d\n" % port
-            yield port
-        finally:
-            server.terminate()
+    with serving("--store", str(file), "--timeout", "60", "--workers", "64", env=environment) as server:
+        yield server.port
 
 
 def driven(port: int, connections: int, seconds: float, *words: str) -> "subprocess.Popen[str]":

@@ -28,7 +28,7 @@ from pathlib import Path
 TOP = Path(__file__).resolve().parent.parent
 sys.path.insert(0, str(TOP / "tests"))
 
-from served import PROGRAM, digest, free_port  # noqa: E402
+from served import serving  # noqa: E402
 from stored import AUTHS, BOX, answer, asked, request  # noqa: E402
 from tuned import ENVIRONMENT  # noqa: E402
 
@@ -95,22 +95,16 @@ class Server:
 
 
 @contextmanager
-def serving(file: Path) -> Iterator[Server]:
+def opened(file: Path) -> Iterator[Server]:
     """A server over the store in a file, which is ended with the context."""
-    port, start = free_port(), time.perf_counter()
-    words = [str(PROGRAM), "--root", digest("root"), "--port", str(port), "--store", str(file), *AUTHS]
-    with subprocess.Popen(words, stdout=subprocess.PIPE, env=ENVIRONMENT) as process:
-        assert process.stdout is not None
-        try:
-            assert process.stdout.readline() == b"listening %d\n" % port
-            yield Server(process, port, time.perf_counter() - start)
-        finally:
-            process.terminate()
+    start = time.perf_counter()
+    with serving("--store", str(file), *AUTHS, env=ENVIRONMENT) as server:
+        yield Server(server.process, server.port, time.perf_counter() - start)
 
 
 def write_rows(file: Path, count: int) -> None:
     """A store with puts of so many rows, which SQLite writes into the file of a new one."""
-    with serving(file):
+    with opened(file):
         pass
     with closing(sqlite3.connect(file)) as base, base:
         base.executemany(INSERT, ((number, json.dumps(row(number))) for number in range(1, 1 + count)))
@@ -119,12 +113,12 @@ def write_rows(file: Path, count: int) -> None:
 def compare_sample(folder: Path) -> None:
     """That SQLite writes some rows as the server does, but for their times."""
     one, other = folder / "one.db", folder / "other.db"
-    with serving(one) as server:
+    with opened(one) as server:
         server.put(range(1, 1 + SAMPLE))
     write_rows(other, SAMPLE)
     by_server, by_sqlite = (asked(file, f"SELECT {COLUMNS} FROM changes ORDER BY number") for file in (one, other))
     assert by_server == by_sqlite and len(by_server) == 1 + SAMPLE
-    with serving(other) as server:
+    with opened(other) as server:
         assert server.count() == SAMPLE
 
 
@@ -138,11 +132,11 @@ def main() -> None:
         size = (folder / "points.db").stat().st_size
         print(f"{count:,} rows: {size / 1e6:,.0f} MB of file, {size / count:.0f} bytes a row; load {os.getloadavg()[0]:.1f}", flush=True)
         for _ in range(2):
-            with serving(folder / "points.db") as server:
+            with opened(folder / "points.db") as server:
                 print(f"opened in {server.took:.1f} s; memory {server.says()}", flush=True)
                 assert server.count() == count
         if "opened" not in sys.argv:
-            with serving(folder / "asked.db") as server:
+            with opened(folder / "asked.db") as server:
                 start = time.perf_counter()
                 server.put_all(count)
                 print(f"by requests in {time.perf_counter() - start:.0f} s; memory {server.says()}", flush=True)

@@ -8,8 +8,9 @@ import pathlib
 import random
 import socket
 import subprocess
-from collections.abc import Iterator
+from collections.abc import Callable, Iterator, Mapping
 from contextlib import contextmanager
+from dataclasses import dataclass
 
 TOP = pathlib.Path(__file__).resolve().parent.parent
 PROGRAM = pathlib.Path(os.environ.get("ST_SERVED", TOP / "crates/st_served/out/st_served"))
@@ -51,21 +52,40 @@ class SocketConnection(http.client.HTTPConnection):
 
 
 @contextmanager
-def served(*auths: str) -> Iterator[int]:
-    """The port of a server whose root holds the authorizations; it ends with the context."""
-    with served_process(*auths) as (port, _):
-        yield port
+def listening(
+    words: list[str], place: object, stderr: int | None = None, env: Mapping[str, str] | None = None,
+    preexec_fn: Callable[[], object] | None = None,
+) -> Iterator["subprocess.Popen[bytes]"]:
+    """A server of this command line, once it says that it listens at the place; it is killed at the end of the context."""
+    with subprocess.Popen(words, stdout=subprocess.PIPE, stderr=stderr, env=env, preexec_fn=preexec_fn) as process:
+        assert process.stdout is not None
+        try:
+            assert process.stdout.readline() == f"listening {place}\n".encode()
+            yield process
+        finally:
+            process.kill()
+
+
+@dataclass(frozen=True)
+class Server:
+    """A running `st_served`: the port that it listens at, and its process."""
+
+    port: int
+    process: "subprocess.Popen[bytes]"
 
 
 @contextmanager
-def served_process(*auths: str) -> Iterator[tuple[int, "subprocess.Popen[bytes]"]]:
-    """The same, with the server's process."""
+def serving(
+    *words: str, root: str = digest("root"), stderr: int | None = None, env: Mapping[str, str] | None = None
+) -> Iterator[Server]:
+    """The built `st_served` with these words, at a free port, for root with this digest; it is killed at the end of the context."""
     port = free_port()
-    words = [str(PROGRAM), "--root", digest("root"), "--port", str(port), *auths]
-    with subprocess.Popen(words, stdout=subprocess.PIPE) as server:
-        assert server.stdout is not None
-        try:
-            assert server.stdout.readline() == b"listening %d\n" % port
-            yield port, server
-        finally:
-            server.terminate()
+    with listening([str(PROGRAM), "--root", root, "--port", str(port), *words], port, stderr, env) as process:
+        yield Server(port, process)
+
+
+@contextmanager
+def served(*words: str) -> Iterator[int]:
+    """The port of such a server."""
+    with serving(*words) as server:
+        yield server.port

@@ -7,7 +7,7 @@ from pathlib import Path
 
 import pytest
 
-from served import PROGRAM, TOP, digest, free_port
+from served import PROGRAM, TOP, digest, served
 
 RUN = Path(os.environ.get("ST_RUN", TOP / "crates/st_run/out/st_run"))
 VERSION = re.findall(r"^## \[(.*)\]", (TOP / "docs/CHANGELOG.md").read_text(), re.M)[0]
@@ -57,14 +57,7 @@ def test_options_that_want_a_file_name_it() -> None:
 
 def test_server_listens_at_the_address_that_it_is_told() -> None:
     """Every address of 127.0.0.0/8 is one of the loopback interface."""
-    port = free_port()
-    words = [str(PROGRAM), "--root", digest("root"), "--port", str(port), "--listen", "127.0.0.2"]
-    with subprocess.Popen(words, stdout=subprocess.PIPE) as server:
-        assert server.stdout is not None
-        try:
-            assert server.stdout.readline() == b"listening %d\n" % port
-            socket.create_connection(("127.0.0.2", port), 5).close()
-            with pytest.raises(ConnectionRefusedError):
-                socket.create_connection(("127.0.0.1", port), 5)
-        finally:
-            server.terminate()
+    with served("--listen", "127.0.0.2") as port:
+        socket.create_connection(("127.0.0.2", port), 5).close()
+        with pytest.raises(ConnectionRefusedError):
+            socket.create_connection(("127.0.0.1", port), 5)

@@ -8,7 +8,7 @@ from pathlib import Path
 import pytest
 
 from served import PROGRAM as SERVED
-from served import digest, free_port
+from served import serving
 from stored import AUTHS, PATIENCE, PROGRAMS, Ended, Run, answer, asked, opened, request
 
 NOTE = "n" * 1000
@@ -98,17 +98,10 @@ def test_a_store_is_not_made_where_there_is_no_room(disk: Path, program: Path) -
 
 
 @contextmanager
-def serving(file: Path, *words: str) -> Iterator[tuple[int, "subprocess.Popen[bytes]"]]:
-    """The port of a server over the store in a file, and its process, which is killed at the end of the context."""
-    port = free_port()
-    line = ["--root", digest("root"), "--port", str(port), "--store", str(file), *words, *AUTHS]
-    with subprocess.Popen([str(SERVED), *line], stdout=subprocess.PIPE, stderr=subprocess.PIPE) as server:
-        assert server.stdout is not None
-        try:
-            assert server.stdout.readline() == b"listening %d\n" % port
-            yield port, server
-        finally:
-            server.kill()
+def keeping(file: Path, *words: str) -> Iterator[tuple[int, "subprocess.Popen[bytes]"]]:
+    """The port of a server over the store in a file, and its process."""
+    with serving("--store", str(file), *words, *AUTHS, stderr=subprocess.PIPE) as server:
+        yield server.port, server.process
 
 
 class Client:
@@ -133,7 +126,7 @@ WHO = request("GET", "/whoami")
 @pytest.mark.parametrize("words", [(), ("--connections", "100")], ids=["all", "hundred"])
 def test_a_lost_store_ends_the_server_whoever_is_connected(disk: Path, words: tuple[str, ...]) -> None:
     """One client fills the disk; of the others one asks nothing more, one asks to read, and one to change."""
-    with serving(disk / "points.db", "--workers", "4", "--timeout", "4", "--idle", "4", *words) as (port, server):
+    with keeping(disk / "points.db", "--workers", "4", "--timeout", "4", "--idle", "4", *words) as (port, server):
         idle, reader, writer, filler = (Client(port) for _ in range(4))
         for client in (idle, reader, writer):
             assert client.ask(WHO)[0] == 200
@@ -159,7 +152,7 @@ def test_a_lost_store_ends_the_server_whoever_is_connected(disk: Path, words: tu
 
 def test_a_server_whose_clients_come_and_go_ends_once_its_store_is_lost(disk: Path) -> None:
     """Nobody is connected but who fills the disk: the workers who wait for a connection end too."""
-    with serving(disk / "points.db", "--workers", "8") as (port, server):
+    with keeping(disk / "points.db", "--workers", "8") as (port, server):
         filler = Client(port)
         with pytest.raises(Ended):
             for number in range(1000):
@@ -171,7 +164,7 @@ def test_a_server_whose_clients_come_and_go_ends_once_its_store_is_lost(disk: Pa
 
 def test_a_server_ends_whose_clients_wait_to_be_accepted(disk: Path) -> None:
     """More clients than the kernel holds ready for the server, so that it cannot connect to itself; one worker waits for a message."""
-    with serving(disk / "points.db", "--workers", "2", "--timeout", "3") as (port, server):
+    with keeping(disk / "points.db", "--workers", "2", "--timeout", "3") as (port, server):
         idle, filler = Client(port), Client(port)
         assert idle.ask(WHO)[0] == 200
         assert filler.ask(WHO)[0] == 200

@@ -5,16 +5,15 @@ import http.client
 import json
 import socket
 import statistics
-import subprocess
 import threading
 import time
-from collections.abc import Callable, Iterator
+from collections.abc import Callable
 from concurrent.futures import ThreadPoolExecutor
-from contextlib import ExitStack, contextmanager, suppress
+from contextlib import ExitStack, suppress
 
 import pytest
 
-from served import PROGRAM, digest, free_port, token
+from served import served, token
 
 HEAD = f"Host: a\r\nAuthorization: Bearer {token('root')}\r\n"
 WHO = f"GET /whoami HTTP/1.1\r\n{HEAD}\r\n".encode()
@@ -25,20 +24,6 @@ SCAN = json.dumps({"auths": [], "box": [0, 2097151, 0, 2097151, 0, 19818086399],
 def posted(path: str, body: bytes) -> bytes:
     """A message with a body."""
     return f"POST {path} HTTP/1.1\r\n{HEAD}Content-Length: {len(body)}\r\n\r\n".encode() + body
-
-
-@contextmanager
-def running(*words: str) -> Iterator[int]:
-    """The port of a server that ends with the context."""
-    port = free_port()
-    line = [str(PROGRAM), "--root", digest("root"), "--port", str(port), *words]
-    with subprocess.Popen(line, stdout=subprocess.PIPE) as server:
-        assert server.stdout is not None
-        try:
-            assert server.stdout.readline() == b"listening %d\n" % port
-            yield port
-        finally:
-            server.terminate()
 
 
 def connected(port: int) -> socket.socket:
@@ -117,7 +102,7 @@ def asked_often(port: int, number: int) -> list[float]:
 
 
 def test_half_of_200_clients_stall_in_every_way_and_the_others_are_answered() -> None:
-    with running("--workers", "200") as port, ExitStack() as closing:
+    with served("--workers", "200") as port, ExitStack() as closing:
         fill(port)
         stalled = [closing.enter_context(connected(port)) for _ in range(100)]
         for at, client in enumerate(stalled[20:]):
@@ -142,7 +127,7 @@ def ends_after(client: socket.socket, since: float) -> float:
 def test_client_that_sends_a_byte_within_each_limit_is_ended(message: bytes) -> None:
     """A message has the limit as a whole, from its first byte to its last."""
     ended = threading.Event()
-    with running("--timeout", "1") as port, connected(port) as client:
+    with served("--timeout", "1") as port, connected(port) as client:
         begin = time.monotonic()
         client.sendall(message[:-10])
 
@@ -168,7 +153,7 @@ def answered(client: socket.socket) -> None:
 
 
 def test_client_may_be_idle_longer_than_a_message_may_take() -> None:
-    with running("--timeout", "1", "--idle", "3") as port, connected(port) as client:
+    with served("--timeout", "1", "--idle", "3") as port, connected(port) as client:
         answered(client)
         time.sleep(2)
         answered(client)
@@ -176,6 +161,6 @@ def test_client_may_be_idle_longer_than_a_message_may_take() -> None:
 
 
 def test_client_that_is_idle_for_too_long_is_ended() -> None:
-    with running("--timeout", "10", "--idle", "1") as port, connected(port) as client:
+    with served("--timeout", "10", "--idle", "1") as port, connected(port) as client:
         answered(client)
         assert 0.9 < ends_after(client, time.monotonic()) < 2

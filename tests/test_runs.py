@@ -5,14 +5,12 @@ import os
 import socket
 import stat
 import subprocess
-from collections.abc import Iterator
-from contextlib import contextmanager
 from pathlib import Path
 
 import pytest
 
 from served import PROGRAM as SERVED
-from served import free_port
+from served import free_port, serving
 from stored import PATIENCE, PROGRAMS, RUN
 
 # The SHA-256 of 32 zero bytes, which are root's secret.
@@ -40,19 +38,6 @@ def run(asked: bytes, *words: str, program: Path = RUN) -> tuple[int, bytes, byt
     """The status of a program that is given this input, and what it wrote to standard output and to standard error."""
     ended = subprocess.run([program, *words], input=asked, capture_output=True, timeout=PATIENCE)
     return ended.returncode, ended.stdout, ended.stderr
-
-
-@contextmanager
-def serving(port: int, *words: str) -> Iterator["subprocess.Popen[bytes]"]:
-    """A server that listens at the port, and is killed if it has not ended with the context."""
-    line = [str(SERVED), "--root", DIGEST, "--port", str(port), *words, "A"]
-    with subprocess.Popen(line, stdout=subprocess.PIPE, stderr=subprocess.PIPE) as server:
-        assert server.stdout is not None
-        try:
-            assert server.stdout.readline() == b"listening %d\n" % port
-            yield server
-        finally:
-            server.kill()
 
 
 def rest_of(client: socket.socket) -> bytes:
@@ -113,22 +98,21 @@ def test_a_port_that_is_taken_is_refused() -> None:
 
 @pytest.mark.parametrize("is_kept", [False, True], ids=["in memory", "in a file"])
 def test_a_server_of_two_connections_tells_how_many_it_served(tmp_path: Path, is_kept: bool) -> None:
-    port = free_port()
     store = ["--store", str(tmp_path / "points.db")] if is_kept else []
-    with serving(port, "--connections", "2", *store) as server:
-        assert told(port, FIRST + PUT + LAST_OF_ALL) == NO_ROW + DONE + ONE_ROW_AT_THE_END
-        assert told(port, WHO) == ROOT
-        assert server.communicate(timeout=PATIENCE) == (b"served 2\n", b"")
-        assert server.returncode == 0
+    with serving("--connections", "2", *store, "A", root=DIGEST, stderr=subprocess.PIPE) as server:
+        assert told(server.port, FIRST + PUT + LAST_OF_ALL) == NO_ROW + DONE + ONE_ROW_AT_THE_END
+        assert told(server.port, WHO) == ROOT
+        assert server.process.communicate(timeout=PATIENCE) == (b"served 2\n", b"")
+        assert server.process.returncode == 0
 
 
 def test_a_connection_that_was_accepted_is_answered_to_its_end_once_no_more_are_accepted() -> None:
-    port = free_port()
-    with serving(port) as server, socket.create_connection(("127.0.0.1", port), PATIENCE) as client:
-        client.sendall(FIRST)
-        assert client.recv(len(NO_ROW), socket.MSG_WAITALL) == NO_ROW
-        shut_listener(server.pid)
-        client.sendall(PUT + LAST_OF_ALL)
-        assert rest_of(client) == DONE + ONE_ROW_AT_THE_END
-        assert server.communicate(timeout=PATIENCE) == (b"", b"st_served: accept failed\n")
-        assert server.returncode == 5
+    with serving("A", root=DIGEST, stderr=subprocess.PIPE) as server:
+        with socket.create_connection(("127.0.0.1", server.port), PATIENCE) as client:
+            client.sendall(FIRST)
+            assert client.recv(len(NO_ROW), socket.MSG_WAITALL) == NO_ROW
+            shut_listener(server.process.pid)
+            client.sendall(PUT + LAST_OF_ALL)
+            assert rest_of(client) == DONE + ONE_ROW_AT_THE_END
+            assert server.process.communicate(timeout=PATIENCE) == (b"", b"st_served: accept failed\n")
+            assert server.process.returncode == 5

@@ -1,6 +1,7 @@
 """`st_served` at a Unix socket: who may connect, and what it does with a file that is at the path."""
 from __future__ import annotations
 
+import os
 import socket
 import stat
 import subprocess
@@ -10,7 +11,7 @@ from pathlib import Path
 
 import pytest
 
-from served import PROGRAM, SocketConnection, digest, token
+from served import PROGRAM, SocketConnection, digest, listening, token
 
 REFUSED = (5, b"", b"st_served: bind failed\n")
 
@@ -23,13 +24,8 @@ def words(path: Path, *more: str) -> list[str]:
 @contextmanager
 def running(path: Path, *more: str, umask: int = 0o022) -> Iterator[subprocess.Popen[bytes]]:
     """A server at the path, which is killed at the end of the context."""
-    with subprocess.Popen(words(path, *more), stdout=subprocess.PIPE, stderr=subprocess.PIPE, umask=umask) as server:
-        assert server.stdout is not None
-        try:
-            assert server.stdout.readline() == b"listening %s\n" % str(path).encode()
-            yield server
-        finally:
-            server.kill()
+    with listening(words(path, *more), path, stderr=subprocess.PIPE, preexec_fn=lambda: os.umask(umask)) as server:
+        yield server
 
 
 def who(path: Path) -> int:

@@ -22,7 +22,7 @@ import pytest
 import seccomp
 
 from fashkiin import Token, __version__
-from served import PROGRAM, TOP, SocketConnection, digest, token
+from served import PROGRAM, TOP, SocketConnection, digest, listening, token
 from stack import certificate
 
 ST_RUN = os.environ.get("ST_RUN", str(TOP / "crates/st_run/out/st_run"))
@@ -153,16 +153,11 @@ def test_server_serves_under_the_filter_of_the_unit(root: Path, tmp_path: Path) 
     line = re.findall(r"^ExecStart=(.*) \$ROOT_AUTHS$", UNIT, re.M)[0]
     words = [*re.sub(r"\$\{?(\w+)\}?", lambda found: variables[str(found[1])], line).split(), "coast"]
     words[0] = f"{root}{words[0]}"
-    with subprocess.Popen(words, stdout=subprocess.PIPE, preexec_fn=filter_of(UNIT).load) as server:
-        assert server.stdout is not None
-        try:
-            assert server.stdout.readline() == b"listening %s\n" % str(path).encode()
-            connection = SocketConnection(path)
-            body = json.dumps({"table": "geo.marks", "period": "week"})
-            connection.request("POST", "/tables", body, {"Authorization": f"Bearer {token('root')}"})
-            assert connection.getresponse().read() == b'{"ok":true}'
-        finally:
-            server.terminate()
+    with listening(words, path, preexec_fn=filter_of(UNIT).load):
+        connection = SocketConnection(path)
+        body = json.dumps({"table": "geo.marks", "period": "week"})
+        connection.request("POST", "/tables", body, {"Authorization": f"Bearer {token('root')}"})
+        assert connection.getresponse().read() == b'{"ok":true}'
     with closing(sqlite3.connect(store)) as base:
         assert base.execute("PRAGMA integrity_check").fetchall() == [("ok",)]
         kept = base.execute("SELECT user, request, json_extract(body, '$.table') FROM changes WHERE number = 1").fetchall()

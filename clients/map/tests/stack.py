@@ -15,7 +15,7 @@ from pathlib import Path
 from typing import Any, NamedTuple
 from urllib.request import Request, urlopen
 
-from served import TOP, free_port, served_process, token
+from served import TOP, free_port, serving, token
 
 ROOT_AUTHS = ["storms", "flight", "wind"]
 
@@ -133,7 +133,8 @@ class Stack:
 
     def __enter__(self) -> Stack:
         with ExitStack() as opening:
-            self.served, self.server = opening.enter_context(served_process(*ROOT_AUTHS))
+            server = opening.enter_context(serving(*ROOT_AUTHS))
+            self.served, self.server = server.port, server.process
             self.edge, self.tls, self.metrics, self.haproxy = opening.enter_context(edge_before(self.folder, self.served, tls=True))
             self.url = f"http://127.0.0.1:{self.edge}"
             self._open = opening.pop_all()

@@ -12,7 +12,7 @@ import time
 from collections.abc import Iterator
 from datetime import UTC, datetime
 from pathlib import Path
-from served import PROGRAM, digest, free_port, token
+from served import digest, served, token
 
 from conftest import Run
 from fashkiin import Client, Row, Table
@@ -135,30 +135,23 @@ def test_what_a_user_can_see(run: Run, lee: str, root: Client, table: Table, url
 
 
 def test_the_changes_of_a_copy_with_times_rows_and_words(run: Run, tmp_path: Path, token_file: Path) -> None:
-    port, store, copy = free_port(), tmp_path / "points.db", tmp_path / "copy.db"
-    words = [str(PROGRAM), "--root", digest("root"), "--port", str(port), "--store", str(store)]
-    words += ["--copy", str(copy), "--copy-every", "1", "A"]
-    with subprocess.Popen(words, stdout=subprocess.PIPE) as server:
-        assert server.stdout is not None
-        try:
-            assert server.stdout.readline() == b"listening %d\n" % port
-            url = ["--url", f"http://127.0.0.1:{port}"]
-            place = ("--lon", "1", "--lat", "2", "--time", "2024-05-01")
-            assert run("put", "points", "w1", *place, "--label", "A", *url)[0] == 0
-            assert run("users", "add", "kim", digest("kim"), "--auths", "A", *url)[0] == 0
-            assert run("grant", "kim", "READ", "--table", "points", *url)[0] == 0
-            assert run("tables", "drop", "none", *url)[0] == 4
-            assert run("audit", "--admin", *url)[1].splitlines()[-1] == "root\tdrop-table\tnone\trefused: no such table"
-            code, _, err = run("audit", "--store", store)
-            assert (code, err.endswith("a server has it open: wanted the copy that follows it\n")) == (2, True)
-            lines: list[list[str]] = []
-            for _ in range(60):
-                lines = [line.split("\t") for line in run("audit", "--store", copy)[1].splitlines()]
-                if len(lines) == 4:
-                    break
-                time.sleep(0.5)
-        finally:
-            server.terminate()
+    store, copy = tmp_path / "points.db", tmp_path / "copy.db"
+    with served("--store", str(store), "--copy", str(copy), "--copy-every", "1", "A") as port:
+        url = ["--url", f"http://127.0.0.1:{port}"]
+        place = ("--lon", "1", "--lat", "2", "--time", "2024-05-01")
+        assert run("put", "points", "w1", *place, "--label", "A", *url)[0] == 0
+        assert run("users", "add", "kim", digest("kim"), "--auths", "A", *url)[0] == 0
+        assert run("grant", "kim", "READ", "--table", "points", *url)[0] == 0
+        assert run("tables", "drop", "none", *url)[0] == 4
+        assert run("audit", "--admin", *url)[1].splitlines()[-1] == "root\tdrop-table\tnone\trefused: no such table"
+        code, _, err = run("audit", "--store", store)
+        assert (code, err.endswith("a server has it open: wanted the copy that follows it\n")) == (2, True)
+        lines: list[list[str]] = []
+        for _ in range(60):
+            lines = [line.split("\t") for line in run("audit", "--store", copy)[1].splitlines()]
+            if len(lines) == 4:
+                break
+            time.sleep(0.5)
     assert [line[:1] + line[2:] for line in lines] == [
         ["1", "root", "put", "points", "id 'w1' point [1054401,1071877,1714521600] label 'A'", "done"],
         ["2", "root", "create-user", "kim", "auths A", "done"],
