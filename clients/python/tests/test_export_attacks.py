@@ -2,6 +2,7 @@
 
 from __future__ import annotations
 
+import time
 from collections.abc import Iterator
 from contextlib import closing, suppress
 
@@ -137,6 +138,32 @@ def test_statistics_tell_no_place_of_a_row(both: Both, stranger: Select, schema:
     both.select(SUPERUSER, f'analyze "{schema}".trips' if schema != "geo" else "analyze")
     assert both.select(SUPERUSER, "select tablename, attname from pg_stats where schemaname ~ %s", f"^{schema}$") == []
     assert stranger("select st_estimatedextent(%s, 'trips', 'geom')", schema) == [(None,)]
+
+
+COUNTERS = """
+select relname, seq_scan, seq_tup_read, coalesce(idx_tup_fetch, 0), coalesce(
+  (select sum(i.idx_tup_read) from pg_stat_all_indexes i where i.relid = t.relid), 0)
+from pg_stat_all_tables t where schemaname ~ '^fashkiin' order by schemaname, relname
+"""
+
+
+def moved(both: Both, watcher: Select, user: str) -> list[tuple[int, ...]]:
+    """By how much a user's query moves the counters that another sees: of each table, by scans and by rows."""
+    before = after = watcher(COUNTERS)
+    both.select(user, COUNT)
+    end = time.monotonic() + 10
+    while after == before and time.monotonic() < end:  # the query's session ends
+        time.sleep(0.2)
+        after = watcher(COUNTERS)
+    time.sleep(0.2)
+    after = watcher(COUNTERS)
+    return [tuple(new - old for new, old in zip(now[1:], was[1:], strict=True)) for now, was in zip(after, before, strict=True)]
+
+
+def test_counters_do_not_tell_what_another_user_holds(both: Both, stranger: Select) -> None:
+    seen = moved(both, stranger, "eve")
+    assert any(any(table) for table in seen)
+    assert moved(both, stranger, "ann") == moved(both, stranger, "bob") == seen
 
 
 HIDDEN = next(row for row in ROWS if row.label == "A")

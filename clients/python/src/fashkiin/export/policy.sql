@@ -1,5 +1,10 @@
--- Which authorizations each role holds. Insert a row to give one, delete it to take it away.
-create table fashkiin.authorizations (role regrole, name text check (name <> ''), primary key (role, name));
+-- Which authorizations each role holds. Insert a row to give one, delete it to take it away. Each query reads all of them: by an
+-- index on the role, PostgreSQL's counters would show everybody how many another role holds.
+create table fashkiin.authorizations (
+  role regrole not null,
+  name text not null check (name <> ''),
+  constraint "authorizations key" exclude using hash ((array[role::oid::text, name]) with =)
+);
 
 -- Those of the current user.
 create view fashkiin.held with (security_barrier) as
@@ -85,6 +90,7 @@ $$;
 revoke execute on all functions in schema fashkiin from public;
 alter table fashkiin.authorizations enable row level security;
 alter table fashkiin.authorizations alter role set statistics 0, alter name set statistics 0;
+alter index fashkiin."authorizations key" alter 1 set statistics 0;
 alter table fashkiin.labels enable row level security;
 alter table fashkiin.labels alter rel set statistics 0, alter label set statistics 0, alter needs set statistics 0;
 alter index fashkiin."labels key" alter 1 set statistics 0;
