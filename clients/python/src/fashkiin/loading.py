@@ -13,7 +13,16 @@ from itertools import chain, islice
 from typing import NamedTuple
 
 from fashkiin.client import LARGEST_WINDOW, Client, Told, path
-from fashkiin.errors import ConstraintError, FashkiinError, FieldError, LabelError, RefusalError, RowError, SizeError
+from fashkiin.errors import (
+    ConstraintError,
+    FashkiinError,
+    FieldError,
+    LabelError,
+    RefusalError,
+    RowError,
+    SizeError,
+    StoppedError,
+)
 from fashkiin.faults import Fault
 from fashkiin.formats import Format, Found, Names, Source
 from fashkiin.reading import Reading, body
@@ -24,14 +33,6 @@ OF_A_ROW = (FieldError, LabelError, ConstraintError, SizeError)
 
 LABELS = 4_096
 """Of how many labels it is remembered whether the loader can read them."""
-
-
-class StoppedError(FashkiinError):
-    """A load stopped at a row that cannot be stored."""
-
-    def __init__(self, fault: Fault) -> None:
-        super().__init__(fault)
-        self.fault = fault
 
 
 @dataclass(slots=True)

@@ -1,4 +1,4 @@
-"""The subcommands of `fashkiin`: each is a `Command` that its module makes and `fashkiin.cli.COMMANDS` lists."""
+"""The subcommands of `fashkiin`: each is a `Command` that its module makes and `fashkiin.cli.COMMANDS` names."""
 
 from __future__ import annotations
 

@@ -9,8 +9,9 @@ from dataclasses import dataclass
 from pathlib import Path
 from typing import TextIO
 
+from fashkiin.errors import InputError
 from fashkiin.formats import delimited, geojson, gpx
-from fashkiin.formats.fields import Found, InputError, Names, Source
+from fashkiin.formats.fields import Found, Names, Source
 from fashkiin.rows import Row
 
 __all__ = ["FORMATS", "Format", "Found", "InputError", "Names", "Source", "format_of", "sniff"]

@@ -87,16 +87,20 @@ class _Text:
                 if len(self._text) - self._at > LARGEST or not self._more():
                     raise ValueError(error.msg) from None
                 continue
-            if end < len(self._text) or not self._more():
+            # A number may go on behind what was read, also behind the first letters of a fraction or an exponent.
+            if len(self._text) - end > len("e+") or not self._more():
                 self._at = end
                 return value
 
     def _more(self) -> bool:
-        """Reads on, as much again as is there; whether there was more."""
+        """Reads on, as much again as is there, and lets go what was taken; whether there was more."""
         if self._ended:
             return False
         rest = self._text[self._at :]
         piece = self._stream.read(max(PIECE, len(rest)))
-        self._ended = not piece
-        self._text, self._at = rest + self._decoder.decode(piece, self._ended), 0
-        return not self._ended
+        if not piece:
+            self._ended = True
+            self._decoder.decode(b"", True)
+            return False
+        self._text, self._at = rest + self._decoder.decode(piece), 0
+        return True

@@ -13,7 +13,7 @@ from datetime import datetime, timedelta
 from typing import Any
 
 from fashkiin.cells import EPOCH, parse_time
-from fashkiin.errors import FashkiinError, MissingError, Plain, RowError
+from fashkiin.errors import InputError, MissingError, Plain, RowError
 from fashkiin.rows import Row
 
 DEFAULTS: Mapping[str, tuple[str, tuple[str, ...], tuple[str, ...]]] = {
@@ -49,10 +49,6 @@ Found = tuple[int, Row | RowError]
 
 _POINT = re.compile(r"\s*(?:SRID=4326\s*;\s*)?POINT\s*Z?\s*\(([^()_]*)\)\s*", re.IGNORECASE)
 LABEL_WANTED = "a label, or --default-label (the empty text shows a row to everybody)"
-
-
-class InputError(FashkiinError):
-    """A file that cannot be read on."""
 
 
 class Source:
