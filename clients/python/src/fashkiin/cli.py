@@ -103,7 +103,7 @@ def run(words: Sequence[str] | None = None) -> int:
     """Runs the command of some words and returns its exit status."""
     given = sys.argv[1:] if words is None else words
     is_asked = given and given[0] in COMMANDS and "_ARGCOMPLETE" not in os.environ
-    parser = make_parser(given[:1] if is_asked else COMMANDS)
+    parser = make_parser(given[:1] if is_asked else () if given and given[0] == "--version" else COMMANDS)
     if "_ARGCOMPLETE" in os.environ:
         with contextlib.suppress(ImportError):
             import argcomplete
