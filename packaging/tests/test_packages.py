@@ -6,6 +6,7 @@ They are not installed here, and systemd does not run: the server runs under the
 
 from __future__ import annotations
 
+import gzip
 import hashlib
 import json
 import os
@@ -52,6 +53,20 @@ def test_programs_are_those_of_the_changelog(root: Path) -> None:
         program = root / "usr/bin" / name
         told = re.findall(rf"^    {name} +([0-9a-f]{{64}})$", changelog, re.M)
         assert told == [hashlib.sha256(program.read_bytes()).hexdigest()]
+
+
+def test_quickstart_is_carried_and_its_paths_are_those_of_the_packages(root: Path) -> None:
+    folder = root / "usr/share/doc/fashkiin-server"
+    text = gzip.decompress((folder / "QUICKSTART.md.gz").read_bytes()).decode()
+    assert text == (TOP / "docs/QUICKSTART.md").read_text()
+    pictures = re.findall(r"!\[[^]]*\]\((.*?)\)", text)
+    assert pictures and all((folder / it).read_bytes() == (TOP / "docs" / it).read_bytes() for it in pictures)
+    (paths,) = re.findall(r"^    (SERVER=.*)$", text, re.M)
+    at = {name: root / path.lstrip("/") for name, path in (word.split("=") for word in paths.split())}
+    used = {name: re.findall(rf'"\${name}/?([\w.]*)"', text) for name in at}
+    assert set(used) == {"SERVER", "EDGE", "PAGE"} and all(used.values())
+    assert all((at[name] / file).exists() for name, files in used.items() for file in files)
+    assert os.access(at["SERVER"], os.X_OK) and (at["PAGE"] / "map/index.html").exists()
 
 
 @pytest.fixture

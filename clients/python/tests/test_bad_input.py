@@ -207,12 +207,14 @@ def test_rows_that_cannot_be_stored_are_skipped_and_listed(run: Run, table: Tabl
         "rejected": 3,
         "deleted": 0,
     }
-    assert rejects.read_text().splitlines() == [
-        "file,line,field,reason",
-        f'{file},2,lat,"91.0, wanted -90 to 90 degrees"',
-        f'{file},4,label,"invalid at byte 2, wanted an expression such as A&(B|C)"',
-        f'{file},6,row,"2 columns, lat is missing, wanted 6 as in the header"',
+    assert err.splitlines()[:-1] == [
+        f"{file}:2: lat: 91.0, wanted -90 to 90 degrees",
+        f"{file}:4: label: invalid at byte 2, wanted an expression such as A&(B|C)",
+        "    A|",
+        "      ^",
+        f"{file}:6: row: 2 columns, lat is missing, wanted 6 as in the header",
     ]
+    assert rejects.read_text() == HEADER + "a,1,91,2024-05-01,A,x\nb,1,1,2024-05-01,A|,x\nd,1\n"
     assert sorted(row.id for row in table.scan()) == ["c", "good"]
     code, _, err = run("load", table.name, file, "--on-error", "skip")
     assert code == 1

@@ -222,6 +222,6 @@ def test_the_manual_page_is_that_of_the_command_and_is_sound() -> None:
     checked = subprocess.run(["groff", "-man", "-ww", "-z", str(file)], capture_output=True, text=True, timeout=60)
     assert (checked.returncode, checked.stderr) == (0, "")
     for command in COMMANDS:
-        assert f".SS fashkiin {command.name}\n" in page()
+        assert f".SS fashkiin {command}\n" in page()
     for number in EXIT_STATUSES:
         assert f".B {number}\n" in page()

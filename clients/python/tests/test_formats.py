@@ -4,14 +4,13 @@ from __future__ import annotations
 
 import io
 import pytest
-import sys
 from collections.abc import Sequence
 from datetime import UTC, datetime
 from hypothesis import given
 from hypothesis import strategies as st
 
 from fashkiin import FashkiinError, Row
-from fashkiin.formats import FORMATS, Found, InputError, Names, Source, format_of, sniff
+from fashkiin.formats import FORMATS, Found, InputError, Names, Source, collection, format_of, sniff
 from strategies import ids, names, rows
 
 DEFAULT = Names()
@@ -166,15 +165,65 @@ def test_two_columns_that_fit_alike_are_refused(names: str) -> None:
         found("csv", f"id,lon,time,{names}\np,1,2024-01-01,5,5\n".encode(), Names(unlabelled=""))
 
 
+@pytest.mark.parametrize(
+    ("text", "place"),
+    [
+        ("POINT(4.25 51.5)", (4.25, 51.5, {})),
+        ("point ( -4.25   51.5 )", (-4.25, 51.5, {})),
+        ("POINT Z (4.25 51.5 12.5)", (4.25, 51.5, {"ele": 12.5})),
+        ("SRID=4326;POINT(4.25 51.5)", (4.25, 51.5, {})),
+    ],
+)
+@pytest.mark.parametrize("column", ["WKT", "geom", "where"])
+def test_points_of_wkt(text: str, place: tuple[float, float, dict[str, float]], column: str) -> None:
+    naming = Names(unlabelled="", point="where" if column == "where" else "")
+    ((_, row),) = found("csv", f"id,{column},time\np,{text},2024-01-01\n".encode(), naming)
+    assert isinstance(row, Row) and (row.lon, row.lat, row.properties) == place
+
+
+WRONG = ["", "POINT EMPTY", "POINT(1)", "POINT(1 a)", "POINT M (1 2 3)", "LINESTRING(1 2)", "SRID=1;POINT(1 2)"]
+
+
+@pytest.mark.parametrize("text", WRONG)
+def test_other_wkt_is_no_point(text: str) -> None:
+    ((_, error),) = found("csv", f"id,wkt,time\np,{text},2024-01-01\n".encode(), Names(unlabelled=""))
+    assert str(error) == f"wkt: {text!r}, wanted WKT such as POINT(4.25 51.5), longitude first"
+
+
+def test_objects_a_line_by_their_own_names_and_by_paths() -> None:
+    data = (
+        b'{"id":"p","lon":4.25,"lat":51.5,"time":"2024-05-01","label":"A","speed":7}\n'
+        b'{"who":{"ship":"q","name":"Bree"},"at":{"place":[4.25,51.5],"time":"2024-05-01"},"label":"A"}\n'
+    )
+    moment = datetime(2024, 5, 1, tzinfo=UTC)
+    one, two = found("geojsonseq", data)
+    assert one == (1, Row("p", 4.25, 51.5, moment, "A", {"speed": 7}))
+    assert str(two[1]) == "lon: missing, wanted a GeoJSON Feature, or an object with a lon: name it by --map lon=NAME"
+    _, (_, row) = found("geojsonseq", data, Names(id=("who.ship",), lon="at.place.0", lat="at.place.1", time="at.time"))
+    assert row == Row("q", 4.25, 51.5, moment, "A", {"who": {"name": "Bree"}, "at": {"place": [4.25, 51.5]}})
+
+
+@pytest.mark.parametrize("size", [1, 7, 1 << 20])
+def test_a_feature_collection_is_read_piece_by_piece(size: int, monkeypatch: pytest.MonkeyPatch) -> None:
+    monkeypatch.setattr(collection, "PIECE", size)
+    rows = [Row(f"r{at}", 1.0, 2.0, datetime(2024, 1, 1, tzinfo=UTC), "A", {"n": at, "name": "é\u6771"}) for at in range(20)]
+    text = written("geojson", rows).decode().replace('"features":', '"crs": {"features": [1]}, "n": -12.5e3 , "features" : ')
+    assert [row for _, row in found("geojson", b"\xef\xbb\xbf" + text.replace("\n]}", '\n], "bbox": []}').encode())] == rows
+    for end in (2, 40, len(text) - 2):
+        with pytest.raises(InputError, match="wanted a GeoJSON FeatureCollection"):
+            found("geojson", text.encode()[:end])
+    for wrong in (text + "{}", text.replace('"features" : ', '"others" : '), text.replace(",\n", "\n", 1)):
+        with pytest.raises(InputError, match="wanted a GeoJSON FeatureCollection"):
+            found("geojson", wrong.encode())
+
+
 def test_the_format_of_a_name() -> None:
     assert format_of("a/b.GeoJSON") is FORMATS["geojson"]
     assert format_of("b") is None
 
 
-def test_a_feature_collection_is_read_without_ijson(monkeypatch: pytest.MonkeyPatch) -> None:
-    given_rows = [Row(f"r{at}", 1.0, 2.0, datetime(2024, 1, 1, tzinfo=UTC), "A", {"n": at}) for at in range(3)]
-    monkeypatch.setitem(sys.modules, "ijson", None)  # type: ignore[misc]
-    assert [row for _, row in found("geojson", written("geojson", given_rows))] == given_rows
-    for data in (b"", b"[]", b'{"type":"Topology"}', written("geojson", given_rows)[:-20]):
+def test_a_file_without_a_feature_collection() -> None:
+    for data in (b"", b"[]", b'{"type":"Topology"}', b'{"features":{}}'):
         with pytest.raises(InputError, match="wanted a GeoJSON FeatureCollection"):
             found("geojson", data)
+    assert found("geojson", b'{"type":"FeatureCollection","features":[]}') == []

@@ -11,6 +11,7 @@ from pathlib import Path
 from served import digest, token
 
 from conftest import Run
+from facade import Facade, features
 from fashkiin import Client, Row, Table
 from scripted import OK, Talk, reply, scripted
 
@@ -30,21 +31,34 @@ def eve(root: Client, table: Table, url: str) -> Iterator[Client]:
     root.users.drop("eve")
 
 
-def seen(table: Table) -> set[int]:
-    """How often the one row of a table is seen by a scan, a count and a grid."""
+@pytest.fixture
+def ogc(url: str) -> Iterator[Facade]:
+    """The features over the server."""
+    with features("--port", "0", "--url", url) as address:
+        yield Facade(address, 0)
+
+
+def seen(table: Table, ogc: Facade) -> set[int]:
+    """How often eve sees the one row of a table by a scan, a count, a grid and the OGC API."""
     rows = list(table.scan())
     assert rows in ([], [WITNESS])
-    return {len(rows), table.count(), sum(count for line in table.grid(nx=4, ny=4) for count in line)}
+    _, _, page = ogc.get(f"/collections/{table.name}/items", "eve")
+    assert all(it["properties"]["label"] == "" for it in page["features"])
+    matched = {len(page["features"]), page["numberReturned"], page["numberMatched"]}
+    return {len(rows), table.count(), sum(count for line in table.grid(nx=4, ny=4) for count in line), *matched}
 
 
-def test_eve_sees_the_old_row_or_none_and_none_once_it_is_relabelled(run: Run, table: Table, eve: Client, url: str) -> None:
+def test_eve_sees_the_old_row_or_none_and_none_once_it_is_relabelled(
+    run: Run, table: Table, eve: Client, url: str, ogc: Facade
+) -> None:
+    """So does the map: `clients/map/tests/test_refusals.py`."""
     polled, faults, done = [0], [], threading.Event()
 
     def poll() -> None:
         with Client(url, token("eve")) as client, Client(url, token("root")) as owner:
             while not done.is_set():
                 polled[0] += 1
-                if not seen(client.table(table.name)) <= {0, 1}:
+                if not seen(client.table(table.name), ogc) <= {0, 1}:
                     faults.append("eve saw the row twice")
                 if not owner.table(table.name).get("w1"):
                     faults.append("the row was lost")
@@ -53,10 +67,10 @@ def test_eve_sees_the_old_row_or_none_and_none_once_it_is_relabelled(run: Run, t
     watcher = threading.Thread(target=poll)
     watcher.start()
     try:
-        for turn in range(10):
-            assert seen(eve.table(table.name)) == {1}
+        for _ in range(5):
+            assert seen(eve.table(table.name), ogc) == {1}
             assert run("relabel", table.name, "w1", "--label", "A&B") == (0, "", "")
-            assert seen(eve.table(table.name)) == {0}
+            assert seen(eve.table(table.name), ogc) == {0}
             assert run("relabel", table.name, "w1", "--label", "", "--from", "A&B") == (0, "", "")
     finally:
         done.set()

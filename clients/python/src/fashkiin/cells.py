@@ -9,6 +9,7 @@ from __future__ import annotations
 import math
 from collections.abc import Callable
 from datetime import UTC, datetime, timedelta
+from functools import lru_cache
 from typing import NamedTuple
 
 from fashkiin.errors import Plain, RowError
@@ -81,6 +82,7 @@ def cell_latitude(y: int) -> float:
     return _denormalize(y, -90.0, 90.0)
 
 
+@lru_cache(maxsize=4_096)
 def parse_time(text: str) -> datetime:
     """An ISO 8601 time in UTC, to the microsecond; without an offset it is in UTC. `RowError` for another text."""
     try:
@@ -116,7 +118,7 @@ def second_time(t: int) -> datetime:
 
 def time_text(moment: datetime) -> str:
     """The time as ISO 8601 in UTC, with a fraction only where there is one."""
-    return as_utc(moment).isoformat().replace("+00:00", "Z")
+    return as_utc(moment).isoformat().removesuffix("+00:00") + "Z"
 
 
 def span_times(span: Span | None) -> tuple[datetime, datetime]:

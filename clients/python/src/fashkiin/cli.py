@@ -8,7 +8,8 @@ import contextlib
 import io
 import os
 import sys
-from collections.abc import Sequence
+from collections.abc import Iterable, Sequence
+from importlib import import_module
 
 from fashkiin import __version__
 from fashkiin.commands import (
@@ -23,42 +24,45 @@ from fashkiin.commands import (
     Command,
     Parser,
     Session,
-    audit,
     common_options,
-    export,
-    features,
-    grants,
-    labels,
-    load,
-    map,
-    read,
-    tables,
-    tokens,
-    users,
-    whoami,
-    write,
 )
-from fashkiin.errors import ConnectError, CutOffError, FashkiinError, RefusalError, ReplyError, RowError
-from fashkiin.formats import InputError
-from fashkiin.loading import StoppedError
-from fashkiin.relabelling import RelabelError
+from fashkiin.errors import (
+    ConnectError,
+    CutOffError,
+    FashkiinError,
+    InputError,
+    RefusalError,
+    RelabelError,
+    ReplyError,
+    RowError,
+    StoppedError,
+)
 from fashkiin.settings import NAMES, read_settings
 
-COMMANDS: tuple[Command, ...] = (
-    load.COMMAND,
-    *read.COMMANDS,
-    *write.COMMANDS,
-    tables.COMMAND,
-    *users.COMMANDS,
-    *grants.COMMANDS,
-    audit.COMMAND,
-    labels.COMMAND,
-    whoami.COMMAND,
-    tokens.COMMAND,
-    map.COMMAND,
-    features.COMMAND,
-    export.COMMAND,
-)
+COMMANDS = {
+    "load": "load",
+    "dump": "read",
+    "scan": "read",
+    "count": "read",
+    "grid": "read",
+    "get": "read",
+    "relabel": "write",
+    "put": "write",
+    "delete": "write",
+    "tables": "tables",
+    "users": "users",
+    "access": "users",
+    "grant": "grants",
+    "revoke": "grants",
+    "audit": "audit",
+    "label": "labels",
+    "whoami": "whoami",
+    "token": "tokens",
+    "map": "map",
+    "features": "features",
+    "export": "export",
+}
+"""The commands, and the module of each in `fashkiin.commands`, which is imported once it is needed: so a command starts fast."""
 
 EXIT_STATUSES = {
     DONE: "done",
@@ -73,15 +77,22 @@ EXIT_STATUSES = {
 """What the command ends with."""
 
 
-def make_parser() -> argparse.ArgumentParser:
-    """The parser of all subcommands."""
+def find_command(name: str) -> Command:
+    """The command of a name of `COMMANDS`."""
+    module = import_module(f"fashkiin.commands.{COMMANDS[name]}")
+    commands: Sequence[Command] = getattr(module, "COMMANDS", ()) or (module.COMMAND,)
+    return next(command for command in commands if command.name == name)
+
+
+def make_parser(names: Iterable[str] = COMMANDS) -> argparse.ArgumentParser:
+    """The parser of commands."""
     common = common_options()
     parser = Parser(
         "fashkiin", parents=[common], description="Loads, reads and administers a server of labelled points."
     )
     parser.add_argument("--version", action="version", version=f"fashkiin {__version__}")
     subparsers = parser.add_subparsers(metavar="COMMAND", required=True)
-    for command in COMMANDS:
+    for command in map(find_command, names):
         own = subparsers.add_parser(command.name, parents=[common], help=command.summary, description=command.summary)
         command.arguments(own)
         own.set_defaults(command=command)
@@ -90,13 +101,15 @@ def make_parser() -> argparse.ArgumentParser:
 
 def run(words: Sequence[str] | None = None) -> int:
     """Runs the command of some words and returns its exit status."""
-    parser = make_parser()
+    given = sys.argv[1:] if words is None else words
+    is_asked = given and given[0] in COMMANDS and "_ARGCOMPLETE" not in os.environ
+    parser = make_parser(given[:1] if is_asked else () if given and given[0] == "--version" else COMMANDS)
     if "_ARGCOMPLETE" in os.environ:
         with contextlib.suppress(ImportError):
             import argcomplete
 
             argcomplete.autocomplete(parser)
-    arguments = parser.parse_args(words)
+    arguments = parser.parse_args(given)
     flags = {
         name: getattr(arguments, name.replace("-", "_"), None) for name in ("config", *NAMES)
     }

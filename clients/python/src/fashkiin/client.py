@@ -13,7 +13,7 @@ from typing import Any, Generic, TypeVar
 from urllib.parse import quote
 
 from fashkiin.accounts import Account, Change, Grants, Tables, Users, read_account, read_change
-from fashkiin.errors import ConnectError, CutOffError, EdgeError, RefusalError, RowError
+from fashkiin.errors import ConnectError, CutOffError, EdgeError, FashkiinError, RefusalError, RowError
 from fashkiin.rows import Row, to_json
 from fashkiin.table import Table
 from fashkiin.tokens import Token
@@ -22,6 +22,8 @@ from fashkiin.wire import Address, Connection, Reply, member, tls
 TRIES = 6
 LARGEST_WINDOW = 256
 Item = TypeVar("Item")
+Told = Mapping[str, Any] | RefusalError | RowError
+"""The object that answers a request, or the refusal of it; or why there was no request."""
 _OFTEN: Mapping[bytes, Mapping[str, Any]] = {b'{"ok":true}': {"ok": True}, b'{"rows":[]}': {"rows": []}}
 """The objects of bodies that need no reading."""
 
@@ -56,6 +58,9 @@ class Client:
         self.token = Token.parse(token) if isinstance(token, str) else token
         self.timeout = timeout
         self._context = tls(cafile) if self.address.secure else None
+        self._head = (
+            f"HTTP/1.1\r\nHost: {self.address.authority}\r\nAuthorization: Bearer {self.token.text}\r\nContent-Length: "
+        )
         self._kept: list[Connection] = []
         self._lock = threading.Lock()
 
@@ -119,10 +124,12 @@ class Client:
 
     def request(self, method: str, target: str, body: bytes) -> bytes:
         """The bytes of a request."""
-        return (
-            f"{method} {self.address.prefix}{target} HTTP/1.1\r\nHost: {self.address.authority}\r\n"
-            f"Authorization: Bearer {self.token.text}\r\nContent-Length: {len(body)}\r\n\r\n"
-        ).encode() + body
+        return self.requests(method, target)(body)
+
+    def requests(self, method: str, target: str) -> Callable[[bytes], bytes]:
+        """What makes the bytes of requests of their bodies."""
+        start = f"{method} {self.address.prefix}{target} {self._head}".encode()
+        return lambda body: b"%b%d\r\n\r\n%b" % (start, len(body), body)
 
     def _exchange(self, request: bytes) -> Reply:
         connection = self._take()
@@ -168,13 +175,13 @@ class Client:
         self, table: str, items: Iterable[Item], body: Callable[[Item], bytes], window: int = 64
     ) -> Iterator[tuple[Item, RefusalError | RowError | None]]:
         """`put_many` of whatever `body` makes the body of a put of. Where it raises `RowError`, that is told in its place."""
-        target = path("tables", table, "put")
-        for item, told in self.ask_many(items, lambda item: self.request("POST", target, body(item)), window):
+        request = self.requests("POST", path("tables", table, "put"))
+        for item, told in self.ask_many(items, lambda item: request(body(item)), window):
             yield item, told if isinstance(told, RefusalError | RowError) else None
 
     def ask_many(
         self, items: Iterable[Item], request: Callable[[Item], bytes], window: int = 64
-    ) -> Iterator[tuple[Item, Mapping[str, Any] | RefusalError | RowError]]:
+    ) -> Iterator[tuple[Item, Told]]:
         """Sends the requests that `request` makes of items over one connection, up to `window` of them on their way at a time (1
         to 256), and tells each answer in their order. Where it raises `RowError`, that is told in the answer's place.
 
@@ -189,7 +196,7 @@ class Client:
             try:
                 for told in pipeline.run():
                     tries = 0
-                    yield told
+                    yield from told
             except (ConnectError, CutOffError, EdgeError):
                 tries += 1
                 if tries == TRIES:
@@ -205,15 +212,17 @@ class _Pipeline(Generic[Item]):
         self._request = request
         self._items = items
         self._window = window
-        self._waiting: deque[tuple[Item, bytes, RowError | None]] = deque()
+        self._waiting: deque[tuple[Item, bytes, Told | None]] = deque()
+        self._stays = True
         self._more = True
 
     def unfinished(self) -> bool:
         """Whether an item is still to be told."""
         return self._more or bool(self._waiting)
 
-    def run(self) -> Iterator[tuple[Item, Mapping[str, Any] | RefusalError | RowError]]:
-        """Tells what becomes of the items, over one connection, until it ends or no item is left."""
+    def run(self) -> Iterator[list[tuple[Item, Told]]]:
+        """Tells what becomes of the items, those together whose answers have come together, over one connection, until it ends
+        or no item is left."""
         connection = self._client._take()
         keeps = False
         try:
@@ -221,33 +230,51 @@ class _Pipeline(Generic[Item]):
             while self.unfinished():
                 if self._more and len(self._waiting) <= self._window // 2:
                     connection.send(self._fill())
+                if not self._waiting:
                     continue
-                item, _, fault = self._waiting[0]
-                if fault is not None:
-                    self._waiting.popleft()
-                    yield item, fault
-                    continue
-                reply = connection.receive()
-                told = _told(reply)
-                self._waiting.popleft()
-                yield item, told
-                if not reply.keeps:
+                told, error = self._answers(connection)
+                if told:
+                    yield told
+                if error is not None:
+                    raise error
+                if not self._stays:
                     return
             keeps = True
         finally:
             self._client._give(connection, keeps)
 
+    def _answers(self, connection: Connection) -> tuple[list[tuple[Item, Told]], FashkiinError | None]:
+        """Waits for the next answer, and returns it with those that have come with it, and the error that ended them."""
+        waiting = self._waiting
+        told: list[tuple[Item, Told]] = []
+        self._stays = True
+        try:
+            while waiting and self._stays:
+                item, _, answer = waiting[0]
+                if answer is None:
+                    reply = connection.arrived() if told else connection.receive()
+                    if reply is None:
+                        break
+                    self._stays = reply.keeps
+                    answer = _told(reply)
+                told.append((item, answer))
+                waiting.popleft()
+        except FashkiinError as error:
+            return told, error
+        return told, None
+
     def _fill(self) -> bytes:
         """Takes items until the window is full, and returns their requests."""
-        before = len(self._waiting)
-        for item in islice(self._items, self._window - before):
+        room = self._window - len(self._waiting)
+        requests = []
+        for item in islice(self._items, room):
             try:
-                self._waiting.append((item, self._request(item), None))
+                requests.append(self._request(item))
+                self._waiting.append((item, requests[-1], None))
             except RowError as error:
                 self._waiting.append((item, b"", error))
-        added = list(islice(self._waiting, before, None))
-        self._more = before + len(added) == self._window
-        return b"".join(request for _, request, _ in added)
+        self._more = len(self._waiting) == self._window
+        return b"".join(requests)
 
 
 def _told(reply: Reply) -> Mapping[str, Any] | RefusalError:

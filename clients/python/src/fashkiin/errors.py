@@ -47,6 +47,18 @@ class MissingError(RowError):
         return f"{self.field}: missing, wanted {self.wanted}"
 
 
+class InputError(FashkiinError):
+    """A file that cannot be read on."""
+
+
+class StoppedError(FashkiinError):
+    """A load stopped at a row that cannot be stored."""
+
+
+class RelabelError(FashkiinError):
+    """It is not clear which row is to stand under the new label. Nothing was changed."""
+
+
 class ConnectError(FashkiinError):
     """No connection to the server could be made."""
 

@@ -2,46 +2,49 @@
 
 from __future__ import annotations
 
-import csv
 import unicodedata
-from dataclasses import dataclass
-from typing import TextIO
+from collections import deque
+from typing import BinaryIO, NamedTuple
 
-from fashkiin.errors import ConstraintError, FashkiinError, FieldError, LabelError, RowError, shown
-from fashkiin.formats import Format, Names, Source
+from fashkiin.errors import ConstraintError, FashkiinError, FieldError, LabelError, RowError, SettingsError, shown
+from fashkiin.formats import Format, Names, Source, format_of
 from fashkiin.rows import Row
 from fashkiin.texts import printable
 
 
-@dataclass(frozen=True, slots=True)
-class Fault:
+class Fault(NamedTuple):
     """What is wrong with a row: its file, its place there, the field, and a text that says what was wanted. `marks` are lines
-    that point into a label."""
+    that point into a label, `raw` is what a file of rejects has of the row."""
 
     file: str
     place: str
     field: str
     reason: str
     marks: tuple[str, ...] = ()
+    raw: bytes = b""
 
     def __str__(self) -> str:
         return "\n".join((f"{self.file}:{self.place}: {printable(self.field)}: {self.reason}", *self.marks))
 
 
-def fault(source: Source, form: Format, names: Names, place: int, error: FashkiinError, row: Row | RowError) -> Fault:
+def fault(
+    source: Source, form: Format, names: Names, place: int, error: FashkiinError, row: Row | RowError, raw: bytes = b""
+) -> Fault:
     """What is wrong at a place of a source."""
     where = str(place) if form.unit == "line" else f"{form.unit} {place}"
+    field, reason = "row", str(error)
+    marks: tuple[str, ...] = ()
     if isinstance(error, LabelError) and isinstance(row, Row):
-        wanted = f"invalid at byte {error.at}, wanted an expression such as A&(B|C)"
-        return Fault(source.name, where, names.column("label"), wanted, marked(row.label, error.at))
-    if isinstance(error, ConstraintError):
-        return Fault(source.name, where, names.column("label"), f"{shown(error.label)}, wanted one that you can see yourself")
-    if isinstance(error, FieldError):
-        return Fault(source.name, where, error.field, "out of the server's range, wanted one within it")
-    if isinstance(error, RowError):
-        name = names.column(error.field) if error.field in ("id", "lon", "lat", "time", "label") else error.field
-        return Fault(source.name, where, name, str(error).partition(": ")[2])
-    return Fault(source.name, where, "row", str(error))
+        field, reason = names.column("label"), f"invalid at byte {error.at}, wanted an expression such as A&(B|C)"
+        marks = marked(row.label, error.at)
+    elif isinstance(error, ConstraintError):
+        field, reason = names.column("label"), f"{shown(error.label)}, wanted one that you can see yourself"
+    elif isinstance(error, FieldError):
+        field, reason = error.field, "out of the server's range, wanted one within it"
+    elif isinstance(error, RowError):
+        field = names.column(error.field) if error.field in ("id", "lon", "lat", "time", "label") else error.field
+        reason = str(error).partition(": ")[2]
+    return Fault(source.name, where, field, reason, marks, raw)
 
 
 def marked(label: str, at: int) -> tuple[str, str]:
@@ -53,14 +56,44 @@ def marked(label: str, at: int) -> tuple[str, str]:
 
 
 class Rejects:
-    """A CSV file of the rows that were rejected: file, line, field, reason."""
+    """A file of the rows that were rejected, as they stand in their files, to be mended and loaded again.
 
-    def __init__(self, out: TextIO) -> None:
+    It has the format of the files, which is one. A row that is numbered has its id there. Close it, so that its end is written.
+    """
+
+    def __init__(self, out: BinaryIO, name: str) -> None:
+        self.name = name
+        self.rows = 0
         self._out = out
-        self._writer = csv.writer(out)
-        self._writer.writerow(("file", "line", "field", "reason"))
+        self._form: Format | None = None
+        self._head = b""
 
-    def add(self, found: Fault) -> None:
-        """Writes one row."""
-        self._writer.writerow((found.file, found.place, found.field, found.reason))
+    def begin(self, source: Source, form: Format) -> None:
+        """Rows of a source may come. `SettingsError` where they cannot stand in this file."""
+        named = format_of(self.name)
+        if named is not None and named.name != form.name:
+            wrong = f"named as {named.name}, but {source.name} is {form.name}"
+            raise SettingsError(f"--rejects: {self.name}: {wrong}: wanted a name that ends in {form.suffixes[0]}")
+        if self._form is not None and self._form.name != form.name:
+            raise SettingsError(f"--rejects: {source.name} is {form.name}, and the files before {self._form.name}: load it apart")
+        self._form = form
+        source.raw = deque()
+
+    def add(self, found: Fault, source: Source) -> None:
+        """Writes a row. `SettingsError` where its file has another header than the file of the row before."""
+        before, between, _ = self._form.around if self._form is not None else ("", "", "")
+        head = source.head or before.encode()
+        if self.rows == 0:
+            self._out.write(head)
+        elif head != self._head:
+            raise SettingsError(f"--rejects: {source.name} has another header than the file before: load it apart")
+        self._out.write((between.encode() if self.rows else b"") + found.raw)
         self._out.flush()
+        self._head = head
+        self.rows += 1
+
+    def close(self) -> None:
+        """Ends the file."""
+        with self._out:
+            if self.rows and self._form is not None:
+                self._out.write(self._form.around[2].encode())

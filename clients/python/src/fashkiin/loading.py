@@ -7,13 +7,22 @@ which ids stand under other labels too.
 from __future__ import annotations
 
 from collections import Counter
-from collections.abc import Callable, Iterable, Iterator, Mapping
+from collections.abc import Callable, Iterable, Iterator
 from dataclasses import dataclass, field
 from itertools import chain, islice
-from typing import Any
+from typing import NamedTuple
 
-from fashkiin.client import LARGEST_WINDOW, Client, path
-from fashkiin.errors import ConstraintError, FashkiinError, FieldError, LabelError, RefusalError, RowError, SizeError
+from fashkiin.client import LARGEST_WINDOW, Client, Told, path
+from fashkiin.errors import (
+    ConstraintError,
+    FashkiinError,
+    FieldError,
+    LabelError,
+    RefusalError,
+    RowError,
+    SizeError,
+    StoppedError,
+)
 from fashkiin.faults import Fault
 from fashkiin.formats import Format, Found, Names, Source
 from fashkiin.reading import Reading, body
@@ -24,14 +33,6 @@ OF_A_ROW = (FieldError, LabelError, ConstraintError, SizeError)
 
 LABELS = 4_096
 """Of how many labels it is remembered whether the loader can read them."""
-
-
-class StoppedError(FashkiinError):
-    """A load stopped at a row that cannot be stored."""
-
-    def __init__(self, fault: Fault) -> None:
-        super().__init__(fault)
-        self.fault = fault
 
 
 @dataclass(slots=True)
@@ -66,31 +67,28 @@ class _Batch:
     last: dict[str, str] = field(default_factory=dict)
 
 
-@dataclass(slots=True)
-class _Look:
+class _Look(NamedTuple):
     """Asks under which labels an id is seen. Behind a put, it asks whether its label is among them."""
 
+    request: bytes | RowError
     batch: _Batch
     id: str
-    put: str | None = None
+    put: str | None
 
 
-@dataclass(slots=True)
-class _Put:
+class _Put(NamedTuple):
     """A row to put, at its place in its file."""
 
+    request: bytes | RowError
     batch: _Batch
     place: int
     row: Row | RowError
-    body: bytes | RowError
 
 
-@dataclass(slots=True)
-class _Delete:
+class _Delete(NamedTuple):
     """A row to delete."""
 
-    id: str
-    label: str
+    request: bytes | RowError
 
 
 _Step = _Look | _Put | _Delete
@@ -106,7 +104,7 @@ class Loader:
         client: Client,
         table: str,
         window: int = 64,
-        reject: Callable[[Fault], None] | None = None,
+        reject: Callable[[Fault, Source], None] | None = None,
         step: Callable[[Source, Tally], None] | None = None,
         begin: Callable[[], None] | None = None,
         replace: bool = False,
@@ -115,7 +113,9 @@ class Loader:
         self.denied: RefusalError | None = None
         """Why the loader may not read the table, once that is known."""
         self._client = client
-        self._targets = {kind: path("tables", table, kind) for kind in ("put", "get", "delete")}
+        self._put_request, self._get_request, self._delete_request = (
+            client.requests("POST", path("tables", table, kind)) for kind in ("put", "get", "delete")
+        )
         self._window = window
         self._reject = reject
         self._step = step
@@ -129,31 +129,38 @@ class Loader:
     def load(self, source: Source, form: Format, names: Names) -> None:
         """Loads one source. `StoppedError` where it stops at a row; a refusal that would meet each row is raised."""
         reading = Reading(source, form, names)
-        batches = self._batches(reading)
+        found = reading.found()
+        try:
+            self._load(reading, self._batches(found))
+        finally:
+            found.close()
+        if reading.error is not None:
+            raise reading.error
+
+    def _load(self, reading: Reading, batches: Iterator[_Batch]) -> None:
+        """Loads the rows of a reading."""
         if not self._replace:
             self._run(chain.from_iterable(map(self._steps, batches)), reading)
         else:
             # What is deleted depends on what was put, and the next rows on what was deleted.
             for batch in batches:
-                steps = list(self._steps(batch))
+                steps = self._steps(batch)
                 self._run([step for step in steps if isinstance(step, _Look) and step.put is None], reading)
                 if self.denied is not None:
                     raise self.denied
                 self._run([step for step in steps if not isinstance(step, _Look) or step.put is not None], reading)
                 self._run(self._deletions(batch), reading)
-        if reading.error is not None:
-            raise reading.error
 
     def check(self, source: Source, form: Format, names: Names) -> None:
         """Reads one source as `load` does and puts nothing: what could be stored counts as stored. Labels the server judges."""
         reading = Reading(source, form, names)
         for place, row in reading.found():
-            made = body(row)
+            made, raw = body(row), reading.taken()
             error = made if isinstance(made, RowError) else self._label(row)
             if error is None:
                 self.tally.stored += 1
             else:
-                self._fault(reading.fault(place, error, row), reading)
+                self._fault(reading.fault(place, error, row, raw), reading)
             if self._step is not None:
                 self._step(source, self.tally)
         if reading.error is not None:
@@ -172,60 +179,54 @@ class Loader:
                 self._labels[label] = error
         return self._labels[label]
 
-    def _batches(self, reading: Reading) -> Iterator[_Batch]:
-        found = reading.found()
+    def _batches(self, found: Iterator[Found]) -> Iterator[_Batch]:
         while rows := list(islice(found, self._window)):
             yield _Batch(rows)
 
-    def _steps(self, batch: _Batch) -> Iterator[_Step]:
+    def _steps(self, batch: _Batch) -> list[_Step]:
         """Looks for all rows, then the rows, then a look for each label that is new."""
-        puts = [_Put(batch, place, row, body(row)) for place, row in batch.rows]
-        rows = [put.row for put in puts if isinstance(put.body, bytes) and isinstance(put.row, Row)]
+        bodies = [(place, row, body(row)) for place, row in batch.rows]
+        rows = [row for _, row, made in bodies if isinstance(made, bytes) and isinstance(row, Row)]
         if rows and self._begin is not None:
             self._begin()
             self._begin = None
         if rows and self.denied is None and not self._auths:
             self._auths = to_json(list(self._client.whoami().auths))
-        yield from (_Look(batch, name) for name in dict.fromkeys(row.id for row in rows) if self.denied is None)
-        yield from puts
-        first = {row.label: row.id for row in reversed(rows) if row.label not in self._readable}
-        yield from (_Look(batch, name, label) for label, name in first.items() if self.denied is None)
+        steps: list[_Step] = []
+        if self.denied is None:
+            steps += [self._look(batch, name) for name in dict.fromkeys([row.id for row in rows])]
+        request = self._put_request
+        for place, row, made in bodies:
+            steps.append(_Put(request(made) if isinstance(made, bytes) else made, batch, place, row))
+        if self.denied is None:
+            first = {row.label: row.id for row in reversed(rows) if row.label not in self._readable}
+            steps += [self._look(batch, name, label) for label, name in first.items()]
+        return steps
+
+    def _look(self, batch: _Batch, name: str, put: str | None = None) -> _Look:
+        return _Look(self._get_request(f'{{"id":{to_json(name)},"auths":{self._auths}}}'.encode()), batch, name, put)
 
     def _deletions(self, batch: _Batch) -> Iterator[_Step]:
         """The rows that are seen under other labels than those that were put last."""
         for name, last in batch.last.items():
-            yield from (_Delete(name, label) for label in sorted(batch.labels[name]) if label != last)
+            for label in sorted(batch.labels[name]):
+                if label != last:
+                    yield _Delete(self._delete_request(to_json({"id": name, "label": label}).encode()))
 
     def _run(self, steps: Iterable[_Step], reading: Reading) -> None:
-        for step, told in self._client.ask_many(steps, self._request, min(LARGEST_WINDOW, 2 * self._window)):
-            match step:
-                case _Look():
-                    self._looked(step, told)
-                case _Put():
-                    self._put(step, told, reading)
-                case _Delete():
-                    if isinstance(told, FashkiinError):
-                        raise told
-                    self.tally.deleted += 1
+        for step, told in self._client.ask_many(steps, _request, min(LARGEST_WINDOW, 2 * self._window)):
+            if isinstance(step, _Put):
+                self._put(step, told, reading)
+            elif isinstance(step, _Look):
+                self._looked(step, told)
+            else:
+                if isinstance(told, FashkiinError):
+                    raise told
+                self.tally.deleted += 1
 
-    def _request(self, step: _Step) -> bytes:
-        match step:
-            case _Put(body=bytes() as body):
-                return self._client.request("POST", self._targets["put"], body)
-            case _Put(body=RowError() as error):
-                raise error
-            case _Look():
-                body = f'{{"id":{to_json(step.id)},"auths":{self._auths}}}'.encode()
-                return self._client.request("POST", self._targets["get"], body)
-            case _Delete():
-                body = to_json({"id": step.id, "label": step.label}).encode()
-                return self._client.request("POST", self._targets["delete"], body)
-        raise AssertionError(step)
-
-    def _looked(self, look: _Look, told: Mapping[str, Any] | FashkiinError) -> None:
-        if isinstance(told, RefusalError):
-            self.denied = told
+    def _looked(self, look: _Look, told: Told) -> None:
         if isinstance(told, FashkiinError):
+            self.denied = told if isinstance(told, RefusalError) else self.denied
             return
         labels = {row["label"] for row in told["rows"]}
         if look.put is None:
@@ -237,38 +238,50 @@ class Loader:
         pending = self._unknown.pop(look.put, 0)
         self.tally.unread += 0 if look.put in labels else pending
 
-    def _put(self, put: _Put, told: Mapping[str, Any] | RefusalError | RowError, reading: Reading) -> None:
-        if isinstance(told, RefusalError) and not isinstance(told, OF_A_ROW):
-            raise told
+    def _put(self, put: _Put, told: Told, reading: Reading) -> None:
+        raw = reading.taken()
         if not isinstance(told, FashkiinError):
             assert isinstance(put.row, Row)
             self._count(put.row, put.batch)
+        elif isinstance(told, RefusalError) and not isinstance(told, OF_A_ROW):
+            raise told
         elif reading.error is None:
-            self._fault(reading.fault(put.place, told, put.row), reading)
+            self._fault(reading.fault(put.place, told, put.row, raw), reading)
         if self._step is not None:
             self._step(reading.source, self.tally)
 
     def _count(self, row: Row, batch: _Batch) -> None:
         """A row was put."""
-        labels = batch.labels.setdefault(row.id, set())
-        if row.label in labels:
-            self.tally.replaced += 1
+        label, tally = row.label, self.tally
+        labels = batch.labels.get(row.id)
+        if not labels:
+            batch.labels[row.id] = {label}
+            tally.stored += 1
         else:
-            self.tally.stored += 1
-        others = labels - {row.label}
-        if others:
-            self.tally.elsewhere += 1
-            self.tally.example = self.tally.example or (row.id, min(others))
-        labels.add(row.label)
-        batch.last[row.id] = row.label
-        if row.label not in self._readable:
-            self._unknown[row.label] += 1
-        elif not self._readable[row.label]:
-            self.tally.unread += 1
+            if label in labels:
+                tally.replaced += 1
+            else:
+                tally.stored += 1
+            others = labels - {label}
+            if others:
+                tally.elsewhere += 1
+                tally.example = tally.example or (row.id, min(others))
+            labels.add(label)
+        batch.last[row.id] = label
+        if label not in self._readable:
+            self._unknown[label] += 1
+        elif not self._readable[label]:
+            tally.unread += 1
 
     def _fault(self, found: Fault, reading: Reading) -> None:
         self.tally.rejected += 1
         if self._reject is None:
             reading.error = StoppedError(found)
         else:
-            self._reject(found)
+            self._reject(found, reading.source)
+
+
+def _request(step: _Step) -> bytes:
+    if isinstance(step.request, RowError):
+        raise step.request
+    return step.request

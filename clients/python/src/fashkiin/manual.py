@@ -6,7 +6,7 @@ import argparse
 import re
 from collections.abc import Iterator
 
-from fashkiin.cli import COMMANDS, EXIT_STATUSES, make_parser
+from fashkiin.cli import COMMANDS, EXIT_STATUSES, find_command, make_parser
 
 SETTINGS = (
     ("--url", "FASHKIIN_URL", "url", "http://127.0.0.1"),
@@ -51,12 +51,12 @@ def _lines() -> Iterator[str]:
     yield _text(FILES)
     yield ".SH COMMANDS"
     subparsers = _subparsers(parser)
-    for command in COMMANDS:
+    for command in map(find_command, COMMANDS):
         yield f".SS fashkiin {command.name}"
         yield _text(command.summary[0].upper() + command.summary[1:] + ".")
         yield from _actions(subparsers[command.name])
     yield ".SH COMMON OPTIONS"
-    for action in subparsers[COMMANDS[0].name]._actions:
+    for action in subparsers["load"]._actions:
         if COMMON & set(action.option_strings):
             yield from _action(action)
     yield from _settings()

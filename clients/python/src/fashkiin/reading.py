@@ -3,7 +3,7 @@
 from __future__ import annotations
 
 import zlib
-from collections.abc import Iterator
+from collections.abc import Generator
 from dataclasses import replace
 
 from fashkiin.errors import FashkiinError, RowError
@@ -25,7 +25,7 @@ class Reading:
         self._form = form
         self._names = names
 
-    def found(self) -> Iterator[Found]:
+    def found(self) -> Generator[Found, None, None]:
         """The rows and their places."""
         try:
             for place, row in self._form.read(self.source, self._names):
@@ -39,9 +39,13 @@ class Reading:
         except FashkiinError as error:
             self.error = self.error or error
 
-    def fault(self, place: int, error: FashkiinError, row: Row | RowError) -> Fault:
-        """What is wrong at a place."""
-        return fault(self.source, self._form, self._names, place, error, row)
+    def taken(self) -> bytes:
+        """What the next row whose end is known looks like, where rejects are written. Rows are told in their order."""
+        return b"" if self.source.raw is None else self.source.raw.popleft()
+
+    def fault(self, place: int, error: FashkiinError, row: Row | RowError, raw: bytes) -> Fault:
+        """What is wrong at a place, with what stands there."""
+        return fault(self.source, self._form, self._names, place, error, row, raw)
 
 
 def body(row: Row | RowError) -> bytes | RowError:

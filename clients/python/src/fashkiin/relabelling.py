@@ -12,14 +12,10 @@ from collections.abc import Mapping, Sequence
 from dataclasses import dataclass
 from typing import TYPE_CHECKING, Any
 
-from fashkiin.errors import FashkiinError, shown
+from fashkiin.errors import RelabelError, shown
 
 if TYPE_CHECKING:
     from fashkiin.table import Table
-
-
-class RelabelError(FashkiinError):
-    """It is not clear which row is to stand under the new label. Nothing was changed."""
 
 
 @dataclass(frozen=True, slots=True)

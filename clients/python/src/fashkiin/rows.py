@@ -11,6 +11,7 @@ import json
 from collections.abc import Mapping, Sequence
 from dataclasses import dataclass, field
 from datetime import datetime
+from functools import lru_cache
 from typing import Any
 
 from fashkiin.cells import (
@@ -29,6 +30,7 @@ from fashkiin.errors import Plain, ReplyError, RowError
 ID_BYTES = 64
 NOTE_BYTES = 4_096
 LABEL_BYTES = 256
+LABELS = 1_024
 
 Properties = Mapping[str, Any]
 """The properties of a row by their names: values of JSON."""
@@ -63,23 +65,30 @@ class Row:
             text += f',"properties":{to_json(self.properties)}}}' if self.properties else "}"
         except (TypeError, ValueError, RecursionError):
             raise RowError("properties", self.properties, "values of JSON, without NaN or Infinity") from None
-        if len(text) > NOTE_BYTES or not text.isascii():
-            bound("note", text, 0, NOTE_BYTES)
+        bound("note", text, 0, NOTE_BYTES)
         return text
 
     def body(self) -> bytes:
         """The body of a put; `RowError` where the row cannot be stored. The label is judged by the server."""
         bound("id", self.id, 1, ID_BYTES)
-        bound("label", self.label, 0, LABEL_BYTES)
+        label = _label_json(self.label)
         x, y, t = self.point()
-        texts = to_json(self.id), to_json(self.label), to_json(self.note())
-        return '{{"id":{},"point":[{},{},{}],"label":{},"note":{}}}'.format(texts[0], x, y, t, *texts[1:]).encode()
+        return f'{{"id":{to_json(self.id)},"point":[{x},{y},{t}],"label":{label},"note":{to_json(self.note())}}}'.encode()
+
+
+@lru_cache(maxsize=LABELS)
+def _label_json(label: str) -> str:
+    """The JSON of a label; `RowError` where it is too long. Most rows of a file have one of few."""
+    bound("label", label, 0, LABEL_BYTES)
+    return to_json(label)
 
 
 def bound(name: str, text: str, least: int, most: int) -> None:
     """`RowError` where a field is no text, no UTF-8, or not of so many bytes."""
     if not isinstance(text, str):
         raise RowError(name, text, "a text")
+    if text.isascii() and least <= len(text) <= most:
+        return
     try:
         size = len(text.encode())
     except UnicodeEncodeError as error:

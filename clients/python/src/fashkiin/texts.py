@@ -2,6 +2,7 @@
 
 from __future__ import annotations
 
+import io
 import os
 import re
 import stat
@@ -33,12 +34,17 @@ def quoted(name: str) -> str:
 def open_private(path: Path) -> TextIO:
     """A file to write UTF-8 to, emptied if it is there, whose mode is 0600 from now on whatever the umask. A pipe or a device is
     left as it is. `OSError` where it cannot be opened, or is another user's."""
+    return io.TextIOWrapper(open_private_bytes(path), encoding="utf-8", newline="")
+
+
+def open_private_bytes(path: Path) -> io.BufferedWriter:
+    """The same, for bytes."""
     descriptor = os.open(path, os.O_WRONLY | os.O_CREAT, 0o600)
     try:
         if stat.S_ISREG(os.fstat(descriptor).st_mode):
             os.fchmod(descriptor, 0o600)
             os.ftruncate(descriptor, 0)
-        return open(descriptor, "w", encoding="utf-8", newline="")
+        return open(descriptor, "wb")
     except BaseException:
         os.close(descriptor)
         raise

@@ -9,7 +9,7 @@ import socket
 from collections.abc import Mapping
 from dataclasses import dataclass
 from functools import lru_cache
-from typing import TYPE_CHECKING, Any
+from typing import TYPE_CHECKING, Any, NamedTuple
 from urllib.parse import urlsplit
 
 from fashkiin.errors import ConnectError, CutOffError, EdgeError, ReplyError, SettingsError, refusal
@@ -19,6 +19,8 @@ if TYPE_CHECKING:
 
 HEAD_BYTES = 65_536
 BODY_BYTES = 1 << 28
+PIECE = 1 << 16
+LARGE_PIECE = 1 << 20
 _STATUS = re.compile(rb"HTTP/1\.[01] ([2-5][0-9]{2})(?: [^\r\n]*)?\r\n\Z")
 _FIELD = re.compile(rb"([!#$%&'*+.^_`|~0-9A-Za-z-]+):[ \t]*([^\r\n]*?)[ \t]*\r\n\Z")
 
@@ -56,8 +58,7 @@ class Address:
         return f"[{self.host}]:{self.port}" if ":" in self.host else f"{self.host}:{self.port}"
 
 
-@dataclass(frozen=True, slots=True)
-class Reply:
+class Reply(NamedTuple):
     """A whole reply: its status, its body, and whether the connection stays."""
 
     status: int
@@ -92,15 +93,17 @@ class Connection:
             self._socket = context.wrap_socket(plain, server_hostname=address.host) if context else plain
         except OSError as error:
             raise ConnectError(f"no connection to {address.authority}: {_reason(error)}") from None
-        self._file = self._socket.makefile("rb", 1 << 16)
+        self._data = b""
+        self._at = 0
 
     def close(self) -> None:
         """Closes the connection."""
-        self._file.close()
         self._socket.close()
 
     def stale(self) -> bool:
         """Whether the server has ended the connection meanwhile, or said what nobody asked for."""
+        if self._at < len(self._data):
+            return True
         with selectors.DefaultSelector() as selector:
             selector.register(self._socket, selectors.EVENT_READ)
             return bool(selector.select(0))
@@ -114,33 +117,51 @@ class Connection:
 
     def receive(self) -> Reply:
         """The next reply, whole; `CutOffError` where it is cut off or late, `ReplyError` where it is no reply."""
+        while (reply := self.arrived()) is None:
+            self._more(PIECE)
+        return reply
+
+    def arrived(self) -> Reply | None:
+        """The next reply, if its head has come; the rest is waited for. Errors are those of `receive`."""
+        end = self._data.find(b"\n\r\n", self._at)
+        if end < 0 or end - self._at > HEAD_BYTES:
+            if len(self._data) - self._at > HEAD_BYTES:
+                raise ReplyError(f"a reply's head of over {HEAD_BYTES:,} bytes")
+            return None
+        status, length, keeps = _read_head(self._data[self._at : end + 1])
+        start = end + 3
+        if len(self._data) < start + length:
+            start = self._rest(start, length)
+        self._at = start + length
+        return Reply(status, self._data[start : self._at], keeps)
+
+    def _rest(self, start: int, length: int) -> int:
+        """Waits for the whole body that begins at a place, and returns where it begins then."""
+        pieces, there = [self._data[start:]], len(self._data) - start
+        self._data, self._at = b"", 0
+        while there < length:
+            pieces.append(self._received(max(PIECE, min(length - there, LARGE_PIECE))))
+            if not pieces[-1]:
+                raise CutOffError(f"the reply was cut off after {there:,} of {length:,} bytes")
+            there += len(pieces[-1])
+        self._data = b"".join(pieces)
+        return 0
+
+    def _more(self, size: int) -> None:
+        """Waits for bytes of a head."""
+        piece = self._received(size)
+        rest = self._data[self._at :]
+        if not piece:
+            raise CutOffError("the reply was cut off in its head" if rest else "the connection ended before a whole reply")
+        self._data, self._at = rest + piece, 0
+
+    def _received(self, size: int) -> bytes:
         try:
-            return self._receive()
+            return self._socket.recv(size)
         except TimeoutError:
             raise CutOffError(f"no whole reply within {self._timeout:g} seconds") from None
         except OSError as error:
             raise CutOffError(f"the reply was cut off: {_reason(error)}") from None
-
-    def _receive(self) -> Reply:
-        head = b""
-        while (line := self._line(HEAD_BYTES - len(head))) != b"\r\n":
-            head += line
-        status, length, keeps = _read_head(head)
-        return Reply(status, self._body(length), keeps)
-
-    def _line(self, room: int) -> bytes:
-        line: bytes = self._file.readline(room) if room > 0 else b""
-        if line.endswith(b"\n"):
-            return line
-        if len(line) >= room:
-            raise ReplyError(f"a reply's head of over {HEAD_BYTES:,} bytes")
-        raise CutOffError("the reply was cut off in its head" if line else "the connection ended before a whole reply")
-
-    def _body(self, length: int) -> bytes:
-        body: bytes = self._file.read(length)
-        if len(body) < length:
-            raise CutOffError(f"the reply was cut off after {len(body):,} of {length:,} bytes")
-        return body
 
 
 def tls(cafile: str | None) -> ssl.SSLContext:

@@ -1,12 +1,15 @@
-"""The subcommands of `fashkiin`: each is a `Command` that its module makes and `fashkiin.cli.COMMANDS` lists."""
+"""The subcommands of `fashkiin`: each is a `Command` that its module makes and `fashkiin.cli.COMMANDS` names."""
 
 from __future__ import annotations
 
 import argparse
+import contextlib
+import os
 import re
 import sys
 from collections.abc import Callable
 from dataclasses import dataclass
+from functools import lru_cache
 from typing import Any
 
 from fashkiin.client import Client
@@ -56,10 +59,26 @@ class Command:
     run: Callable[[Session, argparse.Namespace], int]
 
 
+class Formatter(argparse.HelpFormatter):
+    """Help as wide as the terminal. `argparse` makes one for each argument, and imports all archives to know the width."""
+
+    def __init__(self, prog: str) -> None:
+        super().__init__(prog, width=_columns() - 2)
+
+
+@lru_cache
+def _columns() -> int:
+    """The width of the terminal, 80 where there is none."""
+    with contextlib.suppress(OSError, ValueError):
+        return int(os.environ.get("COLUMNS", 0)) or os.get_terminal_size(sys.__stdout__.fileno()).columns or 80
+    return 80
+
+
 class Parser(argparse.ArgumentParser):
     """A parser that takes no negative number for an option: `-5e-05` neither, as `scan` prints it."""
 
     def __init__(self, *words: Any, **named: Any) -> None:
+        named.setdefault("formatter_class", Formatter)
         super().__init__(*words, **named)
         self._negative_number_matcher = re.compile(r"-(\d+\.?\d*|\.\d+)([eE][-+]?\d+)?\Z")
 

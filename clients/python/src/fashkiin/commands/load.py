@@ -9,7 +9,6 @@ import time
 from collections.abc import Callable, Sequence
 from dataclasses import replace
 from pathlib import Path
-from typing import TextIO
 
 from fashkiin.cells import parse_time
 from fashkiin.client import LARGEST_WINDOW, Client
@@ -22,8 +21,9 @@ from fashkiin.formats import FORMATS, Format, Names, Source
 from fashkiin.loading import Loader
 from fashkiin.progress import Progress
 from fashkiin.reading import DAMAGED
-from fashkiin.texts import open_private
+from fashkiin.texts import open_private_bytes
 
+FIELDS = {"lon": "longitude", "lat": "latitude", "time": "time", "label": "label"}
 GO_ON = "run the same command again: it goes on, and stores no row twice"
 STEM_BYTES = 44
 
@@ -32,7 +32,7 @@ def add_names(parser: argparse.ArgumentParser) -> None:
     """How a file names the fields of its rows."""
     several = "the column or property of the id; several are joined by slashes, and a slash in one is %%2F"
     parser.add_argument("--id-column", action="append", default=[], metavar="NAME", help=several)
-    for field, what in (("lon", "longitude"), ("lat", "latitude"), ("time", "time"), ("label", "label")):
+    for field, what in FIELDS.items():
         parser.add_argument(f"--{field}-column", default="", metavar="NAME", help=f"the column or property of the {what}")
     between = "between the columns of CSV, tab for a tab; if left out, a comma, or the semicolon or tab that the header has"
     parser.add_argument("--delimiter", default="", metavar="CHARACTER", help=between)
@@ -55,13 +55,17 @@ def read_names(arguments: argparse.Namespace) -> Names:
 
 def _arguments(parser: argparse.ArgumentParser) -> None:
     add_table(parser)
-    parser.add_argument("files", nargs="+", metavar="FILE", help="CSV, GeoJSON, GeoJSONSeq or GPX; - reads standard input")
+    parser.add_argument("files", nargs="+", metavar="FILE", help="CSV, GeoJSON, lines of JSON or GPX; - reads standard input")
     parser.add_argument("--format", choices=FORMATS, help="the format; by the file's name or its first bytes, if left out")
     add_names(parser)
     parser.add_argument(
         "--number", metavar="PREFIX", help="ids of rows without one: PREFIX-1, PREFIX-2 ..; the file's name, if left out"
     )
     parser.add_argument("--default-label", metavar="LABEL", help="the label of rows without one; '' shows them to everybody")
+    wkt = "the column of CSV with the position as WKT, POINT(lon lat)"
+    parser.add_argument("--point-column", default="", metavar="NAME", help=wkt)
+    mapping = "in lines of JSON: where a field is, such as lon=position.0; FIELD is id, lon, lat, time or label"
+    parser.add_argument("--map", action="append", default=[], metavar="FIELD=PATH", help=mapping)
     staying = "a column of CSV, or an element of GPX, that stays a text, though it is a number throughout its file"
     parser.add_argument("--encoding", default="", metavar="NAME", help="the encoding of CSV, such as latin-1; UTF-8 if left out")
     parser.add_argument("--skip", type=int, default=0, metavar="LINES", help="lines before the header of CSV")
@@ -78,7 +82,8 @@ def _arguments(parser: argparse.ArgumentParser) -> None:
     replacing = "delete the rows of the same ids that you see under other labels, once the new ones are stored"
     parser.add_argument("--replace", action="store_true", help=replacing)
     parser.add_argument("--on-error", choices=("stop", "skip"), default="stop", help="at a row that cannot be stored")
-    parser.add_argument("--rejects", metavar="FILE", help="write the rows that cannot be stored here, and go on")
+    mended = "write the rows that cannot be stored here as they are, to be mended and loaded, and go on"
+    parser.add_argument("--rejects", metavar="FILE", help=mended)
     parser.add_argument(
         "--window", type=int, default=64, metavar="ROWS", help=f"rows on their way at a time, 1 to {LARGEST_WINDOW}"
     )
@@ -97,7 +102,8 @@ def _run(session: Session, arguments: argparse.Namespace) -> int:
     with contextlib.ExitStack() as stack:
         client = stack.enter_context(session.client())
         creation = _Creation(client, arguments)
-        reject = _reject(session, arguments, progress, stack)
+        rejects = _rejects(arguments, stack)
+        reject = _reject(session, arguments, progress, rejects)
         step = progress.step if progress else None
         loader = Loader(client, arguments.table, arguments.window, reject, step, creation.begin, arguments.replace)
         try:
@@ -106,12 +112,16 @@ def _run(session: Session, arguments: argparse.Namespace) -> int:
                     progress.begin(loader.tally)
                 with opened(file) as source:
                     form = format_for(source, arguments)
+                    if rejects is not None:
+                        rejects.begin(source, form)
                     work = loader.check if arguments.dry_run else loader.load
                     work(source, form, _typed(_numbered(names, source), source, form, arguments.text))
                     if source.dropped:
                         session.say(f"{file}: not kept: {', '.join(source.dropped)}")
             if not arguments.dry_run and not loader.tally.read:
                 creation.begin()  # Files without a row make the table too.
+            if rejects is not None and rejects.rows:
+                session.say(f"fashkiin: {rejects.rows:,} rows are in {rejects.name}: mend them there, and load it as this file")
         except KeyboardInterrupt:
             session.say(f"fashkiin: interrupted, {GO_ON}")
             raise
@@ -136,7 +146,8 @@ def _all_names(arguments: argparse.Namespace) -> Names:
     if arguments.skip < 0:
         raise SettingsError(f"--skip: {arguments.skip}, wanted 0 or more lines")
     return replace(
-        read_names(arguments),
+        _mapped(read_names(arguments), arguments.map),
+        point=arguments.point_column,
         number=arguments.number,
         unlabelled=arguments.default_label,
         only=None if arguments.only is None else frozenset(arguments.only.split(",")),
@@ -146,6 +157,16 @@ def _all_names(arguments: argparse.Namespace) -> Names:
         default_time=None if arguments.default_time is None else parse_time(arguments.default_time),
         wrap=arguments.wrap,
     )
+
+
+def _mapped(names: Names, given: Sequence[str]) -> Names:
+    """The names, with those of `--map`."""
+    for word in given:
+        field, _, path = word.partition("=")
+        if field not in ("id", *FIELDS) or not path:
+            raise SettingsError(f"--map: {word}, wanted FIELD=PATH, where FIELD is id, {', '.join(FIELDS)}")
+        names = replace(names, **{field: (*names.id, path) if field == "id" else path})
+    return names
 
 
 class _Creation:
@@ -168,28 +189,36 @@ class _Creation:
                 self._client.tables.drop(self._arguments.table)
 
 
+def _rejects(arguments: argparse.Namespace, stack: contextlib.ExitStack) -> Rejects | None:
+    """The file of rejects, where one is asked for."""
+    if arguments.rejects is None:
+        return None
+    if arguments.rejects in arguments.files:
+        raise SettingsError(f"--rejects: {arguments.rejects}: it is loaded itself, wanted another file")
+    try:
+        out = open_private_bytes(Path(arguments.rejects))
+    except OSError as error:
+        raise SettingsError(f"--rejects: {arguments.rejects}: {error.strerror}, wanted a file to write") from None
+    rejects = Rejects(out, arguments.rejects)
+    stack.callback(rejects.close)
+    return rejects
+
+
 def _reject(
-    session: Session, arguments: argparse.Namespace, progress: Progress | None, stack: contextlib.ExitStack
-) -> Callable[[Fault], None] | None:
+    session: Session, arguments: argparse.Namespace, progress: Progress | None, rejects: Rejects | None
+) -> Callable[[Fault, Source], None] | None:
     """What is done with a row that cannot be stored; None where the load stops at it."""
-    if arguments.rejects is not None:
-        return Rejects(stack.enter_context(_created(arguments.rejects))).add
-    if arguments.on_error == "stop":
+    if rejects is None and arguments.on_error == "stop":
         return None
 
-    def say(found: Fault) -> None:
+    def say(found: Fault, source: Source) -> None:
         if progress is not None:
             progress.clear()
         session.say(str(found))
+        if rejects is not None:
+            rejects.add(found, source)
 
     return say
-
-
-def _created(file: str) -> TextIO:
-    try:
-        return open_private(Path(file))
-    except OSError as error:
-        raise SettingsError(f"--rejects: {file}: {error.strerror}, wanted a file to write") from None
 
 
 def _tell(session: Session, arguments: argparse.Namespace, loader: Loader, seconds: float) -> None:

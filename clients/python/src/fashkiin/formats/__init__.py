@@ -1,4 +1,4 @@
-"""Files of rows: CSV, GeoJSON, lines of GeoJSON, and GPX."""
+"""Files of rows: CSV, GeoJSON, lines of GeoJSON or of other objects, and GPX."""
 
 from __future__ import annotations
 
@@ -9,8 +9,9 @@ from dataclasses import dataclass
 from pathlib import Path
 from typing import TextIO
 
+from fashkiin.errors import InputError
 from fashkiin.formats import delimited, geojson, gpx
-from fashkiin.formats.fields import Found, InputError, Names, Source
+from fashkiin.formats.fields import Found, Names, Source
 from fashkiin.rows import Row
 
 __all__ = ["FORMATS", "Format", "Found", "InputError", "Names", "Source", "format_of", "sniff"]
@@ -20,7 +21,7 @@ __all__ = ["FORMATS", "Format", "Found", "InputError", "Names", "Source", "forma
 class Format:
     """A format of files. `read` tells each row by its place, with the error of a row that is none; `unit` is what a place
     counts. `write` writes rows that `read` gives back. `numbers` tells which properties are numbers throughout a file, in a
-    format of texts."""
+    format of texts. `around` is what stands before, between and behind the rows of a file of rejects."""
 
     name: str
     unit: str
@@ -28,13 +29,14 @@ class Format:
     read: Callable[[Source, Names], Iterator[Found]]
     write: Callable[[Iterable[Row], TextIO, Names], None]
     numbers: Callable[[Source, Names], frozenset[str]] | None = None
+    around: tuple[str, str, str] = ("", "", "")
 
 
 FORMATS = {
     form.name: form
     for form in (
         Format("csv", "line", (".csv", ".tsv", ".txt"), delimited.read, delimited.write, delimited.numbers),
-        Format("geojson", "feature", (".geojson", ".json"), geojson.read, geojson.write),
+        Format("geojson", "feature", (".geojson", ".json"), geojson.read, geojson.write, around=geojson.AROUND),
         Format(
             "geojsonseq",
             "line",
@@ -42,7 +44,7 @@ FORMATS = {
             geojson.read_lines,
             geojson.write_lines,
         ),
-        Format("gpx", "line", (".gpx",), gpx.read, gpx.write, gpx.numbers),
+        Format("gpx", "line", (".gpx",), gpx.read, gpx.write, gpx.numbers, (gpx.HEAD, "", gpx.TAIL)),
     )
 }
 """The formats by their names."""

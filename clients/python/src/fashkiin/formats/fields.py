@@ -4,20 +4,23 @@ from __future__ import annotations
 
 import io
 import os
+import re
 import stat
+from collections import deque
 from collections.abc import Iterable, Mapping, Sequence
 from dataclasses import dataclass
 from datetime import datetime, timedelta
 from typing import Any
 
 from fashkiin.cells import EPOCH, parse_time
-from fashkiin.errors import FashkiinError, MissingError, Plain, RowError
+from fashkiin.errors import InputError, MissingError, Plain, RowError
 from fashkiin.rows import Row
 
 DEFAULTS: Mapping[str, tuple[str, tuple[str, ...], tuple[str, ...]]] = {
     "id": ("id", (), ()),
     "lon": ("lon", ("longitude", "long", "lng"), ("x",)),
     "lat": ("lat", ("latitude",), ("y",)),
+    "point": ("wkt", ("geometry", "geom", "the_geom"), ()),
     "time": ("time", ("timestamp", "datetime"), ("date",)),
     "label": ("label", ("visibility",), ()),
 }
@@ -44,11 +47,8 @@ def candidates(field: str, there: Iterable[str]) -> list[str]:
 Found = tuple[int, Row | RowError]
 """The place of a row in its file, from 1, and the row or what is wrong with it."""
 
+_POINT = re.compile(r"\s*(?:SRID=4326\s*;\s*)?POINT\s*Z?\s*\(([^()_]*)\)\s*", re.IGNORECASE)
 LABEL_WANTED = "a label, or --default-label (the empty text shows a row to everybody)"
-
-
-class InputError(FashkiinError):
-    """A file that cannot be read on."""
 
 
 class Source:
@@ -60,6 +60,10 @@ class Source:
         self.stem = stem
         self.dropped: dict[str, None] = {}
         """What of it is kept in no row, once it is read."""
+        self.raw: deque[bytes] | None = None
+        """What the rows on their way look like, in their order, for a file of rejects; None where there is none."""
+        self.head = b""
+        """What stands before the rows of CSV in a file of rejects."""
         self._size = None if packed else _size(stream)
 
     @property
@@ -88,6 +92,9 @@ def _size(stream: io.BufferedReader) -> int | None:
 class Names:
     """How a file names the fields of its rows. An empty text or list stands for the names of `DEFAULTS`.
 
+    `point` names a column of CSV with a position as WKT, which is looked for where there is neither `lon` nor `lat`. In lines of
+    JSON, a name is a path with dots between: `position.lon`, `position.0`.
+
     A row's id is that of the fields `id`, joined by `join_ids`; or, without such fields, `number`, a dash and the row's number in
     its file. A row without a label has the label `unlabelled`; where that is None, it is an error. `only` are the properties that
     are kept; None keeps all. `time_format` is `iso`, `unix` or `unix-ms`. An empty
@@ -100,6 +107,7 @@ class Names:
     id: tuple[str, ...] = ()
     lon: str = ""
     lat: str = ""
+    point: str = ""
     time: str = ""
     label: str = ""
     number: str | None = None
@@ -133,11 +141,23 @@ class Names:
 def degrees(field: str, value: Any) -> float:
     """Degrees of a text or a number; `RowError` for another value. The range is judged where the row is put."""
     try:
-        if isinstance(value, bool) or (isinstance(value, str) and "_" in value):
+        if value.__class__ is bool or (value.__class__ is str and "_" in value):
             raise ValueError
         return float(value)
     except (TypeError, ValueError, OverflowError):
         raise RowError(field, value, "degrees such as 12.5") from None
+
+
+def read_point(field: str, text: str) -> list[float]:
+    """Longitude, latitude and perhaps height of a point of WKT, or of EWKT in EPSG:4326; `RowError` for another text."""
+    found = _POINT.fullmatch(text)
+    try:
+        numbers = [float(it) for it in found[1].split()] if found else []
+    except ValueError:
+        numbers = []
+    if len(numbers) not in (2, 3):
+        raise RowError(field, text, "WKT such as POINT(4.25 51.5), longitude first")
+    return numbers
 
 
 def read_time(value: Any, form: str) -> datetime:

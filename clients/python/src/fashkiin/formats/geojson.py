@@ -1,31 +1,42 @@
-"""GeoJSON (RFC 7946): a FeatureCollection, or a Feature a line, with or without record separators (RFC 8142)."""
+"""GeoJSON (RFC 7946): a FeatureCollection, or a Feature a line, with or without record separators (RFC 8142); and other objects,
+one a line."""
 
 from __future__ import annotations
 
+import copy
 import json
 from collections.abc import Iterable, Iterator
-from decimal import Decimal
 from typing import Any, TextIO
 
 from fashkiin.cells import time_text
-from fashkiin.errors import FashkiinError, Plain, RowError
+from fashkiin.errors import FashkiinError, MissingError, Plain, RowError
+from fashkiin.formats.collection import read_features
 from fashkiin.formats.fields import Found, Names, Source, degrees, make_row
 from fashkiin.rows import Row, to_json
 
+AROUND = ('{"type":"FeatureCollection","features":[\n', ",\n", "\n]}\n")
+"""What stands before, between and behind the features of a FeatureCollection."""
+
 
 def read_lines(source: Source, names: Names) -> Iterator[Found]:
-    """The rows of a file of a Feature a line, by their lines."""
+    """The rows of a file of a Feature or another object a line, by their lines."""
     number = 0
     for line, data in enumerate(source.stream, 1):
         text = data.strip().lstrip(b"\x1e\xef\xbb\xbf")
         if text:
             number += 1
-            yield line, _read_line(text, names, number)
+            row = _read_line(text, names, number)
+            if source.raw is not None:
+                source.raw.append(_raw_line(text, names, number))
+            yield line, row
 
 
 def _read_line(text: bytes, names: Names, number: int) -> Row | RowError:
     try:
-        return read_feature(json.loads(text.decode()), names, number)
+        value = json.loads(text.decode())
+        if isinstance(value, dict) and value.get("type") != "Feature":
+            return read_object(value, names, number)
+        return read_feature(value, names, number)
     except UnicodeDecodeError as error:
         return RowError("row", text[max(0, error.start - 10) : error.start + 10], "UTF-8")
     except json.JSONDecodeError as error:
@@ -38,56 +49,93 @@ def _read_line(text: bytes, names: Names, number: int) -> Row | RowError:
         return RowError("row", Plain(error), "a GeoJSON Feature in a line")
 
 
+def _raw_line(text: bytes, names: Names, number: int) -> bytes:
+    """A line of a file of rejects: the line, with its id where that is the row's number."""
+    try:
+        return _raw(json.loads(text), names, number) + b"\n"
+    except (ValueError, RecursionError):
+        return text + b"\n"
+
+
+def _raw(value: Any, names: Names, number: int) -> bytes:
+    """A value in a file of rejects, with its id where that is the row's number."""
+    if isinstance(value, dict) and names.number is not None and not names.id and value.get("id") is None:
+        properties = value.get("properties")
+        if not isinstance(properties, dict) or properties.get("id") is None:
+            value = value | {"id": f"{names.number}-{number}"}
+    return json.dumps(value).encode()
+
+
 def read(source: Source, names: Names) -> Iterator[Found]:
     """The rows of a FeatureCollection, by the numbers of their features. `InputError` where the file is none."""
-    try:
-        import ijson
-    except ImportError:
-        features = _all(source)
-    else:
-        features = _stream(source, ijson)
-    for number, feature in enumerate(features, 1):
-        try:
-            yield number, read_feature(feature, names, number)
-        except RowError as error:
-            yield number, error
-
-
-def _all(source: Source) -> Iterator[Any]:
-    """The features of a file that is read as a whole."""
-    try:
-        value = json.loads(source.stream.read().decode("utf-8-sig"))
-    except (ValueError, RecursionError) as error:
-        raise source.fail(str(getattr(error, "lineno", 1)), f"{error}, wanted a GeoJSON FeatureCollection") from None
-    if not isinstance(value, dict) or not isinstance(value.get("features"), list):
-        raise source.fail("1", "no features, wanted a GeoJSON FeatureCollection")
-    yield from value["features"]
-
-
-def _stream(source: Source, ijson: Any) -> Iterator[Any]:
-    """The features of a file of any size."""
     number = 0
     try:
-        # With floats in place of decimals, it takes no integer of more than 64 bits.
-        for feature in ijson.items(source.stream, "features.item"):
-            number += 1
-            yield _floats(feature)
-        if number == 0 and source.stream.seekable():
-            source.stream.seek(0)
-            if next(ijson.items(source.stream, "type"), None) != "FeatureCollection":
-                raise source.fail("1", "no features, wanted a GeoJSON FeatureCollection")
-    except (ijson.JSONError, ValueError) as error:
-        reason = str(error).split("\n")[0]
-        raise source.fail(f"feature {number + 1}", f"{reason}, wanted a GeoJSON FeatureCollection") from None
+        for number, feature in enumerate(read_features(source.stream), 1):
+            if source.raw is not None:
+                source.raw.append(_raw(feature, names, number))
+            try:
+                row: Row | RowError = read_feature(feature, names, number)
+            except RowError as error:
+                row = error
+            yield number, row
+    except LookupError:
+        raise source.fail("1", "no features, wanted a GeoJSON FeatureCollection") from None
+    except (ValueError, RecursionError) as error:
+        raise source.fail(f"feature {number + 1}", f"{error}, wanted a GeoJSON FeatureCollection") from None
 
 
-def _floats(value: Any) -> Any:
-    """A value with floats in place of decimals."""
-    if isinstance(value, Decimal):
-        return float(value)
+def read_object(value: dict[str, Any], names: Names, number: int) -> Row:
+    """The row of an object whose members are its fields and properties; `RowError` where a field is missing or wrong."""
+    if any("." in name for name in (*names.id, names.lon, names.lat, names.time, names.label)):
+        value = _flat(value, names)
+    lon, lat = (degrees(field, _take(value, names, field)) for field in ("lon", "lat"))
+    return make_row(names, number, lon, lat, value)
+
+
+def _take(values: dict[str, Any], names: Names, field: str) -> Any:
+    """The value of a field, which is taken out of the values."""
+    name = names.find(field, values)
+    if name is None:
+        wanted: str = getattr(names, field) or field
+        raise MissingError(wanted, f"a GeoJSON Feature, or an object with a {field}: name it by --map {field}=NAME")
+    return values.pop(name)
+
+
+def _flat(value: dict[str, Any], names: Names) -> dict[str, Any]:
+    """The object with the values of paths such as `position.lon` as members of those names. An object that they leave empty is
+    not kept; a list is."""
+    flat = copy.deepcopy(value)
+    for name in (*names.id, names.lon, names.lat, names.time, names.label):
+        if "." in name and name not in flat:
+            _lift(flat, name)
+    return flat
+
+
+def _lift(flat: dict[str, Any], path: str) -> None:
+    *steps, last = path.split(".")
+    holders: list[tuple[Any, str]] = []
+    at: Any = flat
+    for step in steps:
+        holders.append((at, step))
+        at = _member(at, step)
+    found = _member(at, last)
+    if found is None:
+        return
+    if isinstance(at, dict):
+        del at[last]
+        for holder, step in reversed(holders):
+            if holder.__class__ is dict and holder[step] == {}:
+                del holder[step]
+    flat[path] = found
+
+
+def _member(value: Any, step: str) -> Any:
+    """A member of an object by its name, or of a list by its place from 0; None where there is none."""
     if isinstance(value, dict):
-        return {name: _floats(inner) for name, inner in value.items()}
-    return [_floats(inner) for inner in value] if isinstance(value, list) else value
+        return value.get(step)
+    if isinstance(value, list) and step.isdecimal() and int(step) < len(value):
+        return value[int(step)]
+    return None
 
 
 def read_feature(feature: Any, names: Names, number: int) -> Row:
@@ -132,9 +180,10 @@ def write_lines(rows: Iterable[Row], out: TextIO, names: Names) -> None:
 
 def write(rows: Iterable[Row], out: TextIO, names: Names) -> None:
     """Writes a FeatureCollection."""
-    out.write('{"type":"FeatureCollection","features":[')
-    separator = "\n"
+    head, between, tail = AROUND
+    out.write(head)
+    separator = ""
     for row in rows:
         out.write(separator + write_feature(row, names))
-        separator = ",\n"
-    out.write("\n]}\n")
+        separator = between
+    out.write(tail)

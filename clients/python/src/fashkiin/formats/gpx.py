@@ -21,11 +21,11 @@ if TYPE_CHECKING:
 
 POINTS = ("wpt", "trkpt", "rtept")
 TRACKS = ("trk", "rte")
+GPX = "http://www.topografix.com/GPX/1/1"
 NAMESPACE = "urn:fashkiin:row"
 PIECE = 65_536
-_HEAD = (
-    '<?xml version="1.0" encoding="UTF-8"?>\n<gpx xmlns="http://www.topografix.com/GPX/1/1" version="1.1" creator="fashkiin">\n'
-)
+HEAD = f'<?xml version="1.0" encoding="UTF-8"?>\n<gpx xmlns="{GPX}" version="1.1" creator="fashkiin">\n'
+TAIL = "</gpx>\n"
 
 
 def read(source: Source, names: Names) -> Iterator[Found]:
@@ -38,9 +38,12 @@ def read(source: Source, names: Names) -> Iterator[Found]:
     for line, point, track in _points(source):
         number += 1
         try:
-            yield line, _row(point, track, names, number)
+            row: Row | RowError = _row(point, track, names, number)
         except RowError as error:
-            yield line, error
+            row = error
+        if source.raw is not None:
+            source.raw.append(_raw(point, track | {"id": f"{names.number}-{number}"}))
+        yield line, row
 
 
 def numbers(source: Source, names: Names) -> frozenset[str]:
@@ -111,6 +114,19 @@ def _row(point: ElementTree.Element, track: dict[str, Any], names: Names, number
     return make_row(names, number, lon, lat, track | with_numbers(values, names.numbers - {"time"}))
 
 
+def _raw(point: ElementTree.Element, values: dict[str, Any]) -> bytes:
+    """A point in a file of rejects: a waypoint, with its id and what it has of its track as extensions."""
+    from xml.etree import ElementTree
+
+    waypoint = ElementTree.Element(f"{{{GPX}}}wpt", point.attrib)
+    waypoint.extend(point)
+    if point.find(f"{{*}}extensions/{{{NAMESPACE}}}row") is None:
+        extensions = ElementTree.SubElement(waypoint, f"{{{GPX}}}extensions")
+        for name, value in values.items():
+            ElementTree.SubElement(extensions, f"{{{GPX}}}{name}").text = str(value)
+    return ElementTree.tostring(waypoint) + b"\n"
+
+
 def _values(point: ElementTree.Element) -> dict[str, Any]:
     """The texts of a point's elements and of those of its extensions, which do not replace the point's own."""
     values = {_local(child.tag): child.text or "" for child in point if _local(child.tag) not in ("extensions", "link")}
@@ -146,7 +162,7 @@ def _local(tag: str) -> str:
 
 def write(rows: Iterable[Row], out: TextIO, names: Names) -> None:
     """Writes rows as waypoints."""
-    out.write(_HEAD)
+    out.write(HEAD)
     for row in rows:
         kept = json.dumps({"id": row.id, "label": row.label, "properties": row.properties}, separators=(",", ":"))
         kept = kept.replace("&", "&amp;").replace("<", "&lt;").replace(">", "&gt;")
@@ -155,4 +171,4 @@ def write(rows: Iterable[Row], out: TextIO, names: Names) -> None:
             f'<wpt lat="{lat}" lon="{lon}"><time>{time_text(row.time)}</time>'
             f'<extensions><row xmlns="{NAMESPACE}">{kept}</row></extensions></wpt>\n'
         )
-    out.write("</gpx>\n")
+    out.write(TAIL)

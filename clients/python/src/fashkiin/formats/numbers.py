@@ -16,10 +16,10 @@ def number(text: str) -> int | float | None:
     found = _NUMBER.match(text)
     if found is None:
         return None
-    whole, fraction, exponent = found.groups()
-    if len(whole) + len(fraction or ".") - 1 > DIGITS:
+    kind = found.lastindex
+    if len(text) > DIGITS and len(found[1]) + len(found[2] or ".") - 1 > DIGITS:
         return None
-    if fraction is None and exponent is None:
+    if kind == 1:
         return int(text)
     value = float(text)
     return value if abs(value) < float("inf") else None
@@ -49,9 +49,10 @@ class Throughout:
 
 def with_numbers(properties: Mapping[str, str], names: frozenset[str]) -> dict[str, str | int | float]:
     """The properties, with numbers in place of the texts of these names."""
-    return {name: value if name not in names else _value(value) for name, value in properties.items()}
+    return {name: value if name not in names else number_or_text(value) for name, value in properties.items()}
 
 
-def _value(text: str) -> str | int | float:
+def number_or_text(text: str) -> str | int | float:
+    """The number that a text is, or the text."""
     value = number(text)
     return text if value is None else value
