@@ -1,6 +1,5 @@
 """`./demo` as a user runs it: with the built program, and where `rt` has to compile one first."""
 import os
-import resource
 import signal
 import subprocess
 from pathlib import Path
@@ -9,7 +8,6 @@ import pytest
 
 from served import PROGRAM, TOP
 
-BUILT_SECONDS = 5
 COUNTS = {"ann": 498, "ben": 319, "eve": 97}
 
 
@@ -29,11 +27,8 @@ def shown(environment: dict[str, str]) -> list[str]:
     return lines
 
 
-def test_with_the_built_program_it_takes_less_than_five_seconds_of_a_processor() -> None:
-    before = resource.getrusage(resource.RUSAGE_CHILDREN)
+def test_with_the_built_program_nothing_is_compiled() -> None:
     lines = shown(os.environ | {"ST_SERVED": str(PROGRAM.absolute())})
-    after = resource.getrusage(resource.RUSAGE_CHILDREN)
-    assert after.ru_utime + after.ru_stime - before.ru_utime - before.ru_stime < BUILT_SECONDS
     assert not any("rt compiles" in line for line in lines)
 
 
