@@ -36,7 +36,8 @@ def test_with_the_built_program_nothing_is_compiled() -> None:
 def slow_rt(tmp_path: Path) -> Path:
     """A folder with an `rt` that takes three seconds before `rt try .. -- WORDS` runs the built program."""
     rt = tmp_path / "rt"
-    rt.write_text(f'#!/bin/sh\n[ "$1" = try ] || exit 2\nuntil [ "$1" = -- ]; do shift; done\nshift\nsleep 3\nexec {PROGRAM.absolute()} "$@"\n')
+    run = f'exec {PROGRAM.absolute()} "$@"'
+    rt.write_text(f'#!/bin/sh\n[ "$1" = try ] || exit 2\nuntil [ "$1" = -- ]; do shift; done\nshift\nsleep 3\n{run}\n')
     rt.chmod(0o755)
     return tmp_path
 
