@@ -11,16 +11,27 @@ from served import PROGRAM, TOP
 COUNTS = {"ann": 498, "ben": 319, "eve": 97}
 
 
+def heed_interrupts() -> None:
+    """Undoes what a shell does to the processes that it starts in the background."""
+    signal.signal(signal.SIGINT, signal.SIG_DFL)
+
+
 def shown(environment: dict[str, str]) -> list[str]:
     """The lines of `./demo` until it is ready, when it is interrupted: nothing that it started stays."""
-    with subprocess.Popen(["./demo"], cwd=TOP, env=environment, stdout=subprocess.PIPE, stderr=subprocess.STDOUT, text=True) as demo:
+    with subprocess.Popen(
+        ["./demo"], cwd=TOP, env=environment, stdout=subprocess.PIPE, stderr=subprocess.STDOUT, text=True, preexec_fn=heed_interrupts
+    ) as demo:
         assert demo.stdout is not None
         lines = []
         for line in demo.stdout:
             lines.append(line.rstrip("\n"))
             if line.startswith("Ctrl-C ends everything."):
                 demo.send_signal(signal.SIGINT)
-        assert demo.wait(20) == 130, lines
+                break
+        try:
+            assert demo.wait(20) == 130, lines
+        finally:
+            demo.kill()
     for user, count in COUNTS.items():
         assert any(line.startswith(f"{user} counts {count:3} rows, with the token {user}.") for line in lines)
     assert any(line.startswith("The map, into which each token can be pasted: http://127.0.0.1:") for line in lines)
