@@ -25,7 +25,7 @@ from typing import Any, TextIO
 TOP = Path(__file__).resolve().parent.parent
 sys.path.insert(0, str(TOP / "tests"))
 
-from served import served_process, token  # noqa: E402
+from served import serving, token  # noqa: E402
 
 TABLE = "bench.ships"
 LABELS = ("", "storms", "storms&wind", "flight|(storms&wind)")
@@ -125,16 +125,16 @@ def starts(commands: Commands) -> None:
 def main() -> None:
     rows = int(sys.argv[1]) if len(sys.argv) > 1 else 100_000
     formats = sys.argv[2:] or list(FORMATS)
-    with tempfile.TemporaryDirectory() as name, served_process("storms", "wind", "flight") as (port, server):
-        commands = Commands(Path(name), port)
+    with tempfile.TemporaryDirectory() as name, serving("storms", "wind", "flight") as server:
+        commands = Commands(Path(name), server.port)
         starts(commands)
         for suffix in formats:
             file = Path(name) / f"ships.{suffix}"
             with file.open("w", newline="") as out:
                 FORMATS[suffix](out, rows)
-            before = processor_time(server.pid)
+            before = processor_time(server.process.pid)
             took = commands.run("load", f"{TABLE}_{suffix}", file, "--create", "--period", "day", "--quiet")
-            served = processor_time(server.pid) - before
+            served = processor_time(server.process.pid) - before
             print(
                 f"{suffix}: {rows / took.processor:,.0f} rows a second of the client's processor"
                 f" ({took.processor:.2f} s), {rows / took.clock:,.0f} on the clock; the server took {served:.2f} s",

@@ -23,7 +23,7 @@ from pathlib import Path
 TOP = Path(__file__).resolve().parent.parent
 sys.path.insert(0, str(TOP / "tests"))
 
-from served import served_process, token  # noqa: E402
+from served import served, token  # noqa: E402
 
 HEAD = "id,lon,lat,time,label,name\n"
 ROWS = HEAD + "a,1.5,2.5,2024-05-01,,Br\u00e9e\nb,-1.5,2.5,2024-05-02,,harbour\n"
@@ -110,7 +110,7 @@ def main() -> None:
     groups: dict[str, list[str]] = {}
     for file in sys.argv[1:]:
         groups.setdefault(Path(file).suffix, []).append(str(Path(file).resolve()))
-    with tempfile.TemporaryDirectory() as name, served_process("A") as (port, _):
+    with tempfile.TemporaryDirectory() as name, served("A") as port:
         loads = Loads(Path(name), port)
         print("| File | Flags | Status | What it says | Rows in the table |\n|---|---|---|---|---|")
         for one in hostile():

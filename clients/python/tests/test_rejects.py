@@ -2,14 +2,15 @@
 
 from __future__ import annotations
 
-import pytest
 import subprocess
 from pathlib import Path
+
+import pytest
 
 from conftest import Run
 from fashkiin import Table
 from running import COMMAND, environment
-from served import served_process, token
+from served import serving, token
 
 POINT = '"geometry":{"type":"Point","coordinates":[%s,2.5]},"properties":{"time":"2024-05-01","label":"A","name":"%s"}'
 FEATURES = [f'{{"type":"Feature",{POINT % it}}}' for it in (("1.5", "one"), ("181", "two"), ("1.5", "three"))]
@@ -76,13 +77,13 @@ def test_a_lost_server_ends_a_load_in_a_line_that_says_how_to_go_on(tmp_path: Pa
     file.write_text("id,lon,lat,time,label\n" + rows)
     own.touch(mode=0o600)
     own.write_text(token("root"))
-    with served_process("A") as (port, server):
-        where = ["--url", f"http://127.0.0.1:{port}", "--token-file", str(own)]
+    with serving("A") as server:
+        where = ["--url", f"http://127.0.0.1:{server.port}", "--token-file", str(own)]
         words = ["load", "points", str(file), "--create", "--quiet", *where]
         with subprocess.Popen([*COMMAND, *words], env=environment(), stderr=subprocess.PIPE, text=True) as loading:
             with pytest.raises(subprocess.TimeoutExpired):
                 loading.wait(2)
-            server.kill()
+            server.process.kill()
             said = loading.communicate(timeout=60)[1].splitlines()
     assert loading.returncode == 5 and len(said) == 2 and " rows read, " in said[0]
     assert said[1].endswith(", run the same command again: it goes on, and stores no row twice")
