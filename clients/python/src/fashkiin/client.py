@@ -58,9 +58,6 @@ class Client:
         self.token = Token.parse(token) if isinstance(token, str) else token
         self.timeout = timeout
         self._context = tls(cafile) if self.address.secure else None
-        self._head = (
-            f"HTTP/1.1\r\nHost: {self.address.authority}\r\nAuthorization: Bearer {self.token.text}\r\nContent-Length: "
-        )
         self._kept: list[Connection] = []
         self._lock = threading.Lock()
 
@@ -127,8 +124,11 @@ class Client:
         return self.requests(method, target)(body)
 
     def requests(self, method: str, target: str) -> Callable[[bytes], bytes]:
-        """What makes the bytes of requests of their bodies."""
-        start = f"{method} {self.address.prefix}{target} {self._head}".encode()
+        """What makes the bytes of requests of their bodies, with the token that the client has now."""
+        start = (
+            f"{method} {self.address.prefix}{target} HTTP/1.1\r\nHost: {self.address.authority}\r\n"
+            f"Authorization: Bearer {self.token.text}\r\nContent-Length: "
+        ).encode()
         return lambda body: b"%b%d\r\n\r\n%b" % (start, len(body), body)
 
     def _exchange(self, request: bytes) -> Reply:

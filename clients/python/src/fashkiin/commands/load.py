@@ -44,11 +44,11 @@ def read_names(arguments: argparse.Namespace) -> Names:
     if len(delimiter) > 1 or delimiter in ('"', "\r", "\n"):
         raise SettingsError(f"--delimiter: {delimiter!r}, wanted one character, or tab")
     return Names(
-        tuple(arguments.id_column),
-        arguments.lon_column,
-        arguments.lat_column,
-        arguments.time_column,
-        arguments.label_column,
+        id=tuple(arguments.id_column),
+        lon=arguments.lon_column,
+        lat=arguments.lat_column,
+        time=arguments.time_column,
+        label=arguments.label_column,
         delimiter=delimiter,
     )
 
