@@ -1,5 +1,6 @@
 """`./demo` as a user runs it: with the built program, and where `rt` has to compile one first."""
 import os
+import re
 import signal
 import subprocess
 from pathlib import Path
@@ -58,7 +59,7 @@ def test_without_it_it_says_that_rt_compiles_one_and_for_how_long(slow_rt: Path,
     path = f"{slow_rt}:{os.environ['PATH']}"
     lines = shown(os.environ | {"PATH": path, "ST_SERVED": str(missing)})
     assert lines[0] == f"The server is not built ({missing}). rt compiles one without proofs, which takes minutes."
-    assert lines[1] == "rt compiles the server: 2 s"
+    assert re.fullmatch(r"rt compiles the server: [2-9] s", lines[1])
 
 
 def test_an_rt_that_fails_is_told_with_what_it_said(slow_rt: Path, tmp_path: Path) -> None:
