@@ -21,6 +21,7 @@ from collections.abc import Callable, Iterator
 from dataclasses import dataclass
 from pathlib import Path
 from typing import Any, TextIO
+from xml.sax.saxutils import escape
 
 TOP = Path(__file__).resolve().parent.parent
 sys.path.insert(0, str(TOP / "tests"))
@@ -65,10 +66,21 @@ def write_collection(out: TextIO, rows: int) -> None:
     out.write("\n]}\n")
 
 
+def write_gpx(out: TextIO, rows: int) -> None:
+    out.write('<gpx xmlns="http://www.topografix.com/GPX/1/1" version="1.1" creator="bench">\n')
+    for name, lon, lat, when, label, speed, ship in made(rows):
+        own = f"<id>{name}</id><label>{escape(label)}</label><speed>{speed}</speed>"
+        out.write(
+            f'<wpt lat="{lat:.6f}" lon="{lon:.6f}"><time>{when}</time><name>{ship}</name><extensions>{own}</extensions></wpt>\n'
+        )
+    out.write("</gpx>\n")
+
+
 FORMATS: dict[str, Callable[[TextIO, int], None]] = {
     "csv": write_csv,
     "geojson": write_collection,
     "geojsonl": write_lines,
+    "gpx": write_gpx,
 }
 """How a file of each suffix is written."""
 
@@ -133,7 +145,9 @@ def main() -> None:
             with file.open("w", newline="") as out:
                 FORMATS[suffix](out, rows)
             before = processor_time(server.process.pid)
-            took = commands.run("load", f"{TABLE}_{suffix}", file, "--create", "--period", "day", "--quiet")
+            # An empty label of a GPX extension is none.
+            words = ("--create", "--period", "day", "--default-label", "", "--quiet")
+            took = commands.run("load", f"{TABLE}_{suffix}", file, *words)
             served = processor_time(server.process.pid) - before
             print(
                 f"{suffix}: {rows / took.processor:,.0f} rows a second of the client's processor"

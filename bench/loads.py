@@ -1,24 +1,30 @@
 #!/usr/bin/env python3
 """Files as others make them, by `fashkiin load`: what it says of each, how many rows are in it, and how many the table has then.
 
-    nice bench/loads.py [FILE..]
+    nice bench/loads.py [FILE|FOLDER..]
 
-A table in Markdown: first a set of small hostile files, each as it comes and then with the flags that its message asks for; then the
-FILEs, with those of one format in one load (GPX and files without labels are loaded with `--default-label ''`). It needs the built
-`st_served`, or the one that ST_SERVED names. Run it with /usr/bin/python3.
+Tables in Markdown. The first is of small hostile files, each as it comes and then with the flags that its message asks for, and of the
+FILEs, with those of one format in one load (GPX and files without labels are loaded with `--default-label ''`). Of a FOLDER, each GPX
+file in it or below it is loaded into a table of its own, and if it was not loaded whole, once more with flags for what receivers leave
+out or get wrong. Its points are counted without the client, and its rows by `count --exact` and in a dump; then come tables by outcome,
+and of what is kept in no row. The end status is 1 if rows were lost without being told. It needs the built `st_served`, or the one that
+ST_SERVED names. Run it with /usr/bin/python3.
 """
 from __future__ import annotations
 
 import gzip
 import json
 import os
+import re
 import subprocess
 import sys
 import tempfile
+from collections import Counter
 from collections.abc import Iterator
 from dataclasses import dataclass
 from itertools import count
 from pathlib import Path
+from xml.etree import ElementTree
 
 TOP = Path(__file__).resolve().parent.parent
 sys.path.insert(0, str(TOP / "tests"))
@@ -27,6 +33,11 @@ from served import served, token  # noqa: E402
 
 HEAD = "id,lon,lat,time,label,name\n"
 ROWS = HEAD + "a,1.5,2.5,2024-05-01,,Br\u00e9e\nb,-1.5,2.5,2024-05-02,,harbour\n"
+POINTS = ("wpt", "trkpt", "rtept")
+LABEL = ("--default-label", "")
+MENDING = ("--default-time", "2000-01-01", "--on-error", "skip")
+"""Flags for points without a time, and points that are none."""
+
 NUMBERS = ",".join(
     json.dumps(
         {
@@ -75,6 +86,41 @@ def hostile() -> Iterator[Try]:
     yield Try("gzip, cut off", "cut.csv.gz", gzip.compress(ROWS.encode())[:-12])
 
 
+@dataclass(frozen=True)
+class Loaded:
+    """A load of a GPX file: its end status, what it said, and its counts; `points` is what the file has, up to where it breaks off,
+    `counted` and `dumped` what the table has then."""
+
+    status: int
+    said: list[str]
+    points: int
+    read: int
+    stored: int
+    rejected: int
+    counted: int
+    dumped: int
+
+    @property
+    def agrees(self) -> bool:
+        """Whether each point of the file is a row of the table or was rejected; of a load that ended early, each that was read."""
+        told = self.read == self.stored + self.rejected and self.stored == self.counted == self.dumped
+        return told and (self.read == self.points or self.status == 3)
+
+    @property
+    def outcome(self) -> str:
+        """What happened, for files alike: the last error, without what is of this file alone."""
+        errors = [line for line in self.said if ": not kept: " not in line]
+        text = errors[-1] if self.status == 3 else errors[0] if errors else "loaded"
+        text = re.sub(r"^(fashkiin: )?[^:]*\.gpx:[0-9]+: ", "", text)
+        return re.sub(r"line [0-9]+, column [0-9]+|'[^']*'|[0-9][0-9,.]*(?= bytes)", "..", text).replace("|", "\\|")
+
+    @property
+    def dropped(self) -> list[str]:
+        """The elements that are kept in no row."""
+        lines = [line.partition(": not kept: ")[2] for line in self.said]
+        return [it for line in lines if line for it in line.split(", ")]
+
+
 class Loads:
     """Loads into tables of their own, of one server."""
 
@@ -105,11 +151,70 @@ class Loads:
         words = " ".join(word or "''" for word in flags)
         print(f"| {what} | {f'`{words}`' if flags else ''} | {ran.returncode} | {said} | {rows} |", flush=True)
 
+    def load(self, file: Path, flags: tuple[str, ...]) -> Loaded:
+        """Loads a GPX file, and looks for its rows."""
+        table = f"bench.t{next(self._numbers)}"
+        self.run("tables", "create", table)
+        ran = self.run("load", table, file, "--quiet", "--json", *flags)
+        told = {"read": 0, "stored": 0, "replaced": 0, "rejected": 0} | json.loads(ran.stdout or "{}")
+        counted = int(self.run("count", table, "--exact").stdout)
+        dumped = self.run("dump", table, "--format", "geojsonseq").stdout.count("\n")
+        self.run("tables", "drop", table, "--yes")
+        rows = told["stored"] + told["replaced"]
+        return Loaded(
+            ran.returncode, ran.stderr.splitlines(), points_of(file), told["read"], rows, told["rejected"], counted, dumped
+        )
+
+
+def points_of(file: Path) -> int:
+    """The points of a GPX file, up to where it is no XML."""
+    found = 0
+    try:
+        for _, element in ElementTree.iterparse(file):
+            found += element.tag.rpartition("}")[2] in POINTS
+    except (ElementTree.ParseError, ValueError, LookupError):
+        pass
+    return found
+
+
+def show_folder(loads: Loads, folder: Path) -> bool:
+    """Loads the GPX files of a folder, and writes the tables of them; whether all their rows are there or were told."""
+    files = sorted(it for it in folder.rglob("*") if it.suffix.lower() == ".gpx" and it.is_file())
+    print(f"\n{len(files)} GPX files of {folder}\n")
+    print("| File | Flags | Status | Points | Read | Stored | Rejected | By count | In the dump | Says |\n" + "|---" * 10 + "|")
+    done: list[tuple[str, Loaded]] = []
+    for file in files:
+        for more in ((), MENDING):
+            loaded = loads.load(file, (*LABEL, *more))
+            done.append((" ".join(more), loaded))
+            numbers = (loaded.status, loaded.points, loaded.read, loaded.stored, loaded.rejected, loaded.counted, loaded.dumped)
+            says = loaded.outcome if loaded.agrees else f"DIFFERS: {loaded.outcome}"
+            print(f"| {file.relative_to(folder)} | {done[-1][0]} | {' | '.join(map(str, numbers))} | {says} |", flush=True)
+            if loaded.status == 0:
+                break
+    show_outcomes(done)
+    return all(loaded.agrees for _, loaded in done)
+
+
+def show_outcomes(done: list[tuple[str, Loaded]]) -> None:
+    """The tables by outcome, and of what is kept in no row."""
+    print("\n| Flags | Status | Says | Files | Points | Read | Stored | Rejected |\n" + "|---" * 8 + "|")
+    kinds = {(flags, loaded.status, loaded.outcome): None for flags, loaded in done}
+    for kind in sorted(kinds):
+        alike = [it for flags, it in done if (flags, it.status, it.outcome) == kind]
+        sums = (len(alike), *(sum(getattr(it, name) for it in alike) for name in ("points", "read", "stored", "rejected")))
+        print(f"| {kind[0]} | {kind[1]} | {kind[2]} | {' | '.join(f'{it:,}' for it in sums)} |")
+    print("\n| Not kept | Files |\n|---|---|")
+    for name, files in Counter(name for flags, loaded in done if not flags for name in loaded.dropped).most_common():
+        print(f"| {name} | {files} |")
+
 
 def main() -> None:
+    given = [Path(it).resolve() for it in sys.argv[1:]]
     groups: dict[str, list[str]] = {}
-    for file in sys.argv[1:]:
-        groups.setdefault(Path(file).suffix, []).append(str(Path(file).resolve()))
+    for file in given:
+        if not file.is_dir():
+            groups.setdefault(file.suffix, []).append(str(file))
     with tempfile.TemporaryDirectory() as name, served("A") as port:
         loads = Loads(Path(name), port)
         print("| File | Flags | Status | What it says | Rows in the table |\n|---|---|---|---|---|")
@@ -118,7 +223,9 @@ def main() -> None:
             for flags in one.flags:
                 loads.show(one.what, [one.name], flags)
         for suffix, files in groups.items():
-            loads.show(f"{len(files)} files *{suffix}", files, ("--default-label", "", "--on-error", "skip"))
+            loads.show(f"{len(files)} files *{suffix}", files, (*LABEL, "--on-error", "skip"))
+        agreed = [show_folder(loads, folder) for folder in given if folder.is_dir()]
+    sys.exit(0 if all(agreed) else 1)
 
 
 if __name__ == "__main__":

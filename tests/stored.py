@@ -17,6 +17,7 @@ RUN = Path(os.environ.get("ST_RUN", TOP / "crates/st_run/out/st_run"))
 PROGRAMS = [RUN, SERVED]
 BOX = [0, 2097151, 0, 2097151, 0, 19818086399]
 AUTHS = ["A", "B"]
+OTHER_NAMES = "store of other authorizations of root (their order counts)"
 
 # Seconds that a run may take to end. What it does is done in a few hundredths; the rest is for a busy machine.
 PATIENCE = 60
@@ -179,6 +180,15 @@ def opened(file: Path, root: str = "root", auths: list[str] | None = None, progr
     words = ["--root", digest(root), "--store", str(file), *(AUTHS if auths is None else auths)]
     with started(*words, program=program) as run:
         yield run
+
+
+def fill(file: Path, count: int) -> None:
+    """Puts further rows into a store that no process has open, until it has so many changes. SQLite writes them."""
+    body, result = '{{"id":"r{}","label":"A","note":"note","point":[1,2,3]}}', '{"ok":true}'
+    with closing(sqlite3.connect(file)) as base, base:
+        first = base.execute("select count(*) from changes").fetchone()[0]
+        rows = ((number, body.format(number), result) for number in range(first, 1 + count))
+        base.executemany("insert into changes values (?, 0, 'root', 'put', 'points', ?, ?)", rows)
 
 
 def asked(file: Path, query: str) -> list[tuple[Any, ...]]:

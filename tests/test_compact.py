@@ -9,7 +9,7 @@ import pytest
 from changes import FIRST, NAMESPACES, TABLES, USERS, changes_from
 from noted import events_in, make_shim, noted
 from served import digest
-from stored import AUTHS, BOX, PROGRAMS, RUN, Run, answer, asked, opened, request, started
+from stored import AUTHS, BOX, OTHER_NAMES, PROGRAMS, RUN, Run, answer, asked, fill, opened, request, started
 from torn import Disk, File
 
 SHOWN = 1024
@@ -114,12 +114,25 @@ def test_of_the_changes_that_were_left_out_none_is_seen(tmp_path: Path) -> None:
     assert kept == [("create-table", 1), ("drop-table", 1), ("put", 50)]
 
 
-def test_a_file_that_is_refused_stays_as_it_is(tmp_path: Path, program: Path) -> None:
+def test_the_opening_of_many_changes_says_how_far_it_is(tmp_path: Path) -> None:
+    file = tmp_path / "points.db"
+    with opened(file) as run:
+        assert run.end() == (0, b"", b"")
+    fill(file, 100_000)
+    with compacted(file) as run:
+        status, rest, faults = run.end()
+    assert (status, rest) == (0, b"")
+    assert faults.decode().splitlines() == ["st_run: opened 100,000 of 100,000 changes", "st_run: of 100000 changes 100000 are kept",
+                                            "st_run: opened 100,000 of 100,000 changes"]
+
+
+@pytest.mark.parametrize(("root", "auths", "fault"), [("other", AUTHS, "store of another root"), ("root", AUTHS[::-1], OTHER_NAMES)])
+def test_a_file_that_is_refused_stays_as_it_is(tmp_path: Path, program: Path, root: str, auths: list[str], fault: str) -> None:
     file = tmp_path / "points.db"
     make_changes(file, 1500, 3, program)
     was = file.read_bytes()
-    with started("--root", digest("other"), "--store", str(file), "--compact", *AUTHS, program=program) as run:
-        assert run.end() == (8, b"", f"{program.name}: store of another root\n".encode())
+    with started("--root", digest(root), "--store", str(file), "--compact", *auths, program=program) as run:
+        assert run.end() == (8, b"", f"{program.name}: {fault}\n".encode())
     assert file.read_bytes() == was
 
 

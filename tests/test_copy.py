@@ -158,10 +158,12 @@ def test_a_copy_that_cannot_be_written_is_said_once(store: Path, tmp_path: Path)
         assert run.end() == (0, b"", b"st_served: no copy: not read or written; trying again\n")
 
 
-@pytest.mark.parametrize(("root", "fault"), [("root", "of another history"), ("other", "of another root")])
-def test_a_copy_of_another_history_is_left_as_it_is(store: Path, copy: Path, root: str, fault: str) -> None:
+@pytest.mark.parametrize(("root", "auths", "fault"), [
+    ("root", AUTHS, "it is of another history;"), ("other", AUTHS, "it is of another root;"),
+    ("root", AUTHS[::-1], "it is of other authorizations of root (their order counts);")])
+def test_a_copy_of_another_history_is_left_as_it_is(store: Path, copy: Path, root: str, auths: list[str], fault: str) -> None:
     row = {"id": "r", "label": "A", "note": "", "point": [1, 2, 3]}
-    with opened(copy, root, program=RUN) as run:
+    with opened(copy, root, auths, RUN) as run:
         assert run.ask(request("POST", "/tables/points/put", row, root))[0] in (200, 401)
         assert run.end()[0] == 0
     before = asked(copy, CHANGES)

@@ -10,7 +10,7 @@ import pytest
 
 from served import PROGRAM as SERVED
 from served import TOP, digest, token
-from stored import AUTHS, PATIENCE, PROGRAMS, RUN, Ended, Run, answer, asked, opened, request, started
+from stored import AUTHS, BOX, OTHER_NAMES, PATIENCE, PROGRAMS, RUN, Ended, Run, answer, asked, fill, opened, request, started
 
 
 def put(name: str, table: str = "points") -> bytes:
@@ -135,6 +135,17 @@ def test_without_a_store_no_file_is_written(tmp_path: Path, program: Path, monke
     assert not list(tmp_path.iterdir())
 
 
+def test_an_opening_of_many_changes_says_how_far_it_is(store: Store) -> None:
+    fill(store.file, 200_001)
+    with store.opened() as run:
+        status, told = run.ask(request("POST", "/tables/points/count", {"auths": AUTHS, "box": BOX}))
+        assert (status, told["count"]) == (200, 200_001)
+        status, rest, faults = run.end()
+    name = store.program.name
+    assert (status, rest) == (0, b"")
+    assert faults.decode().splitlines() == [f"{name}: opened {done} of 200,001 changes" for done in ("100,000", "200,000")]
+
+
 def test_the_file_has_the_digest_and_no_secret(store: Store) -> None:
     secret = token("root").split(".")[1].encode()
     for text in files_of(store.file).values():
@@ -145,12 +156,13 @@ def test_the_file_has_the_digest_and_no_secret(store: Store) -> None:
     assert json.loads(str(rows[1][4]))["id"] == "first" and json.loads(str(rows[1][5])) == {"ok": True}
 
 
-@pytest.mark.parametrize("words", [
-    ("--root", digest("other"), "A", "B"), ("--root", digest("root"), "A"), ("--root", digest("root"), "A", "B", "C"),
-    ("--root", digest("root"), "B", "A"), ("--root", digest("root"), "AB"), ("--root", digest("root"))])
-def test_a_store_of_another_root_is_refused(store: Store, words: tuple[str, ...]) -> None:
+@pytest.mark.parametrize(("root", "auths", "fault"), [
+    ("other", "A B", "store of another root"), ("other", "B A", "store of another root"), ("other", "", "store of another root"),
+    ("root", "A", OTHER_NAMES), ("root", "A B C", OTHER_NAMES), ("root", "B A", OTHER_NAMES), ("root", "AB", OTHER_NAMES),
+    ("root", "", OTHER_NAMES)])
+def test_a_store_of_another_root_or_of_other_authorizations_is_refused(store: Store, root: str, auths: str, fault: str) -> None:
     before = files_of(store.file)
-    assert store.refused(*words) == (8, "store of another root")
+    assert store.refused("--root", digest(root), *auths.split()) == (8, fault)
     assert files_of(store.file) == before
 
 

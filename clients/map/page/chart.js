@@ -1,6 +1,6 @@
 // @ts-check
 // The Leaflet map: the cells of a view or the rows themselves, the open cell and its rows on top.
-import { Ground, coordinatesText, pane } from './ground.js';
+import { Ground, colour, coordinatesText, pane } from './ground.js';
 import { colourOf } from './legend.js';
 import { rowsText } from './texts.js';
 import { cellBox, cornersOf, indexAt } from './view.js';
@@ -11,11 +11,12 @@ import { cellBox, cornersOf, indexAt } from './view.js';
 
 const L = window.L;
 const DOTS = 3; // a cell with at most so many rows is drawn as a dot: a square would look full
+const AWAY = 6; // pixels from a place to its tooltip
 const NEAR = 8; // pixels from the pointer to a row that it means
 
 export class Chart {
   #map; #cells; #chosen; #marks; #cellRenderer; #markRenderer;
-  #tooltip = L.tooltip({ direction: 'top', offset: [0, -6], permanent: true }); // not closed by a click
+  #tooltip = L.tooltip({ permanent: true }); // not closed by a click
   #coordinates = document.createElement('output');
   /** @type {{ view: View, counts: number[], rows: Row[] | null } | null} */
   #drawn = null;
@@ -129,8 +130,8 @@ export class Chart {
     const style = { fillColor, fillOpacity: 1, interactive: false, renderer: this.#cellRenderer };
     const [[south, west], [north, east]] = cornersOf(box);
     const middle = [(south + north) / 2, (west + east) / 2];
-    const drawn = count > DOTS ? L.rectangle([[south, west], [north, east]], { ...style, stroke: false })
-      : L.circleMarker(middle, { ...style, color: '#37474f', weight: 1, radius: 3 + count });
+    const drawn = count > DOTS ? L.rectangle([[south, west], [north, east]], { ...style, color: colour('rim'), weight: 1 })
+      : L.circleMarker(middle, { ...style, color: colour('coast'), weight: 1, radius: 3 + count });
     drawn.addTo(this.#cells);
   }
 
@@ -157,7 +158,18 @@ export class Chart {
     if (!hint) return this.#tooltip.remove();
     const text = document.createElement('span');
     text.textContent = hint.text;
-    return this.#tooltip.setLatLng(hint.place).setContent(text).addTo(this.#map);
+    this.#tooltip.setLatLng(hint.place).setContent(text).addTo(this.#map);
+    return this.#turnTooltip();
+  }
+
+  /** Turns the tooltip to where the map has room for it. */
+  #turnTooltip() {
+    const { x, y } = this.#map.latLngToContainerPoint(this.#tooltip.getLatLng()), element = this.#tooltip.getElement();
+    const half = element.offsetWidth / 2, isHigh = y < element.offsetHeight + 2 * AWAY;
+    const direction = x < half ? 'right' : x > this.#map.getSize().x - half ? 'left' : isHigh ? 'bottom' : 'top';
+    const offset = { left: [-AWAY, 0], right: [AWAY, 0], top: [0, -AWAY], bottom: [0, AWAY] }[direction];
+    Object.assign(this.#tooltip.options, { direction, offset });
+    this.#tooltip.update();
   }
 
   /** The rows that a place on the map means, where rows are drawn, the nearest one first. */
@@ -173,7 +185,7 @@ export class Chart {
     const { view, counts, rows } = this.#drawn, near = this.#rowsAt(place);
     if (near.length) {
       const [{ id, time, lat, lng }] = near;
-      return { place: [lat, lng], text: near.length > 1 ? rowsText(near.length) : `${id}, ${time}` };
+      return { place: [lat, lng], text: near.length > 1 ? rowsText(near.length) : `${id}\n${time}` };
     }
     if (rows) return null;
     const index = indexAt(view, place);

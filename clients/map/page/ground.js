@@ -1,5 +1,6 @@
 // @ts-check
 // What lies under and over the rows: land and outlines of Natural Earth, names of places, and lines of longitude and latitude.
+import { DARK } from './legend.js';
 
 const L = window.L;
 const FINE = 4; // the zoom from which the finer outlines are drawn
@@ -7,6 +8,8 @@ const NAMED = 3; // the zoom from which places are named beside countries
 const LINES = [60, 30, 15, 10, 5, 2, 1, 0.5, 0.2, 0.1, 0.05, 0.02, 0.01, 0.005, 0.002, 0.001, 0.0005, 0.0002, 0.0001];
 const GAP = 110; // pixels between two lines, at least
 const LETTER = 7; // pixels of a letter, about
+const LINE = 16; // pixels of a line of text
+const RIM = 6; // pixels between the rim of the map and the degrees
 const LARGE = 1500; // square pixels of a country that is named
 
 /** A canvas of its own at a height over the map. */
@@ -16,7 +19,8 @@ export const pane = (map, name, order) => {
   return L.canvas({ pane: name, padding: 0.5 });
 };
 
-const colour = name => getComputedStyle(document.documentElement).getPropertyValue(`--${name}`).trim();
+/** A colour of map.css, as it is in this mode. @param {string} name */
+export const colour = name => getComputedStyle(document.documentElement).getPropertyValue(`--${name}`).trim();
 
 const styles = {
   land: () => ({ stroke: false, fillColor: colour('land'), fillOpacity: 1 }),
@@ -27,6 +31,11 @@ const styles = {
 /** `51.95° N` of a latitude; `sides` are such as NS. */
 const degreesText = (degrees, sides, digits) =>
   `${Math.abs(degrees).toFixed(digits)}°${degrees === 0 ? '' : ` ${sides[degrees > 0 ? 0 : 1]}`}`;
+
+/** @typedef {[number, number, number, number]} Area - left, right, top and bottom, in pixels of the map */
+
+const meets = (/** @type {Area} */ [left, right, top, bottom], /** @type {Area} */ other) =>
+  left < other[1] && right > other[0] && top < other[3] && bottom > other[2];
 
 /** A place in degrees, to a digit that a pixel of the zoom shows; nothing outside of the world. */
 export function coordinatesText({ lat, lng }, zoom) {
@@ -40,6 +49,8 @@ export class Ground {
   #names = L.layerGroup();
   #graticule = L.layerGroup();
   #graticuleRenderer;
+  /** @type {Area[]} */
+  #taken = []; // where a text, or a part of the page that lies over the map, stands
   /** @type {{ countries: [string, number, number, number][], places: [string, number, number][] }} - places, and square degrees */
   #known = { countries: [], places: [] };
 
@@ -53,7 +64,7 @@ export class Ground {
     this.#names.addTo(map);
     this.#graticule.addTo(map);
     map.on('moveend resize', () => this.#draw());
-    window.matchMedia('(prefers-color-scheme: dark)').addEventListener('change', () => this.#restyle());
+    DARK.addEventListener('change', () => this.#restyle());
     this.#load();
   }
 
@@ -85,8 +96,26 @@ export class Ground {
   }
 
   #draw() {
+    this.#taken = this.#controls();
     this.#drawGraticule();
     this.#drawNames();
+  }
+
+  /** @returns {Area[]} */
+  #controls() {
+    const map = this.#map.getContainer(), { left, top } = map.getBoundingClientRect();
+    return [...map.querySelectorAll('.leaflet-control')].map(control => {
+      const area = control.getBoundingClientRect();
+      return [area.left - left, area.right - left, area.top - top, area.bottom - top];
+    });
+  }
+
+  /** Takes an area for a text, if the map has it whole and nothing else stands there. @param {Area} area */
+  #take(area) {
+    const { x, y } = this.#map.getSize(), [left, right, top, bottom] = area;
+    const isFree = left >= 0 && right <= x && top >= 0 && bottom <= y && !this.#taken.some(it => meets(it, area));
+    if (isFree) this.#taken.push(area);
+    return isFree;
   }
 
   #drawGraticule() {
@@ -98,14 +127,21 @@ export class Ground {
     const south = Math.max(-90, bounds.getSouth()), north = Math.min(90, bounds.getNorth());
     const steps = (from, to) => Array.from({ length: Math.max(0, Math.floor(to / step) - Math.ceil(from / step) + 1) },
       (_, at) => (Math.ceil(from / step) + at) * step);
+    const top = Math.max(0, this.#pixel(north, 0).y), right = Math.min(size.x, this.#pixel(0, east).x);
     for (const lng of steps(west, east)) {
       this.#line([[south, lng], [north, lng]]);
-      this.#text([north, lng], degreesText(lng, 'EW', digits), 'degrees meridian');
+      const text = degreesText(lng, 'EW', digits), { x } = this.#pixel(0, lng);
+      if (this.#take([x, x + RIM + text.length * LETTER, top, top + LINE])) this.#text([north, lng], text, 'degrees meridian');
     }
     for (const lat of steps(south, north)) {
       this.#line([[lat, west], [lat, east]]);
-      this.#text([lat, east], degreesText(lat, 'NS', digits), 'degrees parallel');
+      const text = degreesText(lat, 'NS', digits), { y } = this.#pixel(lat, 0);
+      if (this.#take([right - RIM - text.length * LETTER, right, y - LINE, y])) this.#text([lat, east], text, 'degrees parallel');
     }
+  }
+
+  #pixel(lat, lng) {
+    return this.#map.latLngToContainerPoint([lat, lng]);
   }
 
   #line(places) {
@@ -120,21 +156,18 @@ export class Ground {
       .addTo(group);
   }
 
-  /** Names in view, the important ones first, without two that overlap. */
+  /** Names that are whole in view, the important ones first, each where no other text stands. */
   #drawNames() {
     this.#names.clearLayers();
-    const { countries, places } = this.#known, bounds = this.#map.getBounds(), taken = [];
+    const { countries, places } = this.#known, bounds = this.#map.getBounds();
     const pixels = this.#map.getSize().x / (bounds.getEast() - bounds.getWest());
     const large = countries.filter(([, , , area]) => area * pixels * pixels > LARGE);
     const named = this.#map.getZoom() < NAMED ? large : [...large, ...places];
     for (const [at, [name, lng, lat]] of named.entries()) {
-      const kind = at < large.length ? 'country' : 'place';
       if (!bounds.contains([lat, lng])) continue;
-      const { x, y } = this.#map.latLngToContainerPoint([lat, lng]), half = name.length * LETTER / 2;
-      const box = kind === 'country' ? [x - half, x + half, y - 8, y + 8] : [x - 4, x + 8 + 2 * half, y - 8, y + 8];
-      if (taken.some(it => box[0] < it[1] && box[1] > it[0] && box[2] < it[3] && box[3] > it[2])) continue;
-      taken.push(box);
-      this.#text([lat, lng], name, kind, this.#names);
+      const isCountry = at < large.length, { x, y } = this.#pixel(lat, lng), long = name.length * LETTER;
+      const [left, right] = isCountry ? [x - long / 2, x + long / 2] : [x - 4, x + 8 + long];
+      if (this.#take([left, right, y - LINE / 2, y + LINE / 2])) this.#text([lat, lng], name, isCountry ? 'country' : 'place', this.#names);
     }
   }
 }

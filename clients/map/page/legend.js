@@ -1,10 +1,15 @@
 // @ts-check
 // Classes of counts with distinct integers as bounds, and their colours.
 
-/** @typedef {{ from: number, to: number, colour: string }} Class - the counts of a colour, both included */
+/** @typedef {{ from: number, to: number, shade: number }} Class - the counts of a shade, from 0 for the fewest; both included */
 
 // Viridis from its light end to its dark one: the lightness falls at each step, so the classes differ for every eye.
 export const COLOURS = ['#addc30', '#5ec962', '#21918c', '#31688e', '#443983', '#440154'];
+
+export const DARK = window.matchMedia('(prefers-color-scheme: dark)');
+
+/** The colour of a shade: most rows stand out most, dark on a light page and light on a dark one. @param {number} shade */
+const paint = shade => COLOURS[DARK.matches ? COLOURS.length - 1 - shade : shade];
 
 /**
  * The classes of the counts that are not 0: as many cells in each as distinct integers allow, so that the map has contrast wherever
@@ -20,12 +25,12 @@ export function classesOf(counts) {
   return bounds.map((to, at) => ({
     from: at ? bounds[at - 1] + 1 : 1,
     to,
-    colour: COLOURS[bounds.length === 1 ? 2 : Math.round(at * (COLOURS.length - 1) / (bounds.length - 1))],
+    shade: bounds.length === 1 ? 2 : Math.round(at * (COLOURS.length - 1) / (bounds.length - 1)),
   }));
 }
 
 /** The colour of a count; one above all classes has that of the last. @param {Class[]} classes @param {number} count */
-export const colourOf = (classes, count) => (classes.find(({ to }) => count <= to) ?? classes[classes.length - 1]).colour;
+export const colourOf = (classes, count) => paint((classes.find(({ to }) => count <= to) ?? classes[classes.length - 1]).shade);
 
 const number = value => value.toLocaleString('en');
 
@@ -54,9 +59,10 @@ export class Legend {
 
   /** Says what the points are, where the rows themselves are drawn. @param {string} text */
   ofPoints(text) {
-    const point = document.createElement('i');
+    const item = document.createElement('span'), point = document.createElement('i');
     point.className = 'point';
-    this.#element.replaceChildren(point, text);
+    item.append(point, text);
+    this.#element.replaceChildren(item);
     this.#element.setAttribute('aria-label', text);
   }
 
@@ -72,12 +78,12 @@ export class Legend {
       : from === to ? number(from) : `${number(from)}–${number(to)}`);
     const title = document.createElement('b');
     title.textContent = texts.length ? 'Rows in a cell:' : '';
-    this.#element.replaceChildren(title, ...this.#classes.map(({ colour }, at) => {
+    this.#element.replaceChildren(title, ...this.#classes.map(({ shade }, at) => {
       const item = document.createElement('span'), swatch = document.createElement('i');
-      swatch.style.background = colour;
+      swatch.style.background = paint(shade);
       item.append(swatch, texts[at]);
       return item;
     }));
-    this.#element.setAttribute('aria-label', texts.length ? `Rows in a cell, from light to dark: ${texts.join(', ')}` : 'No rows');
+    this.#element.setAttribute('aria-label', texts.length ? `Rows in a cell, in ${texts.length} colours: ${texts.join(', ')}` : 'No rows');
   }
 }

@@ -2,7 +2,7 @@
 // The page: its parts, and what the user does with them.
 import { readAddress } from './address.js';
 import { Chart } from './chart.js';
-import { Legend } from './legend.js';
+import { DARK, Legend } from './legend.js';
 import { Listing } from './listing.js';
 import { Panel } from './panel.js';
 import { Playback } from './playback.js';
@@ -31,6 +31,7 @@ class Page {
     this.#onLogin();
     this.#onChoices();
     this.#chart.onMove(() => this.#session?.refreshSoon());
+    DARK.addEventListener('change', () => this.#session?.recolour());
     this.#chart.onChoose(box => this.#do(session => session.list(box)));
     $('opening').showModal();
   }

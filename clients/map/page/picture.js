@@ -66,7 +66,8 @@ export class Picture {
     if (!this.shown?.rows) return;
     const { rows, view, total } = this.shown, passed = rows.filter(row => this.#listing.passes(row));
     this.#chart.drawRows(view, passed);
-    this.#legend.ofPoints(passed.length === rows.length ? 'Each point is a row'
+    if (!total) this.#legend.clear();
+    else this.#legend.ofPoints(passed.length === rows.length ? 'Each point is a row'
       : `Each point is a row: ${passed.length} of ${rowsText(total)} in view pass the filter`);
   }
 

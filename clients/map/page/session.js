@@ -81,6 +81,7 @@ export class Session {
     this.#isOpen = false;
     this.#table = NAME.test(name) ? name : '';
     this.#picture.blank();
+    this.#timeline.setWindow(ALL_TIME);
     this.#panel.table = name;
     await this.#work(async signal => {
       if (!this.#table) throw new Refusal({ error: 'table', table: name });
@@ -272,12 +273,21 @@ export class Session {
     } else this.#panel.notice = error.message;
   }
 
+  /** Shows nothing of the table, not even its times; it opens anew at the place and time at which it was. */
+  #forget() {
+    const { isWhole, chosen } = this.#timeline;
+    if (this.#isOpen) this.#wanted = { ...(isWhole ? {} : { from: chosen.begin, to: chosen.end }), anywhere: false };
+    this.#isOpen = false;
+    this.#picture.blank();
+    this.#timeline.setWindow(ALL_TIME);
+  }
+
   /** Clears what is shown, and asks what the user still holds. */
   async #refused(error) {
     const isNew = this.#panel.error !== error.message;
     this.#asked.abort();
     this.#saving.abort();
-    this.#picture.blank();
+    this.#forget();
     this.#panel.error = error.message;
     if (error.error === 'permission') this.#panel.markTable(this.#table, false);
     if (!isNew && error.error !== 'authorization') return;
@@ -289,6 +299,6 @@ export class Session {
       return;
     }
     this.#panel.notice = `${error.message} It has been withdrawn.`;
-    await (this.#isOpen ? this.refresh() : this.openTable(this.#table, this.#wanted));
+    await this.openTable(this.#table, this.#wanted);
   }
 }

@@ -1,13 +1,12 @@
 // @ts-check
 // The axis of time: a histogram of the view, ticks, and two sliders that choose a part of it.
 import { LAST_SECOND, timeText } from './places.js';
-import { ticksOf } from './ticks.js';
+import { ticksOf, widthOf } from './ticks.js';
 
 /** @typedef {import('./ends.js').Span} Span */
 
 const BARS = 32;
 const STEPS = 1024; // steps of a slider, as the page has them: each bar is 32 of them
-const TICK = 75; // pixels that a tick's text needs
 /** @type {Span} */
 export const ALL_TIME = { begin: 0, end: LAST_SECOND };
 
@@ -43,10 +42,10 @@ export class Timeline {
 
   /**
    * Spans the axis over a window, with a part of it chosen; all of its reach where no part is given. A text stands for the times
-   * where more is chosen than the window.
+   * where more is chosen than the window. `ALL_TIME` is the window of a table whose times are unknown, or that has no rows.
    * @param {Span} window @param {{ from?: number, to?: number }} [part] @param {Span} [reach] @param {string} [wholeText]
    */
-  setWindow(window, part = {}, reach = window, wholeText = 'All time') {
+  setWindow(window, part = {}, reach = window, wholeText = window === ALL_TIME ? '' : 'All time') {
     this.window = window;
     this.#reach = reach;
     this.#wholeText = wholeText;
@@ -67,6 +66,10 @@ export class Timeline {
   narrow() {
     const { begin, end } = this.chosen;
     this.setWindow({ begin: Math.max(begin, this.window.begin), end: Math.min(end, this.window.end) }, {}, this.chosen);
+  }
+
+  get #isKnown() {
+    return this.window !== ALL_TIME;
   }
 
   /** Whether all that the axis reaches is chosen. */
@@ -99,7 +102,7 @@ export class Timeline {
   #tell() {
     const from = timeText(Math.max(this.chosen.begin, this.window.begin)), to = timeText(Math.min(this.chosen.end, this.window.end));
     const early = this.chosen.begin < this.window.begin, late = this.chosen.end > this.window.end;
-    this.#text.textContent = early && late ? this.#wholeText
+    this.#text.textContent = early && late || !this.#isKnown ? this.#wholeText
       : early ? `Until ${to} UTC` : late ? `From ${from} UTC on` : `${from} to ${to} UTC`;
     this.#from.setAttribute('aria-valuetext', early ? 'the first row' : from);
     this.#to.setAttribute('aria-valuetext', late ? 'the last row' : to);
@@ -133,15 +136,19 @@ export class Timeline {
       + `the most, ${counts[top].toLocaleString('en')}, in ${spanText(slices[top])}`);
   }
 
+  // The text of a tick near the end stands before it, if there is room.
   #drawTicks() {
-    const length = this.window.end + 1 - this.window.begin, most = Math.max(2, Math.floor(this.#bars.clientWidth / TICK));
-    this.#ticks.replaceChildren(...ticksOf(this.window, most).map(({ second, text }) => {
+    const length = this.window.end + 1 - this.window.begin, pixels = this.#isKnown ? this.#bars.clientWidth : 0;
+    let free = 0; // pixels from the begin of the axis, where no text stands
+    this.#ticks.replaceChildren(...ticksOf(this.window, pixels).flatMap(({ second, text }) => {
+      const at = (second - this.window.begin) / length * pixels, isLast = at + widthOf(text) > pixels;
+      if (isLast && at - widthOf(text) < free) return [];
+      free = at + widthOf(text);
       const tick = document.createElement('span');
-      const part = (second - this.window.begin) / length;
-      tick.style.left = `${100 * part}%`;
-      tick.classList.toggle('last', part > 0.9);
+      tick.style.left = `${100 * at / pixels}%`;
+      tick.classList.toggle('last', isLast);
       tick.textContent = text;
-      return tick;
+      return [tick];
     }));
   }
 

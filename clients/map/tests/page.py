@@ -2,7 +2,9 @@
 
 from __future__ import annotations
 
-from typing import Any
+from collections.abc import Iterator
+from contextlib import contextmanager
+from typing import Any, NamedTuple
 
 from selenium.webdriver import ActionChains, Chrome, ChromeOptions, Keys
 from selenium.webdriver.chrome.service import Service
@@ -37,6 +39,33 @@ def chromium() -> Chrome:
         options.add_argument(word)
     options.set_capability("goog:loggingPrefs", {"browser": "ALL", "performance": "ALL"})
     return Chrome(service=Service("/usr/bin/chromedriver"), options=options)
+
+
+class Size(NamedTuple):
+    """A window in CSS pixels, and whether a finger is its pointer."""
+
+    width: int
+    height: int
+    is_touched: bool
+
+
+SIZES = {"phone": Size(390, 844, True), "tablet": Size(820, 1180, True), "desktop": Size(1440, 900, False)}
+MODES = ("light", "dark")
+
+
+@contextmanager
+def shown_at(driver: Chrome, size: Size, mode: str = "light") -> Iterator[None]:
+    """A window of a size, in light or in dark mode; pages are to be opened anew in it."""
+    metrics = {"width": size.width, "height": size.height, "deviceScaleFactor": 1, "mobile": size.is_touched}
+    driver.execute_cdp_cmd("Emulation.setDeviceMetricsOverride", metrics)
+    driver.execute_cdp_cmd("Emulation.setTouchEmulationEnabled", {"enabled": size.is_touched})
+    driver.execute_cdp_cmd("Emulation.setEmulatedMedia", {"features": [{"name": "prefers-color-scheme", "value": mode}]})
+    try:
+        yield
+    finally:
+        driver.execute_cdp_cmd("Emulation.clearDeviceMetricsOverride", {})
+        driver.execute_cdp_cmd("Emulation.setTouchEmulationEnabled", {"enabled": False})
+        driver.execute_cdp_cmd("Emulation.setEmulatedMedia", {"features": []})
 
 
 class Page:

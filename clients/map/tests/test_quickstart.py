@@ -144,17 +144,13 @@ def test_every_command_does_what_the_page_says(shell: Shell) -> None:
 
 
 def see_the_map(shell: Shell, ann: str) -> None:
-    """The page shows each user as many rows as the document says; its pictures are written where a variable says."""
+    """The page shows each user as many rows as the document says."""
     (eve, *_), _ = shell.run(Step("cat eve.token", []))
-    pictures = os.environ.get("QUICKSTART_IMAGES")
     driver = chromium()
     try:
         page = Page(driver, f"http://127.0.0.1:{PORTS['8080']}")
         for user, token, rows in (("ann", ann, 11_859), ("eve", eve, 2_898)):
             page.open(token)
             assert page.total == rows
-            if pictures:
-                page.click_map(0, 20)
-                driver.save_screenshot(f"{pictures}/map-{user}.png")
     finally:
         driver.quit()

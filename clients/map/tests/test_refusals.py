@@ -89,10 +89,12 @@ def test_revoked_table_is_cleared_and_comes_back(mine: Page, root: Client) -> No
     assert gone["time"] - end < WITHIN
     mine.until(lambda: mine["error"].text == "You lack the permission READ on the table geo.trips.")
     mine.until(lambda: not mine.is_drawn)
-    assert mine.all("#rows li") == [] and mine.all("#bars i") == []
+    assert [it for it in ("#rows li", "#bars i", "#ticks span") if mine.all(it)] == []
+    assert mine["span"].text == ""  # which told the table's times
     assert [it for it in mine.states if it["error"] and (it["total"] or it["ids"])] == []
     root.ask("POST", "/namespaces/geo/grant", {"user": "bob", "permission": "READ"})
     mine.until(lambda: mine["error"].text == "" and mine["total"].text == "30 rows in view")
+    assert mine["span"].text.startswith("All time: 2021-03-01 to ") and mine.all("#ticks span")
 
 
 def test_relabelled_row_is_seen_as_it_was_or_not_at_all(mine: Page, root: Client) -> None:

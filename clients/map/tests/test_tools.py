@@ -33,7 +33,9 @@ def rows(stack: Stack) -> Iterator[None]:
     stray = [Row(f"s{at}", 8 + at / 1_000, 47.0, BEGIN + timedelta(hours=at), "") for at in range(40)]
     stray.append(Row("lost", 8.0, 47.0, STRAY, ""))
     long = [Row(f"l{at}", at / 10, 10.0, BEGIN, "", {"text": "x" * 3_900}) for at in range(900)]
-    tables = {"tools.trips": trips(), "tools.crowd": crowd(), "tools.stray": stray, "tools.long": long}
+    tables: dict[str, list[Row]] = {
+        "tools.trips": trips(), "tools.crowd": crowd(), "tools.stray": stray, "tools.long": long, "tools.empty": [],
+    }
     with Client(stack.url, token("root")) as root:
         root.ask("POST", "/users", {"user": "hal", "digest": digest("hal"), "auths": sorted(HELD)})
         root.ask("POST", "/namespaces/tools/grant", {"user": "hal", "permission": "READ"})
@@ -232,6 +234,12 @@ def test_new_table_opens_at_its_rows(page: Page) -> None:
     lat, lon = map(float, page.address["at"].split(","))
     assert (lat, lon) == pytest.approx((47, 8), abs=0.1)
     assert float(page.address["zoom"]) > 10
+
+
+def test_table_without_rows_says_so(page: Page) -> None:
+    page.open(token("hal"), "table=tools.empty")
+    assert (page["total"].text, page["span"].text) == ("0 rows in view", "All time: no rows")
+    assert (page["legend"].text, page.all("#ticks span")) == ("", [])
 
 
 @pytest.mark.parametrize(

@@ -14,6 +14,7 @@ from scripted import reply, scripted
 GOOD = "good,1.5,2.5,2024-05-01T12:00:00Z,A,x\n"
 HEADER = "id,lon,lat,time,label,name\n"
 NO_LABEL = "missing, wanted a label, or --default-label (the empty text shows a row to everybody)"
+NO_TIME = "missing, wanted a time: name its field by --time-column, or give one by --default-time"
 ISO = "an ISO 8601 time such as 2024-05-01T12:00:00Z"
 RANGE = "wanted 1970-01-01T00:00:00Z to 2598-01-03T23:59:59Z"
 
@@ -31,7 +32,9 @@ def feature(**changes: object) -> str:
     ("row", "said"),
     [
         ("p,1.5,91,2024-05-01T12:00:00Z,A,x\n", "lat: 91.0, wanted -90 to 90 degrees"),
-        ("p,181,2.5,2024-05-01T12:00:00Z,A,x\n", "lon: 181.0, wanted -180 to 180 degrees"),
+        ("p,181,2.5,2024-05-01T12:00:00Z,A,x\n", "lon: 181.0, wanted -180 to 180 degrees, or --wrap for 0 to 360 degrees"),
+        ("p,360.5,2.5,2024-05-01T12:00:00Z,A,x\n", "lon: 360.5, wanted -180 to 180 degrees"),
+        ("p,1.5,2.5,,A,x\n", "time: missing, wanted a time, or --default-time"),
         ("p,nan,2.5,2024-05-01T12:00:00Z,A,x\n", "lon: nan, wanted -180 to 180 degrees"),
         ('p,"1,5",2.5,2024-05-01T12:00:00Z,A,x\n', "lon: '1,5', wanted degrees such as 12.5"),
         ("p,,2.5,2024-05-01T12:00:00Z,A,x\n", "lon: '', wanted degrees such as 12.5"),
@@ -93,7 +96,9 @@ def test_text_that_is_no_utf8(run: Run, table: Table, tmp_path: Path) -> None:
         (feature(geometry={"type": "LineString", "coordinates": []}), "geometry: 'LineString', wanted a Point"),
         (feature(geometry=None), "geometry: None, wanted a Point"),
         (feature(properties={"label": None}), f"label: {NO_LABEL}"),
-        (feature(properties={"time": None}), "time: missing, wanted a time: name its field by --time-column"),
+        (feature(properties={"time": None}), f"time: {NO_TIME}"),
+        (feature(properties={"time": ""}), f"time: {NO_TIME}"),
+        (feature(lon=359), "lon: 359.0, wanted -180 to 180 degrees, or --wrap for 0 to 360 degrees"),
         (feature(properties={"time": 1714564800}), f"time: 1714564800, wanted {ISO}, or --time-format unix"),
         (feature(properties={"n": float("nan")}), "properties: {'n': nan}, wanted values of JSON, without NaN or Infinity"),
         (feature(properties={"n": "\ud800"}), "note: '\\ud800\"}}', wanted UTF-8"),
@@ -114,6 +119,12 @@ def test_a_line_of_geojson(run: Run, table: Table, tmp_path: Path, line: str, sa
     [
         ("a.csv", "", "1: nothing, wanted a header line of CSV"),
         ("a.csv", "id,lon,time,label\n", "1: column lat: missing, wanted lat or latitude or y: name it by --lat-column"),
+        (
+            "a.csv",
+            "id,lon,lat,label\n",
+            "1: column time: missing, wanted time or timestamp or datetime or date: name it by --time-column,"
+            " or give a time by --default-time",
+        ),
         ("a.csv", "id,lon,lat,time\n", f"1: column label: {NO_LABEL}"),
         ("a.csv", "id,lon,lat,time,label,lat\n", "1: column 'lat' is there twice, wanted names that differ"),
         ("a.geojson", '{"type":"Topology"}', "1: no features, wanted a GeoJSON FeatureCollection"),

@@ -21,7 +21,7 @@ from fashkiin.accounts import Change
 from fashkiin.cli import COMMANDS, EXIT_STATUSES
 from fashkiin.commands.audit import news
 from fashkiin.formats import Source
-from fashkiin.loading import Tally
+from fashkiin.tally import Tally
 from fashkiin.manual import page
 from fashkiin.progress import Progress
 from fashkiin.tokens import read_token

@@ -101,7 +101,7 @@ def test_a_gpx_track() -> None:
     track = {"track": "Sunday", "segment": 1}
     assert one == Row("walk-1", 4.25, 51.5, datetime(2024, 5, 1, 12, tzinfo=UTC), "A", {"ele": "12.5"} | track)
     assert two == Row("walk-2", 4.5, 51.6, datetime(2024, 5, 1, 12, 0, 1, 500_000, tzinfo=UTC), "A", track)
-    assert str(three) == "time: missing, wanted a point with a <time>"
+    assert str(three) == "time: missing, wanted a point with a <time>, or --default-time"
 
 
 def test_a_feature_with_a_height_and_an_id_of_its_own() -> None:

@@ -41,6 +41,13 @@ def test_another_encoding_is_named_in_the_message(run: Run, table: Table, tmp_pa
     assert run("load", table.name, file, "--encoding", "none")[2].startswith("fashkiin: --encoding: none, wanted an encoding")
 
 
+def test_a_file_that_is_not_of_the_named_encoding(run: Run, table: Table, tmp_path: Path) -> None:
+    file = tmp_path / "a.csv"
+    file.write_bytes(ROW.encode("utf-16")[:-1])
+    code, _, err = run("load", table.name, file, "--encoding", "utf-16")
+    assert (code, err.splitlines()[-1].startswith(f"fashkiin: {file}: 'utf-16")) == (3, True)
+
+
 @pytest.mark.parametrize("name", ["a.csv.gz", "a.gz", "a.csv"])
 def test_what_gzip_packed_is_unpacked(run: Run, table: Table, tmp_path: Path, name: str) -> None:
     file = tmp_path / name

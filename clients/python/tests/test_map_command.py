@@ -5,6 +5,8 @@ from __future__ import annotations
 import http.client
 import json
 import pytest
+import socket
+import struct
 import threading
 from collections.abc import Iterator
 from pathlib import Path
@@ -92,3 +94,14 @@ def test_a_body_that_is_too_large_is_refused(port: int) -> None:
 def test_a_server_that_is_not_there(tmp_path: Path) -> None:
     for port in serving(f"http://127.0.0.1:{free_port()}", tmp_path):
         assert ask(port, "GET", "/whoami")[0] == 502
+
+
+def test_browser_that_goes_away_leaves_no_traceback(port: int, capfd: pytest.CaptureFixture[str]) -> None:
+    with socket.create_connection(("127.0.0.1", port)) as browser:
+        browser.sendall(f"POST /tables HTTP/1.1\r\nHost: 127.0.0.1:{port}\r\nContent-Length: 100\r\n\r\n".encode())
+        browser.setsockopt(socket.SOL_SOCKET, socket.SO_LINGER, struct.pack("ii", 1, 0))  # so that it is reset
+    assert ask(port, "GET", "/map/")[0] == 200
+    for thread in threading.enumerate():
+        if "process_request_thread" in thread.name:
+            thread.join(10)
+    assert capfd.readouterr().err == ""

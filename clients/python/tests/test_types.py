@@ -70,7 +70,7 @@ def test_extensions_of_gpx_are_kept_and_what_is_not_is_told(run: Run, table: Tab
     file = tmp_path / "run.gpx"
     file.write_text(GPX)
     code, _, err = run("load", table.name, file, "--default-label", "A")
-    assert (code, err.splitlines()[0]) == (0, f"{file}: not kept: metadata of gpx, desc of trk")
+    assert (code, err.splitlines()[0]) == (0, f"{file}: not kept: metadata of gpx, desc of trk, text of link")
     track = {"track": "Sunday", "type": "running"}
     assert properties(table) == {
         "run-1": track | {"segment": 1, "ele": 12.5, "hr": 142, "cad": 80},

@@ -4,7 +4,7 @@
 
 use sqlite_std_file::Unknown;
 use st_journal::{Journal, Record, Replay, ReplayError};
-use st_journal_file::FileJournal;
+use st_journal_file::{FileJournal, Silent};
 use st_text::Words;
 use std::alloc::{AllocError, Global};
 use std::time::Instant;
@@ -73,7 +73,15 @@ fn run(rt: &HostRuntime) -> io::Result<bool> {
     };
     let batch = batch_of(rt.alloc(), number(words.next()))?;
     let rounds = number(words.next());
-    let opened = FileJournal::open(rt, path.as_str(), "bench", 0, &mut Nothing, Unknown);
+    let opened = FileJournal::open(
+        rt,
+        path.as_str(),
+        "bench",
+        0,
+        &mut Nothing,
+        &Silent,
+        Unknown,
+    );
     let Ok(journal) = opened else {
         return Ok(false);
     };

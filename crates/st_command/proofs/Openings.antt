@@ -1,12 +1,13 @@
 -- An opening is said by one text alone.
-use Rattle.std.proofs.Common.{◌≡◌, ◌*◌, ◌++◌, ◌<◌, ◌^◌, ℕ, List, [], ◌∷◌, codes, decimal, length, Option, None, Ok, refl, ap, sym, ◌∙◌, arith, append_assoc}
-use Rattle.std.specs.Prelude.{⊤}
+use Rattle.std.proofs.Common.{◌≡◌, ◌≢◌, ◌==◌, ◌+◌, ◌*◌, ◌/◌, ◌%◌, ◌++◌, ◌<◌, ◌^◌, ℕ, suc, false, not, cond, List, [], ◌∷◌, codes, decimal, length, take, slice_index, Option, None, Some, Ok, refl, ap, sym, ◌∙◌, arith, append_assoc, ne_eqb}
+use Rattle.std.specs.Prelude.{⊤, ◌↔◌}
 use Rattle.std.specs.declared.alloc.Global.{Global}
+use Rattle.std.specs.List.{before_first, position_or_len}
 use Rattle.std.specs.Str.Parse.{AllDigits}
 use Rattle.std.proofs.lemmas.List.{append_cancel_left}
 use Rattle.std.proofs.lemmas.Fmt.{decimal_injective, decimal_is_IsNumeral}
-use Rattle.hex.specs.Hex.{lower_digits, encode_lower, decode_sized, decode_of}
-use Rattle.hex.proofs.HexLemmas.{decode_sized-ok, decode_sized-twice, decode_of-ok, decode_of-same, decode_of-encode_lower, length-encode_with}
+use Rattle.hex.specs.Hex.{lower_digits, encode_with, encode_lower, decode_sized, decode_of, hex_digit_value, IsBytes}
+use Rattle.hex.proofs.HexLemmas.{IsDigits-lower_digits, decode_sized-ok, decode_sized-twice, decode_of-ok, decode_of-same, decode_of-encode_lower, length-encode_with}
 use Rattle.st_text.specs.Texts.{Text}
 use Rattle.st_auth.specs.Names.{first_bad}
 use Rattle.st_core.specs.State.{State, first_state}
@@ -81,3 +82,49 @@ one_opening digits other names others one two opening a b =
     let by_digest : first_state da names ≡ first_state db names = ap (λ (digest : List ℕ). first_state digest names) (d.1 parts.0) in
     let by_names : first_state db names ≡ first_state db others = ap (λ (list : List Text). first_state db list) all in
     a.opens.is ∙ by_digest ∙ by_names ∙ sym b.opens.is
+
+-- no byte of the text is a blank
+abbrev IsWord : List ℕ → Type 0
+IsWord [] = ⊤
+IsWord (x ∷ xs) = (x ≢ 32) × IsWord xs
+
+first_word : (xs : List ℕ) (names : List Text) → IsWord xs → before_first (λ c. c == 32) (xs ++ names_text names) ≡ xs
+unfolding names_text
+first_word [] [] word = refl
+first_word [] (name ∷ names) word = refl
+first_word (x ∷ xs) names word =
+    let more = position_or_len (λ c. c == 32) (xs ++ names_text names) in
+    let one : 1 + more ≡ suc more = omega arith in
+    let longer : position_or_len (λ c. c == 32) (x ∷ (xs ++ names_text names)) ≡ suc more =
+    ap (λ b. cond (not b) (1 + more) 0) (ne_eqb x 32 word.0) ∙ one in
+    ap (λ n. take n (x ∷ (xs ++ names_text names))) longer ∙ ap (λ l. x ∷ l) (first_word xs names word.1)
+
+-- a digit is no blank
+no_blank : (d : ℕ) → d < 16 → slice_index lower_digits d ≢ 32
+no_blank d low blank =
+    let none : None ≡ Some d = ap hex_digit_value (sym blank) ∙ IsDigits-lower_digits d low in
+    cc
+
+digits_are_word : (bytes : List ℕ) → IsBytes bytes → IsWord (encode_lower bytes)
+unfolding encode_with
+digits_are_word [] are = tt
+digits_are_word (b ∷ bytes) are =
+    let fits : b < 256 = are 0 in
+    (no_blank (b / 16) (omega arith), (no_blank (b % 16) (omega arith), digits_are_word bytes (λ k. are (suc k))))
+
+owner : (digits : Text) (names : List Text) (state : State Global) (opening : Text) → (a : OpensWith digits names state opening)
+    → before_first (λ c. c == 32) opening ≡ encode_lower a.opens.digest
+owner digits names state opening a =
+    let digest = a.opens.digest in
+    let long = decode_sized-ok digits 32 digest a.opens.written in
+    let p = decode_of-ok digits digest (sym (decode_sized-twice digits 32 long) ∙ a.opens.written) in
+    ap (before_first (λ c. c == 32)) a.opening_is ∙ first_word (encode_lower digest) names (digits_are_word digest p.3)
+
+pub one_owner : (digits other : Text) (names others : List Text) (one two : State Global) (opening found : Text)
+    → (a : OpensWith digits names one opening) → (b : OpensWith other others two found)
+    → (before_first (λ c. c == 32) opening ≡ before_first (λ c. c == 32) found) ↔ (a.opens.digest ≡ b.opens.digest)
+one_owner digits other names others one two opening found a b =
+    let first = owner digits names one opening a in
+    let second = owner other others two found b in
+    let d = same_digests digits other a.opens.digest b.opens.digest a.opens.written b.opens.written in
+    (λ same. d.1 (sym first ∙ same ∙ second), λ same. first ∙ ap encode_lower same ∙ sym second)

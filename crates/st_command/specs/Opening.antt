@@ -6,7 +6,7 @@ use Rattle.st_text.specs.Texts.{Text}
 use Rattle.st_auth.specs.Names.{first_bad}
 use Rattle.st_core.specs.State.{State, first_state}
 use Rattle.st_command_line.specs.declared.fault.Fault.{Fault}
-use Rattle.st_command_line.specs.declared.fault.Fault.TheVariants.{OtherStore, StoreInUse, LaterStore, NoStore, StoreDamaged}
+use Rattle.st_command_line.specs.declared.fault.Fault.TheVariants.{OtherStore, OtherNames, StoreInUse, LaterStore, NoStore, StoreDamaged}
 use Rattle.st_command_line.specs.declared.fault.Fault.TheVariants.{StoreInterrupted, StoreIo, NoMemory}
 
 -- the state that a server begins with: root has these authorizations, each of them valid, and the digest that the
@@ -38,6 +38,7 @@ pub record OpensWith (digits : Text) (names : List Text) (state : State Global) 
 -- why the journal of a store is not opened
 abbrev pub IsOfStore : Fault → Type 0
 IsOfStore OtherStore = Unit {0}
+IsOfStore OtherNames = Unit {0}
 IsOfStore StoreInUse = Unit {0}
 IsOfStore (LaterStore format) = Unit {0}
 IsOfStore NoStore = Unit {0}

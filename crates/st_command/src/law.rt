@@ -1,5 +1,6 @@
 //! Laws of stores that a journal keeps.
-ghost use Rattle.std.specs.Prelude.{◌≡◌, ℕ, List};
+ghost use Rattle.std.specs.Prelude.{◌≡◌, ◌↔◌, ◌==◌, ℕ, List};
+ghost use Rattle.std.specs.List.{before_first};
 ghost use Rattle.std.specs.declared.alloc.Global.{Global as Heap};
 ghost use Rattle.st_text.specs.Texts.{Text};
 ghost use Rattle.st_core.specs.State.{State};
@@ -18,6 +19,13 @@ use st_journal::Journal;
 pub fn one_opening()
     ensures { (digits other : Text) (names others : List Text) (one two : State Heap) (opening : Text)
         → OpensWith digits names one opening → OpensWith other others two opening → one ≡ two }
+{}
+
+/// The first words of what two journals say, up to a blank, are the same exactly where root's digests are.
+pub fn one_owner()
+    ensures { (digits other : Text) (names others : List Text) (one two : State Heap) (opening found : Text)
+        → (a : OpensWith digits names one opening) → (b : OpensWith other others two found)
+        → (before_first (λ c. c == 32) opening ≡ before_first (λ c. c == 32) found) ↔ (a.opens.digest ≡ b.opens.digest) }
 {}
 
 /// What a run wrote for a connection is a front of answers that lead to the state which is made again from what is left, at

@@ -7,7 +7,7 @@ use Rattle.st_command_line.specs.declared.fault.Fault.{Fault}
 use Rattle.st_command_line.specs.declared.fault.Fault.TheVariants.{Usage, NotText, BadNumber, BadAddress, BadDigest, BadName, Cut}
 use Rattle.st_command_line.specs.declared.fault.Fault.TheVariants.{WantsPlace, WantsPort, WantsStore, WantsCopy}
 use Rattle.st_command_line.specs.declared.fault.Fault.TheVariants.{TurnsSpent, Io, Bind, Accept, Write, NoMemory, NoPlace, NoThread}
-use Rattle.st_command_line.specs.declared.fault.Fault.TheVariants.{OtherStore, StoreInUse, LaterStore, NoStore, StoreDamaged}
+use Rattle.st_command_line.specs.declared.fault.Fault.TheVariants.{OtherStore, OtherNames, StoreInUse, LaterStore, NoStore, StoreDamaged}
 use Rattle.st_command_line.specs.declared.fault.Fault.TheVariants.{StoreInterrupted, StoreIo, StoreLost}
 
 abbrev pub exit_status_of : Fault → ℕ
@@ -33,6 +33,7 @@ exit_status_of NoThread = 6
 exit_status_of StoreIo = 5
 exit_status_of StoreLost = 7
 exit_status_of OtherStore = 8
+exit_status_of OtherNames = 8
 exit_status_of StoreInUse = 9
 exit_status_of (LaterStore format) = 10
 exit_status_of NoStore = 11

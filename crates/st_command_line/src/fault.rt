@@ -46,9 +46,12 @@ pub enum Fault {
     /// The connection took a million reads.
     #[error("turns spent")]
     TurnsSpent,
-    /// The store was made for another digest or other authorizations of root.
+    /// The store was made for another digest of root.
     #[error("store of another root")]
     OtherStore,
+    /// The store was made for this digest of root, and for other authorizations or these in another order.
+    #[error("store of other authorizations of root (their order counts)")]
+    OtherNames,
     /// Another process holds the store.
     #[error("store in use")]
     StoreInUse,
@@ -114,7 +117,7 @@ impl Fault {
             Fault::Io | Fault::Bind | Fault::Accept | Fault::Write | Fault::StoreIo => 5,
             Fault::NoMemory | Fault::NoPlace | Fault::NoThread => 6,
             Fault::StoreLost => 7,
-            Fault::OtherStore => 8,
+            Fault::OtherStore | Fault::OtherNames => 8,
             Fault::StoreInUse => 9,
             Fault::LaterStore(_) => 10,
             Fault::NoStore => 11,

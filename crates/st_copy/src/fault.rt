@@ -10,9 +10,13 @@ pub enum CopyFault {
     /// The copy has records that the list has not: it is left as it is.
     #[error("it is of another history")]
     OtherHistory,
-    /// The copy was begun for a store that was opened with something else: it is left as it is.
+    /// The copy was begun for a store with another digest of root: it is left as it is.
     #[error("it is of another root")]
-    OtherOpening,
+    OtherStore,
+    /// The copy was begun for a store with this digest of root, and with other authorizations or these in another order: it is left
+    /// as it is.
+    #[error("it is of other authorizations of root (their order counts)")]
+    OtherNames,
     /// Another process has the copy open.
     #[error("in use")]
     InUse,

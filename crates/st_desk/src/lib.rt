@@ -6,4 +6,4 @@ pub mod law;
 mod scribe;
 
 pub use desk::{Desk, EditionReader};
-pub use scribe::Scribe;
+pub use scribe::{Decided, Scribe};

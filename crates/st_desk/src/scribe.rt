@@ -16,6 +16,7 @@ use st_press::history::Head;
 use st_press::queue::enter;
 use st_press::steps::{decide, replace};
 use st_press::{AskFault, HallName};
+use std::alloc::AllocError;
 use std::marker::Model;
 use std::sync::ledger::{Book, Share};
 
@@ -49,6 +50,13 @@ impl<H: HallName> Model for Scribe<H> {
     ghost view = { λ s. s.front };
 
     ghost invariant = { λ s. (s.directory ≡ (state_after H.start s.front).directory) × (s.book.total ≡ length s.front) };
+}
+
+/// What a change comes to: how it is judged, what it is told, and the directory after it where that is another.
+#[derive(Drop)]
+pub struct Decided<'a> {
+    pub judged: JudgedRef<'a>,
+    pub decision: Decision,
 }
 
 // Counts a change at a desk.
@@ -140,15 +148,40 @@ impl<H: HallName> Scribe<H> {
         decide(self.directory(), asked)
     }
 
-    /// Adds a change to the list: judges it once, by the directory after the whole list, and makes there what it does to the
-    /// directory. Gives the reply, and the change for a press. When out of memory nothing is added, nor where the token does not
-    /// hold there.
-    pub fn add(&mut self, desk: &mut Desk<H>, asked: &Asked) -> Result<(Reply, Queued<H>), AskFault>
+    /// Judges a change once, by the directory after the whole list, and tells what it comes to. It adds nothing. An error where
+    /// memory runs out, and where the token does not hold there.
+    pub fn decide<'a>(&self, desk: &Desk<H>, asked: &'a Asked) -> Result<Decided<'a>, AskFault>
         requires change { asks_for_change asked.now ≡ true }
-        ensures stranger { result ≡ Err Stranger → IsStranger H.start desk.old.seen asked.now.token }
-        ensures unheard { result ≡ Err Stranger → asker_of (state_after H.start self.old).directory asked.now.token ≡ None }
-        ensures heard { OnOk result (is_some (asker_of (state_after H.start self.old).directory asked.now.token) ≡ true) }
-        ensures after { OnOk result (IsPrefix desk.old.seen self.old) }
+        ensures stranger { result ≡ Err Stranger → IsStranger H.start desk.now.seen asked.now.token }
+        ensures unheard { result ≡ Err Stranger → IsPrefix desk.now.seen self.now
+            × (asker_of (state_after H.start self.now).directory asked.now.token ≡ None) }
+        ensures heard { OnOk result (is_some (asker_of (state_after H.start self.now).directory asked.now.token) ≡ true) }
+        ensures after { OnOk result (IsPrefix desk.now.seen self.now) }
+        ensures judged { IfOk result (λ d. judgement d.judged ≡ judged_in (state_after H.start self.now) asked.now) }
+        ensures reply { IfOk result (λ d. d.decision.reply ≡ reply_of (state_after H.start self.now) asked.now) }
+        ensures directory { IfOk result (λ d. unwrap_or d.decision.directory (state_after H.start self.now).directory
+            ≡ (state_after H.start (self.now ++ asked.now ∷ [])).directory) }
+    {
+        if !self.goes_on(desk) {
+            return Err(AskFault::NoMemory);
+        }
+        let (judged, decision) = self.decided(asked)?;
+        Ok(Decided { judged, decision })
+    }
+
+    /// Adds a change to the list that was decided after the whole list, and makes what it does to the directory. Gives the reply,
+    /// and the change for a press. When out of memory nothing is added.
+    pub fn enter(
+        &mut self,
+        desk: &mut Desk<H>,
+        asked: &Asked,
+        decided: Decided<'_>,
+    ) -> Result<(Reply, Queued<H>), AllocError>
+        requires change { asks_for_change asked.now ≡ true }
+        requires judged { judgement decided.judged ≡ judged_in (state_after H.start self.old) asked.now }
+        requires reply { decided.decision.reply ≡ reply_of (state_after H.start self.old) asked.now }
+        requires directory { unwrap_or decided.decision.directory (state_after H.start self.old).directory
+            ≡ (state_after H.start (self.old ++ asked.now ∷ [])).directory }
         ensures list { MatchResult result (λ _. self.new ≡ self.old ++ asked.now ∷ []) (λ _. self.new ≡ self.old) }
         ensures made { MatchResult result (λ _. desk.new.made ≡ desk.old.made + 1) (λ _. desk.new.made ≡ desk.old.made) }
         ensures seen { desk.new.seen ≡ desk.old.seen }
@@ -156,11 +189,7 @@ impl<H: HallName> Scribe<H> {
         ensures next { IfOk result (λ r. IsNext H.start self.old r.1) }
         ensures ends { IfOk result (λ r. r.1.list ≡ self.new) }
     {
-        if !self.goes_on(desk) {
-            return Err(AskFault::NoMemory);
-        }
-        let decided = self.decided(asked)?;
-        let (judged, decision) = decided;
+        let Decided { judged, decision } = decided;
         let entered = enter(&self.head, &mut self.front, asked, &judged);
         drop(judged);
         match entered {
@@ -170,9 +199,29 @@ impl<H: HallName> Scribe<H> {
             }
             Err(fault) => {
                 drop(decision);
-                Err(fault.into())
+                Err(fault)
             }
         }
+    }
+
+    /// Decides a change, and adds it to the list. When out of memory nothing is added, nor where the token does not hold after the
+    /// whole list.
+    pub fn add(&mut self, desk: &mut Desk<H>, asked: &Asked) -> Result<(Reply, Queued<H>), AskFault>
+        requires change { asks_for_change asked.now ≡ true }
+        ensures stranger { result ≡ Err Stranger → IsStranger H.start desk.old.seen asked.now.token }
+        ensures unheard { result ≡ Err Stranger → IsPrefix desk.old.seen self.old
+            × (asker_of (state_after H.start self.old).directory asked.now.token ≡ None) }
+        ensures heard { OnOk result (is_some (asker_of (state_after H.start self.old).directory asked.now.token) ≡ true) }
+        ensures after { OnOk result (IsPrefix desk.old.seen self.old) }
+        ensures list { MatchResult result (λ _. self.new ≡ self.old ++ asked.now ∷ []) (λ _. self.new ≡ self.old) }
+        ensures made { MatchResult result (λ _. desk.new.made ≡ desk.old.made + 1) (λ _. desk.new.made ≡ desk.old.made) }
+        ensures seen { desk.new.seen ≡ desk.old.seen }
+        ensures reply { IfOk result (λ r. r.0 ≡ reply_of (state_after H.start self.old) asked.now) }
+        ensures next { IfOk result (λ r. IsNext H.start self.old r.1) }
+        ensures ends { IfOk result (λ r. r.1.list ≡ self.new) }
+    {
+        let decided = self.decide(desk, asked)?;
+        Ok(self.enter(desk, asked, decided)?)
     }
 
     /// The whole list, as a front.

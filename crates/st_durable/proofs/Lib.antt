@@ -2,4 +2,4 @@ pub mod Replaying
 pub mod Noting
 pub mod Settling
 pub mod Lives
-pub mod Copying
+pub mod Rejudging

@@ -5,7 +5,7 @@ use Rattle.std.specs.Result.{is_err}
 use Rattle.std.specs.Option.{is_some}
 use Rattle.std.specs.declared.alloc.Global.{Global}
 use Rattle.st_core.specs.State.{State}
-use Rattle.st_core.specs.Step.{step}
+use Rattle.st_core.specs.Step.{settle}
 use Rattle.st_journal.specs.declared.record.Record.{Record}
 use Rattle.st_journal.specs.Replays.{Replays}
 use Rattle.st_durable.specs.declared.pending.Pending.{Pending}
@@ -52,26 +52,26 @@ module _ {J : Type 0} (list : J → List Record) (misreads : J → ℕ) (is_read
     was_clean clean = omega (arith, fewer, clean)
 
     -- the list with the record leads to the state with the change
-    made : misreads journal ≡ 0 → Replays Applies first (list old ++ p.note ∷ []) (step kept p.asked).state
-    made clean = one_more Applies first kept (step kept p.asked).state (list old) p.note (stands (was_clean clean)) noted.noted
+    made : misreads journal ≡ 0 → Replays Applies first (list old ++ p.note ∷ []) (settle kept p.judged).state
+    made clean = one_more Applies first kept (settle kept p.judged).state (list old) p.note (stands (was_clean clean)) noted.noted
 
     pub is_kept : (store : State Global) → is_ready journal → (misreads journal ≡ 0 → list journal ≡ list old ++ p.note ∷ [])
-        → store ≡ (step kept p.asked).state
+        → store ≡ (settle kept p.judged).state
         → IsSound list misreads is_ready may_leave first (record { kept = store; journal = journal; pending = None; failed = false })
     is_kept store ready appended is =
         working journal store None ready (λ clean. subst (λ (s : State Global). Replays Applies first (list journal) s) (sym is)
-        (subst (λ (l : List Record). Replays Applies first l (step kept p.asked).state) (sym (appended clean)) (made clean))) tt
+        (subst (λ (l : List Record). Replays Applies first l (settle kept p.judged).state) (sym (appended clean)) (made clean))) tt
 
     left_by : misreads journal ≡ 0 → (left : List Record) → (left ≡ list old) ⊎ (left ≡ list old ++ p.note ∷ [])
-        → LeadTo first kept (step kept p.asked).state left
+        → LeadTo first kept (settle kept p.judged).state left
     left_by clean left (inl is) = record {
       after = kept;
       made = subst (λ (l : List Record). Replays Applies first l kept) (sym is) (stands (was_clean clean));
       is = inl refl;
     }
     left_by clean left (inr is) = record {
-      after = (step kept p.asked).state;
-      made = subst (λ (l : List Record). Replays Applies first l (step kept p.asked).state) (sym is) (made clean);
+      after = (settle kept p.judged).state;
+      made = subst (λ (l : List Record). Replays Applies first l (settle kept p.judged).state) (sym is) (made clean);
       is = inr refl;
     }
 
@@ -97,7 +97,7 @@ module _ {J : Type 0} (list : J → List Record) (misreads : J → ℕ) (is_read
 
     pub settled_kept : {T E : Type 0} (result : Result T E) (store : State Global) (failed : Bool) → failed ≡ false → false ≡ is_err result
         → OnOk result (is_ready journal) → OnOk result (misreads journal ≡ 0 → list journal ≡ list old ++ p.note ∷ [])
-        → OnOk result (store ≡ (step kept p.asked).state)
+        → OnOk result (store ≡ (settle kept p.judged).state)
         → IsSound list misreads is_ready may_leave first (record { kept = store; journal = journal; pending = None; failed = failed })
     settled_kept (Ok x) store failed sound e ready listed made =
         subst (λ (f : Bool). IsSound list misreads is_ready may_leave first (record { kept = store; journal = journal; pending = None; failed = f }))

@@ -2,7 +2,7 @@
 use Rattle.std.specs.Prelude.{◌≡◌, ◌⊎◌, Bool, List, Option, Some, None}
 use Rattle.std.specs.declared.alloc.Global.{Global}
 use Rattle.st_core.specs.State.{State}
-use Rattle.st_core.specs.Step.{step}
+use Rattle.st_core.specs.Step.{settle}
 use Rattle.st_journal.specs.declared.record.Record.{Record}
 use Rattle.st_journal.specs.Replays.{Replays}
 use Rattle.st_durable.specs.declared.pending.Pending.{Pending}
@@ -19,7 +19,7 @@ pub record Keeping (J : Type 0) : Type 0 where
 -- the state after the pending change
 abbrev pub state_with : State Global → Option Pending → State Global
 state_with kept None = kept
-state_with kept (Some pending) = (step kept pending.asked).state
+state_with kept (Some pending) = (settle kept pending.judged).state
 
 -- the state after all that was answered
 abbrev pub answered : {J : Type 0} → Keeping J → State Global

@@ -20,23 +20,19 @@ fn ask<C: Clock>(
     clock: &C,
     store: &Store,
     message: &Message<'_>,
-    asked: Asked,
+    asked: &Asked,
 ) -> Result<(Reply, Option<Pending>), AllocError>
     requires is_found { IsFound message.now }
-    requires asks { AsksBy message.now asked }
-    ensures reply { IfOk result (λ both. both.0 ≡ (step store.now asked).reply) }
-    ensures state { IfOk result (λ both. state_with store.now both.1 ≡ (step store.now asked).state) }
+    requires asks { AsksBy message.now asked.now }
+    ensures reply { IfOk result (λ both. both.0 ≡ (step store.now asked.now).reply) }
+    ensures state { IfOk result (λ both. state_with store.now both.1 ≡ (step store.now asked.now).state) }
     ensures noted { IfOk result (λ both. IfSome both.1 (IsNoted store.now)) }
 {
     if !asked.is_change() {
-        let reply = store.answer(&asked)?;
+        let reply = store.answer(asked)?;
         return Ok((reply, None));
     }
-    let (reply, note) = judged(alloc, clock, store, message, &asked)?;
-    match note {
-        Some(note) => Ok((reply, Some(Pending { note, asked }))),
-        None => Ok((reply, None)),
-    }
+    judged(alloc, clock, store, message, asked)
 }
 
 // The answer to a message whose route is an endpoint, and the change that it asks, until that is kept.
@@ -55,7 +51,7 @@ pub(crate) fn answer<C: Clock>(
     let Ok(asked) = asked_of(alloc, alloc, message) else {
         return (Answer::Busy { close, bare }, None);
     };
-    let Ok((reply, pending)) = ask(alloc, clock, store, message, asked) else {
+    let Ok((reply, pending)) = ask(alloc, clock, store, message, &asked) else {
         return (Answer::Busy { close, bare }, None);
     };
     let told = Ok(reply);

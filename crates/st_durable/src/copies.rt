@@ -1,15 +1,12 @@
 //! Two copies of a store that are made again from the records of its changes.
-ghost use Rattle.std.specs.Prelude.{◌≡◌, Ok, Err, IfOk, OnOk, OnErr};
-ghost use Rattle.std.specs.declared.alloc.Global.{Global as Heap};
-ghost use Rattle.st_core.specs.State.{State};
-ghost use Rattle.st_record.specs.Records.{ReadsAs};
-ghost use Rattle.st_durable.specs.Applying.{Applies};
+ghost use Rattle.std.specs.Prelude.{◌≡◌, IfOk, OnOk, OnErr};
+ghost use Rattle.st_core.specs.Judging.{JudgesChange};
+ghost use Rattle.st_core.specs.Step.{settle};
 
-use crate::replayed::make_again;
-use st_core::Store;
+use crate::recorded::judged_again;
+use crate::settled::make;
+use st_core::{Judged, Store};
 use st_journal::{Record, Replay, ReplayError};
-use st_policy::Request;
-use st_record::request_in;
 use std::alloc::{AllocError, Global};
 use std::marker::Model;
 
@@ -59,19 +56,18 @@ impl ReplayedCopies {
         Ok((self.first, self.second))
     }
 
-    // Makes a recorded change again in both, whose request is read once.
-    fn make_both(&mut self, change: &Record, request: &Request) -> Result<(), ReplayError>
-        requires reads { ReadsAs change.now (Ok request.now) }
-        ensures ok { OnOk result (Applies self.old change.now self.new) }
+    // Makes in both what a change comes to that was judged by their directory.
+    fn make_both(&mut self, judged: &Judged) -> Result<(), AllocError>
+        requires { JudgesChange self.old.directory judged.now }
+        ensures ok { OnOk result (self.new ≡ (settle self.old judged.now).state) }
         ensures err { OnErr result (self.new ≡ self.old) }
-        ensures invalid { result ≡ Err ReplayError.Invalid → (after : State Heap) → Applies self.old change.now after → ⊥ }
     {
         if !self.are_alike {
-            return Err(ReplayError::NoMemory);
+            return Err(AllocError);
         }
-        make_again(&mut self.first, change, request)?;
+        make(&mut self.first, judged)?;
         self.are_alike = false;
-        make_again(&mut self.second, change, request)?;
+        make(&mut self.second, judged)?;
         self.are_alike = true;
         Ok(())
     }
@@ -83,9 +79,10 @@ impl Replay for ReplayedCopies {
     ghost applies = { Applies };
 
     fn apply(&mut self, change: &Record) -> Result<(), ReplayError> {
-        let request = request_in(self.alloc, self.alloc, change)?;
-        let made = self.make_both(change, &request);
-        drop(request);
-        made
+        let judged = judged_again(self.alloc, self.second.directory(), change)?;
+        match self.make_both(&judged) {
+            Ok(()) => Ok(()),
+            Err(AllocError) => Err(ReplayError::NoMemory),
+        }
     }
 }

@@ -1,10 +1,11 @@
 //! Keeping a change.
 ghost use Rattle.std.specs.Prelude.{◌≡◌, ◌≤◌, ◌⊎◌, ◌++◌, ◌∷◌, [], List, OnOk, OnErr};
-ghost use Rattle.st_core.specs.Step.{step};
+ghost use Rattle.st_core.specs.Step.{settle};
 ghost use Rattle.st_journal.specs.declared.record.Record.{Record};
 ghost use Rattle.st_durable.specs.inner.Sound.{IsNoted};
 
 use crate::pending::Pending;
+use crate::settled::make;
 use st_connection::Failed;
 use st_core::Store;
 use st_journal::Journal;
@@ -19,7 +20,7 @@ pub(crate) fn keep<J: Journal>(
     requires ready { J.is_ready journal.old }
     requires is_noted { IsNoted store.old pending.now }
     ensures misreads { J.misreads journal.old ≤ J.misreads journal.new }
-    ensures made { OnOk result (store.new ≡ (step store.old pending.now.asked).state) }
+    ensures made { OnOk result (store.new ≡ (settle store.old pending.now.judged).state) }
     ensures unmade { OnErr result (store.new ≡ store.old) }
     ensures ready { OnOk result (J.is_ready journal.new) }
     ensures list { OnOk result (J.misreads journal.new ≡ 0 → J.list journal.new ≡ J.list journal.old ++ pending.now.note ∷ []) }
@@ -29,11 +30,8 @@ pub(crate) fn keep<J: Journal>(
     if journal.append(slice::from_ref(&pending.note)).is_err() {
         return Err(Failed);
     }
-    let told = store.change(&pending.asked);
-    let made = match &told {
-        Ok(_) => Ok(()),
-        Err(_) => Err(Failed),
-    };
-    drop(told);
-    made
+    if make(store, &pending.judged).is_err() {
+        return Err(Failed);
+    }
+    Ok(())
 }

@@ -11,7 +11,9 @@ mod keep;
 pub mod law;
 mod noted;
 mod pending;
+mod recorded;
 mod replayed;
+mod settled;
 
 pub use beginning::Beginning;
 pub use copies::ReplayedCopies;

@@ -14,5 +14,5 @@ board B H J b h l j t = search (sendable, crosses, held_front) depth 60 fits 100
 pub held_board : (B H J : RattleType) (b : _) (h : _) (l : _) (j : _) → IsSend J → IsSend (Board.the_field B H J b h l j).row
 held_board B H J b h l j t = board B H J b h l j t
 
-pub durable_hall : (B H R J : RattleType) (b : _) (h : _) (l : _) (j : _) → IsSend R → IsSend J → IsSync (DurableHall.the_row B H R J b h l j)
-durable_hall B H R J b h l j s t = search (sendable, crosses, held_draft, held_publisher, held_board) depth 60 fits 100000
+pub durable_hall : (B H R J : RattleType) (b : _) (h : _) (l : _) (j : _) → IsSend R → IsSync R → IsSend J → IsSync (DurableHall.the_row B H R J b h l j)
+durable_hall B H R J b h l j s y t = search (sendable, crosses, held_draft, held_publisher, held_board) depth 60 fits 100000

@@ -17,6 +17,8 @@ use std::marker::{Model, PhantomData};
 pub(crate) struct Board<B: Beginning, H: HallName, J: Journal + Drop> {
     kept: Front<H>,
     shown: Front<H>,
+    // As far as it is kept by now, also where a thread still leads.
+    sure: Front<H>,
     is_led: bool,
     is_lost: bool,
     beginning: PhantomData<B>,
@@ -31,7 +33,7 @@ impl<B: Beginning, H: HallName, J: Journal + Drop> Model for Board<B, H, J> {
 
     ghost view = { λ b. record { kept = b.kept; shown = b.shown; is_led = b.is_led; is_lost = b.is_lost } };
 
-    ghost invariant = { λ b. WasKept J.list J.misreads B.first H.start b.kept };
+    ghost invariant = { λ b. WasKept J.list J.misreads B.first H.start b.kept × WasKept J.list J.misreads B.first H.start b.sure };
 }
 
 impl<B: Beginning, H: HallName, J: Journal + Drop> Board<B, H, J> {
@@ -41,6 +43,7 @@ impl<B: Beginning, H: HallName, J: Journal + Drop> Board<B, H, J> {
         ensures { result ≡ record { kept = kept; shown = shown; is_led = false; is_lost = false } }
     {
         Board {
+            sure: kept.again(),
             kept,
             shown,
             is_led: false,
@@ -69,6 +72,21 @@ impl<B: Beginning, H: HallName, J: Journal + Drop> Board<B, H, J> {
         front.len() <= self.shown.len()
     }
 
+    // Whether a front is known to be kept by now, also where a thread still leads.
+    pub(crate) fn is_sure(&self, front: &Front<H>) -> bool
+        ensures { result ≡ true → WasKept J.list J.misreads B.first H.start front.now }
+    {
+        let _both = self.sure.longer(front);
+        front.len() <= self.sure.len()
+    }
+
+    // Whether a front is kept, and nothing more is to be done for it: it is published, or another thread leads, or an append failed.
+    pub(crate) fn is_settled(&self, front: &Front<H>) -> bool
+        ensures { result ≡ true → WasKept J.list J.misreads B.first H.start front.now }
+    {
+        self.keeps(front) && (self.shows(front) || self.is_led || self.is_lost)
+    }
+
     // Whether an append failed.
     pub(crate) fn is_lost(&self) -> bool
         ensures { result ≡ self.now.is_lost }
@@ -91,11 +109,20 @@ impl<B: Beginning, H: HallName, J: Journal + Drop> Board<B, H, J> {
         self.is_led = true;
     }
 
+    // The thread that leads says how far it is kept, before it publishes that.
+    pub(crate) fn note(&mut self, kept: Front<H>)
+        requires { WasKept J.list J.misreads B.first H.start kept }
+        ensures { self.new ≡ self.old }
+    {
+        self.sure = kept;
+    }
+
     // The thread that led says how far it came, and whether an append failed, and leads no more.
     pub(crate) fn end(&mut self, kept: Front<H>, shown: Front<H>, is_lost: bool)
         requires { WasKept J.list J.misreads B.first H.start kept }
         ensures { self.new ≡ record { kept = kept; shown = shown; is_led = false; is_lost = is_lost } }
     {
+        self.sure = kept.again();
         self.kept = kept;
         self.shown = shown;
         self.is_led = false;

@@ -6,4 +6,4 @@ mod hall;
 pub mod law;
 
 pub use hall::DurableHall;
-pub use st_publisher::{Batch, ChangeError, Draft, Lost, Publisher};
+pub use st_publisher::{Batch, ChangeError, Draft, Publisher};

@@ -1,13 +1,16 @@
 //! The clerk, who makes changes and publishes them.
 //!
 //! A change that finds no memory to be queued waits in the press; the next `publish` queues it.
-ghost use Rattle.std.specs.Prelude.{◌≡◌, ◌+◌, ◌<◌, [], ◌∷◌, ◌++◌, length, true, is_some, Err, None, IfOk, OnOk, MatchOption, MatchResult};
+ghost use Rattle.std.specs.Prelude.{◌≡◌, ◌+◌, ◌<◌, [], ◌∷◌, ◌++◌, length, true, is_some, Err, None, IfOk, OnOk, OnErr, MatchOption, MatchResult};
 ghost use mathlib.Core.List.{IsPrefix};
 ghost use Rattle.st_core.specs.Step.{asker_of, asks_for_change};
 ghost use Rattle.st_press.specs.Steps.{reply_of, state_after};
 ghost use Rattle.st_press.specs.Views.{Beside, IsStranger, receipts};
 ghost use Rattle.st_press.specs.declared.fault.AskFault.TheVariants.{Stranger};
+ghost use Rattle.st_hall.specs.Decisions.{Decides, counted};
+ghost use Rattle.st_hall.specs.declared.commits.Undecided.TheVariants.{NoMemory};
 
+use crate::commits::{Outcome, Undecided};
 use crate::receipt::{Receipt, receipt_of};
 use left_right::Absorb;
 use st_core::{Asked, Reply, Store};
@@ -77,7 +80,8 @@ impl<H: HallName, R: Wait + Drop> Clerk<H, R> {
     pub fn add(&mut self, desk: &mut Desk<H>, asked: &Asked) -> Result<Reply, AskFault>
         requires change { asks_for_change asked.now ≡ true }
         ensures stranger { result ≡ Err Stranger → IsStranger H.start desk.old.seen asked.now.token }
-        ensures unheard { result ≡ Err Stranger → asker_of (state_after H.start self.old.list).directory asked.now.token ≡ None }
+        ensures unheard { result ≡ Err Stranger → IsPrefix desk.old.seen self.old.list
+            × (asker_of (state_after H.start self.old.list).directory asked.now.token ≡ None) }
         ensures heard { OnOk result (is_some (asker_of (state_after H.start self.old.list).directory asked.now.token) ≡ true) }
         ensures after { OnOk result (IsPrefix desk.old.seen self.old.list) }
         ensures published { self.new.published ≡ self.old.published }
@@ -101,7 +105,8 @@ impl<H: HallName, R: Wait + Drop> Clerk<H, R> {
     ) -> Result<(Reply, Option<Front<H>>), AskFault>
         requires change { asks_for_change asked.now ≡ true }
         ensures stranger { result ≡ Err Stranger → IsStranger H.start desk.old.seen asked.now.token }
-        ensures unheard { result ≡ Err Stranger → asker_of (state_after H.start self.old.list).directory asked.now.token ≡ None }
+        ensures unheard { result ≡ Err Stranger → IsPrefix desk.old.seen self.old.list
+            × (asker_of (state_after H.start self.old.list).directory asked.now.token ≡ None) }
         ensures heard { OnOk result (is_some (asker_of (state_after H.start self.old.list).directory asked.now.token) ≡ true) }
         ensures after { OnOk result (IsPrefix desk.old.seen self.old.list) }
         ensures grows { IsPrefix self.old.published self.new.published }
@@ -122,8 +127,8 @@ impl<H: HallName, R: Wait + Drop> Clerk<H, R> {
     }
 
     /// Makes a change: publishes what is not published yet, adds the change, and publishes it where there is memory. Its receipt
-    /// has a front if it is published, and none if it is not. All that the desk had seen is published then. When out of memory the
-    /// change is not made, nor is that of a stranger; changes before it may have become published.
+    /// has the whole list as its end, and as its front too if it is published. All that the desk had seen is published then. When
+    /// out of memory the change is not made, nor is that of a stranger; changes before it may have become published.
     pub fn commit<W: Wait>(
         &mut self,
         rt: &W,
@@ -132,7 +137,8 @@ impl<H: HallName, R: Wait + Drop> Clerk<H, R> {
     ) -> Result<Receipt<H>, AskFault>
         requires change { asks_for_change asked ≡ true }
         ensures stranger { result ≡ Err Stranger → IsStranger H.start desk.old.seen asked.token }
-        ensures unheard { result ≡ Err Stranger → asker_of (state_after H.start self.old.list).directory asked.token ≡ None }
+        ensures unheard { result ≡ Err Stranger → IsPrefix desk.old.seen self.old.list
+            × (asker_of (state_after H.start self.old.list).directory asked.token ≡ None) }
         ensures heard { OnOk result (is_some (asker_of (state_after H.start self.old.list).directory asked.token) ≡ true) }
         ensures after { OnOk result (IsPrefix desk.old.seen self.old.list) }
         ensures grows { IsPrefix self.old.published self.new.published }
@@ -142,11 +148,41 @@ impl<H: HallName, R: Wait + Drop> Clerk<H, R> {
         ensures shown { OnOk result (IsPrefix desk.old.seen self.new.published) }
         ensures asked { IfOk result (λ r. r.asked ≡ asked) }
         ensures reply { IfOk result (λ r. r.reply ≡ reply_of (state_after H.start self.old.list) asked) }
+        ensures end { IfOk result (λ r. r.end ≡ self.new.list) }
         ensures front { IfOk result (λ r. MatchOption r.front (self.new.published ≡ self.old.list)
             (λ f. (f ≡ self.new.list) × (self.new.published ≡ self.new.list))) }
     {
         let made = self.make(rt, desk, &asked);
-        receipt_of(asked, made)
+        receipt_of(asked, made, self.front())
+    }
+
+    // Makes a change, and gives what it came to, with the whole list.
+    pub(crate) fn decide<W: Wait>(
+        &mut self,
+        rt: &W,
+        desk: &mut Desk<H>,
+        asked: &Asked,
+    ) -> Result<Outcome<H>, Undecided>
+        requires change { asks_for_change asked.now ≡ true }
+        ensures decided { IfOk result (λ o. Decides H.start desk.old.seen asked.now o.reply o.front) }
+        ensures list { IfOk result (λ o. o.front ≡ self.new.list) }
+        ensures made { MatchResult result (λ o. desk.new.made ≡ desk.old.made + counted o.reply) (λ _. desk.new.made ≡ desk.old.made) }
+        ensures seen { desk.new.seen ≡ desk.old.seen }
+        ensures busy { OnErr result (result ≡ Err NoMemory) }
+    {
+        match self.make(rt, desk, asked) {
+            Ok((reply, front)) => Ok(Outcome {
+                reply: Some(reply),
+                front: self.front(),
+                is_settled: front.is_some(),
+            }),
+            Err(AskFault::Stranger) => Ok(Outcome {
+                reply: None,
+                front: self.front(),
+                is_settled: true,
+            }),
+            Err(AskFault::NoMemory) => Err(Undecided::NoMemory),
+        }
     }
 
     /// The users after the whole list.

@@ -203,7 +203,8 @@ impl<H: HallName> Hall<H> {
         Ok((clerk, one, two))
     }
 
-    /// Makes a change in any thread. When out of memory it is not made, nor where its token does not hold.
+    /// Makes a change in any thread. Its receipt has the list that ends with it, also where it was not published at once. When out of
+    /// memory it is not made, nor where its token does not hold.
     pub fn change<W: Wait, R: Wait + Drop>(
         rt: &W,
         clerk: &Mutex<Clerk<H, R>>,
@@ -217,8 +218,8 @@ impl<H: HallName> Hall<H> {
         ensures made { MatchResult result (λ _. desk.new.made ≡ desk.old.made + 1) (λ _. desk.new.made ≡ desk.old.made) }
         ensures seen { desk.new.seen ≡ desk.old.seen }
         ensures asked { IfOk result (λ r. r.asked ≡ asked) }
-        ensures front { IfOk result (λ r. IfSome r.front (λ f. EndsAfter H.start desk.old.seen f asked r.reply)) }
-        ensures reply { IfOk result (λ r. (list : List Ask) × EndsAfter H.start desk.old.seen list asked r.reply) }
+        ensures reply { IfOk result (λ r. EndsAfter H.start desk.old.seen r.end asked r.reply) }
+        ensures front { IfOk result (λ r. IfSome r.front (λ f. f ≡ r.end)) }
     {
         clerk.lock(rt).commit(rt, desk, asked)
     }

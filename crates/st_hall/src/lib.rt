@@ -5,11 +5,15 @@
 #![tactic(auto)]
 
 mod clerk;
+mod commits;
 mod hall;
+pub mod law;
 mod receipt;
+mod settled;
 mod worker;
 
 pub use clerk::Clerk;
+pub use commits::{Commits, Lost, Outcome, Undecided};
 pub use hall::Hall;
 pub use receipt::Receipt;
 pub use st_desk::{Desk, Scribe};

@@ -1,23 +1,25 @@
 //! A worker, who answers requests one after the other at a desk.
 //!
-//! What a gate is told is no clause, since a gate has no state in contracts. Number and calls are in `Post`.
-ghost use Rattle.std.specs.Prelude.{◌≡◌, ◌+◌, ◌-◌, ◌^◌, ◌⊎◌, true, false, min, List, Some, is_some, Err, IfOk, IfSome, OnErr, MatchResult};
+//! What a gate is told is no clause, since a gate has no state in contracts.
+ghost use Rattle.std.specs.Prelude.{◌≡◌, ◌+◌, ◌-◌, ◌^◌, true, false, min, Some, is_some, Err, IfOk, OnErr, OnOk, MatchResult};
 ghost use mathlib.Core.List.{IsPrefix};
 ghost use Rattle.st_core.specs.Step.{asker_of, asks_for_change};
-ghost use Rattle.st_press.specs.Steps.{Ask, reply_of, state_after};
-ghost use Rattle.st_press.specs.Views.{EndsAfter, EndsWith, IsStranger, Learns};
-ghost use Rattle.st_press.specs.declared.fault.AskFault.TheVariants.{NoMemory, Stranger};
+ghost use Rattle.st_press.specs.Steps.{reply_of, state_after};
+ghost use Rattle.st_press.specs.Views.{Learns};
+ghost use Rattle.st_service.specs.Answers.{AsksBy, IsFound};
+ghost use Rattle.st_hall.specs.Decisions.{Decides, counted};
+ghost use Rattle.st_hall.specs.declared.commits.Undecided.TheVariants.{Lost as WasLost};
 
-use crate::clerk::Clerk;
-use crate::hall::Hall;
-use crate::receipt::Receipt;
+use crate::commits::{Commits, Lost, Outcome, Undecided};
+use crate::settled::Settled;
 use st_core::{Asked, Reply, Token};
 use st_desk::Desk;
+use st_http::message::Message;
+use st_press::HallName;
 use st_press::front::Front;
-use st_press::{AskFault, HallName};
 use std::alloc::AllocError;
 use std::marker::Model;
-use std::sync::{Mutex, Wait};
+use std::sync::Wait;
 
 // So often a worker asks a gate before it goes on.
 const TURNS: u32 = 10_000;
@@ -34,39 +36,56 @@ pub trait Gate {
     fn gave_up(&self, worker: u64, call: u64);
 }
 
-/// A worker at a desk, with the clerk and a gate. Contracts see its number, its calls, the longest front that it learnt, and the desk.
-pub struct Worker<'a, H: HallName, R: Wait + Drop, G: Gate> {
+/// A worker at a desk, with what makes the changes of the hall and a gate. Contracts see its post, the same as it was when all that
+/// it had seen was last kept, and whether a settling failed.
+pub struct Worker<'a, H: HallName, M: Commits<H>, G: Gate> {
     number: u64,
     calls: u64,
     learnt: Front<H>,
     desk: Desk<H>,
-    clerk: &'a Mutex<Clerk<H, R>>,
+    settled: Settled<H>,
+    // Whether all that was learnt is published.
+    is_shown: bool,
+    // Whether a change may be made that was not answered.
+    is_lost: bool,
+    has_failed: bool,
+    hall: &'a M,
     gate: &'a G,
 }
 
 // Written out, and not derived: a derived drop is proved anew in each crate that owns a worker.
-impl<'a, H: HallName, R: Wait + Drop, G: Gate> Drop for Worker<'a, H, R, G> {
+impl<'a, H: HallName, M: Commits<H>, G: Gate> Drop for Worker<'a, H, M, G> {
     fn drop(self) {
         let Self {
             number: _number,
             calls: _calls,
             learnt: _learnt,
             desk: _desk,
-            clerk: _clerk,
+            settled: _settled,
+            is_shown: _is_shown,
+            is_lost: _is_lost,
+            has_failed: _has_failed,
+            hall: _hall,
             gate: _gate,
         } = self;
     }
 }
 
-impl<'a, H: HallName, R: Wait + Drop, G: Gate> Model for Worker<'a, H, R, G> {
+impl<'a, H: HallName, M: Commits<H>, G: Gate> Model for Worker<'a, H, M, G> {
+    ghost use Rattle.std.specs.Prelude.{◌≡◌, true};
     ghost use mathlib.Core.List.{IsPrefix};
-    ghost use Rattle.st_press.specs.Views.{Post};
+    ghost use Rattle.st_hall.specs.Decisions.{Standing};
 
-    ghost Value = { Post };
+    ghost Value = { Standing };
 
-    ghost view = { λ s. record { number = s.number; calls = s.calls; learnt = s.learnt; seat = s.desk } };
+    ghost view = { λ s. record {
+      post = record { number = s.number; calls = s.calls; learnt = s.learnt; seat = s.desk };
+      settled = s.settled;
+      has_failed = s.has_failed;
+    } };
 
-    ghost invariant = { λ s. IsPrefix s.learnt s.desk.seen };
+    ghost invariant = { λ s. IsPrefix s.learnt s.desk.seen × M.keeps s.settled.seat.seen
+        × (s.has_failed ≡ true → M.may_lose) × (s.is_lost ≡ true → M.may_lose) };
 }
 
 // Asks the gate until it lets the read pass, or often enough.
@@ -79,32 +98,6 @@ fn wait_at<G: Gate>(gate: &G, worker: u64, call: u64) {
     gate.gave_up(worker, call);
 }
 
-// The reply and the front of a receipt.
-fn told<H: HallName>(receipt: Receipt<H>) -> (Reply, Option<Front<H>>)
-    ensures reply { result.0 ≡ receipt.reply }
-    ensures front { result.1 ≡ receipt.front }
-{
-    let Receipt {
-        asked,
-        reply,
-        front,
-    } = receipt;
-    drop(asked);
-    (reply, front)
-}
-
-// The longer of what was learnt and a front, where there is one.
-fn longest<H: HallName>(learnt: &Front<H>, front: Option<Front<H>>) -> Front<H>
-    ensures one { (result ≡ learnt.now) ⊎ (front ≡ Some result) }
-    ensures this { IsPrefix learnt.now result }
-    ensures that { IfSome front (λ f. IsPrefix f result) }
-{
-    let Some(front) = front else {
-        return learnt.again();
-    };
-    learnt.longer(&front)
-}
-
 // Answers a read once the gate lets it pass, or has been asked often enough.
 fn read<H: HallName, G: Gate>(
     gate: &G,
@@ -112,66 +105,100 @@ fn read<H: HallName, G: Gate>(
     call: u64,
     desk: &mut Desk<H>,
     asked: &Asked,
-) -> Result<Reply, AskFault>
+) -> Result<Reply, AllocError>
     requires { asks_for_change asked.now ≡ false }
-    ensures busy { OnErr result (result ≡ Err NoMemory) }
     ensures reply { IfOk result (λ r. r ≡ reply_of (state_after H.start desk.new.seen) asked.now) }
     ensures seen { IsPrefix desk.old.seen desk.new.seen }
     ensures made { desk.new.made ≡ desk.old.made }
 {
     wait_at(gate, worker, call);
-    Ok(desk.read(asked)?)
+    desk.read(asked)
 }
 
-impl<'a, H: HallName, R: Wait + Drop, G: Gate> Worker<'a, H, R, G> {
-    /// A worker of this number at a desk. What the desk has seen counts as learnt.
-    pub fn new(
-        number: u64,
-        desk: Desk<H>,
-        clerk: &'a Mutex<Clerk<H, R>>,
-        gate: &'a G,
-    ) -> Worker<'a, H, R, G>
-        ensures number { result.number ≡ number }
-        ensures calls { result.calls ≡ 0 }
-        ensures learnt { result.learnt ≡ desk.seen }
-        ensures seat { result.seat ≡ desk }
+// A desk learns the list of an outcome, and sees just that from then on.
+fn learn<H: HallName>(desk: &mut Desk<H>, front: &Front<H>)
+    requires { IsPrefix desk.old.seen front.now }
+    ensures seen { desk.new.seen ≡ front.now }
+    ensures made { desk.new.made ≡ desk.old.made }
+{
+    desk.learn(front);
+}
+
+impl<'a, H: HallName, M: Commits<H>, G: Gate> Worker<'a, H, M, G> {
+    /// A worker of this number at a desk, of which all that it has seen is kept. What it has seen counts as learnt.
+    pub fn new(number: u64, desk: Desk<H>, hall: &'a M, gate: &'a G) -> Worker<'a, H, M, G>
+        requires { M.keeps desk.seen }
+        ensures post { result.post ≡ record { number = number; calls = 0; learnt = desk.seen; seat = desk } }
+        ensures settled { result.settled ≡ result.post }
+        ensures sound { result.has_failed ≡ false }
     {
+        let learnt = desk.front();
         Worker {
             number,
             calls: 0,
-            learnt: desk.front(),
+            settled: Settled::of(number, 0, &learnt, &desk),
+            learnt,
             desk,
-            clerk,
+            is_shown: true,
+            is_lost: false,
+            has_failed: false,
+            hall,
             gate,
         }
     }
 
     /// How many receipts were got at the desk.
     pub fn made(&self) -> u64
-        ensures { result ≡ self.now.seat.made }
+        ensures { result ≡ self.now.post.seat.made }
     {
         self.desk.made()
     }
 
+    /// What it had seen when it was last settled was kept. Whether a settling failed, after which nothing more may be kept.
+    pub fn has_failed(&self) -> bool
+        ensures is { result ≡ self.now.has_failed }
+        ensures kept { M.keeps self.now.settled.seat.seen }
+        ensures lost { self.now.has_failed ≡ true → M.may_lose }
+    {
+        self.has_failed
+    }
+
+    /// Whether a change is lost, or it is known that nothing more is kept.
+    pub fn is_lost(&self) -> bool
+        ensures { result ≡ true → M.may_lose }
+    {
+        self.is_lost || self.hall.is_lost()
+    }
+
+    // A change may be made that is not answered.
+    fn lose(&mut self)
+        requires { M.may_lose }
+        ensures { self.new ≡ self.old }
+    {
+        self.is_lost = true;
+    }
+
     /// Whether a token holds after the changes that are then seen.
     pub fn knows(&mut self, token: Option<Token>) -> Result<bool, AllocError>
-        ensures number { self.new.number ≡ self.old.number }
-        ensures calls { self.new.calls ≡ self.old.calls }
-        ensures learnt { self.new.learnt ≡ self.old.learnt }
-        ensures made { self.new.seat.made ≡ self.old.seat.made }
-        ensures seen { IsPrefix self.old.seat.seen self.new.seat.seen }
+        ensures same { (self.new.settled ≡ self.old.settled) × (self.new.has_failed ≡ self.old.has_failed) }
+        ensures number { self.new.post.number ≡ self.old.post.number }
+        ensures calls { self.new.post.calls ≡ self.old.post.calls }
+        ensures learnt { self.new.post.learnt ≡ self.old.post.learnt }
+        ensures made { self.new.post.seat.made ≡ self.old.post.seat.made }
+        ensures seen { IsPrefix self.old.post.seat.seen self.new.post.seat.seen }
         ensures holds { IfOk result (λ holds. holds
-            ≡ is_some (asker_of (state_after H.start self.new.seat.seen).directory token)) }
+            ≡ is_some (asker_of (state_after H.start self.new.post.seat.seen).directory token)) }
     {
         self.desk.knows(token)
     }
 
     /// Begins a call, which is counted.
     pub fn begin(&mut self)
-        ensures number { self.new.number ≡ self.old.number }
-        ensures calls { self.new.calls ≡ min (self.old.calls + 1) (2 ^ 64 - 1) }
-        ensures learnt { self.new.learnt ≡ self.old.learnt }
-        ensures seat { self.new.seat ≡ self.old.seat }
+        ensures same { (self.new.settled ≡ self.old.settled) × (self.new.has_failed ≡ self.old.has_failed) }
+        ensures number { self.new.post.number ≡ self.old.post.number }
+        ensures calls { self.new.post.calls ≡ min (self.old.post.calls + 1) (2 ^ 64 - 1) }
+        ensures learnt { self.new.post.learnt ≡ self.old.post.learnt }
+        ensures seat { self.new.post.seat ≡ self.old.post.seat }
     {
         self.calls = self.calls.saturating_add(1);
     }
@@ -181,71 +208,152 @@ impl<'a, H: HallName, R: Wait + Drop, G: Gate> Worker<'a, H, R, G> {
         self.gate.answered(self.number, self.calls);
     }
 
-    /// Learns the front of a receipt, where it has one, and gives the reply. All that is seen later begins with each front learnt.
-    pub fn learn(&mut self, receipt: Receipt<H>) -> Reply
-        ensures number { self.new.number ≡ self.old.number }
-        ensures calls { self.new.calls ≡ self.old.calls }
-        ensures reply { result ≡ receipt.reply }
-        ensures front { IfSome receipt.front (λ f. IsPrefix f self.new.learnt) }
-        ensures one { (self.new.learnt ≡ self.old.learnt) ⊎ (receipt.front ≡ Some self.new.learnt) }
-        ensures keeps { IsPrefix self.old.learnt self.new.learnt }
-        ensures knows { IsPrefix self.new.learnt self.new.seat.seen }
-        ensures seen { IsPrefix self.old.seat.seen self.new.seat.seen }
-        ensures made { self.new.seat.made ≡ self.old.seat.made }
+    // Learns what a change came to, and gives its reply.
+    fn take(&mut self, outcome: Outcome<H>) -> Option<Reply>
+        requires { IsPrefix self.old.post.seat.seen outcome.front }
+        ensures same { (self.new.settled ≡ self.old.settled) × (self.new.has_failed ≡ self.old.has_failed) }
+        ensures reply { result ≡ outcome.reply }
+        ensures number { self.new.post.number ≡ self.old.post.number }
+        ensures calls { self.new.post.calls ≡ self.old.post.calls }
+        ensures learnt { self.new.post.learnt ≡ outcome.front }
+        ensures seen { self.new.post.seat.seen ≡ outcome.front }
+        ensures made { self.new.post.seat.made ≡ self.old.post.seat.made }
     {
-        let (reply, front) = told(receipt);
-        self.learnt = longest(&self.learnt, front);
-        self.desk.learn(&self.learnt);
+        let Outcome {
+            reply,
+            front,
+            is_settled,
+        } = outcome;
+        learn(&mut self.desk, &front);
+        self.learnt = front;
+        self.is_shown = is_settled;
         reply
     }
 
-    // Makes a change, and learns its front.
-    fn change<W: Wait>(&mut self, rt: &W, asked: Asked) -> Result<Reply, AskFault>
-        requires { asks_for_change asked ≡ true }
-        ensures stranger { result ≡ Err Stranger → IsStranger H.start self.old.seat.seen asked.token }
-        ensures number { self.new.number ≡ self.old.number }
-        ensures calls { self.new.calls ≡ self.old.calls }
-        ensures made { MatchResult result (λ _. self.new.seat.made ≡ self.old.seat.made + 1)
-            (λ _. self.new.seat.made ≡ self.old.seat.made) }
-        ensures seen { IsPrefix self.old.seat.seen self.new.seat.seen }
-        ensures goes_on { IfOk result (λ r. (list : List Ask) × EndsAfter H.start self.old.seat.seen list asked r) }
-        ensures learns { MatchResult result
-            (λ r. (self.new.learnt ≡ self.old.learnt) ⊎ EndsAfter H.start self.old.seat.seen self.new.learnt asked r)
-            (λ _. self.new.learnt ≡ self.old.learnt) }
-        ensures knows { IsPrefix self.new.learnt self.new.seat.seen }
+    // Makes a change, and learns what it came to.
+    fn change<W: Wait>(
+        &mut self,
+        rt: &W,
+        message: &Message<'_>,
+        asked: &Asked,
+    ) -> Result<Option<Reply>, Undecided>
+        requires found { IsFound message.now }
+        requires asks { AsksBy message.now asked.now }
+        requires change { asks_for_change asked.now ≡ true }
+        ensures same { (self.new.settled ≡ self.old.settled) × (self.new.has_failed ≡ self.old.has_failed) }
+        ensures number { self.new.post.number ≡ self.old.post.number }
+        ensures calls { self.new.post.calls ≡ self.old.post.calls }
+        ensures made { MatchResult result (λ told. self.new.post.seat.made ≡ self.old.post.seat.made + counted told)
+            (λ _. self.new.post.seat.made ≡ self.old.post.seat.made) }
+        ensures decided { IfOk result (λ told. Decides H.start self.old.post.seat.seen asked.now told self.new.post.seat.seen) }
+        ensures seen { IsPrefix self.old.post.seat.seen self.new.post.seat.seen }
+        ensures learns { Learns self.old.post self.new.post }
+        ensures lost { result ≡ Err WasLost → M.may_lose }
     {
-        let receipt = Hall::change(rt, self.clerk, &mut self.desk, asked)?;
-        Ok(self.learn(receipt))
+        match self.hall.change(rt, &mut self.desk, message, asked) {
+            Ok(outcome) => Ok(self.take(outcome)),
+            Err(Undecided::NoMemory) => Err(Undecided::NoMemory),
+            Err(Undecided::Lost) => {
+                self.lose();
+                Err(Undecided::Lost)
+            }
+        }
     }
 
-    /// Answers the request of the call that began last. A change is made by the clerk, and its front is learnt where it has one. A
-    /// read waits at the gate first, and is then answered without waiting. When out of memory a change is not made, nor where its
-    /// token does not hold; a read may have seen more changes.
-    pub fn ask<W: Wait>(&mut self, rt: &W, asked: Asked) -> Result<Reply, AskFault>
-        ensures stranger { result ≡ Err Stranger → IsStranger H.start self.old.seat.seen asked.token }
-        ensures number { self.new.number ≡ self.old.number }
-        ensures calls { self.new.calls ≡ self.old.calls }
-        ensures seen { IsPrefix self.old.seat.seen self.new.seat.seen }
-        ensures knows { IsPrefix self.new.learnt self.new.seat.seen }
-        ensures learns { Learns self.old self.new }
-        ensures change { asks_for_change asked ≡ true
-            → MatchResult result (λ _. self.new.seat.made ≡ self.old.seat.made + 1) (λ _. self.new.seat.made ≡ self.old.seat.made) }
-        ensures changed { asks_for_change asked ≡ true → IfOk result (λ r. (list : List Ask) × EndsWith H.start list asked r) }
-        ensures goes_on { asks_for_change asked ≡ true
-            → IfOk result (λ r. (list : List Ask) × EndsAfter H.start self.old.seat.seen list asked r) }
-        ensures learnt { asks_for_change asked ≡ true → MatchResult result
-            (λ r. (self.new.learnt ≡ self.old.learnt) ⊎ EndsAfter H.start self.old.seat.seen self.new.learnt asked r)
-            (λ _. self.new.learnt ≡ self.old.learnt) }
-        ensures read { asks_for_change asked ≡ false
-            → (self.new.seat.made ≡ self.old.seat.made) × (self.new.learnt ≡ self.old.learnt) }
-        ensures shown { asks_for_change asked ≡ false → IfOk result (λ r. r ≡ reply_of (state_after H.start self.new.seat.seen) asked) }
+    // Publishes all that was learnt, where it is not published yet and there is memory.
+    fn show<W: Wait>(&mut self, rt: &W) -> Result<(), Lost>
+        ensures same { self.new ≡ self.old }
+        ensures lost { OnErr result M.may_lose }
+    {
+        if !self.is_shown {
+            self.is_shown = self.hall.settle(rt, &self.learnt)?;
+        }
+        Ok(())
+    }
+
+    // Publishes all that was learnt, where it is not published yet, and answers a read.
+    fn read<W: Wait>(&mut self, rt: &W, asked: &Asked) -> Result<Reply, Undecided>
+        requires { asks_for_change asked.now ≡ false }
+        ensures same { (self.new.settled ≡ self.old.settled) × (self.new.has_failed ≡ self.old.has_failed) }
+        ensures number { self.new.post.number ≡ self.old.post.number }
+        ensures calls { self.new.post.calls ≡ self.old.post.calls }
+        ensures learnt { self.new.post.learnt ≡ self.old.post.learnt }
+        ensures made { self.new.post.seat.made ≡ self.old.post.seat.made }
+        ensures seen { IsPrefix self.old.post.seat.seen self.new.post.seat.seen }
+        ensures shown { IfOk result (λ r. r ≡ reply_of (state_after H.start self.new.post.seat.seen) asked.now) }
+        ensures lost { result ≡ Err WasLost → M.may_lose }
+    {
+        if self.show(rt).is_err() {
+            return Err(Undecided::Lost);
+        }
+        match read(self.gate, self.number, self.calls, &mut self.desk, asked) {
+            Ok(reply) => Ok(reply),
+            Err(AllocError) => Err(Undecided::NoMemory),
+        }
+    }
+
+    /// Answers what a message asks, in the call that began last; nothing where the token of a change does not hold. The list by which
+    /// a change was decided is seen from then on. A read waits at the gate first, and shows all that was learnt. When out of memory
+    /// a change is not made; a read may have seen more changes.
+    pub fn ask<W: Wait>(
+        &mut self,
+        rt: &W,
+        message: &Message<'_>,
+        asked: &Asked,
+    ) -> Result<Option<Reply>, Undecided>
+        requires found { IsFound message.now }
+        requires asks { AsksBy message.now asked.now }
+        ensures same { (self.new.settled ≡ self.old.settled) × (self.new.has_failed ≡ self.old.has_failed) }
+        ensures number { self.new.post.number ≡ self.old.post.number }
+        ensures calls { self.new.post.calls ≡ self.old.post.calls }
+        ensures seen { IsPrefix self.old.post.seat.seen self.new.post.seat.seen }
+        ensures learns { Learns self.old.post self.new.post }
+        ensures made { asks_for_change asked.now ≡ true
+            → MatchResult result (λ told. self.new.post.seat.made ≡ self.old.post.seat.made + counted told)
+            (λ _. self.new.post.seat.made ≡ self.old.post.seat.made) }
+        ensures decided { asks_for_change asked.now ≡ true
+            → IfOk result (λ told. Decides H.start self.old.post.seat.seen asked.now told self.new.post.seat.seen) }
+        ensures read { asks_for_change asked.now ≡ false → self.new.post.seat.made ≡ self.old.post.seat.made }
+        ensures shown { asks_for_change asked.now ≡ false
+            → IfOk result (λ told. told ≡ Some (reply_of (state_after H.start self.new.post.seat.seen) asked.now)) }
+        ensures lost { result ≡ Err WasLost → M.may_lose }
     {
         if asked.is_change() {
-            self.change(rt, asked)
-        } else {
-            let reply = read(self.gate, self.number, self.calls, &mut self.desk, &asked);
-            drop(asked);
-            reply
+            return self.change(rt, message, asked);
         }
+        match self.read(rt, asked) {
+            Ok(reply) => Ok(Some(reply)),
+            Err(why) => Err(why),
+        }
+    }
+
+    // Sees that all that was seen is kept, and that all that was learnt is published where there is memory.
+    fn keep<W: Wait>(&mut self, rt: &W) -> Result<(), Lost>
+        ensures same { self.new ≡ self.old }
+        ensures kept { OnOk result (M.keeps self.new.post.seat.seen) }
+        ensures lost { OnErr result M.may_lose }
+    {
+        let front = self.desk.front();
+        let is_known = self.settled.has_seen(&front) || self.hall.has_kept(rt, &front);
+        if is_known && self.is_shown {
+            return Ok(());
+        }
+        self.is_shown = self.hall.settle(rt, &front)?;
+        Ok(())
+    }
+
+    /// Sees that all that was seen so far is kept. Once nothing more is kept, or where it fails, it has failed for good.
+    pub fn settle<W: Wait>(&mut self, rt: &W) -> Result<(), Lost>
+        ensures post { self.new.post ≡ self.old.post }
+        ensures ok { OnOk result ((self.new.settled ≡ self.new.post) × (self.new.has_failed ≡ self.old.has_failed)) }
+        ensures err { OnErr result ((self.new.settled ≡ self.old.settled) × (self.new.has_failed ≡ true)) }
+        ensures lost { OnErr result M.may_lose }
+    {
+        if self.is_lost() || self.keep(rt).is_err() {
+            self.has_failed = true;
+            return Err(Lost);
+        }
+        self.settled = Settled::of(self.number, self.calls, &self.learnt, &self.desk);
+        Ok(())
     }
 }

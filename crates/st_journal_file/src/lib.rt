@@ -9,4 +9,4 @@ mod rewrite;
 mod rows;
 
 pub use journal::FileJournal;
-pub use st_journal_rows::OpenError;
+pub use st_journal_rows::{OpenError, Progress, Silent};

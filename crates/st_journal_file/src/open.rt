@@ -13,7 +13,7 @@ use sqlite_disk::{Disk, Files, Start};
 use sqlite_std_file::{FileFrom, OpenError as FileError};
 use sqlite_store::FileStore;
 use st_journal::{Journal, Replay};
-use st_journal_rows::{OpenError, begin};
+use st_journal_rows::{OpenError, Progress, begin};
 use std::alloc::Global;
 use std::hash::{BuildHasher, RandomState};
 use std::io::ErrorKind;
@@ -41,19 +41,20 @@ fn open_files<S: Start>(
 }
 
 // The journal of a store.
-fn journal_of<D: Disk + Drop, R: Replay>(
+fn journal_of<D: Disk + Drop, R: Replay, P: Progress>(
     mut store: FileStore<D>,
     alloc: Global,
     opening: &str,
     time: i64,
     state: &mut R,
+    progress: &P,
 ) -> Result<FileJournal<D>, OpenError>
     requires rest { IsClean (view store) → IsTrue (view store).is_open → IsAtRest (view store) }
     ensures clean { IfOk result (λ journal. doubt (view store).is_clean ≤ doubt (view journal.store).is_clean) }
     ensures ok { IfOk result (λ journal. IsClean (view journal.store)
         → Begins R.applies opening.now (view store) (view journal.store) journal.count state.old state.new) }
 {
-    let count = begin(&mut store, alloc, opening, time, state)?;
+    let count = begin(&mut store, alloc, opening, time, state, progress)?;
     Ok(FileJournal {
         store,
         count,
@@ -64,14 +65,16 @@ fn journal_of<D: Disk + Drop, R: Replay>(
 impl<S: Start> FileJournal<FileFrom<S>> {
     /// Opens the journal at a path, and applies its records to a state. A file that is missing or empty gets a journal without
     /// a change, whose first record says `opening`, what the store was opened with. A journal that was begun with another
-    /// opening is refused, and so is any other file; what is refused is left as it is. `time` is for that first record. `start`
-    /// says what is supposed of a crash: with `Unknown` a torn write leaves each byte old or new, with `Wary` any bytes.
-    pub fn open<R: Replay>(
+    /// opening is refused, and so is any other file; what is refused is left as it is. `time` is for that first record. `progress`
+    /// is told after every 100,000 changes. `start` says what is supposed of a crash: with `Unknown` a torn write leaves each byte
+    /// old or new, with `Wary` any bytes.
+    pub fn open<R: Replay, P: Progress>(
         rt: &HostRuntime,
         path: &str,
         opening: &str,
         time: i64,
         state: &mut R,
+        progress: &P,
         start: S,
     ) -> Result<FileJournal<FileFrom<S>>, OpenError>
         ensures ready { IfOk result (λ journal. ⟦<FileJournal<FileFrom<S>> as Journal>⟧.is_ready journal) }
@@ -84,6 +87,6 @@ impl<S: Start> FileJournal<FileFrom<S>> {
             return Err(OpenError::Io);
         };
         let store = open_store(rt.alloc(), files, random.hash_one(&0u8))?;
-        journal_of(store, rt.alloc(), opening, time, state)
+        journal_of(store, rt.alloc(), opening, time, state, progress)
     }
 }

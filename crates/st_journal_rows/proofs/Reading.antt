@@ -84,6 +84,19 @@ module _ {S : Type 0} (applies : S → Record → S → Type 0) where
     taken = refl;
   }
 
+  -- what is read once cursors have moved
+  pub behind : (opening : List ℕ) (old mid now : View) (count : ℕ) (before after : S) → mid ≡ record old { cursors = mid.cursors }
+      → HasRead opening mid now count before after → HasRead opening old now count before after
+  behind opening old mid now count before after move had = record {
+    done = had.done;
+    left = had.left;
+    rows = ap (λ (v : View). v.trees table_tree) (sym move) ∙ had.rows;
+    counted = had.counted;
+    cursor = had.cursor;
+    same = had.same ∙ ap (λ (v : View). record v { cursors = now.cursors }) move;
+    taken = had.taken;
+  }
+
   takes : (opening : List ℕ) (count : ℕ) (change : Record) (before m n : S) (done : List Record) → count ≡ length done
       → Takes applies opening count change m n → AreTaken applies opening done before m → AreTaken applies opening (done ++ change ∷ []) before n
   takes opening count change before m n [] counted one taken =

@@ -1,4 +1,5 @@
 pub mod Table
+pub mod Openings
 pub mod Ready
 pub mod Begins
 pub mod inner

@@ -1,2 +1,3 @@
 -- Stages of the code, which no reader has to believe: no clause of a public function cites them.
 pub mod Writes
+pub mod Telling

@@ -3,7 +3,9 @@
 /// Why a journal was not opened. The file is left as it is.
 #[derive(Clone, Copy, Debug, PartialEq, Eq)]
 pub enum OpenError {
-    /// The store was opened with something else when the journal was begun.
+    /// The journal was begun with an opening of another owner.
+    OtherOwner,
+    /// The journal was begun with another opening, of the same owner.
     OtherOpening,
     /// Another process has the file open.
     InUse,

@@ -4,8 +4,11 @@
 mod back;
 mod commit;
 mod error;
+mod last;
 mod object;
 mod opening;
+mod other;
+mod progress;
 mod read;
 mod replace;
 mod write;
@@ -14,4 +17,5 @@ pub use back::read_back;
 pub use error::OpenError;
 pub use object::{MOST, is_table, table};
 pub use opening::begin;
+pub use progress::{Progress, Silent};
 pub use replace::put_behind;

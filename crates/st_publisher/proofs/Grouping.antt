@@ -7,12 +7,19 @@ use Rattle.st_dir.specs.Directory.{Directory}
 use Rattle.st_journal.specs.declared.record.Record.{Record}
 use Rattle.st_journal.specs.Replays.{Replays}
 use Rattle.st_durable.specs.Applying.{Applies, Notes}
-use Rattle.st_press.specs.Steps.{Ask, State, state_after}
+use Rattle.st_core.specs.Step.{judge}
+use Rattle.st_press.specs.Steps.{Ask, State, Verdict, judged_in, state_after}
 use Rattle.st_press.proofs.Following.{after_none}
 use Rattle.st_press.proofs.Fronts.{prefix_self, prefix_trans}
 use Rattle.st_publisher.specs.Rolls.{KeptRoll, LeadPast, LeadToOne, WasKept}
 use Rattle.st_publisher.specs.inner.Sound.{IsSound}
 use Rattle.st_publisher.proofs.Batches.{kept_all, left_by_all, lost_all, notes_more, opened, roll, whole}
+
+-- the record of a change that was judged after a list
+pub noted_after : (start : State) (list : List Ask) (a : Ask) (judged : Verdict) (written : Option Record) → judged ≡ judged_in (state_after start list) a
+    → ((d : Directory Global) → judged ≡ judge d a → Notes d a written) → Notes (state_after start list).directory a written
+unfolding judged_in
+noted_after start list a judged written is noted = noted (state_after start list).directory is
 
 -- the records that are not taken yet, after one change more
 pub drafted : (start : State) (taken list list' : List Ask) (batch : List Record) (a : Ask) (d : Directory Global) (note : Option Record)

@@ -2,7 +2,7 @@
 //!
 //! Changes wait here for the press beside their records; the draft reserves both before the change is added, so keeping takes no
 //! memory.
-ghost use Rattle.std.specs.Prelude.{◌≡◌, ◌++◌, ◌∷◌, ◌+◌, ◌<◌, [], true, false, is_some, Err, IfOk, OnOk, MatchResult};
+ghost use Rattle.std.specs.Prelude.{◌≡◌, ◌++◌, ◌∷◌, ◌+◌, ◌<◌, [], true, false, is_some, Err, None, IfOk, OnOk, MatchResult};
 ghost use Rattle.std.specs.VecDeque.{deque_len, deque_capacity};
 ghost use mathlib.Core.List.{IsPrefix};
 ghost use Rattle.st_core.specs.Step.{asker_of, asks_for_change};
@@ -153,6 +153,8 @@ impl<H: HallName> Draft<H> {
         ensures made { MatchResult result (λ _. desk.new.made ≡ desk.old.made + 1) (λ _. desk.new.made ≡ desk.old.made) }
         ensures seen { desk.new.seen ≡ desk.old.seen }
         ensures stranger { result ≡ Err ChangeError.Stranger → IsStranger H.start desk.old.seen asked.now.token }
+        ensures unheard { result ≡ Err ChangeError.Stranger → IsPrefix desk.old.seen self.old.list
+            × (asker_of (state_after H.start self.old.list).directory asked.now.token ≡ None) }
         ensures closed { self.old.is_closed ≡ true → result ≡ Err ChangeError.Lost }
     {
         if self.is_closed {
@@ -160,16 +162,31 @@ impl<H: HallName> Draft<H> {
         }
         self.records.reserve(1)?;
         self.queued.reserve(1)?;
-        let note = note(self.alloc, clock, self.scribe.directory(), message, asked)?;
-        let (reply, queued) = match self.scribe.add(desk, asked) {
-            Ok(added) => added,
+        let decided = match self.scribe.decide(desk, asked) {
+            Ok(decided) => decided,
             Err(AskFault::Stranger) => return Err(ChangeError::Stranger),
             Err(AskFault::NoMemory) => return Err(ChangeError::NoMemory),
         };
+        let note = note(
+            self.alloc,
+            clock,
+            message,
+            asked,
+            &decided.judged,
+            &decided.decision.reply,
+        )?;
+        let (reply, queued) = self.scribe.enter(desk, asked, decided)?;
         hold(&mut self.records, note);
         let front = queued.front().again();
         push_reserved(&mut self.queued, queued);
         Ok((reply, front))
+    }
+
+    /// The whole list, as a front.
+    pub fn front(&self) -> Front<H>
+        ensures { result ≡ self.now.list }
+    {
+        self.scribe.front()
     }
 
     /// Takes the records that were not taken yet.

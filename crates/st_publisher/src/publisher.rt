@@ -200,6 +200,33 @@ impl<B: Beginning, H: HallName, R: Wait + Drop, J: Journal + Drop> Publisher<B, 
         kept
     }
 
+    /// Keeps a front, with all that is decided by now, unless another thread has kept it already. Whether it is kept, which it may not
+    /// be once an append failed.
+    pub fn keep_front<W: Wait>(&mut self, rt: &W, draft: &Mutex<Draft<H>>, front: &Front<H>) -> bool
+        ensures kept { result ≡ true → IsPrefix front.now self.new.kept }
+        ensures was { result ≡ true → WasKept J.list J.misreads B.first H.start front.now }
+        ensures grows { IsPrefix self.old.kept self.new.kept }
+        ensures published { self.new.published ≡ self.old.published }
+    {
+        if !self.keeps(front) {
+            let _kept = self.keep_draft(rt, draft);
+        }
+        self.keeps(front)
+    }
+
+    /// Publishes a front with all that is kept, unless it is published already. Whether it is published, for which there may be no
+    /// memory.
+    pub fn show_front<W: Wait>(&mut self, rt: &W, draft: &Mutex<Draft<H>>, front: &Front<H>) -> bool
+        ensures same { self.new.kept ≡ self.old.kept }
+        ensures shown { result ≡ true → IsPrefix front.now self.new.published }
+        ensures grows { IsPrefix self.old.published self.new.published }
+    {
+        if !self.shows(front) {
+            self.publish(rt, draft);
+        }
+        self.shows(front)
+    }
+
     // Publishes what is kept, as far as there is memory.
     fn publish<W: Wait>(&mut self, rt: &W, draft: &Mutex<Draft<H>>)
         ensures same { (self.new.list ≡ self.old.list) × (self.new.kept ≡ self.old.kept) }
@@ -208,31 +235,6 @@ impl<B: Beginning, H: HallName, R: Wait + Drop, J: Journal + Drop> Publisher<B, 
     {
         draft.lock(rt).hand_over(&mut self.press, &self.kept);
         drop(self.press.publish(rt));
-    }
-
-    /// Keeps a front, with all that is decided by now, unless another thread has kept it already, and publishes it. Whether it is
-    /// published, for which there may be no memory.
-    pub fn settle<W: Wait>(
-        &mut self,
-        rt: &W,
-        draft: &Mutex<Draft<H>>,
-        front: &Front<H>,
-    ) -> Result<bool, Lost>
-        ensures kept { OnOk result (IsPrefix front.now self.new.kept) }
-        ensures was { OnOk result (WasKept J.list J.misreads B.first H.start front.now) }
-        ensures shown { IfOk result (λ is_shown. is_shown ≡ true → IsPrefix front.now self.new.published) }
-        ensures grows { IsPrefix self.old.kept self.new.kept × IsPrefix self.old.published self.new.published }
-    {
-        if !self.keeps(front) {
-            self.keep_draft(rt, draft)?;
-        }
-        if !self.keeps(front) {
-            return Err(Lost);
-        }
-        if !self.shows(front) {
-            self.publish(rt, draft);
-        }
-        Ok(self.shows(front))
     }
 }
 

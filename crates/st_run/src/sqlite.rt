@@ -32,7 +32,7 @@ pub fn run_files<S: Start, R: Source, W: Sink, F: Write>(
         (streams R.left R.reads R.has_ended R.has_failed W.held W.has_failed reader.old reader.new writer.old writer.new)
         result }
 {
-    let keeper = SqliteKeeper::new(rt, start);
+    let keeper = SqliteKeeper::new(rt, "st_run", start);
     let seed = Seed::random(rt);
     run_words(rt, rt.alloc(), seed, keeper, words, reader, writer, faults)
 }

@@ -1,14 +1,14 @@
 //! The store in a SQLite file.
 ghost use Rattle.std.specs.Prelude.{map, string_bytes};
 ghost use Rattle.sqlite_wal.specs.Files.{image_at};
-ghost use Rattle.st_loopback.specs.Serving.{Ran};
+ghost use Rattle.st_server.specs.Running.{Ran};
 ghost use Rattle.st_store_file.specs.Holding.{HoldStore};
 
 use sqlite_std_file::{FileFrom, Start};
 use st_core::Seed;
 use st_journal::Journal;
 use st_journal_file::FileJournal;
-use st_loopback::serve_words;
+use st_server::serve_words;
 use st_store_file::{SqliteCopier, SqliteKeeper};
 use std::fs::Files;
 use std::io::{Eprint, Write};
@@ -35,7 +35,7 @@ pub fn serve_files<
         ⟦<FileJournal<FileFrom<S>> as Journal>⟧.misreads
         (map string_bytes words.now) (O.contents output.old) (O.contents output.new) result }
 {
-    let keeper = SqliteKeeper::new(files, start);
+    let keeper = SqliteKeeper::new(files, "st_served", start);
     let copier = SqliteCopier::new(files);
     let seed = Seed::random(files);
     serve_words(

@@ -1,37 +1,54 @@
--- What a server whose store is kept tells, by what any server tells.
-use Rattle.std.proofs.Common.{ℕ, List, Option, Result, Ok, Err}
+-- What a server whose store is kept tells, and what any server tells.
+use Rattle.std.proofs.Common.{◌≡◌, ℕ, List, Option, Result, Ok, Err, refl, subst}
 use Rattle.st_text.specs.Texts.{Text}
 use Rattle.st_command_line.specs.declared.fault.Fault.{Fault}
+use Rattle.st_command_line.specs.declared.fault.Fault.TheVariants.{StoreLost}
 use Rattle.st_server.specs.Keeping.{TellsKept}
 use Rattle.st_workers.specs.Telling.{Tells}
 
+-- they differ where the store is lost
+both : (place : Text) (connections : Option ℕ) (old new : Option (List ℕ)) (result : Result Unit Fault)
+    → (Tells place connections old new result → TellsKept place connections old new result)
+    × ((result ≡ Err StoreLost → ⊥) → TellsKept place connections old new result → Tells place connections old new result)
+both place connections old new (Ok done) = (λ t. t, λ sound t. t)
+both place connections old new (Err Fault.StoreLost) = (λ t. absurd t, λ sound t. absurd (sound refl))
+both place connections old new (Err (Fault.Usage e)) = (λ t. t, λ sound t. t)
+both place connections old new (Err Fault.NotText) = (λ t. t, λ sound t. t)
+both place connections old new (Err Fault.BadNumber) = (λ t. t, λ sound t. t)
+both place connections old new (Err Fault.BadAddress) = (λ t. t, λ sound t. t)
+both place connections old new (Err Fault.WantsPlace) = (λ t. t, λ sound t. t)
+both place connections old new (Err Fault.WantsPort) = (λ t. t, λ sound t. t)
+both place connections old new (Err Fault.WantsStore) = (λ t. t, λ sound t. t)
+both place connections old new (Err Fault.WantsCopy) = (λ t. t, λ sound t. t)
+both place connections old new (Err Fault.BadDigest) = (λ t. t, λ sound t. t)
+both place connections old new (Err Fault.BadName) = (λ t. t, λ sound t. t)
+both place connections old new (Err Fault.Cut) = (λ t. t, λ sound t. t)
+both place connections old new (Err Fault.TurnsSpent) = (λ t. t, λ sound t. t)
+both place connections old new (Err Fault.OtherStore) = (λ t. t, λ sound t. t)
+both place connections old new (Err Fault.OtherNames) = (λ t. t, λ sound t. t)
+both place connections old new (Err Fault.StoreInUse) = (λ t. t, λ sound t. t)
+both place connections old new (Err (Fault.LaterStore format)) = (λ t. t, λ sound t. t)
+both place connections old new (Err Fault.NoStore) = (λ t. t, λ sound t. t)
+both place connections old new (Err Fault.StoreDamaged) = (λ t. t, λ sound t. t)
+both place connections old new (Err Fault.StoreInterrupted) = (λ t. t, λ sound t. t)
+both place connections old new (Err Fault.StoreIo) = (λ t. t, λ sound t. t)
+both place connections old new (Err Fault.Io) = (λ t. t, λ sound t. t)
+both place connections old new (Err Fault.Bind) = (λ t. t, λ sound t. t)
+both place connections old new (Err Fault.Accept) = (λ t. t, λ sound t. t)
+both place connections old new (Err Fault.Write) = (λ t. t, λ sound t. t)
+both place connections old new (Err Fault.NoMemory) = (λ t. t, λ sound t. t)
+both place connections old new (Err Fault.NoPlace) = (λ t. t, λ sound t. t)
+both place connections old new (Err Fault.NoThread) = (λ t. t, λ sound t. t)
+
 pub widened : (place : Text) (connections : Option ℕ) (old new : Option (List ℕ)) (result : Result Unit Fault)
     → Tells place connections old new result → TellsKept place connections old new result
-widened place connections old new (Ok done) t = t
-widened place connections old new (Err Fault.StoreLost) t = absurd t
-widened place connections old new (Err (Fault.Usage e)) t = t
-widened place connections old new (Err Fault.NotText) t = t
-widened place connections old new (Err Fault.BadNumber) t = t
-widened place connections old new (Err Fault.BadAddress) t = t
-widened place connections old new (Err Fault.WantsPlace) t = t
-widened place connections old new (Err Fault.WantsPort) t = t
-widened place connections old new (Err Fault.WantsStore) t = t
-widened place connections old new (Err Fault.WantsCopy) t = t
-widened place connections old new (Err Fault.BadDigest) t = t
-widened place connections old new (Err Fault.BadName) t = t
-widened place connections old new (Err Fault.Cut) t = t
-widened place connections old new (Err Fault.TurnsSpent) t = t
-widened place connections old new (Err Fault.OtherStore) t = t
-widened place connections old new (Err Fault.StoreInUse) t = t
-widened place connections old new (Err (Fault.LaterStore format)) t = t
-widened place connections old new (Err Fault.NoStore) t = t
-widened place connections old new (Err Fault.StoreDamaged) t = t
-widened place connections old new (Err Fault.StoreInterrupted) t = t
-widened place connections old new (Err Fault.StoreIo) t = t
-widened place connections old new (Err Fault.Io) t = t
-widened place connections old new (Err Fault.Bind) t = t
-widened place connections old new (Err Fault.Accept) t = t
-widened place connections old new (Err Fault.Write) t = t
-widened place connections old new (Err Fault.NoMemory) t = t
-widened place connections old new (Err Fault.NoPlace) t = t
-widened place connections old new (Err Fault.NoThread) t = t
+widened place connections old new result = (both place connections old new result).0
+
+pub narrowed : (place : Text) (connections : Option ℕ) (old new : Option (List ℕ)) (result : Result Unit Fault)
+    → (result ≡ Err StoreLost → ⊥) → TellsKept place connections old new result → Tells place connections old new result
+narrowed place connections old new result = (both place connections old new result).1
+
+-- what any server tells is not that its store is lost
+pub not_lost : (place : Text) (connections : Option ℕ) (old new : Option (List ℕ)) (result : Result Unit Fault)
+    → Tells place connections old new result → result ≡ Err StoreLost → ⊥
+not_lost place connections old new result told lost = subst (λ r. Tells place connections old new r) lost told

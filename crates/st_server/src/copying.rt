@@ -59,7 +59,7 @@ pub(crate) struct KeptList<
     'a,
     B: Beginning,
     H: HallName,
-    C: Wait + Drop,
+    C: Wait + Clock + Drop,
     J: ReadBack + Drop,
     R: Wait,
 > {
@@ -67,7 +67,7 @@ pub(crate) struct KeptList<
     pub(crate) rt: &'a R,
 }
 
-impl<B: Beginning, H: HallName, C: Wait + Drop, J: ReadBack + Drop, R: Wait> Source
+impl<B: Beginning, H: HallName, C: Wait + Clock + Drop, J: ReadBack + Drop, R: Wait> Source
     for KeptList<'_, B, H, C, J, R> {
     ghost use Rattle.st_publisher.specs.Rolls.{WasRead};
 
@@ -75,6 +75,18 @@ impl<B: Beginning, H: HallName, C: Wait + Drop, J: ReadBack + Drop, R: Wait> Sou
 
     fn read(&mut self, from: u64, most: usize) -> Result<Vec<Record>, ReadError> {
         self.hall.read(self.rt, from, most)
+    }
+}
+
+// The list of a hall that keeps none: nothing copies it.
+#[derive(Drop)]
+pub(crate) struct NoList;
+
+impl Source for NoList {
+    ghost gives = { λ _ _ _ _. ⊥ };
+
+    fn read(&mut self, _from: u64, _most: usize) -> Result<Vec<Record>, ReadError> {
+        Err(ReadError::Lost)
     }
 }
 

@@ -8,25 +8,22 @@ ghost use Rattle.st_server.specs.Serving.{IsRefused};
 ghost use Rattle.st_command_line.specs.ServedArguments.{SaysServed, place_text, store_of};
 ghost use Rattle.st_command_line.specs.Status.{exit_status_after};
 
-use crate::copying::{Copying, KeptList, attend_and_copy};
+use crate::copying::{Copying, KeptList};
+use crate::serving::serve_at;
 use st_command::{Keeper, stores_and_opening_for};
 use st_command_line::{Fault, ServedArguments};
-use st_connection::Attend;
-use st_copy::{Copier, Source};
+use st_copy::Copier;
 use st_core::{Seed, Store};
 use st_durable::{Beginning, ReplayedCopies};
 use st_durable_hall::DurableHall;
-use st_durable_station::DurableStation;
-use st_hall::{Desk, Hall, HallFault, HallName, UnnamedFor};
-use st_journal::{Journal, ReadBack};
-use st_workers::{begin, tell};
-use std::alloc::{AllocError, Global};
+use st_hall::{Hall, HallFault, HallName, UnnamedFor};
+use st_journal::ReadBack;
+use std::alloc::Global;
 use std::fs::Files;
 use std::io::{Eprint, Write};
 use std::marker::Brand;
 use std::net::{Net, TcpListener, TcpStream};
 use std::sync::Wait;
-use std::sync::atomic::{AtomicBool, Ordering};
 use std::thread::Threads;
 use std::time::Clock;
 
@@ -35,97 +32,6 @@ use std::time::Clock;
 struct Place<'a> {
     path: &'a str,
     opening: String,
-}
-
-// Tells that the server listens, serves connections, and tells how many were served, or that the store is lost.
-fn announce<
-    T: Attend + Send + Drop,
-    L: Source + Drop + Send,
-    K: Copier + Drop + Send,
-    R: Net<Listener = TcpListener, Stream = TcpStream>
-        + Files
-        + Threads
-        + Wait
-        + Clock
-        + Eprint
-        + Sync,
-    O: Write,
->(
-    rt: &R,
-    alloc: Global,
-    said: &ServedArguments<'_>,
-    list: L,
-    copying: Option<Copying<'_, K>>,
-    alarm: &AtomicBool,
-    attendants: Vec<T>,
-    output: &mut O,
-) -> Result<(), Fault>
-    ensures { TellsKept (place_text said.now.place) said.now.connections (O.contents output.old) (O.contents output.new) result }
-{
-    let listener = match begin(rt, alloc, said, output) {
-        Ok(listener) => listener,
-        Err(fault) => {
-            drop(attendants);
-            drop(list);
-            return Err(fault);
-        }
-    };
-    let attended = attend_and_copy(rt, alloc, &listener, said, list, copying, attendants);
-    if alarm.load(Ordering::SeqCst) {
-        return Err(Fault::StoreLost);
-    }
-    tell(alloc, output, "served", attended?)
-}
-
-// A station at each desk.
-fn stations_at<'a, B: Beginning, H: HallName, C: Wait + Drop, J: Journal + Drop, R: Wait + Clock>(
-    rt: &'a R,
-    alloc: Global,
-    hall: &'a DurableHall<B, H, C, J>,
-    alarm: &'a AtomicBool,
-    desks: Vec<Desk<H>>,
-) -> Result<Vec<DurableStation<'a, B, H, C, J, R, R>>, AllocError> {
-    let mut stations: Vec<DurableStation<'a, B, H, C, J, R, R>> = Vec::with_capacity(
-        alloc,
-        desks.len(),
-    )?;
-    for desk in desks {
-        let station = DurableStation::new(rt, alloc, rt, desk, hall, alarm)?;
-        stations.push(station).map_err(|_| AllocError)?;
-    }
-    Ok(stations)
-}
-
-// Makes a station at each desk, and serves at them.
-fn seat_workers<
-    B: Beginning + Send + Sync,
-    H: HallName + Send + Sync,
-    C: Wait + Drop + Send,
-    J: ReadBack + Drop + Send,
-    K: Copier + Drop + Send,
-    R: Net<Listener = TcpListener, Stream = TcpStream>
-        + Files
-        + Threads
-        + Wait
-        + Clock
-        + Eprint
-        + Sync,
-    O: Write,
->(
-    rt: &R,
-    alloc: Global,
-    said: &ServedArguments<'_>,
-    hall: &DurableHall<B, H, C, J>,
-    copying: Option<Copying<'_, K>>,
-    desks: Vec<Desk<H>>,
-    output: &mut O,
-) -> Result<(), Fault>
-    ensures { TellsKept (place_text said.now.place) said.now.connections (O.contents output.old) (O.contents output.new) result }
-{
-    let alarm = AtomicBool::new(false);
-    let stations = stations_at(rt, alloc, hall, &alarm, desks)?;
-    let list = KeptList { hall, rt };
-    announce(rt, alloc, said, list, copying, &alarm, stations, output)
 }
 
 // Opens a hall over the two stores, with a desk for each worker, and serves at its desks.
@@ -162,8 +68,9 @@ fn open_hall<
 {
     match Hall::<H>::open_for(rt, alloc, name, both.0, both.1, workers) {
         Ok((clerk, desks)) => {
-            let hall = DurableHall::<B, H, &R, J>::new(alloc, clerk, journal);
-            seat_workers(rt, alloc, said, &hall, copying, desks, output)
+            let hall = DurableHall::<B, H, &R, J>::new(alloc, rt, clerk, journal);
+            let list = KeptList { hall: &hall, rt };
+            serve_at(rt, alloc, said, &hall, list, copying, desks, output)
         }
         Err(HallFault::NoPlace) => Err(Fault::NoPlace),
         Err(HallFault::NoMemory) => Err(Fault::NoMemory),
@@ -227,8 +134,8 @@ fn serve_kept<
     )
 }
 
-/// Serves from the store at a path, which the keeper opens, as the words say. A copier that they name a copy for follows it.
-pub fn run_kept<
+// Serves from the store at a path, which the keeper opens, as the words say. A copier that they name a copy for follows it.
+pub(crate) fn run_kept<
     J: ReadBack + Drop + Send,
     K: Keeper<J> + Drop,
     L: Copier + Drop + Send,

@@ -1,12 +1,13 @@
-//! Servers at a port or a socket: workers over two copies of a store that is in memory, or that a journal keeps.
-//!
-//! What makes the stations is generic in the handle by which their hall waits. With the types written out, the goals on lifetimes
-//! (`requires-lives-T`) exceed the limit of `simp`.
+//! A server at a port or a socket, by the words of a command line: workers over two copies of a store that is in memory, or that a
+//! journal keeps.
 #![tactic(auto)]
 
 mod copying;
 mod kept;
 mod memory;
+mod served;
+mod serving;
+mod stations;
 
-pub use kept::run_kept;
-pub use memory::{Open, run_in_memory};
+pub use served::serve_words;
+pub use stations::Open;

@@ -41,9 +41,9 @@ routes = search (sendable, crosses, node, SlabCross.the_send) depth 60 fits 1000
 pub held_routes : IsSend Routes.the_field.row
 held_routes = search (sendable, crosses, node, SlabCross.the_send) depth 60 fits 100000
 
-held_worker : (a : NamedLft) (H R G : RattleType) (h : _) (l : _) → IsSend R → IsSync G → IsSend (Worker.the_field a H R G h l).row
-held_worker a H R G h l s y = worker a H R G h l s y
+held_worker : (a : NamedLft) (H M G : RattleType) (h : _) (l : _) (m : _) → IsSync M → IsSync G → IsSend (Worker.the_field a H M G h l m).row
+held_worker a H M G h l m s y = worker a H M G h l m s y
 
-pub station : (a : NamedLft) (H R G W : RattleType) (h : _) (l : _) (r : _) (g : _) (w : _) → IsSend R → IsSync G → IsSync W
-    → IsSend (Station.the_row a H R G W h l r g w)
-station a H R G W h l r g w s y z = search (sendable, crosses, held_routes, held_worker) depth 60 fits 100000
+pub station : (a : NamedLft) (H M G W : RattleType) (h : _) (l : _) (m : _) → IsSync M → IsSync G → IsSync W
+    → IsSend (Station.the_row a H M G W h l m)
+station a H M G W h l m s y z = search (sendable, crosses, held_routes, held_worker) depth 60 fits 100000

@@ -1,6 +1,6 @@
 -- Answers at a desk, by what was asked and told.
 use Rattle.std.proofs.Common.{rules, ◌≡◌, ◌⊎◌, inl, inr, ℕ, ◌+◌, Bool, true, false, List, [], Option, Some, None, option_map, refl, sym, ◌∙◌, ap, subst, arith}
-use Rattle.std.specs.Prelude.{Result, Ok, Err, IfOk, OnErr, MatchResult}
+use Rattle.std.specs.Prelude.{Result, Ok, Err, IfOk, IfSome, OnErr, MatchResult}
 use Rattle.std.proofs.lemmas.List.{append-nil}
 use mathlib.Core.List.{IsPrefix}
 use Rattle.st_http.specs.declared.message.Message.{Message}
@@ -17,10 +17,11 @@ use Rattle.st_core.specs.declared.judged.Judged.TheVariants.{Heard}
 use Rattle.st_connection.specs.Render.{busy_text}
 use Rattle.st_service.specs.Answers.{AsksBy, IsFound, TellsOrBusy, reply_text, token_from, token_in}
 use Rattle.st_hall.specs.Steps.{Ask, State, Told, reply_of, state_after}
-use Rattle.st_hall.specs.Views.{Seat, Post, EndsAfter, IsStranger, Learns}
-use Rattle.st_press.specs.declared.fault.AskFault.{AskFault}
+use Rattle.st_hall.specs.Views.{Seat, Post, EndsAfter, Learns}
+use Rattle.st_hall.specs.Decisions.{Decides, counted}
+use Rattle.st_hall.specs.declared.commits.Undecided.{Undecided}
 use Rattle.st_press.proofs.Fronts.{prefix_trans}
-use Rattle.st_station.specs.Seats.{Moves, no_token}
+use Rattle.st_station.specs.Seats.{IsStrange, Moves, no_token}
 use Rattle.st_station.specs.Replies.{SeatReplies, reads, makes, refuses_stranger, leaves_untold, gives_up, asks_nothing}
 
 -- a change is told to be made, or is refused
@@ -45,7 +46,7 @@ change_told s asked e = judged_change s (asker_of s.directory asked.token) asked
 
 -- a stranger is refused, or no memory was found for the text
 pub seated_stranger : (start : State) (s t : Seat) (m : Message) (bytes : List ℕ) → IsFound m
-    → IsStranger start s.seen (option_map token_from (token_in m)) → Moves 0 s t → TellsOrBusy no_token m.close m.bare bytes → SeatReplies start s m bytes t
+    → IsStrange start t.seen (option_map token_from (token_in m)) → Moves 0 s t → TellsOrBusy no_token m.close m.bare bytes → SeatReplies start s m bytes t
 seated_stranger start s t m bytes is_found none moves (inl is) = refuses_stranger is_found none moves is
 seated_stranger start s t m bytes is_found none moves (inr (is, other)) = gives_up moves is
 
@@ -53,21 +54,20 @@ seated_stranger start s t m bytes is_found none moves (inr (is, other)) = gives_
 moved_on : (more : ℕ) (s u t : Seat) → Moves 0 s u → Moves more u t → Moves more s t
 moved_on more s u t before m = record { seen = prefix_trans s.seen u.seen t.seen before.seen m.seen; made = omega (arith, before.made, m.made) }
 
-ended_on : (start : State) (s u : Seat) (asked : Ask) (reply : Told) → Moves 0 s u → (list : List Ask) × EndsAfter start u.seen list asked reply
-    → (list : List Ask) × EndsAfter start s.seen list asked reply
-ended_on start s u asked reply before (list, (front, on, ends, told)) =
-    (list, (front, prefix_trans s.seen u.seen front before.seen on, ends, told))
+ended_on : (start : State) (s u t : Seat) (asked : Ask) (reply : Told) → Moves 0 s u → EndsAfter start u.seen t.seen asked reply
+    → EndsAfter start s.seen t.seen asked reply
+ended_on start s u t asked reply before (front, on, ends, told) = (front, prefix_trans s.seen u.seen front before.seen on, ends, told)
 
 -- an answer at a later seat is one at the seat before
 pub seated_later : (start : State) (s u t : Seat) (m : Message) (bytes : List ℕ) → IsFound m → Moves 0 s u → SeatReplies start u m bytes t
     → SeatReplies start s m bytes t
 seated_later start s u t m bytes found before (reads is_found asks is_read moves is) = reads is_found asks is_read (moved_on 0 s u t before moves) is
 seated_later start s u t m bytes found before (makes {asked} {reply} is_found asks changes ends moves is) =
-    makes is_found asks changes (ended_on start s u asked reply before ends) (moved_on 1 s u t before moves) is
-seated_later start s u t m bytes found before (refuses_stranger is_found (list, on, none) moves is) =
-    refuses_stranger is_found (list, prefix_trans s.seen u.seen list before.seen on, none) (moved_on 0 s u t before moves) is
+    makes is_found asks changes (ended_on start s u t asked reply before ends) (moved_on 1 s u t before moves) is
+seated_later start s u t m bytes found before (refuses_stranger is_found none moves is) =
+    refuses_stranger is_found none (moved_on 0 s u t before moves) is
 seated_later start s u t m bytes found before (leaves_untold {asked} {refusal} is_found asks changes ends moves is) =
-    leaves_untold {refusal = refusal} is_found asks changes (ended_on start s u asked (Reply.Refused refusal) before ends) (moved_on 1 s u t before moves) is
+    leaves_untold {refusal = refusal} is_found asks changes (ended_on start s u t asked (Reply.Refused refusal) before ends) (moved_on 1 s u t before moves) is
 seated_later start s u t m bytes found before (gives_up moves is) = gives_up (moved_on 0 s u t before moves) is
 seated_later start s u t m bytes found before (asks_nothing none told same) = absurd (none found)
 
@@ -96,18 +96,18 @@ module _ (start : State) (s t : Seat) (m : Message) (bytes : List ℕ) (asked : 
         reads is_found asks is_read moves (is ∙ ap (λ (r : Told). reply_text r m.close m.bare) told)
     seated_read reply is_read moves told (inr (is, other)) = gives_up moves is
 
-    seated_change : (reply : Told) → asks_for_change asked ≡ true → Moves 1 s t → (list : List Ask) × EndsAfter start s.seen list asked reply
+    seated_change : (reply : Told) → asks_for_change asked ≡ true → Moves 1 s t → EndsAfter start s.seen t.seen asked reply
         → TellsOrBusy reply m.close m.bare bytes → SeatReplies start s m bytes t
     seated_change reply changes moves ends (inl is) = makes is_found asks changes ends moves is
-    seated_change reply changes moves (list, (before, goes_on, ends, told)) (inr (is, other)) =
+    seated_change reply changes moves (before, goes_on, ends, told) (inr (is, other)) =
         elim (change_told (state_after start before) asked changes) [
           | inl accepted ↦ absurd (other (told ∙ accepted))
-          | inr (refusal, refused) ↦ leaves_untold {refusal = refusal} is_found asks changes (list, (before, goes_on, ends, sym refused)) moves is
+          | inr (refusal, refused) ↦ leaves_untold {refusal = refusal} is_found asks changes (before, goes_on, ends, sym refused) moves is
         ]
 
     -- what was asked is told, be it a read or a change
     seated_told : (reply : Told) → IsPrefix s.seen t.seen → (asks_for_change asked ≡ true → t.made ≡ s.made + 1)
-        → (asks_for_change asked ≡ true → (list : List Ask) × EndsAfter start s.seen list asked reply)
+        → (asks_for_change asked ≡ true → EndsAfter start s.seen t.seen asked reply)
         → (asks_for_change asked ≡ false → t.made ≡ s.made)
         → (asks_for_change asked ≡ false → reply ≡ reply_of (state_after start t.seen) asked)
         → TellsOrBusy reply m.close m.bare bytes → SeatReplies start s m bytes t
@@ -119,20 +119,24 @@ module _ (start : State) (s t : Seat) (m : Message) (bytes : List ℕ) (asked : 
 
 -- what is asked is told, or no memory was found for it, or nobody asks
 pub seated : (start : State) (s t : Seat) (m : Message) (bytes : List ℕ) (asked : Ask) → IsFound m → AsksBy m asked
-    → asked.token ≡ option_map token_from (token_in m) → (result : Result Told AskFault) → IsPrefix s.seen t.seen
-    → (asks_for_change asked ≡ true → MatchResult result (λ _. t.made ≡ s.made + 1) (λ _. t.made ≡ s.made))
-    → (asks_for_change asked ≡ true → IfOk result (λ r. (list : List Ask) × EndsAfter start s.seen list asked r))
+    → asked.token ≡ option_map token_from (token_in m) → (result : Result (Option Told) Undecided) → IsPrefix s.seen t.seen
+    → (asks_for_change asked ≡ true → MatchResult result (λ told. t.made ≡ s.made + counted told) (λ _. t.made ≡ s.made))
+    → (asks_for_change asked ≡ true → IfOk result (λ told. Decides start s.seen asked told t.seen))
     → (asks_for_change asked ≡ false → t.made ≡ s.made)
-    → (asks_for_change asked ≡ false → IfOk result (λ r. r ≡ reply_of (state_after start t.seen) asked))
-    → (result ≡ Err AskFault.Stranger → IsStranger start s.seen asked.token)
-    → IfOk result (λ r. TellsOrBusy r m.close m.bare bytes) → (result ≡ Err AskFault.Stranger → TellsOrBusy no_token m.close m.bare bytes)
-    → (result ≡ Err AskFault.NoMemory → bytes ≡ busy_text m.close m.bare) → SeatReplies start s m bytes t
-seated start s t m bytes asked is_found asks token (Ok reply) seen counted ends kept told none text refused busy_is =
-    seated_told start s t m bytes asked is_found asks reply seen counted ends kept told text
-seated start s t m bytes asked is_found asks token (Err AskFault.NoMemory) seen counted ends kept told none text refused busy_is =
-    seated_wanting start s t m bytes asked (busy_is refl) seen counted kept
-seated start s t m bytes asked is_found asks token (Err AskFault.Stranger) seen counted ends kept told none text refused busy_is =
-    seated_stranger start s t m bytes is_found (subst (IsStranger start s.seen) token (none refl)) (unmade start s t m bytes asked seen counted kept) (refused refl)
+    → (asks_for_change asked ≡ false → IfOk result (λ told. told ≡ Some (reply_of (state_after start t.seen) asked)))
+    → IfOk result (λ told. IfSome told (λ r. TellsOrBusy r m.close m.bare bytes)) → (result ≡ Ok None → TellsOrBusy no_token m.close m.bare bytes)
+    → OnErr result (bytes ≡ busy_text m.close m.bare) → SeatReplies start s m bytes t
+seated start s t m bytes asked is_found asks token (Ok (Some reply)) seen made decided kept shown text refused busy_is =
+    seated_told start s t m bytes asked is_found asks reply seen made decided kept (λ e. let f = shown e in cc) text
+seated start s t m bytes asked is_found asks token (Ok None) seen made decided kept shown text refused busy_is = go (asks_for_change asked) refl
+  where
+    go : (b : Bool) → asks_for_change asked ≡ b → SeatReplies start s m bytes t
+    go true e =
+        seated_stranger start s t m bytes is_found (subst (IsStrange start t.seen) token (decided e).1)
+        (record { seen = seen; made = (let same = made e in omega arith) }) (refused refl)
+    go false e = absurd (let f = shown e in cc)
+seated start s t m bytes asked is_found asks token (Err why) seen made decided kept shown text refused busy_is =
+    seated_wanting start s t m bytes asked busy_is seen made kept
 
 -- no memory was found for what is asked
 pub seated_unasked : (start : State) (s : Seat) (m : Message) (bytes : List ℕ) → bytes ≡ busy_text m.close m.bare → SeatReplies start s m bytes s

@@ -1,4 +1,5 @@
 pub mod Seats
 pub mod Posts
 pub mod Replies
+pub mod Standing
 pub mod inner

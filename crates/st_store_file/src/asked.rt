@@ -63,7 +63,7 @@ pub(crate) fn shorten_asked<S: Start, F: Write>(
         asked.names,
     )?;
     drop(copy);
-    let (journal, counts) = shorten_file(rt, start, path, opening.as_str(), store)?;
+    let (journal, counts) = shorten_file(rt, asked.program, start, path, opening.as_str(), store)?;
     tell(asked.program, &counts, faults);
     Ok(Some(journal))
 }

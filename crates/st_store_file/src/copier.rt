@@ -8,12 +8,16 @@ use crate::time::milliseconds;
 use sqlite_std_file::{FileFrom, Start, Unknown};
 use st_copy::{Copier, CopyFault, Counting, Source, bring_up, has_more};
 use st_journal::Journal;
-use st_journal_file::{FileJournal, OpenError};
+use st_journal_file::{FileJournal, OpenError, Silent};
 
 // Why a list was not copied into a file that was not opened.
-fn copy_fault_of(error: OpenError) -> CopyFault {
+fn copy_fault_of(error: OpenError) -> CopyFault
+    ensures owner { error ≡ OpenError.OtherOwner → result ≡ CopyFault.OtherStore }
+    ensures opening { error ≡ OpenError.OtherOpening → result ≡ CopyFault.OtherNames }
+{
     match error {
-        OpenError::OtherOpening => CopyFault::OtherOpening,
+        OpenError::OtherOwner => CopyFault::OtherStore,
+        OpenError::OtherOpening => CopyFault::OtherNames,
         OpenError::InUse => CopyFault::InUse,
         OpenError::LaterFormat(_) => CopyFault::LaterFormat,
         OpenError::NotAJournal => CopyFault::NoStore,
@@ -52,7 +56,7 @@ pub fn copy_into<S: Start, L: Source>(
     }
     let mut counting = Counting::new();
     let time = milliseconds(rt);
-    let mut copy = match FileJournal::open(rt, path, opening, time, &mut counting, start) {
+    let mut copy = match FileJournal::open(rt, path, opening, time, &mut counting, &Silent, start) {
         Ok(copy) => copy,
         Err(error) => return Err(copy_fault_of(error)),
     };

@@ -18,9 +18,11 @@ use st_journal::Journal;
 use st_journal_file::FileJournal;
 
 /// Opens the journal at a path, of a store that was this one before its first change, and makes its list short. A store that is
-/// refused is left as it is. `start` says what is supposed of a crash, and stands for what the files held.
+/// refused is left as it is. While the opening takes long, standard error says how far it is, behind the name of the program. `start`
+/// says what is supposed of a crash, and stands for what the files held.
 pub fn shorten_file<S: Start>(
     rt: &HostRuntime,
+    program: &str,
     start: S,
     path: &str,
     opening: &str,
@@ -35,7 +37,7 @@ pub fn shorten_file<S: Start>(
     ensures err { IfErr result IsOfStore }
 {
     let mut state = WatchedStore::new(rt.alloc(), store);
-    let keeper = SqliteKeeper::new(rt, start);
+    let keeper = SqliteKeeper::new(rt, program, start);
     let mut journal = keeper.open(path, opening, &mut state)?;
     let counts = shorten_journal(rt.alloc(), &mut journal, state)?;
     leave(&journal);

@@ -3,6 +3,7 @@ ghost use Rattle.std.specs.Prelude.{◌≡◌};
 ghost use Rattle.st_command.specs.Opening.{IsOfStore};
 
 use crate::private::make_private;
+use crate::telling::Telling;
 use crate::time::milliseconds;
 use sqlite_std_file::{FileFrom, Start};
 use st_command::Keeper;
@@ -12,10 +13,13 @@ use st_journal_file::{FileJournal, OpenError};
 
 // The fault that an error of an opening is.
 fn fault_of(error: OpenError) -> Fault
-    ensures { IsOfStore result }
+    ensures kind { IsOfStore result }
+    ensures owner { error ≡ OpenError.OtherOwner → result ≡ Fault.OtherStore }
+    ensures opening { error ≡ OpenError.OtherOpening → result ≡ Fault.OtherNames }
 {
     match error {
-        OpenError::OtherOpening => Fault::OtherStore,
+        OpenError::OtherOwner => Fault::OtherStore,
+        OpenError::OtherOpening => Fault::OtherNames,
         OpenError::InUse => Fault::StoreInUse,
         OpenError::LaterFormat(format) => Fault::LaterStore(format),
         OpenError::NotAJournal => Fault::NoStore,
@@ -30,14 +34,21 @@ fn fault_of(error: OpenError) -> Fault
 #[derive(Drop)]
 pub struct SqliteKeeper<'a, S: Start> {
     runtime: &'a HostRuntime,
+    // The name of the program.
+    program: &'a str,
     // What is supposed of a crash.
     start: S,
 }
 
 impl<'a, S: Start> SqliteKeeper<'a, S> {
-    /// `start` says what is supposed of a crash, and stands for what the files held.
-    pub fn new(runtime: &'a HostRuntime, start: S) -> SqliteKeeper<'a, S> {
-        SqliteKeeper { runtime, start }
+    /// While an opening takes long, standard error says how far it is, behind the name of the program. `start` says what is supposed
+    /// of a crash, and stands for what the files held.
+    pub fn new(runtime: &'a HostRuntime, program: &'a str, start: S) -> SqliteKeeper<'a, S> {
+        SqliteKeeper {
+            runtime,
+            program,
+            start,
+        }
     }
 }
 
@@ -57,7 +68,19 @@ impl<S: Start> Keeper<FileJournal<FileFrom<S>>> for SqliteKeeper<'_, S> {
             return Err(Fault::StoreIo);
         }
         let time = milliseconds(self.runtime);
-        match FileJournal::open(self.runtime, path, opening, time, state, self.start) {
+        let telling = Telling {
+            runtime: self.runtime,
+            program: self.program,
+        };
+        match FileJournal::open(
+            self.runtime,
+            path,
+            opening,
+            time,
+            state,
+            &telling,
+            self.start,
+        ) {
             Ok(journal) => Ok(journal),
             Err(error) => Err(fault_of(error)),
         }

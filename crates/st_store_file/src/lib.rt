@@ -9,6 +9,7 @@ mod file;
 mod journal;
 mod keeper;
 mod private;
+mod telling;
 mod time;
 mod words;
 

@@ -35,7 +35,7 @@ fn letter_of(place: usize) -> u8 {
 }
 
 // Makes the puts of one desk, which learns the front of each.
-fn put_at<B: Beginning, H: HallName, R: Wait + Drop, J: Journal + Drop, W: Wait + Clock>(
+fn put_at<B: Beginning, H: HallName, R: Wait + Clock + Drop, J: Journal + Drop, W: Wait>(
     rt: &W,
     alloc: Global,
     hall: &DurableHall<B, H, R, J>,
@@ -119,7 +119,9 @@ fn put_by_all<
 {
     let (clerk, mut desks) = Hall::<H>::open_for(rt, alloc, name, both.0, both.1, workers).ok()?;
     let journal = SlowJournal::new(rt, alloc, limit);
-    let hall: DurableHall<B, H, &R, SlowJournal<'_, R>> = DurableHall::new(alloc, clerk, journal);
+    let hall: DurableHall<B, H, &R, SlowJournal<'_, R>> = DurableHall::new(
+        alloc, rt, clerk, journal,
+    );
     put_at_each(rt, alloc, &hall, &mut desks);
     let told = longest(&desks);
     drop(desks);

@@ -6,7 +6,7 @@ ghost use Rattle.st_service.specs.Answers.{AsksBy, IsFound};
 use st_core::Asked;
 use st_durable::Beginning;
 use st_durable_hall::DurableHall;
-use st_hall::{Desk, Front, HallName};
+use st_hall::{Commits, Desk, Front, HallName};
 use st_http::message::{Message, Take};
 use st_http::routes::Routes;
 use st_journal::Journal;
@@ -53,8 +53,28 @@ fn change_of(alloc: Global, message: &Message<'_>) -> Option<Asked>
     }
 }
 
-// Makes the change that a message asks. Its front, where it was published.
-fn change<B: Beginning, H: HallName, R: Wait + Drop, J: Journal + Drop, W: Wait + Clock>(
+// The list by which a change is decided.
+fn decide<B: Beginning, H: HallName, R: Wait + Clock + Drop, J: Journal + Drop, W: Wait>(
+    rt: &W,
+    hall: &DurableHall<B, H, R, J>,
+    desk: &mut Desk<H>,
+    message: &Message<'_>,
+    asked: Asked,
+) -> Option<Front<H>>
+    requires found { IsFound message.now }
+    requires asks { AsksBy message.now asked }
+    requires change { asks_for_change asked ≡ true }
+{
+    let decided = hall.change(rt, desk, message, &asked);
+    drop(asked);
+    match decided {
+        Ok(outcome) => Some(outcome.front),
+        Err(_) => None,
+    }
+}
+
+// The list by which the change that a message asks is decided.
+fn decided_by<B: Beginning, H: HallName, R: Wait + Clock + Drop, J: Journal + Drop, W: Wait>(
     rt: &W,
     alloc: Global,
     hall: &DurableHall<B, H, R, J>,
@@ -66,14 +86,26 @@ fn change<B: Beginning, H: HallName, R: Wait + Drop, J: Journal + Drop, W: Wait 
         return None;
     }
     let asked = change_of(alloc, message)?;
-    match hall.change(rt, rt, desk, message, asked) {
-        Ok(receipt) => receipt.front,
-        Err(_) => None,
+    decide(rt, hall, desk, message, asked)
+}
+
+/// The list by which the change of a text is decided, which is not kept then.
+pub fn decided<B: Beginning, H: HallName, R: Wait + Clock + Drop, J: Journal + Drop, W: Wait>(
+    rt: &W,
+    alloc: Global,
+    hall: &DurableHall<B, H, R, J>,
+    desk: &mut Desk<H>,
+    routes: &Routes,
+    text: &[u8],
+) -> Option<Front<H>> {
+    match routes.take(text) {
+        Take::Message(message, _) => decided_by(rt, alloc, hall, desk, &message),
+        _ => None,
     }
 }
 
-/// Makes a put of a row of this id. Its front, where it was published.
-pub fn put<B: Beginning, H: HallName, R: Wait + Drop, J: Journal + Drop, W: Wait + Clock>(
+/// Makes a put of a row of this id. The list that ends with it, once it is kept and published.
+pub fn put<B: Beginning, H: HallName, R: Wait + Clock + Drop, J: Journal + Drop, W: Wait>(
     rt: &W,
     alloc: Global,
     hall: &DurableHall<B, H, R, J>,
@@ -83,8 +115,9 @@ pub fn put<B: Beginning, H: HallName, R: Wait + Drop, J: Journal + Drop, W: Wait
 ) -> Option<Front<H>> {
     let mut text = Vec::new(alloc);
     push_text(&mut text, id)?;
-    match routes.take(text.as_slice()) {
-        Take::Message(message, _) => change(rt, alloc, hall, desk, &message),
+    let front = decided(rt, alloc, hall, desk, routes, text.as_slice())?;
+    match hall.settle(rt, &front) {
+        Ok(true) => Some(front),
         _ => None,
     }
 }

@@ -9,6 +9,8 @@ mod calls;
 #[cfg(test)]
 mod desks;
 #[cfg(test)]
+mod dropped;
+#[cfg(test)]
 mod faults;
 #[cfg(test)]
 mod fronts;

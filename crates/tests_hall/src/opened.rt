@@ -34,7 +34,8 @@ pub trait Answers: Attend {
     fn made(&self) -> u64;
 }
 
-impl<H: HallName, C: Wait + Drop, G: Gate, W: Wait> Answers for Station<'_, H, C, G, W> {
+impl<H: HallName, C: Wait + Drop, G: Gate, W: Wait> Answers
+    for Station<'_, H, Mutex<Clerk<H, C>>, G, W> {
     fn tell(&mut self, message: &Message<'_>, told: &mut Vec<u8>) -> Option<()> {
         let answer = self.reply_to(message);
         told.extend_from_slice(answer.as_bytes()).ok()

@@ -1,20 +1,19 @@
 //! Puts that a client sends together.
 ghost use Rattle.std.specs.Prelude.{◌≡◌, ◌<◌};
 
-use crate::halls::stores;
+use crate::halls::{Always, stores};
 use crate::journals::SlowJournal;
 use crate::kept_puts::{id_of, push_text};
 use st_connection::{Ended, FromRead, FromWrite};
 use st_core::Store;
 use st_durable::Beginning;
 use st_durable_hall::DurableHall;
-use st_durable_station::DurableStation;
-use st_hall::{Desk, Hall, HallName, UnnamedFor};
+use st_hall::{Commits, Desk, Hall, HallName, UnnamedFor};
 use st_journal::Journal;
+use st_station::Station;
 use std::alloc::Global;
 use std::marker::Brand;
 use std::sync::Wait;
-use std::sync::atomic::AtomicBool;
 use std::test::*;
 use std::time::Clock;
 
@@ -37,15 +36,15 @@ fn input(alloc: Global) -> Option<Vec<u8>> {
 }
 
 // What a station answers a text.
-fn answered<B: Beginning, H: HallName, R: Wait + Drop, J: Journal + Drop, W: Wait + Clock>(
+fn answered<B: Beginning, H: HallName, R: Wait + Clock + Drop, J: Journal + Drop, W: Wait>(
     rt: &W,
     alloc: Global,
     hall: &DurableHall<B, H, R, J>,
     desk: Desk<H>,
     text: &[u8],
 ) -> Option<Told> {
-    let alarm = AtomicBool::new(false);
-    let mut station = DurableStation::new(rt, alloc, rt, desk, hall, &alarm).ok()?;
+    hall.settle(rt, &desk.front()).ok()?;
+    let mut station = Station::new(rt, alloc, 1, desk, hall, &Always).ok()?;
     let mut reader = FromRead::new(text);
     let mut writer = FromWrite::new(Vec::new(alloc));
     let ended = station.serve(&mut reader, &mut writer);
@@ -69,7 +68,9 @@ fn told_by<B: Beginning, H: HallName, R: Wait + Clock>(
     let desk = desks.pop()?;
     drop(desks);
     let journal = SlowJournal::new(rt, alloc, limit);
-    let hall: DurableHall<B, H, &R, SlowJournal<'_, R>> = DurableHall::new(alloc, clerk, journal);
+    let hall: DurableHall<B, H, &R, SlowJournal<'_, R>> = DurableHall::new(
+        alloc, rt, clerk, journal,
+    );
     let told = answered(rt, alloc, &hall, desk, &text)?;
     let (draft, publisher) = hall.apart();
     drop(draft);

@@ -71,7 +71,7 @@ impl<R: Clock + Wait> Turns<'_, R> {
 // Whether a station counts no rows.
 fn counts_none<H: HallName, C: Wait + Drop, G: Gate, W: Wait>(
     alloc: Global,
-    mut station: Station<'_, H, C, G, W>,
+    mut station: Station<'_, H, Mutex<Clerk<H, C>>, G, W>,
 ) -> Option<bool> {
     is_answered(alloc, &mut station, COUNT, NO_ROWS)
 }
@@ -84,8 +84,8 @@ fn counted_by<H: HallName + Send + Sync, R: Threads + Wait + Clock + Sync>(
     alloc: Global,
     clerk: &Mutex<Clerk<H, &R>>,
     turns: &Turns<'_, R>,
-    one: Station<'_, H, &R, Turns<'_, R>, R>,
-    two: Station<'_, H, &R, Turns<'_, R>, R>,
+    one: Station<'_, H, Mutex<Clerk<H, &R>>, Turns<'_, R>, R>,
+    two: Station<'_, H, Mutex<Clerk<H, &R>>, Turns<'_, R>, R>,
 ) -> Counted {
     let (held, (a, b)) = join(
         rt,

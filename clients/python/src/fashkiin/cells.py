@@ -48,10 +48,8 @@ class Box(NamedTuple):
 EVERYTHING = Box(0, LAST_CELL, 0, LAST_CELL, 0, LAST_SECOND)
 
 
-def _normalize(value: float, low: float, high: float) -> int:
-    if value >= high:
-        return LAST_CELL
-    return min(LAST_CELL, math.floor((value - low) * (CELLS / (high - low))))
+_COLUMNS_A_DEGREE = CELLS / 360.0
+_LINES_A_DEGREE = CELLS / 180.0
 
 
 def _denormalize(cell: int, low: float, high: float) -> float:
@@ -62,14 +60,16 @@ def longitude_cell(lon: float) -> int:
     """The column of a longitude of -180 to 180 degrees; `RowError` for another."""
     if not -180.0 <= lon <= 180.0:
         raise RowError("lon", lon, "-180 to 180 degrees")
-    return _normalize(lon, -180.0, 180.0)
+    cell = int((lon + 180.0) * _COLUMNS_A_DEGREE)
+    return cell if cell < CELLS else LAST_CELL
 
 
 def latitude_cell(lat: float) -> int:
     """The line of a latitude of -90 to 90 degrees; `RowError` for another."""
     if not -90.0 <= lat <= 90.0:
         raise RowError("lat", lat, "-90 to 90 degrees")
-    return _normalize(lat, -90.0, 90.0)
+    cell = int((lat + 90.0) * _LINES_A_DEGREE)
+    return cell if cell < CELLS else LAST_CELL
 
 
 def cell_longitude(x: int) -> float:

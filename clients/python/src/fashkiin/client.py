@@ -4,16 +4,15 @@ from __future__ import annotations
 
 import threading
 import time
-from collections import deque
 from collections.abc import Callable, Iterable, Iterator, Mapping
 from dataclasses import dataclass
-from itertools import islice
 from types import TracebackType
-from typing import Any, Generic, TypeVar
+from typing import Any, TypeVar
 from urllib.parse import quote
 
 from fashkiin.accounts import Account, Change, Grants, Tables, Users, read_account, read_change
-from fashkiin.errors import ConnectError, CutOffError, EdgeError, FashkiinError, RefusalError, RowError
+from fashkiin.errors import ConnectError, CutOffError, EdgeError, RefusalError, RowError
+from fashkiin.pipeline import Part, Pipeline, Told, asking, pieces
 from fashkiin.rows import Row, to_json
 from fashkiin.table import Table
 from fashkiin.tokens import Token
@@ -22,10 +21,6 @@ from fashkiin.wire import Address, Connection, Reply, member, tls
 TRIES = 6
 LARGEST_WINDOW = 256
 Item = TypeVar("Item")
-Told = Mapping[str, Any] | RefusalError | RowError
-"""The object that answers a request, or the refusal of it; or why there was no request."""
-_OFTEN: Mapping[bytes, Mapping[str, Any]] = {b'{"ok":true}': {"ok": True}, b'{"rows":[]}': {"rows": []}}
-"""The objects of bodies that need no reading."""
 
 
 @dataclass(frozen=True, slots=True)
@@ -168,16 +163,9 @@ class Client:
         a repeat changes nothing. After six tries without an answer the error is raised. A row on its way when the iterator
         is closed may be stored or not.
         """
-        for row, error in self.put_items(table, rows, Row.body, window):
-            yield Put(row, error)
-
-    def put_items(
-        self, table: str, items: Iterable[Item], body: Callable[[Item], bytes], window: int = 64
-    ) -> Iterator[tuple[Item, RefusalError | RowError | None]]:
-        """`put_many` of whatever `body` makes the body of a put of. Where it raises `RowError`, that is told in its place."""
         request = self.requests("POST", path("tables", table, "put"))
-        for item, told in self.ask_many(items, lambda item: request(body(item)), window):
-            yield item, told if isinstance(told, RefusalError | RowError) else None
+        for row, told in self.ask_many(rows, lambda row: request(row.body()), window):
+            yield Put(row, told if isinstance(told, RefusalError | RowError) else None)
 
     def ask_many(
         self, items: Iterable[Item], request: Callable[[Item], bytes], window: int = 64
@@ -186,102 +174,29 @@ class Client:
         to 256), and tells each answer in their order. Where it raises `RowError`, that is told in the answer's place.
 
         Where the connection ends, requests without an answer are sent again on a new one, so a repeat must do no harm. After six
-        tries without an answer the error is raised.
+        tries without an answer the error is raised. An error of `items` is raised behind the answers of the items before it.
         """
         if not 1 <= window <= LARGEST_WINDOW:
             raise ValueError(f"a window of {window}, wanted 1 to {LARGEST_WINDOW}")
-        pipeline = _Pipeline(self, request, iter(items), window)
+        told: list[tuple[Item, Told]] = []
+        parts = (asking(piece, request, told.append) for piece in pieces(items, max(1, window // 2)))
+        for _ in self.ask_parts(parts, min(window, 2)):
+            yield from told
+            told.clear()
+
+    def ask_parts(self, parts: Iterator[Part], ahead: int = 2) -> Iterator[None]:
+        """`ask_many` by parts, up to `ahead` of them on their way at a time. Steps whenever answers have been told."""
+        pipeline = Pipeline(self, parts, ahead)
         tries = 0
         while pipeline.unfinished():
             try:
-                for told in pipeline.run():
+                for _ in pipeline.run():
                     tries = 0
-                    yield from told
+                    yield
             except (ConnectError, CutOffError, EdgeError):
                 tries += 1
                 if tries == TRIES:
                     raise
                 time.sleep(0.05 * 2**tries)
-
-
-class _Pipeline(Generic[Item]):
-    """The items of an `ask_many` that wait for their answers."""
-
-    def __init__(self, client: Client, request: Callable[[Item], bytes], items: Iterator[Item], window: int) -> None:
-        self._client = client
-        self._request = request
-        self._items = items
-        self._window = window
-        self._waiting: deque[tuple[Item, bytes, Told | None]] = deque()
-        self._stays = True
-        self._more = True
-
-    def unfinished(self) -> bool:
-        """Whether an item is still to be told."""
-        return self._more or bool(self._waiting)
-
-    def run(self) -> Iterator[list[tuple[Item, Told]]]:
-        """Tells what becomes of the items, those together whose answers have come together, over one connection, until it ends
-        or no item is left."""
-        connection = self._client._take()
-        keeps = False
-        try:
-            connection.send(b"".join(request for _, request, _ in self._waiting))
-            while self.unfinished():
-                if self._more and len(self._waiting) <= self._window // 2:
-                    connection.send(self._fill())
-                if not self._waiting:
-                    continue
-                told, error = self._answers(connection)
-                if told:
-                    yield told
-                if error is not None:
-                    raise error
-                if not self._stays:
-                    return
-            keeps = True
-        finally:
-            self._client._give(connection, keeps)
-
-    def _answers(self, connection: Connection) -> tuple[list[tuple[Item, Told]], FashkiinError | None]:
-        """Waits for the next answer, and returns it with those that have come with it, and the error that ended them."""
-        waiting = self._waiting
-        told: list[tuple[Item, Told]] = []
-        self._stays = True
-        try:
-            while waiting and self._stays:
-                item, _, answer = waiting[0]
-                if answer is None:
-                    reply = connection.arrived() if told else connection.receive()
-                    if reply is None:
-                        break
-                    self._stays = reply.keeps
-                    answer = _told(reply)
-                told.append((item, answer))
-                waiting.popleft()
-        except FashkiinError as error:
-            return told, error
-        return told, None
-
-    def _fill(self) -> bytes:
-        """Takes items until the window is full, and returns their requests."""
-        room = self._window - len(self._waiting)
-        requests = []
-        for item in islice(self._items, room):
-            try:
-                requests.append(self._request(item))
-                self._waiting.append((item, requests[-1], None))
-            except RowError as error:
-                self._waiting.append((item, b"", error))
-        self._more = len(self._waiting) == self._window
-        return b"".join(requests)
-
-
-def _told(reply: Reply) -> Mapping[str, Any] | RefusalError:
-    """The object of a reply, or the refusal that it is."""
-    if reply.status == 200 and reply.body in _OFTEN:
-        return _OFTEN[reply.body]
-    try:
-        return reply.value()
-    except RefusalError as error:
-        return error
+        if pipeline.error is not None:
+            raise pipeline.error

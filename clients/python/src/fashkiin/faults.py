@@ -7,8 +7,7 @@ from collections import deque
 from typing import BinaryIO, NamedTuple
 
 from fashkiin.errors import ConstraintError, FashkiinError, FieldError, LabelError, RowError, SettingsError, shown
-from fashkiin.formats import Format, Names, Source, format_of
-from fashkiin.rows import Row
+from fashkiin.formats import Format, Names, Prepared, Source, format_of
 from fashkiin.texts import printable
 
 
@@ -27,24 +26,31 @@ class Fault(NamedTuple):
         return "\n".join((f"{self.file}:{self.place}: {printable(self.field)}: {self.reason}", *self.marks))
 
 
-def fault(
-    source: Source, form: Format, names: Names, place: int, error: FashkiinError, row: Row | RowError, raw: bytes = b""
-) -> Fault:
-    """What is wrong at a place of a source."""
+def fault(source: Source, form: Format, names: Names, row: Prepared, error: FashkiinError, raw: bytes = b"") -> Fault:
+    """What is wrong with a row of a source."""
+    place, _, label, _ = row
     where = str(place) if form.unit == "line" else f"{form.unit} {place}"
     field, reason = "row", str(error)
     marks: tuple[str, ...] = ()
-    if isinstance(error, LabelError) and isinstance(row, Row):
+    if isinstance(error, LabelError):
         field, reason = names.column("label"), f"invalid at byte {error.at}, wanted an expression such as A&(B|C)"
-        marks = marked(row.label, error.at)
+        marks = marked(label, error.at)
     elif isinstance(error, ConstraintError):
         field, reason = names.column("label"), f"{shown(error.label)}, wanted one that you can see yourself"
     elif isinstance(error, FieldError):
         field, reason = error.field, "out of the server's range, wanted one within it"
     elif isinstance(error, RowError):
         field = names.column(error.field) if error.field in ("id", "lon", "lat", "time", "label") else error.field
-        reason = str(error).partition(": ")[2]
+        reason = str(error).partition(": ")[2] + _remedy(error)
     return Fault(source.name, where, field, reason, marks, raw)
+
+
+def _remedy(error: RowError) -> str:
+    """The option that takes such a row, if there is one."""
+    value = error.value
+    if error.field == "lon" and isinstance(value, float) and 180.0 < value <= 360.0:
+        return ", or --wrap for 0 to 360 degrees"
+    return ""
 
 
 def marked(label: str, at: int) -> tuple[str, str]:

@@ -6,13 +6,11 @@ which ids stand under other labels too.
 
 from __future__ import annotations
 
-from collections import Counter
-from collections.abc import Callable, Iterable, Iterator
-from dataclasses import dataclass, field
+from collections.abc import Callable, Iterable, Sequence
+from contextlib import closing
 from itertools import chain, islice
-from typing import NamedTuple
 
-from fashkiin.client import LARGEST_WINDOW, Client, Told, path
+from fashkiin.client import LARGEST_WINDOW, Client, path
 from fashkiin.errors import (
     ConstraintError,
     FashkiinError,
@@ -24,80 +22,24 @@ from fashkiin.errors import (
     StoppedError,
 )
 from fashkiin.faults import Fault
-from fashkiin.formats import Format, Found, Names, Source
-from fashkiin.reading import Reading, body
-from fashkiin.rows import Row, to_json
+from fashkiin.formats import Format, Names, Prepared, Source
+from fashkiin.pipeline import NONE_SEEN, STORED, Answer, Part, Told
+from fashkiin.reading import Reading
+from fashkiin.rows import quoted, to_json
+from fashkiin.tally import Batch, Counting, Tally
 
 OF_A_ROW = (FieldError, LabelError, ConstraintError, SizeError)
 """The refusals that are a row's own fault; any other would meet the next row too."""
 
-LABELS = 4_096
-"""Of how many labels it is remembered whether the loader can read them."""
-
-
-@dataclass(slots=True)
-class Tally:
-    """What became of the rows of a load: `stored` are new, `replaced` took the place of a row of the same id and label.
-
-    `deleted` are the rows that a load with `replace` deleted under other labels. `elsewhere` counts the rows whose id stands
-    under another label too, `example` is an id and such a label, and `unread` counts the rows whose labels the loader cannot
-    read. All but `rejected` are by what the loader sees.
-    """
-
-    stored: int = 0
-    replaced: int = 0
-    rejected: int = 0
-    deleted: int = 0
-    elsewhere: int = 0
-    example: tuple[str, str] | None = None
-    unread: int = 0
-
-    @property
-    def read(self) -> int:
-        """All rows."""
-        return self.stored + self.replaced + self.rejected
-
-
-@dataclass(slots=True)
-class _Batch:
-    """Rows that are looked up together and then put, and under which labels each id is seen."""
-
-    rows: list[Found]
-    labels: dict[str, set[str]] = field(default_factory=dict)
-    last: dict[str, str] = field(default_factory=dict)
-
-
-class _Look(NamedTuple):
-    """Asks under which labels an id is seen. Behind a put, it asks whether its label is among them."""
-
-    request: bytes | RowError
-    batch: _Batch
-    id: str
-    put: str | None
-
-
-class _Put(NamedTuple):
-    """A row to put, at its place in its file."""
-
-    request: bytes | RowError
-    batch: _Batch
-    place: int
-    row: Row | RowError
-
-
-class _Delete(NamedTuple):
-    """A row to delete."""
-
-    request: bytes | RowError
-
-
-_Step = _Look | _Put | _Delete
+PARTS = 3
+"""In how many parts a batch is sent."""
 
 
 class Loader:
     """Loads sources into a table. `reject` is told of each row that cannot be stored; without it the load stops at the first one,
-    where rows within a window behind it may be stored already. `step` is called after each row, `begin` before the first row is
-    sent. With `replace`, a row takes the place of all rows of its id that the loader sees, whatever their labels."""
+    where rows within a window behind it may be stored already. `step` is called when it is known of more rows what became of
+    them, `begin` before the first row is sent. With `replace`, a row takes the place of all rows of its id that the loader sees,
+    whatever their labels."""
 
     def __init__(
         self,
@@ -109,68 +51,63 @@ class Loader:
         begin: Callable[[], None] | None = None,
         replace: bool = False,
     ) -> None:
-        self.tally = Tally()
+        self._counting = Counting()
+        self.tally = self._counting.tally
         self.denied: RefusalError | None = None
         """Why the loader may not read the table, once that is known."""
         self._client = client
         self._put_request, self._get_request, self._delete_request = (
             client.requests("POST", path("tables", table, kind)) for kind in ("put", "get", "delete")
         )
-        self._window = window
+        # Two batches are on their way at a time. A row takes two requests.
+        self._size = max(1, min(window, LARGEST_WINDOW // 2) // 2)
+        self._batches = min(window, 2)
         self._reject = reject
         self._step = step
         self._begin = begin
         self._replace = replace
         self._auths = ""
-        self._readable: dict[str, bool] = {}
-        self._unknown: Counter[str] = Counter()
         self._labels: dict[str, LabelError | None] = {}
 
     def load(self, source: Source, form: Format, names: Names) -> None:
         """Loads one source. `StoppedError` where it stops at a row; a refusal that would meet each row is raised."""
         reading = Reading(source, form, names)
-        found = reading.found()
-        try:
-            self._load(reading, self._batches(found))
-        finally:
-            found.close()
-        if reading.error is not None:
-            raise reading.error
-
-    def _load(self, reading: Reading, batches: Iterator[_Batch]) -> None:
-        """Loads the rows of a reading."""
-        if not self._replace:
-            self._run(chain.from_iterable(map(self._steps, batches)), reading)
-        else:
-            # What is deleted depends on what was put, and the next rows on what was deleted.
-            for batch in batches:
-                steps = self._steps(batch)
-                self._run([step for step in steps if isinstance(step, _Look) and step.put is None], reading)
-                if self.denied is not None:
-                    raise self.denied
-                self._run([step for step in steps if not isinstance(step, _Look) or step.put is not None], reading)
-                self._run(self._deletions(batch), reading)
+        with closing(reading.batches(self._size)) as found:
+            batches = map(Batch, found)
+            if self._replace:
+                for batch in batches:
+                    self._replace_rows(batch, reading)
+            else:
+                first = list(islice(batches, 1))
+                self._start(first)
+                self._ask(chain.from_iterable(self._parts(batch, reading) for batch in chain(first, batches)))
+        self._end(reading)
 
     def check(self, source: Source, form: Format, names: Names) -> None:
         """Reads one source as `load` does and puts nothing: what could be stored counts as stored. Labels the server judges."""
         reading = Reading(source, form, names)
-        for place, row in reading.found():
-            made, raw = body(row), reading.taken()
-            error = made if isinstance(made, RowError) else self._label(row)
+        for row in chain.from_iterable(reading.batches(self._size)):
+            raw = reading.taken()
+            _, _, label, made = row
+            error = made if isinstance(made, RowError) else self._label(label)
             if error is None:
                 self.tally.stored += 1
             else:
-                self._fault(reading.fault(place, error, row, raw), reading)
+                self._fault(row, error, raw, reading)
             if self._step is not None:
                 self._step(source, self.tally)
-        if reading.error is not None:
-            raise reading.error
+            if reading.stop is not None:
+                break
+        self._end(reading)
 
-    def _label(self, row: Row | RowError) -> FashkiinError | None:
-        """What is wrong with the label of a row, which is asked once."""
-        if isinstance(row, RowError):
-            return row
-        label = row.label
+    def _end(self, reading: Reading) -> None:
+        """All that was read is told."""
+        error = reading.stop or reading.error
+        if error is not None:
+            raise error
+
+    def _label(self, label: str) -> LabelError | None:
+        """What is wrong with a label, which is asked once."""
         if label not in self._labels:
             try:
                 self._client.label(label)
@@ -179,109 +116,121 @@ class Loader:
                 self._labels[label] = error
         return self._labels[label]
 
-    def _batches(self, found: Iterator[Found]) -> Iterator[_Batch]:
-        while rows := list(islice(found, self._window)):
-            yield _Batch(rows)
-
-    def _steps(self, batch: _Batch) -> list[_Step]:
-        """Looks for all rows, then the rows, then a look for each label that is new."""
-        bodies = [(place, row, body(row)) for place, row in batch.rows]
-        rows = [row for _, row, made in bodies if isinstance(made, bytes) and isinstance(row, Row)]
-        if rows and self._begin is not None:
+    def _start(self, batches: Iterable[Batch]) -> None:
+        """Makes the table and asks which authorizations the loader has, once there is a row to be put."""
+        if not any(batch.good for batch in batches):
+            return
+        if self._begin is not None:
             self._begin()
             self._begin = None
-        if rows and self.denied is None and not self._auths:
+        if self.denied is None and not self._auths:
             self._auths = to_json(list(self._client.whoami().auths))
-        steps: list[_Step] = []
-        if self.denied is None:
-            steps += [self._look(batch, name) for name in dict.fromkeys([row.id for row in rows])]
-        request = self._put_request
-        for place, row, made in bodies:
-            steps.append(_Put(request(made) if isinstance(made, bytes) else made, batch, place, row))
-        if self.denied is None:
-            first = {row.label: row.id for row in reversed(rows) if row.label not in self._readable}
-            steps += [self._look(batch, name, label) for label, name in first.items()]
-        return steps
 
-    def _look(self, batch: _Batch, name: str, put: str | None = None) -> _Look:
-        return _Look(self._get_request(f'{{"id":{to_json(name)},"auths":{self._auths}}}'.encode()), batch, name, put)
+    def _ask(self, parts: Iterable[Part]) -> None:
+        """Asks the server, to the end."""
+        for _ in self._client.ask_parts(iter(parts), PARTS * self._batches):
+            pass
 
-    def _deletions(self, batch: _Batch) -> Iterator[_Step]:
-        """The rows that are seen under other labels than those that were put last."""
-        for name, last in batch.last.items():
-            for label in sorted(batch.labels[name]):
-                if label != last:
-                    yield _Delete(self._delete_request(to_json({"id": name, "label": label}).encode()))
+    def _parts(self, batch: Batch, reading: Reading) -> tuple[Part, Part, Part]:
+        """Looks for all ids, then the rows, then a look for each label that is new. A part without anything to ask is there too,
+        since parts are counted."""
+        self._start([batch])
+        return self._looks(batch), self._puts(batch, reading), self._label_looks(batch)
 
-    def _run(self, steps: Iterable[_Step], reading: Reading) -> None:
-        for step, told in self._client.ask_many(steps, _request, min(LARGEST_WINDOW, 2 * self._window)):
-            if isinstance(step, _Put):
-                self._put(step, told, reading)
-            elif isinstance(step, _Look):
-                self._looked(step, told)
-            else:
-                if isinstance(told, FashkiinError):
-                    raise told
+    def _replace_rows(self, batch: Batch, reading: Reading) -> None:
+        """What is deleted depends on what was put, and the next rows on what was deleted."""
+        self._start([batch])
+        self._ask([self._looks(batch)])
+        if self.denied is not None:
+            raise self.denied
+        self._ask([self._puts(batch, reading), self._label_looks(batch)])
+        self._ask([self._deletions(batch)])
+
+    def _gets(self, names: Iterable[str]) -> list[bytes]:
+        """Asks for the rows of ids; for none where the loader may not read them."""
+        request, auths = self._get_request, self._auths
+        return [] if self.denied else [request(f'{{"id":{quoted(name)},"auths":{auths}}}'.encode()) for name in names]
+
+    def _looks(self, batch: Batch) -> Part:
+        """Asks under which labels the ids of a batch are seen."""
+        names = iter(batch.ids)
+
+        def tell(answers: Sequence[Answer]) -> None:
+            for answer, name in zip(answers, names):
+                if answer is not NONE_SEEN:
+                    batch.labels[name] = self._seen(answer)
+
+        return Part(self._gets(batch.ids), tell)
+
+    def _label_looks(self, batch: Batch) -> Part:
+        """Asks whether rows that were put are seen, one for each label of which that is not known."""
+        first = {label: name for name, label, _ in reversed(batch.good) if label not in self._counting.readable}
+        labels = iter(first)
+
+        def tell(answers: Sequence[Answer]) -> None:
+            for answer, label in zip(answers, labels):
+                seen = label in self._seen(answer)
+                if self.denied is None:
+                    self._counting.learn(label, seen)
+
+        return Part(self._gets(first.values()), tell)
+
+    def _seen(self, answer: Answer) -> set[str]:
+        """The labels of an answer's rows."""
+        if isinstance(answer, RefusalError):
+            self.denied = answer
+            return set()
+        return {row["label"] for row in answer["rows"]}
+
+    def _deletions(self, batch: Batch) -> Part:
+        """Deletes the rows that are seen under other labels than those that were put last."""
+        names = [{"id": name, "label": label} for name in batch.last for label in sorted(batch.labels[name] - {batch.last[name]})]
+
+        def tell(answers: Sequence[Answer]) -> None:
+            for answer in answers:
+                if isinstance(answer, RefusalError):
+                    raise answer
                 self.tally.deleted += 1
 
-    def _looked(self, look: _Look, told: Told) -> None:
-        if isinstance(told, FashkiinError):
-            self.denied = told if isinstance(told, RefusalError) else self.denied
-            return
-        labels = {row["label"] for row in told["rows"]}
-        if look.put is None:
-            look.batch.labels[look.id] = labels
-            return
-        if len(self._readable) >= LABELS:
-            self._readable.clear()
-        self._readable[look.put] = look.put in labels
-        pending = self._unknown.pop(look.put, 0)
-        self.tally.unread += 0 if look.put in labels else pending
+        return Part([self._delete_request(to_json(name).encode()) for name in names], tell)
 
-    def _put(self, put: _Put, told: Told, reading: Reading) -> None:
-        raw = reading.taken()
-        if not isinstance(told, FashkiinError):
-            assert isinstance(put.row, Row)
-            self._count(put.row, put.batch)
-        elif isinstance(told, RefusalError) and not isinstance(told, OF_A_ROW):
-            raise told
-        elif reading.error is None:
-            self._fault(reading.fault(put.place, told, put.row, raw), reading)
-        if self._step is not None:
-            self._step(reading.source, self.tally)
+    def _puts(self, batch: Batch, reading: Reading) -> Part:
+        """Puts the rows of a batch."""
 
-    def _count(self, row: Row, batch: _Batch) -> None:
-        """A row was put."""
-        label, tally = row.label, self.tally
-        labels = batch.labels.get(row.id)
-        if not labels:
-            batch.labels[row.id] = {label}
-            tally.stored += 1
-        else:
-            if label in labels:
-                tally.replaced += 1
+        def tell(answers: Sequence[Answer]) -> None:
+            if reading.source.raw is None and batch.is_new() and answers.count(STORED) == len(answers):
+                self._counting.count_new(batch, len(answers))
             else:
-                tally.stored += 1
-            others = labels - {label}
-            if others:
-                tally.elsewhere += 1
-                tally.example = tally.example or (row.id, min(others))
-            labels.add(label)
-        batch.last[row.id] = label
-        if label not in self._readable:
-            self._unknown[label] += 1
-        elif not self._readable[label]:
-            tally.unread += 1
+                self._count_each(batch, answers, reading)
+            if self._step is not None:
+                self._step(reading.source, self.tally)
 
-    def _fault(self, found: Fault, reading: Reading) -> None:
+        return Part([self._put_request(made) for _, _, made in batch.good], tell)
+
+    def _count_each(self, batch: Batch, answers: Sequence[Answer], reading: Reading) -> None:
+        """Some of the next rows of a batch were put or refused. Rows that are wrong have no answer."""
+        fresh = iter(answers)
+        while batch.told < len(batch.rows):
+            row = batch.rows[batch.told]
+            _, name, label, made = row
+            answer: Told | None = made if isinstance(made, RowError) else None
+            if answer is None:
+                answer = next(fresh, None)
+            if answer is None:
+                return
+            batch.told += 1
+            raw = reading.taken()
+            if not isinstance(answer, FashkiinError):
+                self._counting.count(batch, name, label)
+            elif isinstance(answer, RefusalError) and not isinstance(answer, OF_A_ROW):
+                raise answer
+            elif reading.stop is None:
+                self._fault(row, answer, raw, reading)
+
+    def _fault(self, row: Prepared, error: FashkiinError, raw: bytes, reading: Reading) -> None:
+        found = reading.fault(row, error, raw)
         self.tally.rejected += 1
         if self._reject is None:
-            reading.error = StoppedError(found)
+            reading.stop = StoppedError(found)
         else:
             self._reject(found, reading.source)
-
-
-def _request(step: _Step) -> bytes:
-    if isinstance(step.request, RowError):
-        raise step.request
-    return step.request

@@ -6,6 +6,7 @@ import contextlib
 import io
 import re
 import ssl
+import sys
 from collections.abc import Callable
 from functools import partial
 from http import HTTPStatus
@@ -46,6 +47,11 @@ class MapServer(ThreadingHTTPServer):
             super().__init__((HOST, port), _Handler)
         except OSError as error:
             raise SettingsError(f"--port: {port}: {error.strerror}, wanted a free port") from None
+
+    def handle_error(self, request: Any, client_address: Any) -> None:
+        """Says nothing of a browser that has gone: the page ends requests whose answers it no longer needs."""
+        if not isinstance(sys.exception(), ConnectionError):
+            super().handle_error(request, client_address)
 
     @property
     def url(self) -> str:

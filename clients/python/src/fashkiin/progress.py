@@ -7,15 +7,15 @@ import time
 from typing import TextIO
 
 from fashkiin.formats import Source
-from fashkiin.loading import Tally
+from fashkiin.tally import Tally
 
 
 class Progress:
     """Rows, rows a second and what is left, on standard error: twice a second on a terminal, each ten seconds elsewhere."""
 
-    def __init__(self, out: TextIO = sys.stderr) -> None:
-        self._out = out
-        self._terminal = out.isatty()
+    def __init__(self, out: TextIO | None = None) -> None:
+        self._out = out or sys.stderr
+        self._terminal = self._out.isatty()
         self._pause = 0.5 if self._terminal else 10.0
         self._start = self._last = time.monotonic()
         self._before = 0

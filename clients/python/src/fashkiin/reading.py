@@ -3,56 +3,52 @@
 from __future__ import annotations
 
 import zlib
-from collections.abc import Generator
-from dataclasses import replace
+from collections.abc import Generator, Iterator
 
-from fashkiin.errors import FashkiinError, RowError
+from fashkiin.errors import FashkiinError
 from fashkiin.faults import Fault, fault
-from fashkiin.formats import Format, Found, InputError, Names, Source
-from fashkiin.rows import Row
+from fashkiin.formats import Format, InputError, Names, Prepared, Source
+from fashkiin.formats.fields import prepared
+from fashkiin.pipeline import pieces
 
-
-DAMAGED = (OSError, EOFError, zlib.error)
-"""What reading a file raises, packed or not, that is damaged or on a bad disk."""
+DAMAGED = (OSError, EOFError, zlib.error, UnicodeError)
+"""What reading a file raises, packed or not, that is damaged, on a bad disk or of another encoding."""
 
 
 class Reading:
-    """What is found in a source, until there is an error. The rows on their way are told before it is raised."""
+    """What is found in a source. `error` is why it cannot be read on; the rows before are told first. No more is read once `stop`
+    is set to why the load ends at a row."""
 
     def __init__(self, source: Source, form: Format, names: Names) -> None:
         self.error: FashkiinError | None = None
+        self.stop: FashkiinError | None = None
         self.source = source
         self._form = form
         self._names = names
 
-    def found(self) -> Generator[Found, None, None]:
-        """The rows and their places."""
+    def batches(self, size: int) -> Generator[list[Prepared], None, None]:
+        """The rows by up to `size` at a time, ready to be put."""
+        by_batches = self._form.prepare if self.source.raw is None else None
+        found = by_batches(self.source, self._names, size) if by_batches else pieces(self._rows(), size)
         try:
-            for place, row in self._form.read(self.source, self._names):
-                if self._names.wrap and isinstance(row, Row) and 180.0 < row.lon <= 360.0:
-                    row = replace(row, lon=row.lon - 360.0)
-                yield place, row
-                if self.error is not None:
+            for batch in found:
+                yield batch
+                if self.stop is not None:
                     return
         except DAMAGED as error:
             self.error = InputError(f"{self.source.name}: {getattr(error, 'strerror', None) or error}")
         except FashkiinError as error:
-            self.error = self.error or error
+            self.error = error
+
+    def _rows(self) -> Iterator[Prepared]:
+        """The rows one after another, as they stand in the source: so each has what rejects need."""
+        wrap = self._names.wrap
+        return (prepared(place, row, wrap) for place, row in self._form.read(self.source, self._names))
 
     def taken(self) -> bytes:
         """What the next row whose end is known looks like, where rejects are written. Rows are told in their order."""
         return b"" if self.source.raw is None else self.source.raw.popleft()
 
-    def fault(self, place: int, error: FashkiinError, row: Row | RowError, raw: bytes) -> Fault:
-        """What is wrong at a place, with what stands there."""
-        return fault(self.source, self._form, self._names, place, error, row, raw)
-
-
-def body(row: Row | RowError) -> bytes | RowError:
-    """The body of a row's put, or what is wrong with the row."""
-    if isinstance(row, RowError):
-        return row
-    try:
-        return row.body()
-    except RowError as error:
-        return error
+    def fault(self, row: Prepared, error: FashkiinError, raw: bytes) -> Fault:
+        """What is wrong with a row."""
+        return fault(self.source, self._form, self._names, row, error, raw)

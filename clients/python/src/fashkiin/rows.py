@@ -8,7 +8,7 @@ of a row in the middle of its cell.
 from __future__ import annotations
 
 import json
-from collections.abc import Mapping, Sequence
+from collections.abc import Callable, Mapping, Sequence
 from dataclasses import dataclass, field
 from datetime import datetime
 from functools import lru_cache
@@ -35,8 +35,12 @@ LABELS = 1_024
 Properties = Mapping[str, Any]
 """The properties of a row by their names: values of JSON."""
 
-to_json = json.JSONEncoder(ensure_ascii=False, allow_nan=False, separators=(",", ":")).encode
+_encoder = json.JSONEncoder(ensure_ascii=False, allow_nan=False, separators=(",", ":"))
+to_json = _encoder.encode
 """A value as compact JSON."""
+
+quoted: Callable[[str], str] = json.encoder.encode_basestring  # type: ignore[attr-defined]
+"""A text as JSON."""
 
 
 @dataclass(frozen=True, slots=True)
@@ -71,23 +75,23 @@ class Row:
     def body(self) -> bytes:
         """The body of a put; `RowError` where the row cannot be stored. The label is judged by the server."""
         bound("id", self.id, 1, ID_BYTES)
-        label = _label_json(self.label)
+        label = label_json(self.label)
         x, y, t = self.point()
-        return f'{{"id":{to_json(self.id)},"point":[{x},{y},{t}],"label":{label},"note":{to_json(self.note())}}}'.encode()
+        return f'{{"id":{quoted(self.id)},"point":[{x},{y},{t}],"label":{label},"note":{quoted(self.note())}}}'.encode()
 
 
 @lru_cache(maxsize=LABELS)
-def _label_json(label: str) -> str:
+def label_json(label: str) -> str:
     """The JSON of a label; `RowError` where it is too long. Most rows of a file have one of few."""
     bound("label", label, 0, LABEL_BYTES)
-    return to_json(label)
+    return quoted(label)
 
 
 def bound(name: str, text: str, least: int, most: int) -> None:
     """`RowError` where a field is no text, no UTF-8, or not of so many bytes."""
     if not isinstance(text, str):
         raise RowError(name, text, "a text")
-    if text.isascii() and least <= len(text) <= most:
+    if least <= len(text) <= most and text.isascii():
         return
     try:
         size = len(text.encode())

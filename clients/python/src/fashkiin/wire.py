@@ -4,6 +4,7 @@ from __future__ import annotations
 
 import json
 import re
+import select
 import selectors
 import socket
 from collections.abc import Mapping
@@ -19,6 +20,15 @@ if TYPE_CHECKING:
 
 HEAD_BYTES = 65_536
 BODY_BYTES = 1 << 28
+LEAST_BYTES = len("HTTP/1.1 200\r\nContent-Length:0\r\n\r\n")
+"""The fewest bytes of a reply."""
+
+TOGETHER = 10
+"""How long replies are waited for so that many of them are taken at once, in milliseconds."""
+
+MISSES = 3
+"""How many times in a row that may be in vain: then each reply is taken as it comes."""
+
 PIECE = 1 << 16
 LARGE_PIECE = 1 << 20
 _STATUS = re.compile(rb"HTTP/1\.[01] ([2-5][0-9]{2})(?: [^\r\n]*)?\r\n\Z")
@@ -93,8 +103,14 @@ class Connection:
             self._socket = context.wrap_socket(plain, server_hostname=address.host) if context else plain
         except OSError as error:
             raise ConnectError(f"no connection to {address.authority}: {_reason(error)}") from None
+        self._misses = 0
+        self._poll = None if context else select.poll()
+        if self._poll is not None:
+            self._poll.register(self._socket, select.POLLIN)
         self._data = b""
         self._at = 0
+        self._size = 0
+        """The bytes of the reply that was taken last, if it stands whole in the data before `_at`."""
 
     def close(self) -> None:
         """Closes the connection."""
@@ -130,10 +146,35 @@ class Connection:
             return None
         status, length, keeps = _read_head(self._data[self._at : end + 1])
         start = end + 3
+        self._size = start + length - self._at
         if len(self._data) < start + length:
             start = self._rest(start, length)
+            self._size = 0
         self._at = start + length
         return Reply(status, self._data[start : self._at], keeps)
+
+    def gather(self, replies: int) -> None:
+        """Waits a moment for so many replies, unless some are there: to take each by itself costs system calls and waits. No more
+        bytes are waited for than so many replies have at the least."""
+        if self._poll is None or self._misses == MISSES or replies < 2 or self._at < len(self._data):
+            return
+        self._socket.setsockopt(socket.SOL_SOCKET, socket.SO_RCVLOWAT, replies * LEAST_BYTES)
+        try:
+            self._misses = 0 if self._poll.poll(TOGETHER) else self._misses + 1
+        finally:
+            self._socket.setsockopt(socket.SOL_SOCKET, socket.SO_RCVLOWAT, 1)
+
+    def alike(self, most: int, wait: bool) -> tuple[Reply | None, int]:
+        """The next reply, and how many times in a row the very same bytes have come, up to `most`; None where no head has come
+        and it should not `wait`. Errors are those of `receive`."""
+        reply = self.receive() if wait else self.arrived()
+        times = 1
+        if reply is not None and reply.keeps and self._size:
+            whole = self._data[self._at - self._size : self._at]
+            while times < most and self._data.startswith(whole, self._at):
+                self._at += self._size
+                times += 1
+        return reply, times
 
     def _rest(self, start: int, length: int) -> int:
         """Waits for the whole body that begins at a place, and returns where it begins then."""

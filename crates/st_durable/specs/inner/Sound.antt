@@ -1,8 +1,9 @@
 -- An invariant of a representation, which no reader has to believe: the journal's list leads to the store.
-use Rattle.std.specs.Prelude.{◌≡◌, ℕ, true, false, List, IfSome}
+use Rattle.std.specs.Prelude.{◌≡◌, ℕ, false, List, IfSome}
 use Rattle.std.specs.declared.alloc.Global.{Global}
 use Rattle.st_core.specs.State.{State}
-use Rattle.st_core.specs.Step.{asks_for_change, step}
+use Rattle.st_core.specs.Judging.{JudgesChange}
+use Rattle.st_core.specs.Step.{settle}
 use Rattle.st_journal.specs.declared.record.Record.{Record}
 use Rattle.st_journal.specs.Replays.{Replays}
 use Rattle.st_durable.specs.declared.pending.Pending.{Pending}
@@ -11,8 +12,8 @@ use Rattle.st_durable.specs.Keeping.{Keeping, LeadTo, answered}
 
 -- the record is that of the change
 pub record IsNoted (kept : State Global) (pending : Pending) : Type 0 where
-  pub change : asks_for_change pending.asked ≡ true
-  pub noted : Applies kept pending.note (step kept pending.asked).state
+  pub change : JudgesChange kept.directory pending.judged
+  pub noted : Applies kept pending.note (settle kept pending.judged).state
 
 pub record IsSound {J : Type 0} (list : J → List Record) (misreads : J → ℕ) (is_ready : J → Type 0) (may_leave : J → List Record → Type 0)
     (first : State Global) (k : Keeping J) : Type 0 where

@@ -1,5 +1,5 @@
 -- What a station knows of itself after a connection.
-use Rattle.std.proofs.Common.{◌≡◌, ◌≤◌, ℕ, refl, arith}
+use Rattle.std.proofs.Common.{◌≤◌, arith}
 use mathlib.Core.List.{IsPrefix}
 use Rattle.st_hall.specs.Views.{Seat}
 use Rattle.st_press.proofs.Fronts.{prefix_self}

@@ -14,8 +14,8 @@ use Rattle.st_connection.specs.Render.{busy_text}
 use Rattle.st_service.specs.Answers.{Asks, AsksBy, IsFound, reply_text, close_of, token_from, token_in, RepliesTo as ServiceReplies}
 use Rattle.st_service.specs.inner.Shown.{one_told, shown as service_shown}
 use Rattle.st_hall.specs.Steps.{Ask, State, Told, reply_of, state_after}
-use Rattle.st_hall.specs.Views.{Seat, Post, EndsAfter, IsStranger}
-use Rattle.st_station.specs.Seats.{Moves, AsksIn, SeatAnswers, no_token, read, made, stranger, untold, busy, unrouted}
+use Rattle.st_hall.specs.Views.{Seat, Post, EndsAfter}
+use Rattle.st_station.specs.Seats.{IsStrange, Moves, AsksIn, SeatAnswers, no_token, read, made, stranger, untold, busy, unrouted}
 use Rattle.st_station.specs.Posts.{Answers}
 use Rattle.st_station.specs.Replies.{SeatReplies, reads, makes, refuses_stranger, leaves_untold, gives_up, asks_nothing, RepliesTo}
 
@@ -25,12 +25,12 @@ module _ (start : State) (s t : Seat) (m : Message) (bytes : List ℕ) where
       let text : busy_text (close_of h) bare ≡ bytes = (λ i. busy_text (sym shows.close i) (sym shows.bare_is i)) ∙ sym is in
       subst (λ (b : List ℕ). SeatAnswers start s (message h body bare) b t) text (busy moves)
 
-  shown_stranger : IsFound m → IsStranger start s.seen (option_map token_from (token_in m)) → Moves 0 s t
+  shown_stranger : IsFound m → IsStrange start t.seen (option_map token_from (token_in m)) → Moves 0 s t
       → bytes ≡ reply_text no_token m.close m.bare → Replied (SeatAnswers start) s m bytes t
   shown_stranger is_found none moves is h body bare shows =
       let text : reply_text no_token (close_of h) bare ≡ bytes = (λ i. reply_text no_token (sym shows.close i) (sym shows.bare_is i)) ∙ sym is in
       let route = one_told m.route is_found.0 is_found.1 (routed h.method h.target) is_found.2 shows.route in
-      let token = subst (λ (k : Option UserAndSecret). IsStranger start s.seen (option_map token_from k)) shows.token none in
+      let token = subst (λ (k : Option UserAndSecret). IsStrange start t.seen (option_map token_from k)) shows.token none in
       subst (λ (b : List ℕ). SeatAnswers start s (message h body bare) b t) text (stranger route token moves)
 
   module _ (asked : Ask) (is_found : IsFound m) (asks : AsksBy m asked) where
@@ -50,14 +50,14 @@ module _ (start : State) (s t : Seat) (m : Message) (bytes : List ℕ) where
         = (λ i. reply_text (reply_of (state_after start t.seen) asked) (sym shows.close i) (sym shows.bare_is i)) ∙ sym is in
         subst (λ (b : List ℕ). SeatAnswers start s (message h body bare) b t) text (read (asks_in h body bare shows) is_read moves)
 
-    shown_made : (reply : Told) → asks_for_change asked ≡ true → (list : List Ask) × EndsAfter start s.seen list asked reply → Moves 1 s t
+    shown_made : (reply : Told) → asks_for_change asked ≡ true → EndsAfter start s.seen t.seen asked reply → Moves 1 s t
         → bytes ≡ reply_text reply m.close m.bare → Replied (SeatAnswers start) s m bytes t
     shown_made reply changes ends moves is h body bare shows =
         let text : reply_text reply (close_of h) bare ≡ bytes = (λ i. reply_text reply (sym shows.close i) (sym shows.bare_is i)) ∙ sym is in
         subst (λ (b : List ℕ). SeatAnswers start s (message h body bare) b t) text (made (asks_in h body bare shows) changes ends moves)
 
     shown_untold : (refusal : Refusal) → asks_for_change asked ≡ true
-        → (list : List Ask) × EndsAfter start s.seen list asked (Reply.Refused refusal) → Moves 1 s t
+        → EndsAfter start s.seen t.seen asked (Reply.Refused refusal) → Moves 1 s t
         → bytes ≡ busy_text m.close m.bare → Replied (SeatAnswers start) s m bytes t
     shown_untold refusal changes ends moves is h body bare shows =
         let text : busy_text (close_of h) bare ≡ bytes = (λ i. busy_text (sym shows.close i) (sym shows.bare_is i)) ∙ sym is in

@@ -67,7 +67,8 @@ def _arguments(parser: argparse.ArgumentParser) -> None:
     mapping = "in lines of JSON: where a field is, such as lon=position.0; FIELD is id, lon, lat, time or label"
     parser.add_argument("--map", action="append", default=[], metavar="FIELD=PATH", help=mapping)
     staying = "a column of CSV, or an element of GPX, that stays a text, though it is a number throughout its file"
-    parser.add_argument("--encoding", default="", metavar="NAME", help="the encoding of CSV, such as latin-1; UTF-8 if left out")
+    encoding = "the encoding of CSV or GPX, such as latin-1; if left out, UTF-8, or the one that GPX names"
+    parser.add_argument("--encoding", default="", metavar="NAME", help=encoding)
     parser.add_argument("--skip", type=int, default=0, metavar="LINES", help="lines before the header of CSV")
     parser.add_argument("--default-time", metavar="TIME", help="the time of rows without one")
     parser.add_argument("--wrap", action="store_true", help="longitudes of 180 to 360 degrees are those of -180 to 0")

@@ -11,17 +11,18 @@ from typing import TextIO
 
 from fashkiin.errors import InputError
 from fashkiin.formats import delimited, geojson, gpx
-from fashkiin.formats.fields import Found, Names, Source
+from fashkiin.formats.fields import Found, Names, Prepared, Source
 from fashkiin.rows import Row
 
-__all__ = ["FORMATS", "Format", "Found", "InputError", "Names", "Source", "format_of", "sniff"]
+__all__ = ["FORMATS", "Format", "Found", "InputError", "Names", "Prepared", "Source", "format_of", "sniff"]
 
 
 @dataclass(frozen=True, slots=True)
 class Format:
     """A format of files. `read` tells each row by its place, with the error of a row that is none; `unit` is what a place
     counts. `write` writes rows that `read` gives back. `numbers` tells which properties are numbers throughout a file, in a
-    format of texts. `around` is what stands before, between and behind the rows of a file of rejects."""
+    format of texts. `around` is what stands before, between and behind the rows of a file of rejects. `prepare`, where a format
+    has it, gives the rows of `read` by up to so many at a time, ready to be put."""
 
     name: str
     unit: str
@@ -30,12 +31,21 @@ class Format:
     write: Callable[[Iterable[Row], TextIO, Names], None]
     numbers: Callable[[Source, Names], frozenset[str]] | None = None
     around: tuple[str, str, str] = ("", "", "")
+    prepare: Callable[[Source, Names, int], Iterator[list[Prepared]]] | None = None
 
 
 FORMATS = {
     form.name: form
     for form in (
-        Format("csv", "line", (".csv", ".tsv", ".txt"), delimited.read, delimited.write, delimited.numbers),
+        Format(
+            "csv",
+            "line",
+            (".csv", ".tsv", ".txt"),
+            delimited.read,
+            delimited.write,
+            delimited.numbers,
+            prepare=delimited.prepare,
+        ),
         Format("geojson", "feature", (".geojson", ".json"), geojson.read, geojson.write, around=geojson.AROUND),
         Format(
             "geojsonseq",

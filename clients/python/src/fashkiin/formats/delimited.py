@@ -7,57 +7,67 @@ import contextlib
 import csv
 import io
 import json
-from collections import deque
 from collections.abc import Iterable, Iterator, Sequence
-from datetime import datetime
 from itertools import chain
-from typing import Any, NamedTuple, TextIO
+from typing import Any, TextIO
 
 from fashkiin.cells import time_text
 from fashkiin.errors import FashkiinError, Plain, RowError
-from fashkiin.formats.fields import (
-    DEFAULTS,
-    LABEL_WANTED,
-    Found,
-    Names,
-    Source,
-    candidates,
-    degrees,
-    join_ids,
-    read_point,
-    read_time,
-)
-from fashkiin.formats.numbers import number, number_or_text
+from fashkiin.formats.columns import Bodies
+from fashkiin.formats.fields import Found, Names, Prepared, Source, degrees, join_ids, moment_of, prepared, read_point
+from fashkiin.formats.header import Columns, find_columns, read_header
+from fashkiin.formats.numbers import are_numbers, number_or_text
+from fashkiin.pipeline import pieces
 from fashkiin.rows import Row, to_json
 
 FIELDS = ("id", "lon", "lat", "time", "label")
 DELIMITERS = (",", ";", "\t")
+NUMBERS_AT_A_TIME = 1_024
 csv.field_size_limit(1 << 20)
 
-
-class _Columns(NamedTuple):
-    """Which column of a file holds what. A position is in the columns `lon` and `lat`, or as WKT in `point`."""
-
-    header: Sequence[str]
-    id: Sequence[int]
-    lon: int
-    lat: int
-    point: int | None
-    time: int | None
-    label: int | None
-    properties: Sequence[tuple[int, str, bool]]
-    """The other columns: their places, their names, and whether they are numbers."""
+_Record = tuple[int, list[str] | RowError]
 
 
 def read(source: Source, names: Names) -> Iterator[Found]:
     """The rows of a CSV file by their lines. `InputError` where the header lacks a column."""
     with _Text(source, names) as text:
         records = text.records()
-        columns = _columns(source, _header(source, records), names)
+        columns = find_columns(source, read_header(source, records), names)
         numbered = None if columns.id else names.number
         if source.raw is not None:
             source.head = text.head("" if numbered is None else "id")
-        yield from _rows(records, columns, names, text, source.raw, numbered)
+        number = 0
+        for line, fields in _records(records, names):
+            number += bool(fields)
+            if source.raw is not None:
+                raw = text.record("" if numbered is None else f"{numbered}-{number}")
+                source.raw.extend([raw] if fields else [])
+            if fields:
+                yield line, _found(fields, columns, names, number)
+
+
+def prepare(source: Source, names: Names, size: int) -> Iterator[list[Prepared]]:
+    """The rows that `read` finds, by up to `size` records at a time."""
+    with _Text(source, names) as text:
+        records = text.records()
+        columns = find_columns(source, read_header(source, records), names)
+        bodies = Bodies(columns, names)
+        number = 0
+        for batch in pieces(_records(records, names), size):
+            whole = [fields for _, fields in batch if isinstance(fields, list)]
+            try:
+                rows = bodies.read([line for line, _ in batch], whole, number + 1)
+            except (ValueError, OverflowError):
+                rows = _each(batch, columns, names, number)
+            number += len(rows)
+            yield rows
+
+
+def _each(batch: Iterable[_Record], columns: Columns, names: Names, number: int) -> list[Prepared]:
+    """The rows of records behind so many others, each read by itself."""
+    there = [(line, fields) for line, fields in batch if fields]
+    found = [(line, _found(fields, columns, names, at)) for at, (line, fields) in enumerate(there, number + 1)]
+    return [prepared(line, row, names.wrap) for line, row in found]
 
 
 class _Text:
@@ -105,101 +115,30 @@ class _Text:
         return self._encode(front + text + ("" if text.endswith(("\n", "\r")) else "\n"))
 
 
-def _header(source: Source, records: Any) -> list[str]:
-    try:
-        header: list[str] = next(records, [])
-    except csv.Error as error:
-        raise source.fail("1", f"{error}, wanted a header line of CSV") from None
-    if not header:
-        raise source.fail("1", "nothing, wanted a header line of CSV")
-    try:
-        "".join(header).encode()
-    except UnicodeEncodeError:
-        raise source.fail("1", "the header is not UTF-8: name its --encoding") from None
-    for name in header:
-        if header.count(name) > 1:
-            raise source.fail("1", f"column {name!r} is there twice, wanted names that differ")
-    return header
-
-
-def _columns(source: Source, header: list[str], names: Names) -> _Columns:
-    def find(field: str) -> int | None:
-        given = getattr(names, field)
-        found = [name for name in header if name == given] if given else candidates(field, header)
-        if len(found) > 1:
-            raise source.fail("1", f"columns {' and '.join(found)}: both fit {field}: name one by --{field}-column")
-        return header.index(found[0]) if found else None
-
-    def need(field: str) -> int:
-        found = find(field)
-        if found is None:
-            own, others, last = DEFAULTS[field]
-            wanted = getattr(names, field) or " or ".join((own, *others, *last))
-            raise source.fail("1", f"column {field}: missing, wanted {wanted}: name it by --{field}-column")
-        return found
-
-    label = find("label")
-    if label is None and (names.label or names.unlabelled is None):
-        raise source.fail("1", f"column {names.label or 'label'}: missing, wanted {LABEL_WANTED}")
-    for name in sorted(names.only or ()):
-        if name not in header:
-            raise source.fail("1", f"column {name}: missing, wanted it by --only")
-    ids = _id_columns(source, header, names)
-    point = find("point") if names.point or (find("lon") is None and find("lat") is None) else None
-    if names.point and point is None:
-        raise source.fail("1", f"column {names.point}: missing, wanted it for the position")
-    lon, lat = (need("lon"), need("lat")) if point is None else (-1, -1)
-    time = find("time") if names.default_time is not None else need("time")
-    taken = {lon, lat, point, time, label, *(ids if len(ids) == 1 else ())}
-    kept = [(at, name) for at, name in enumerate(header) if at not in taken and (names.only is None or name in names.only)]
-    return _Columns(header, ids, lon, lat, point, time, label, [(at, name, name in names.numbers) for at, name in kept])
-
-
-def _id_columns(source: Source, header: list[str], names: Names) -> list[int]:
-    for name in names.id:
-        if name not in header:
-            raise source.fail("1", f"column {name}: missing, wanted it for the id")
-    if names.id:
-        return [header.index(name) for name in names.id]
-    found = candidates("id", header)
-    if len(found) > 1:
-        raise source.fail("1", f"columns {' and '.join(found)}: both fit id: name one by --id-column")
-    if not found and names.number is None:
-        raise source.fail(
-            "1", "column id: missing, wanted an id: name its columns by --id-column, or number the rows by --number PREFIX"
-        )
-    return [header.index(name) for name in found]
-
-
-def _rows(
-    records: Any, columns: _Columns, names: Names, text: _Text, raw: deque[bytes] | None, numbered: str | None
-) -> Iterator[Found]:
-    number = 0
+def _records(records: Any, names: Names) -> Iterator[_Record]:
+    """The records with the lines on which they begin, or what is wrong with one. That of a blank line is empty."""
     while True:
         line = names.skip + records.line_num + 1
-        row: Row | RowError
         try:
-            fields = next(records, None)
-            if fields is None:
-                return
-            if fields:
-                row = _row(fields, columns, names, number + 1)
+            for fields in records:
+                yield line, fields
+                line = names.skip + records.line_num + 1
+            return
         except csv.Error as error:
-            row = RowError("row", Plain(error), "a row of CSV")
-        except RowError as error:
-            row = error
-        else:
-            if not fields:
-                if raw is not None:
-                    text.record("")
-                continue
-        number += 1
-        if raw is not None:
-            raw.append(text.record("" if numbered is None else f"{numbered}-{number}"))
-        yield line, row
+            yield line, RowError("row", Plain(error), "a row of CSV")
 
 
-def _row(fields: list[str], columns: _Columns, names: Names, number: int) -> Row:
+def _found(fields: list[str] | RowError, columns: Columns, names: Names, number: int) -> Row | RowError:
+    """The row of a record, or what is wrong with it."""
+    if isinstance(fields, RowError):
+        return fields
+    try:
+        return _row(fields, columns, names, number)
+    except RowError as error:
+        return error
+
+
+def _row(fields: list[str], columns: Columns, names: Names, number: int) -> Row:
     header, ids, lon_at, lat_at, point_at, time_at, label_at, kept = columns
     if len(fields) != len(header):
         missing = f", {header[len(fields)]} is missing" if len(fields) < len(header) else ""
@@ -220,32 +159,28 @@ def _row(fields: list[str], columns: _Columns, names: Names, number: int) -> Row
         lon, lat, *height = read_point(header[point_at], fields[point_at])
         if height:
             properties.setdefault("ele", height[0])
-    return Row(name, lon, lat, _time(fields, time_at, names), label or names.unlabelled or "", properties)
-
-
-def _time(fields: list[str], at: int | None, names: Names) -> datetime:
-    text = "" if at is None else fields[at]
-    return read_time(text, names.time_format) if text or names.default_time is None else names.default_time
+    time = moment_of("" if time_at is None else fields[time_at], names)
+    return Row(name, lon, lat, time, label or names.unlabelled or "", properties)
 
 
 def numbers(source: Source, names: Names) -> frozenset[str]:
     """The properties of a CSV file that are numbers in each row that has them."""
     with _Text(source, names) as text:
         records = text.records()
-        columns = _columns(source, _header(source, records), names)
-        width = len(columns.header)
-        left = [(at, name) for at, name, _ in columns.properties]
+        columns = find_columns(source, read_header(source, records), names)
+        left = {at: name for at, name, _ in columns.properties}
         seen: set[str] = set()
-        while True:
-            with contextlib.suppress(csv.Error):
-                for fields in records:
-                    if len(fields) == width:
-                        for at, name in left:
-                            if fields[at] and number(fields[at]) is None:
-                                left = [it for it in left if it[1] != name]
-                            elif fields[at]:
-                                seen.add(name)
-                return frozenset(name for _, name in left if name in seen)
+        for batch in pieces(_records(records, names), NUMBERS_AT_A_TIME):
+            rows = [fields for _, fields in batch if isinstance(fields, list) and len(fields) == len(columns.header)]
+            for at, name in list(left.items()):
+                texts = [fields[at] for fields in rows if fields[at]]
+                if not are_numbers(texts):
+                    del left[at]
+                elif texts:
+                    seen.add(name)
+            if not left:
+                break
+        return frozenset(seen.intersection(left.values()))
 
 
 def _check_utf8(fields: Sequence[str], header: Sequence[str]) -> None:

@@ -8,7 +8,7 @@ import re
 import stat
 from collections import deque
 from collections.abc import Iterable, Mapping, Sequence
-from dataclasses import dataclass
+from dataclasses import dataclass, replace
 from datetime import datetime, timedelta
 from typing import Any
 
@@ -46,6 +46,10 @@ def candidates(field: str, there: Iterable[str]) -> list[str]:
 
 Found = tuple[int, Row | RowError]
 """The place of a row in its file, from 1, and the row or what is wrong with it."""
+
+Prepared = tuple[int, str, str, bytes | RowError]
+"""A row as a load needs it: its place, its id and its label as far as they are known, and the body of its put or what is wrong
+with it."""
 
 _POINT = re.compile(r"\s*(?:SRID=4326\s*;\s*)?POINT\s*Z?\s*\(([^()_]*)\)\s*", re.IGNORECASE)
 LABEL_WANTED = "a label, or --default-label (the empty text shows a row to everybody)"
@@ -138,6 +142,18 @@ class Names:
         return found[0] if found else None
 
 
+def prepared(place: int, row: Row | RowError, wrap: bool) -> Prepared:
+    """A row as a load needs it. With `wrap`, a longitude of 180 to 360 degrees is that of -180 to 0."""
+    if isinstance(row, RowError):
+        return place, "", "", row
+    try:
+        if wrap and 180.0 < row.lon <= 360.0:
+            row = replace(row, lon=row.lon - 360.0)
+        return place, row.id, row.label, row.body()
+    except RowError as error:
+        return place, row.id, row.label, error
+
+
 def degrees(field: str, value: Any) -> float:
     """Degrees of a text or a number; `RowError` for another value. The range is judged where the row is put."""
     try:
@@ -172,6 +188,15 @@ def read_time(value: Any, form: str) -> datetime:
         return EPOCH + timedelta(**{unit: number})
     except (TypeError, ValueError, OverflowError):
         raise RowError("time", value, f"{unit} since 1970-01-01T00:00:00Z") from None
+
+
+def moment_of(text: str, names: Names) -> datetime:
+    """The time of a text of CSV, of which the empty one is none; `RowError` where it is no time."""
+    if text:
+        return read_time(text, names.time_format)
+    if names.default_time is None:
+        raise MissingError("time", "a time, or --default-time")
+    return names.default_time
 
 
 def make_row(names: Names, number: int, lon: float, lat: float, values: dict[str, Any], own: Any = None) -> Row:
@@ -222,10 +247,10 @@ def _id_text(value: Any, field: str) -> str:
 def _take_time(names: Names, values: dict[str, Any]) -> datetime:
     name = names.find("time", values)
     time = None if name is None else values.pop(name)
-    if time is not None:
+    if time is not None and time != "":
         return read_time(time, names.time_format)
     if names.default_time is None:
-        raise MissingError(names.time or "time", "a time: name its field by --time-column")
+        raise MissingError(names.time or "time", "a time: name its field by --time-column, or give one by --default-time")
     return names.default_time
 
 

@@ -17,6 +17,8 @@ from fashkiin.rows import Row, to_json
 AROUND = ('{"type":"FeatureCollection","features":[\n', ",\n", "\n]}\n")
 """What stands before, between and behind the features of a FeatureCollection."""
 
+_decode = json.JSONDecoder().raw_decode
+
 
 def read_lines(source: Source, names: Names) -> Iterator[Found]:
     """The rows of a file of a Feature or another object a line, by their lines."""
@@ -33,7 +35,7 @@ def read_lines(source: Source, names: Names) -> Iterator[Found]:
 
 def _read_line(text: bytes, names: Names, number: int) -> Row | RowError:
     try:
-        value = json.loads(text.decode())
+        value = _value(text.decode())
         if isinstance(value, dict) and value.get("type") != "Feature":
             return read_object(value, names, number)
         return read_feature(value, names, number)
@@ -47,6 +49,15 @@ def _read_line(text: bytes, names: Names, number: int) -> Row | RowError:
         return error
     except ValueError as error:
         return RowError("row", Plain(error), "a GeoJSON Feature in a line")
+
+
+def _value(text: str) -> Any:
+    """A value of JSON. For other texts, and those with blanks around, `json.loads` takes longer."""
+    try:
+        value, end = _decode(text)
+    except ValueError:
+        end = -1
+    return value if end == len(text) else json.loads(text)
 
 
 def _raw_line(text: bytes, names: Names, number: int) -> bytes:

@@ -1,13 +1,15 @@
-"""GPX 1.1: waypoints, track points and route points with a time.
+"""GPX 1.0 and 1.1: waypoints, track points and route points with a time.
 
 What GPX has no element for stands in `extensions`, as JSON, when rows are written, and is read back from there.
 """
 
 from __future__ import annotations
 
+import codecs
 import json
 from collections.abc import Iterable, Iterator
 from decimal import Decimal
+from functools import lru_cache
 from typing import TYPE_CHECKING, Any, TextIO
 
 from fashkiin.cells import parse_time, time_text
@@ -35,10 +37,10 @@ def read(source: Source, names: Names) -> Iterator[Found]:
     elements of extensions, such as `hr` and `cad`, have their own names. What is kept in no row is told by `source.dropped`.
     """
     number = 0
-    for line, point, track in _points(source):
+    for line, point, track in _points(source, names):
         number += 1
         try:
-            row: Row | RowError = _row(point, track, names, number)
+            row: Row | RowError = _row(point, track, names, number, source.dropped)
         except RowError as error:
             row = error
         if source.raw is not None:
@@ -49,65 +51,83 @@ def read(source: Source, names: Names) -> Iterator[Found]:
 def numbers(source: Source, names: Names) -> frozenset[str]:
     """The properties of a GPX file that are numbers in each point that has them."""
     throughout = Throughout()
-    for _, point, _ in _points(source):
-        throughout.see((name, value) for name, value in _values(point).items() if isinstance(value, str))
+    for _, point, _ in _points(source, names):
+        throughout.see(_values(point, source.dropped).items())
     return throughout.names()
 
 
-def _points(source: Source) -> Iterator[tuple[int, ElementTree.Element, dict[str, Any]]]:
+def _points(source: Source, names: Names) -> Iterator[tuple[int, ElementTree.Element, dict[str, Any]]]:
     """The points of a file with their lines and what they have of their tracks. What has been read is let go."""
-    parents: list[ElementTree.Element] = []
-    tags: list[str] = []
+    around: list[tuple[str, ElementTree.Element]] = []
+    point: ElementTree.Element | None = None
     track: dict[str, Any] = {}
     segment = 0
-    for line, event, element in _events(source):
+    for line, event, element in _events(source, names.encoding):
+        if point is not None and element is not point:
+            continue  # It is within the point, and is read with it.
         tag = _local(element.tag)
         if event == "start":
-            if not parents and tag != "gpx":
+            if not around and tag != "gpx":
                 raise source.fail(str(line), f"an element {tag}, wanted gpx")
-            parents.append(element)
-            tags.append(tag)
+            around.append((tag, element))
             segment += tag == "trkseg"
+            point = element if tag in POINTS else None
             continue
-        parents.pop()
-        tags.pop()
-        within = tags[-1] if tags else ""
-        if tag in POINTS:
+        around.pop()
+        within, parent = around[-1] if around else ("", None)
+        if point is not None:
             yield line, element, track | ({"segment": segment} if within == "trkseg" else {})
+            point = None
         elif tag in TRACKS and within == "gpx":
             track, segment = {}, 0
         elif within in TRACKS and tag in ("name", "type") and element.text:
             track["track" if tag == "name" else "type"] = element.text
         elif within in ("gpx", "trkseg", *TRACKS) and tag not in ("trkseg", *TRACKS):
             source.dropped[f"{tag} of {within}"] = None
-        if parents and not any(it in POINTS for it in tags):
-            parents[-1].remove(element)
+        if parent is not None:
+            parent.remove(element)
 
 
-def _events(source: Source) -> Iterator[tuple[int, str, ElementTree.Element]]:
-    """The starts and ends of the elements of a file, with their lines."""
+def _events(source: Source, encoding: str) -> Iterator[tuple[int, str, ElementTree.Element]]:
+    """The starts and ends of the elements of a file, with their lines. An encoding counts before the one that the file names."""
     from xml.etree import ElementTree
 
     parser = ElementTree.XMLPullParser(["start", "end"])
-    line = 1
+    decode = codecs.getincrementaldecoder(encoding)().decode if encoding else None
+    line, data = 1, b""
     try:
-        while piece := source.stream.readline(PIECE):
-            parser.feed(piece)
+        for data in iter(lambda: source.stream.readline(PIECE), b""):
+            parser.feed(decode(data) if decode else data)
             for event, element in parser.read_events():
                 yield line, event, element
-            line += piece.endswith(b"\n")
+            line += data.endswith(b"\n")
         parser.close()
         for event, element in parser.read_events():
             yield line, event, element
     except ElementTree.ParseError as error:
-        raise source.fail(str(error.position[0]), f"{error}, wanted GPX") from None
+        raise source.fail(str(error.position[0]), f"{error}, wanted GPX" + _hint(data)) from None
+    except (LookupError, ValueError) as error:
+        raise source.fail(str(line), f"{error}, wanted GPX in another --encoding") from None
 
 
-def _row(point: ElementTree.Element, track: dict[str, Any], names: Names, number: int) -> Row:
+def _hint(line: bytes) -> str:
+    """What to try where a line is no XML."""
+    try:
+        line.decode()
+    except UnicodeDecodeError:
+        return " in UTF-8, or its --encoding"
+    return ""
+
+
+def _row(
+    point: ElementTree.Element, track: dict[str, Any], names: Names, number: int, dropped: dict[str, None]
+) -> Row:
     lon, lat = (degrees(field, _attribute(point, field)) for field in ("lon", "lat"))
-    values: dict[str, Any] = _values(point)
-    if "time" not in values and names.default_time is None:
-        raise MissingError("time", "a point with a <time>")
+    values: dict[str, Any] = _values(point, dropped)
+    if not values.get("time", "").strip():
+        values.pop("time", "")
+        if names.default_time is None:
+            raise MissingError("time", "a point with a <time>, or --default-time")
     written = point.find(f"{{*}}extensions/{{{NAMESPACE}}}row")
     if written is not None:
         return _written(lon, lat, values.get("time", ""), written.text or "")
@@ -127,15 +147,36 @@ def _raw(point: ElementTree.Element, values: dict[str, Any]) -> bytes:
     return ElementTree.tostring(waypoint) + b"\n"
 
 
-def _values(point: ElementTree.Element) -> dict[str, Any]:
-    """The texts of a point's elements and of those of its extensions, which do not replace the point's own."""
-    values = {_local(child.tag): child.text or "" for child in point if _local(child.tag) not in ("extensions", "link")}
-    for link in point.findall("{*}link"):
-        values.setdefault("link", link.get("href", ""))
-    for leaf in (it for extensions in point.findall("{*}extensions") for it in extensions.iter() if it is not extensions):
-        if len(leaf) == 0 and leaf.text and leaf.tag != f"{{{NAMESPACE}}}row":
-            values.setdefault(_local(leaf.tag), leaf.text.strip())
+def _values(point: ElementTree.Element, dropped: dict[str, None]) -> dict[str, str]:
+    """The texts of a point's elements, then those within its extensions. Of two with the same name the first is kept; what is not
+    kept is told by `dropped`."""
+    values: dict[str, str] = {}
+    larger: list[tuple[str, str]] = []
+    for child in point:
+        name, text = _local(child.tag), child.text or ""
+        if name == "link":
+            larger.append(("link", child.get("href", "")))
+            dropped.update({f"{_local(it.tag)} of link": None for it in child})
+        elif len(child) or name == "extensions":
+            larger += _leaves(child, point, dropped)
+        elif values.setdefault(name, text) != text:
+            dropped[f"a further {name} of {_local(point.tag)}"] = None
+    for name, text in larger:
+        if values.setdefault(name, text) != text:
+            dropped[f"a further {name} of {_local(point.tag)}"] = None
     return values
+
+
+def _leaves(element: ElementTree.Element, point: ElementTree.Element, dropped: dict[str, None]) -> Iterator[tuple[str, str]]:
+    """The names and texts within an element of a point."""
+    for leaf in element.iter():
+        text = (leaf.text or "").strip()
+        if leaf is element or len(leaf) or leaf.tag == f"{{{NAMESPACE}}}row":
+            continue
+        if text:
+            yield _local(leaf.tag), text
+        elif leaf.attrib:
+            dropped[f"{_local(leaf.tag)} of {_local(point.tag)}"] = None
 
 
 def _written(lon: float, lat: float, time: str, text: str) -> Row:
@@ -156,6 +197,7 @@ def _attribute(point: ElementTree.Element, field: str) -> str:
     return value
 
 
+@lru_cache(maxsize=1_024)
 def _local(tag: str) -> str:
     return tag.rsplit("}", 1)[-1]
 

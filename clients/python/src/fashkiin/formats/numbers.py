@@ -3,12 +3,15 @@
 from __future__ import annotations
 
 import re
-from collections.abc import Iterable, Mapping
+from collections.abc import Iterable, Mapping, Sequence
 
 DIGITS = 15
 """The most digits of a number that a double holds exactly, which is what most readers of JSON make of it."""
 
 _NUMBER = re.compile(r"-?(0|[1-9][0-9]*)(\.[0-9]+)?([eE][-+]?[0-9]{1,3})?\Z")
+
+_DECIMALS = re.compile(r"(?:-?(?:0|[1-9][0-9]*)(?:\.[0-9]+)?\n)*\Z")
+"""Numbers that stand on lines of their own, without exponents."""
 
 
 def number(text: str) -> int | float | None:
@@ -23,6 +26,13 @@ def number(text: str) -> int | float | None:
         return int(text)
     value = float(text)
     return value if abs(value) < float("inf") else None
+
+
+def are_numbers(texts: Sequence[str]) -> bool:
+    """Whether each of the texts is a number."""
+    together = "\n".join([*texts, ""])
+    short = max(map(len, texts), default=0) <= DIGITS and together.count("\n") == len(texts)
+    return bool(short and _DECIMALS.match(together)) or all(number(text) is not None for text in texts)
 
 
 class Throughout:

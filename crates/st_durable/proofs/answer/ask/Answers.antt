@@ -3,4 +3,4 @@ use Rattle.st_core.proofs.Steps.{read_leaves}
 use Rattle.st_durable.proofs.answer.ask.Goals as goal
 
 pub returns-then-not-is_change-clause-state : goal.returns-then-not-is_change-clause-state
-returns-then-not-is_change-clause-state g c = sym (read_leaves c.args.store.now c.args.asked (search rules))
+returns-then-not-is_change-clause-state g c = sym (read_leaves c.args.store.now c.args.asked.now (search rules))

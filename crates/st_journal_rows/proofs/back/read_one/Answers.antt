@@ -8,7 +8,7 @@ pub returns-in_ok-read_row-in-Ok-true-clause-found : goal.returns-in_ok-read_row
 returns-in_ok-read_row-in-Ok-true-clause-found g c clean records are =
     let rows = (g.S.Store.view c.args.store.now).trees table_tree in
     let finds : Finds rows (pos c.args.number) c.get.new.row true = search rules in
-    let is : c.get.new.row ≡ row_of c.args.number c.in_ok-read_row-in-Ok-true.field-0 = c.in_ok-read_row-in-Ok-true.ensures in
+    let is : c.get.new.row ≡ row_of c.args.number c.in_ok-read_row-in-Ok-true.field-0 = c.in_ok-read_row-in-Ok-true.ensures.ok in
     found_row c.args.number rows records c.get.new.row c.in_ok-read_row-in-Ok-true.field-0 finds are is
 
 pub returns-in-Ok-false-clause-found : goal.returns-in-Ok-false-clause-found

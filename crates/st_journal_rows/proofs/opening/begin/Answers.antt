@@ -1,10 +1,13 @@
-use Rattle.std.proofs.Common.{◌≡◌, ◌<◌, false, subst, rules, arith}
+use Rattle.std.proofs.Common.{◌≡◌, ◌<◌, false, Err, IfErr, subst, rules, arith}
+use Rattle.std.proofs.lemmas.Result.{err_from_is_err_and}
 use Rattle.sqlite_trees.specs.View.{IsClean}
 use Rattle.sqlite_trees.specs.declared.store.Shape.TheVariants.{Table}
-use Rattle.st_journal_rows.specs.Table.{table_tree}
+use Rattle.st_journal_rows.specs.Table.{table_tree, records_in}
+use Rattle.st_journal_rows.specs.Openings.{AreRefused}
 use Rattle.st_journal_rows.specs.Begins.{IsAtRest, Reads}
 use Rattle.st_journal_rows.proofs.CommitLemmas.{open_of}
 use Rattle.st_journal_rows.proofs.Reading.{resumed, begun, emptied, if_both}
+use Rattle.st_journal_rows.proofs.Others.{refused_at_rest}
 use Rattle.st_journal_rows.proofs.opening.begin.Goals as goal
 
 pub returns-then-count-eq0-clause-ok : goal.returns-then-count-eq0-clause-ok
@@ -50,3 +53,18 @@ begin_new-requires g c = record {
       subst (λ n. Reads g.R.Replay.applies c.args.opening.now old mid n c.args.state.now c.read_all.new.state) none (c.in_ok-count.ensures.ok mid_clean) in
       emptied g.R.Replay.applies c.args.opening.now old mid c.args.state.now c.read_all.new.state read rest table;
 }
+
+pub returns-in_err-count-clause-err : goal.returns-in_err-count-clause-err
+returns-in_err-count-clause-err g c =
+    let s = g.S.Store in
+    let old = s.view c.args.store.now in
+    let mid = s.view c.read_all.new.store in
+    let opening = c.args.opening.now in
+    let last = err_from_is_err_and c.from_residual.result c.from_residual.ensures.1 in
+    let is : c.read_all.result ≡ Err last.0 = search (rules, last.2) in
+    rw last.1 (λ mid_clean.
+    let old_clean : IsClean old = omega (arith, mid_clean, c.read_all.ensures.clean) in
+    let sound : old.is_broken ≡ false = search rules in
+    let rest : IsAtRest old = c.requires.rest old_clean (open_of old.is_open old.is_broken (g.met.S.Store.broken_if_shut c.args.store.now) sound) in
+    let told = subst (λ r. IfErr r (λ error. IsClean mid → AreRefused opening (records_in old.trees) error)) is c.read_all.ensures.err in
+    refused_at_rest opening old last.0 rest (told mid_clean))

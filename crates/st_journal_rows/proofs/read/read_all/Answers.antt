@@ -1,24 +1,34 @@
-use Rattle.std.proofs.Common.{◌≡◌, [], true, false, rules, arith, subst}
+use Rattle.std.proofs.Common.{◌≡◌, [], ◌∷◌, true, false, Err, IfErr, rules, arith, ap, subst, ◌∙◌}
+use Rattle.std.proofs.lemmas.Result.{err_from_is_err_and}
 use Rattle.sqlite_trees.specs.Tree.{sought, order_of}
 use Rattle.sqlite_trees.specs.declared.store.Direction.TheVariants.{Forward}
-use Rattle.sqlite_trees.specs.View.{IsClean, with_cursor, Advances}
+use Rattle.sqlite_trees.specs.declared.store.Shape.TheVariants.{Table}
+use Rattle.sqlite_trees.specs.View.{View, IsClean, with_cursor, Advances}
 use Rattle.st_journal_rows.specs.Table.{table_tree, row_of}
-use Rattle.st_journal_rows.proofs.Reading.{starts, reads, ends}
+use Rattle.st_journal_rows.specs.Openings.{AreRefused}
+use Rattle.st_journal_rows.specs.inner.Telling.{TellsNoOther}
+use Rattle.st_journal_rows.proofs.Reading.{starts, behind, reads, ends}
+use Rattle.st_journal_rows.proofs.Others.{refused}
 use Rattle.st_journal_rows.proofs.read.read_all.Goals as goal
 
 pub rows-init : goal.rows-init
 rows-init g c =
     let s = g.S.Store in
     let old = s.view c.args.store.now in
+    let mid = s.view c.last_number.new.store in
     let now = s.view c.seek.new.self in
-    let found : IsClean now → now ≡ with_cursor old 0 (sought (order_of (old.shape table_tree)) Forward [] (old.trees table_tree)) = search rules in
+    let found : IsClean now → now ≡ with_cursor mid 0 (sought (order_of (mid.shape table_tree)) Forward [] (mid.trees table_tree)) = search rules in
     record {
       live = search rules;
-      clean = c.seek.ensures.quiet.clean;
-      outcomes = c.seek.ensures.quiet.outcomes;
+      clean = omega (arith, c.last_number.ensures.clean, c.seek.ensures.quiet.clean);
+      outcomes = λ db h. c.last_number.ensures.outcomes db (c.seek.ensures.quiet.outcomes db h);
       has = λ clean.
-          let was : IsClean old = omega (arith, clean, c.seek.ensures.quiet.clean) in
-          starts g.R.Replay.applies c.args.opening.now old now c.args.state.now (c.requires.table was) (found clean);
+          let mid_clean : IsClean mid = omega (arith, clean, c.seek.ensures.quiet.clean) in
+          let was : IsClean old = omega (arith, mid_clean, c.last_number.ensures.clean) in
+          let move = c.in_ok-last.ensures.same mid_clean in
+          let table : mid.shape table_tree ≡ Table = ap (λ (v : View). v.shape table_tree) move ∙ c.requires.table was in
+          behind g.R.Replay.applies c.args.opening.now old mid now 0 c.args.state.now c.args.state.now move
+          (starts g.R.Replay.applies c.args.opening.now mid now c.args.state.now table (found clean));
     }
 
 pub returns-in-Ok-false-clause-ok : goal.returns-in-Ok-false-clause-ok
@@ -43,9 +53,9 @@ rows-preserved g c =
           let was : IsClean mid = omega (arith, clean, c.next.ensures.quiet.clean) in
           let moves : Advances mid new 0 c.next.new.row true =
           subst (Advances mid new 0 c.next.new.row) c.in-Ok-true.field-0-test (c.in-Ok-true.ensures.ok clean) in
-          let is : c.next.new.row ≡ row_of c.rows.count c.in_ok-change.change = c.in_ok-change.ensures in
+          let is : c.next.new.row ≡ row_of c.rows.count c.in_ok-change.change = c.in_ok-change.ensures.ok in
           reads g.R.Replay.applies c.args.opening.now (s.view c.args.store.now) mid new c.in_ok-change.change c.rows.count c.args.state.now c.rows.state c.take.new.state c.next.new.row
-          (c.rows.invariant.has was) moves is c.in_ok-take.ensures;
+          (c.rows.invariant.has was) moves is c.in_ok-take.ensures.ok;
     }
 
 pub returns-in-Ok-false-clause-clean : goal.returns-in-Ok-false-clause-clean
@@ -65,3 +75,21 @@ returns-in_err-take-clause-clean g c = omega (arith, c.rows.invariant.clean, c.n
 
 pub returns-in_err-take-clause-outcomes : goal.returns-in_err-take-clause-outcomes
 returns-in_err-take-clause-outcomes g c db leaves = c.rows.invariant.outcomes db (c.next.ensures.quiet.outcomes db leaves)
+
+pub returns-in_err-take-clause-err : goal.returns-in_err-take-clause-err
+returns-in_err-take-clause-err g c =
+    let s = g.S.Store in
+    let old = s.view c.args.store.now in
+    let mid = s.view c.rows.store in
+    let new = s.view c.next.new.self in
+    let opening = c.args.opening.now in
+    let change = c.in_ok-change.change in
+    let last = err_from_is_err_and c.from_residual-in_err-take.result c.from_residual-in_err-take.ensures.1 in
+    let is : c.take.result ≡ Err last.0 = search (rules, last.2) in
+    rw last.1 (λ clean.
+    let was : IsClean mid = omega (arith, clean, c.next.ensures.quiet.clean) in
+    let moves : Advances mid new 0 c.next.new.row true =
+    subst (Advances mid new 0 c.next.new.row) c.in-Ok-true.field-0-test (c.in-Ok-true.ensures.ok clean) in
+    let first = subst (λ r. IfErr r (AreRefused opening (change ∷ []))) is c.take.ensures.first in
+    refused g.R.Replay.applies opening old mid new change c.rows.count c.args.state.now c.rows.state c.next.new.row last.0
+    (c.rows.invariant.has was) moves c.in_ok-change.ensures.ok first (λ low. subst (λ r. IfErr r TellsNoOther) is (c.take.ensures.later low)))

@@ -1,6 +1,19 @@
-use denote.Param.Send.{sendable, given_sync}
+use denote.RattleType.{RattleType}
+use denote.Param.Send.{IsSend, IsSync, sendable, given_sync}
 use Rattle.std.proofs.Crossing.{crosses}
+use Rattle.st_publisher.proofs.Crossing.{held_draft, held_publisher}
+use Rattle.st_durable_hall.proofs.Crossing.{durable_hall, held_board}
+use Rattle.st_durable_hall.specs.contracts.hall.DurableHall as DurableHall
 use Rattle.st_server.proofs.kept.open_hall.Goals as goal
 
-pub seat_workers-requires-send-C : goal.seat_workers-requires-send-C
-seat_workers-requires-send-C g c κs within = let r = given_sync 4 g.row.R c.type_bounds.sync-R in search (sendable, crosses) depth 60 fits 100000
+-- as a struct's field has it, which is how `search` meets it
+held_hall : (B H R J : RattleType) (b : _) (h : _) (l : _) (j : _) → IsSend R → IsSync R → IsSend J → IsSync (DurableHall.the_field B H R J b h l j).row
+held_hall B H R J b h l j s y t = search (sendable, crosses, held_draft, held_publisher, held_board) depth 60 fits 100000
+
+pub serve_at-requires-sync-M : goal.serve_at-requires-sync-M
+serve_at-requires-sync-M g c κs within = let r = given_sync 4 g.row.R c.type_bounds.sync-R in let j = c.type_bounds.send-J in
+    search (sendable, crosses, durable_hall) depth 60 fits 100000
+
+pub serve_at-requires-send-L : goal.serve_at-requires-send-L
+serve_at-requires-send-L g c κs within = let r = given_sync 4 g.row.R c.type_bounds.sync-R in let j = c.type_bounds.send-J in
+    search (sendable, crosses, held_hall) depth 60 fits 100000

@@ -1,9 +1,10 @@
-use Rattle.std.proofs.Common.{◌≡◌, sym, true, false}
-use Rattle.st_connection.proofs.AtOnce.{at_once}
-use Rattle.st_station.specs.Posts.{Answers}
+use Rattle.std.proofs.Common.{◌≡◌, false}
+use Rattle.std.specs.Prelude.{⊤}
+use Rattle.st_station.proofs.Growing.{serves_at_once}
 use Rattle.st_station.proofs.station.work.Goals as goal
 
 pub returns-clause-served : goal.returns-clause-served
 returns-clause-served g c =
-    rw (sym c.station.view_is) (at_once (Answers g.H.HallName.start) _ _ _ _ _ _ _ _ _ c.serve.ensures.served
-    (λ e. let k : false ≡ true = c.serve.ensures.kept.lost e in cc))
+    let here : c.args.station.now.has_failed ≡ false = cc (c.station.view_is, c.is_sound.ensures) in
+    serves_at_once g.H.HallName.start (λ _. ⊤) c.args.station.now c.serve.new.self _ _ _ _ _ c.serve.result
+    here c.serve.ensures.lost c.serve.ensures.served

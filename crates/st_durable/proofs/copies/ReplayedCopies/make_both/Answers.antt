@@ -1,30 +1,22 @@
-use Rattle.std.proofs.Common.{rules, ◌≡◌, true, sym, subst, ◌∙◌}
-use Rattle.std.proofs.lemmas.Result.{err_from_is_err_and}
-use Rattle.st_journal.specs.declared.replay.ReplayError.{ReplayError}
-use Rattle.st_durable.specs.Applying.{Applies}
-use Rattle.st_durable.proofs.Copying.{alike_still}
+use Rattle.std.proofs.Common.{rules, ◌≡◌, true, sym, ap, subst, ◌∙◌}
+use Rattle.std.specs.declared.alloc.Global.{Global}
+use Rattle.st_core.specs.State.{State}
+use Rattle.st_core.specs.Judging.{JudgesChange}
+use Rattle.st_core.specs.Step.{settle}
 use Rattle.st_durable.proofs.copies.ReplayedCopies.make_both.Goals as goal
+
+pub make-requires : goal.make-requires
+make-requires c =
+    let on : c.self.inside.are_alike ≡ true = search rules in
+    let shown : c.args.self.now ≡ c.self.inside.second = search rules in
+    subst (λ (s : State Global). JudgesChange s.directory c.args.judged.now) (shown ∙ sym (c.self.invariant on)) c.requires
+
+pub make-requires-2 : goal.make-requires-2
+make-requires-2 c =
+    let shown : c.args.self.now ≡ c.self.inside.second = search rules in
+    subst (λ (s : State Global). JudgesChange s.directory c.args.judged.now) shown c.requires
 
 pub invariant_of-self-2 : goal.invariant_of-self-2
 invariant_of-self-2 c = λ _.
     let on : c.self.inside.are_alike ≡ true = search rules in
-    alike_still c.self.inside.first c.self.inside.second c.make_again.new.store c.make_again-2.new.store c.args.change.now (c.self.invariant on)
-    c.in_ok-make_again.ensures.ok c.in_ok-make_again-2.ensures.ok
-
-pub returns-in_err-make_again-clause-invalid : goal.returns-in_err-make_again-clause-invalid
-returns-in_err-make_again-clause-invalid c e after a =
-    let p = err_from_is_err_and c.from_residual.result c.from_residual.ensures.1 in
-    let on : c.self.inside.are_alike ≡ true = search rules in
-    let told = sym p.1 ∙ e in
-    let bad : p.0 ≡ ReplayError.Invalid = cc in
-    let same = c.self.invariant on in
-    let shown : c.args.self.now ≡ c.self.inside.second = search rules in
-    c.in_err-make_again.ensures.invalid (search (rules, p.2, bad)) after (subst (λ s. Applies s c.args.change.now after) (shown ∙ sym same) a)
-
-pub returns-in_err-make_again-2-clause-invalid : goal.returns-in_err-make_again-2-clause-invalid
-returns-in_err-make_again-2-clause-invalid c e after a =
-    let p = err_from_is_err_and c.from_residual-in_err-make_again-2.result c.from_residual-in_err-make_again-2.ensures.1 in
-    let told = sym p.1 ∙ e in
-    let bad : p.0 ≡ ReplayError.Invalid = cc in
-    let shown : c.args.self.now ≡ c.self.inside.second = search rules in
-    c.in_err-make_again-2.ensures.invalid (search (rules, p.2, bad)) after (subst (λ s. Applies s c.args.change.now after) shown a)
+    c.in_ok-make.ensures.ok ∙ ap (λ (s : State Global). (settle s c.args.judged.now).state) (c.self.invariant on) ∙ sym c.in_ok-make-2.ensures.ok

@@ -1,20 +1,17 @@
-use Rattle.std.proofs.Common.{subst, sym, List}
+use Rattle.std.proofs.Common.{List, subst, sym}
 use mathlib.Core.List.{IsPrefix}
-use Rattle.st_press.specs.Steps.{Ask, Told}
-use Rattle.st_press.specs.Views.{EndsAfter}
-use Rattle.st_press.proofs.Fronts.{learns_front}
+use Rattle.st_press.specs.Steps.{Ask}
+use Rattle.st_hall.proofs.Deciding.{decides_on, learns_seen}
 use Rattle.st_hall.proofs.worker.Worker.change.Goals as goal
 
-pub returns-clause-seen : goal.returns-clause-seen
-returns-clause-seen g c =
-    rw (← c.self.view_is) (subst (λ (l : List Ask). IsPrefix l c.learn.new.self.seat.seen) c.change.ensures.seen c.learn.ensures.seen)
+pub returns-in-Ok-clause-seen : goal.returns-in-Ok-clause-seen
+returns-in-Ok-clause-seen g c =
+    rw (← c.self.view_is) (subst (λ (l : List Ask). IsPrefix c.self.inside.desk.seen l) (sym c.take.ensures.seen)
+    (decides_on g.H.HallName.start c.self.inside.desk.seen c.args.asked.now c.in-Ok.outcome.reply c.in-Ok.outcome.front c.in-Ok.ensures.decided))
 
-pub returns-clause-goes_on : goal.returns-clause-goes_on
-returns-clause-goes_on g c =
-    rw (← c.self.view_is)
-    (subst (λ (r : Told). (list : List Ask) × EndsAfter g.H.HallName.start c.self.inside.desk.seen list c.args.asked r) (sym c.learn.ensures.reply) c.in_ok-receipt.ensures.reply)
-
-pub returns-clause-learns : goal.returns-clause-learns
-returns-clause-learns g c =
-    rw (← c.self.view_is)
-    (learns_front g.H.HallName.start c.self.inside.desk.seen c.self.inside.learnt _ c.args.asked _ _ _ c.learn.ensures.one c.in_ok-receipt.ensures.front c.learn.ensures.reply)
+pub returns-in-Ok-clause-learns : goal.returns-in-Ok-clause-learns
+returns-in-Ok-clause-learns g c =
+    rw (← c.self.view_is) (learns_seen
+    (record { number = c.self.inside.number; calls = c.self.inside.calls; learnt = c.self.inside.learnt; seat = c.self.inside.desk }) c.take.new.self.post c.in-Ok.outcome.front
+    (decides_on g.H.HallName.start c.self.inside.desk.seen c.args.asked.now c.in-Ok.outcome.reply c.in-Ok.outcome.front c.in-Ok.ensures.decided)
+    c.take.ensures.learnt c.take.ensures.seen)

@@ -1,4 +1,0 @@
-pub mod Standings
-pub mod Answering
-pub mod Lasting
-pub mod Crossing

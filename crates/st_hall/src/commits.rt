@@ -1,0 +1,139 @@
+//! What makes the changes of a hall.
+//!
+//! Nothing here says which thread decides a change, nor when: a hall may decide it under a lock, keep it in a journal, or read it
+//! back from a list of several machines.
+ghost use Rattle.std.specs.Prelude.{◌≡◌, ◌+◌, true, Err, IfOk, OnErr, OnOk, MatchResult};
+ghost use Rattle.st_core.specs.Step.{asks_for_change};
+ghost use Rattle.st_service.specs.Answers.{AsksBy, IsFound};
+ghost use Rattle.st_hall.specs.Decisions.{Decides, counted};
+ghost use Rattle.st_hall.specs.declared.commits.Undecided.TheVariants.{Lost as WasLost, NoMemory};
+
+use crate::clerk::Clerk;
+use st_core::{Asked, Reply};
+use st_desk::Desk;
+use st_http::message::Message;
+use st_press::HallName;
+use st_press::front::Front;
+use std::alloc::AllocError;
+use std::sync::{Mutex, Wait};
+
+/// What a change came to, and the list that says so.
+#[derive(Drop)]
+pub struct Outcome<H: HallName> {
+    /// Its reply; none where its token does not hold, so that it is no change.
+    pub reply: Option<Reply>,
+    /// The list that ends with it; where its token does not hold, the one after which it does not.
+    pub front: Front<H>,
+    /// Whether the list is kept and published.
+    pub is_settled: bool,
+}
+
+/// Why nothing came of a change.
+#[derive(Clone, Copy, Debug, PartialEq, Eq)]
+pub enum Undecided {
+    /// Out of memory. The change is not made.
+    NoMemory,
+    /// Nothing more is kept. Whether the change is made only the next opening can tell.
+    Lost,
+}
+
+impl From<AllocError> for Undecided {
+    ghost from_gives = { λ _ e. e ≡ NoMemory };
+
+    fn from(_: AllocError) -> Undecided {
+        Undecided::NoMemory
+    }
+}
+
+/// Nothing more is kept.
+#[derive(Clone, Copy, Debug, PartialEq, Eq)]
+pub struct Lost;
+
+/// What makes the changes of a hall, in any thread.
+pub trait Commits<H: HallName> {
+    ghost use Rattle.std.specs.Prelude.{ℕ, List};
+    ghost use mathlib.Core.List.{IsPrefix};
+    ghost use Rattle.st_press.specs.Steps.{Ask};
+
+    // How many bytes of answers a station holds back, so that the changes that a client sends together are kept together.
+    ghost HOLD: { ℕ };
+
+    const HOLD: usize;
+
+    // These changes were kept.
+    ghost keeps: { List Ask → Type 0 };
+
+    // It is one that may come to keep nothing more.
+    ghost may_lose: { Type 0 };
+
+    /// Makes a change at a desk. Its reply must not go out before the list of its outcome is settled, nor may that of a change whose
+    /// token does not hold. When out of memory the change is not made.
+    fn change<W: Wait>(
+        &self,
+        rt: &W,
+        desk: &mut Desk<H>,
+        message: &Message<'_>,
+        asked: &Asked,
+    ) -> Result<Outcome<H>, Undecided>
+        requires found { IsFound message.now }
+        requires asks { AsksBy message.now asked.now }
+        requires change { asks_for_change asked.now ≡ true }
+        ensures decided { IfOk result (λ o. Decides H.start desk.old.seen asked.now o.reply o.front) }
+        ensures settled { IfOk result (λ o. o.is_settled ≡ true → keeps o.front) }
+        ensures made { MatchResult result (λ o. desk.new.made ≡ desk.old.made + counted o.reply) (λ _. desk.new.made ≡ desk.old.made) }
+        ensures seen { desk.new.seen ≡ desk.old.seen }
+        ensures lost { result ≡ Err WasLost → may_lose };
+
+    /// Sees that a list is kept, and publishes it where there is memory: whether it is published.
+    fn settle<W: Wait>(&self, rt: &W, front: &Front<H>) -> Result<bool, Lost>
+        ensures kept { OnOk result (keeps front.now) }
+        ensures lost { OnErr result may_lose };
+
+    /// Whether a list is known to be kept. It waits for no other change.
+    fn has_kept<W: Wait>(&self, rt: &W, front: &Front<H>) -> bool
+        ensures { result ≡ true → keeps front.now };
+
+    /// Whether it is known that nothing more is kept.
+    fn is_lost(&self) -> bool
+        ensures { result ≡ true → may_lose };
+
+    // With a list all that begins it was kept.
+    ghost begins: { (front list : List Ask) → IsPrefix front list → keeps list → keeps front };
+}
+
+impl<H: HallName, R: Wait + Drop> Commits<H> for Mutex<Clerk<H, R>> {
+    ghost use Rattle.std.specs.Prelude.{⊤};
+
+    ghost HOLD = { 0 };
+
+    const HOLD: usize = 0;
+
+    // In memory a change is kept once it is in the list.
+    ghost keeps = { λ list. ⊤ };
+
+    ghost may_lose = { ⊥ };
+
+    ghost begins = { λ front list begins kept. tt };
+
+    fn change<W: Wait>(
+        &self,
+        rt: &W,
+        desk: &mut Desk<H>,
+        _message: &Message<'_>,
+        asked: &Asked,
+    ) -> Result<Outcome<H>, Undecided> {
+        self.lock(rt).decide(rt, desk, asked)
+    }
+
+    fn settle<W: Wait>(&self, rt: &W, _front: &Front<H>) -> Result<bool, Lost> {
+        Ok(self.lock(rt).publish(rt).is_ok())
+    }
+
+    fn has_kept<W: Wait>(&self, _rt: &W, _front: &Front<H>) -> bool {
+        true
+    }
+
+    fn is_lost(&self) -> bool {
+        false
+    }
+}

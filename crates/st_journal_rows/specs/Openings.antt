@@ -1,0 +1,29 @@
+-- Whose store an opening is of, and why a store is refused to another opening.
+use Rattle.std.specs.Prelude.{◌≡◌, ◌≢◌, ◌==◌, ℤ, ℕ, List, ◌∷◌}
+use Rattle.std.specs.List.{before_first}
+use Rattle.st_journal.specs.declared.record.Record.{Record}
+use Rattle.st_journal_rows.specs.declared.error.OpenError.{OpenError}
+use Rattle.st_journal_rows.specs.declared.error.OpenError.TheVariants.{OtherOwner, OtherOpening}
+use Rattle.st_journal_rows.specs.Table.{opening_record}
+
+-- the first word of an opening, which says whose store it is
+abbrev pub owner_in : List ℕ → List ℕ
+owner_in opening = before_first (λ b. b == 32) opening
+
+-- what is told to an opening where another one is found
+abbrev pub Refuses : (opening other : List ℕ) → OpenError → Type 0
+Refuses opening other OtherOwner = owner_in other ≢ owner_in opening
+Refuses opening other OtherOpening = (owner_in other ≡ owner_in opening) × (other ≢ opening)
+Refuses opening other _ = ⊥
+
+-- the records are those of a store that was opened so
+pub record AreOf (opening : List ℕ) (records : List Record) : Type 0 where
+  pub time : ℤ
+  pub changes : List Record
+  pub are : records ≡ opening_record time opening ∷ changes
+
+-- why records are refused to an opening: that they are of another one is told only where they are
+abbrev pub AreRefused : List ℕ → List Record → OpenError → Type 0
+AreRefused opening records OtherOwner = (other : List ℕ) × AreOf other records × Refuses opening other OtherOwner
+AreRefused opening records OtherOpening = (other : List ℕ) × AreOf other records × Refuses opening other OtherOpening
+AreRefused opening records _ = Unit {0}

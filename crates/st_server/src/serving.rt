@@ -1,0 +1,96 @@
+//! Serving at the desks of a hall, whatever makes its changes.
+ghost use Rattle.std.specs.Prelude.{◌≡◌, Err};
+ghost use Rattle.st_command_line.specs.ServedArguments.{place_text};
+ghost use Rattle.st_command_line.specs.declared.fault.Fault.TheVariants.{StoreLost};
+ghost use Rattle.st_server.specs.Keeping.{TellsKept};
+
+use crate::copying::{Copying, attend_and_copy};
+use crate::stations::stations_at;
+use st_command_line::{Fault, ServedArguments};
+use st_connection::Attend;
+use st_copy::{Copier, Source};
+use st_hall::{Commits, Desk, HallName};
+use st_workers::{begin, tell};
+use std::alloc::Global;
+use std::fs::Files;
+use std::io::{Eprint, Write};
+use std::net::{Net, TcpListener, TcpStream};
+use std::sync::Wait;
+use std::thread::Threads;
+use std::time::Clock;
+
+// Tells that the server listens, serves connections, and tells how many were served, or that the store is lost.
+fn announce<
+    H: HallName,
+    M: Commits<H>,
+    T: Attend + Send + Drop,
+    L: Source + Drop + Send,
+    K: Copier + Drop + Send,
+    R: Net<Listener = TcpListener, Stream = TcpStream>
+        + Files
+        + Threads
+        + Wait
+        + Clock
+        + Eprint
+        + Sync,
+    O: Write,
+>(
+    rt: &R,
+    alloc: Global,
+    said: &ServedArguments<'_>,
+    hall: &M,
+    list: L,
+    copying: Option<Copying<'_, K>>,
+    attendants: Vec<T>,
+    output: &mut O,
+) -> Result<(), Fault>
+    ensures told { TellsKept (place_text said.now.place) said.now.connections (O.contents output.old) (O.contents output.new) result }
+    ensures lost { result ≡ Err StoreLost → M.may_lose }
+{
+    let listener = match begin(rt, alloc, said, output) {
+        Ok(listener) => listener,
+        Err(fault) => {
+            drop(attendants);
+            drop(list);
+            return Err(fault);
+        }
+    };
+    let attended = attend_and_copy(rt, alloc, &listener, said, list, copying, attendants);
+    if hall.is_lost() {
+        return Err(Fault::StoreLost);
+    }
+    tell(alloc, output, "served", attended?)
+}
+
+// Serves at the desks of a hall that was just opened, by a station each, as the words say. A copy follows the list where one is wanted.
+pub(crate) fn serve_at<
+    H: HallName + Send + Sync,
+    M: Commits<H> + Sync,
+    L: Source + Drop + Send,
+    K: Copier + Drop + Send,
+    R: Net<Listener = TcpListener, Stream = TcpStream>
+        + Files
+        + Threads
+        + Wait
+        + Clock
+        + Eprint
+        + Sync,
+    O: Write,
+>(
+    rt: &R,
+    alloc: Global,
+    said: &ServedArguments<'_>,
+    hall: &M,
+    list: L,
+    copying: Option<Copying<'_, K>>,
+    desks: Vec<Desk<H>>,
+    output: &mut O,
+) -> Result<(), Fault>
+    ensures told { TellsKept (place_text said.now.place) said.now.connections (O.contents output.old) (O.contents output.new) result }
+    ensures lost { result ≡ Err StoreLost → M.may_lose }
+{
+    match stations_at(rt, alloc, hall, desks) {
+        Ok(stations) => announce(rt, alloc, said, hall, list, copying, stations, output),
+        Err(_) => Err(Fault::NoMemory),
+    }
+}

@@ -1,0 +1,49 @@
+//! Stations at the desks of a hall.
+use st_hall::{Commits, Desk, Gate, HallName};
+use st_station::Station;
+use std::alloc::{AllocError, Global};
+use std::sync::Wait;
+
+/// Lets each read pass at once.
+#[derive(Drop)]
+pub struct Open;
+
+impl Gate for Open {
+    fn may_pass(&self, _worker: u64, _call: u64) -> bool {
+        true
+    }
+
+    fn answered(&self, _worker: u64, _call: u64) {}
+
+    fn gave_up(&self, _worker: u64, _call: u64) {}
+}
+
+// A station of this number at a desk of a hall that was just opened. That what the desk has seen is not kept never comes.
+fn station_at<'a, H: HallName, M: Commits<H>, R: Wait>(
+    rt: &'a R,
+    alloc: Global,
+    hall: &'a M,
+    number: u64,
+    desk: Desk<H>,
+) -> Result<Station<'a, H, M, Open, R>, AllocError> {
+    let front = desk.front();
+    if !hall.has_kept(rt, &front) {
+        return Err(AllocError);
+    }
+    Station::new(rt, alloc, number, desk, hall, &Open)
+}
+
+// A station at each desk, numbered from 1.
+pub(crate) fn stations_at<'a, H: HallName, M: Commits<H>, R: Wait>(
+    rt: &'a R,
+    alloc: Global,
+    hall: &'a M,
+    desks: Vec<Desk<H>>,
+) -> Result<Vec<Station<'a, H, M, Open, R>>, AllocError> {
+    let mut stations: Vec<Station<'a, H, M, Open, R>> = Vec::with_capacity(alloc, desks.len())?;
+    for (at, desk) in desks.into_iter().enumerate() {
+        let station = station_at(rt, alloc, hall, at as u64 + 1, desk)?;
+        stations.push(station).map_err(|_| AllocError)?;
+    }
+    Ok(stations)
+}
