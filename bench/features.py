@@ -30,7 +30,7 @@ TOP = Path(__file__).resolve().parent.parent
 for folder in ("tests", "clients/python/src"):
     sys.path.insert(0, str(TOP / folder))
 
-import psycopg2  # type: ignore[import]  # noqa: E402
+import psycopg2  # noqa: E402
 from postgres import SUPERUSER, postgres  # noqa: E402
 from served import digest, served, token  # noqa: E402
 

@@ -11,7 +11,7 @@ from datetime import UTC, datetime, timedelta
 from pathlib import Path
 from typing import Any
 
-import psycopg2  # type: ignore[import]
+import psycopg2
 from postgres import SUPERUSER, postgres
 from running import COMMAND, environment
 from served import digest, served, token

@@ -11,7 +11,7 @@ from contextlib import closing
 from datetime import datetime
 from pathlib import Path
 
-import psycopg2  # type: ignore[import]
+import psycopg2
 import pytest
 from exported import AUTHS, NOON, ROWS, TABLES, USERS, Both, Select, load, run
 from hypothesis import HealthCheck, given, settings

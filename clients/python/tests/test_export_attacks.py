@@ -6,7 +6,7 @@ import time
 from collections.abc import Iterator
 from contextlib import closing, suppress
 
-import psycopg2  # type: ignore[import]
+import psycopg2
 import pytest
 from exported import AUTHS, ROWS, Both, Select, load, run
 from postgres import SUPERUSER

@@ -14,7 +14,7 @@ from urllib.parse import urlencode
 
 import pytest
 from facade import ITEMS, ROWS, SEEN, TABLE, Facade
-from jsonschema import Draft4Validator  # type: ignore[import]
+from jsonschema import Draft4Validator
 
 from fashkiin import Row
 
