@@ -2,9 +2,9 @@
 ghost use Rattle.std.specs.Prelude.{◌≡◌, ◌*◌, min};
 ghost use Rattle.std.specs.Duration.{as_nanos};
 
-use crate::listener::Listener;
+use crate::conversing::Client;
 use std::io::{self, Eprint};
-use std::net::TcpStream;
+use std::net::{Net, TcpListener, TcpStream};
 use std::thread;
 use std::time::{Clock, Duration};
 use thiserror::Error;
@@ -52,19 +52,31 @@ fn longer(wait: Duration) -> Duration
         .min(Duration::from_millis(LONGEST_WAIT))
 }
 
+/// Where connections are accepted.
+pub trait Listens {
+    /// A connection that was accepted.
+    type Accepted: Client + Drop;
+
+    /// The next connection, or the error of accept(2).
+    fn accept(&self) -> io::Result<Self::Accepted>;
+
+    /// Ends accepting: a thread that waits for a connection goes on.
+    fn shut<R: Net<Listener = TcpListener, Stream = TcpStream> + Clock>(&self, rt: &R);
+}
+
 /// Accepts the connections of a listener. While the machine is short of files or memory it waits, and says on standard error
 /// when that begins and when it ends.
 #[derive(Drop)]
-pub struct Acceptor<'a> {
-    listener: &'a Listener,
+pub struct Acceptor<'a, L> {
+    listener: &'a L,
     program: &'a str,
     is_short: bool,
     is_bad: bool,
 }
 
-impl<'a> Acceptor<'a> {
+impl<'a, L: Listens> Acceptor<'a, L> {
     /// Accepts the connections of this listener, for the program of this name.
-    pub fn new(listener: &'a Listener, program: &'a str) -> Self {
+    pub fn new(listener: &'a L, program: &'a str) -> Self {
         Acceptor {
             listener,
             program,
@@ -84,7 +96,7 @@ impl<'a> Acceptor<'a> {
 
     /// The next connection. An error that is about one connection is passed over; one about the machine is waited out, 10 ms at
     /// first and then twice as long each time, up to a second. Any other is the listener's, which is then bad for good (accept(2)).
-    pub fn next<R: Clock + Eprint>(&mut self, rt: &R) -> Result<TcpStream, BadListener> {
+    pub fn next<R: Clock + Eprint>(&mut self, rt: &R) -> Result<L::Accepted, BadListener> {
         let mut wait = Duration::from_millis(FIRST_WAIT);
         for _ in 0..u64::MAX {
             if self.is_bad {

@@ -1,5 +1,5 @@
 //! What the server reads from a client.
-ghost use Rattle.std.specs.Prelude.{◌≡◌, ◌↔◌, ◌<◌, ◌≤◌, false, IfOk, IsTrue};
+ghost use Rattle.std.specs.Prelude.{◌≡◌, ◌↔◌, ◌<◌, ◌≤◌, false, None, IfOk, IsTrue};
 
 use crate::watching::{Crowd, Watch};
 use st_connection::{Failed, FromRead, Source};
@@ -44,7 +44,8 @@ impl<'a, C: Clock> Incoming<'a, C> {
         idle: Duration,
         crowd: &'a Crowd,
     ) -> io::Result<Incoming<'a, C>>
-        ensures { IfOk result (λ incoming. ⟦<Incoming<'a, C> as Source>⟧.has_failed incoming ≡ false) }
+        ensures sound { IfOk result (λ incoming. ⟦<Incoming<'a, C> as Source>⟧.has_failed incoming ≡ false) }
+        ensures unknown { IfOk result (λ incoming. ⟦<Incoming<'a, C> as Source>⟧.left incoming ≡ None) }
     {
         stream.set_read_timeout(Some(limit))?;
         Ok(Incoming {

@@ -1,10 +1,20 @@
 //! Where a server listens: at a TCP port, or at a Unix socket.
+use crate::accepting::Listens;
 use std::fs::{self, Files, Permissions};
 use std::io::{self, ErrorKind};
 use std::net::{Net, Shutdown, TcpListener, TcpStream};
 use std::os::fd::OwnedFd;
 use std::os::unix::fs::{FileTypeExt, MetadataExt, PermissionsExt};
 use std::os::unix::net::{UnixListener, UnixStream};
+use std::thread;
+use std::time::{Clock, Duration};
+
+// How many knocks there are at most, how long one may take, and how long the wait is between two, in milliseconds.
+const KNOCKS: u32 = 600;
+
+const KNOCK: u64 = 1_000;
+
+const WAIT: u64 = 100;
 
 // Who may connect to a Unix socket: the account of the server and its group.
 const MODE: u32 = 0o660;
@@ -59,8 +69,8 @@ impl SocketListener {
         })
     }
 
-    /// Ends accepting: who waits for a connection is told that the listener is bad.
-    pub fn shut(&self) {
+    // Ends accepting: who waits for a connection is told that the listener is bad.
+    fn shut(&self) {
         let _shut = self.handle.shutdown(Shutdown::Both);
     }
 
@@ -83,9 +93,29 @@ pub enum Listener {
     Socket(SocketListener),
 }
 
-impl Listener {
-    /// The next connection. One of a Unix socket is a `TcpStream` too, which answers `Unsupported` where TCP alone has what it is asked.
-    pub fn accept(&self) -> io::Result<TcpStream> {
+// Connects to a port, so that who accepts there goes on. While the machine is short of files or memory it tries again. Where
+// nobody answers in time so many connections wait there that who accepts goes on without it.
+fn knock<R: Net<Listener = TcpListener, Stream = TcpStream> + Clock>(
+    rt: &R,
+    listener: &TcpListener,
+) {
+    let Ok(address) = listener.local_addr() else {
+        return;
+    };
+    for _ in 0..KNOCKS {
+        match TcpStream::connect_timeout(rt, &address, Duration::from_millis(KNOCK)) {
+            Ok(_) => return,
+            Err(error) if error.kind() == ErrorKind::TimedOut => return,
+            Err(_) => thread::sleep(rt, Duration::from_millis(WAIT)),
+        }
+    }
+}
+
+impl Listens for Listener {
+    // That of a Unix socket is a `TcpStream` too, which answers `Unsupported` where TCP alone has what it is asked.
+    type Accepted = TcpStream;
+
+    fn accept(&self) -> io::Result<TcpStream> {
         match self {
             Listener::Port(port) => {
                 let (stream, _peer) = port.accept()?;
@@ -95,6 +125,13 @@ impl Listener {
                 let (stream, _peer) = socket.listener.accept()?;
                 Ok(TcpStream::from(OwnedFd::from(stream)))
             }
+        }
+    }
+
+    fn shut<R: Net<Listener = TcpListener, Stream = TcpStream> + Clock>(&self, rt: &R) {
+        match self {
+            Listener::Port(port) => knock(rt, port),
+            Listener::Socket(socket) => socket.shut(),
         }
     }
 }

@@ -8,6 +8,7 @@ use sqlite_std_file::{FileFrom, Start};
 use st_core::Seed;
 use st_journal::Journal;
 use st_journal_file::FileJournal;
+use st_peer::{Client, Listener};
 use st_server::serve_words;
 use st_store_file::{SqliteCopier, SqliteKeeper};
 use std::fs::Files;
@@ -31,14 +32,14 @@ pub fn serve_files<
     O: Write,
     F: Write,
 >(rt: &R, files: &HostRuntime, start: S, words: &[String], output: &mut O, faults: &mut F) -> u8
-    ensures { Ran (HoldStore (image_at S.Start)) ⟦<FileJournal<FileFrom<S>> as Journal>⟧.list
+    ensures { Ran ⟦<TcpStream as Client>⟧.call (HoldStore (image_at S.Start)) ⟦<FileJournal<FileFrom<S>> as Journal>⟧.list
         ⟦<FileJournal<FileFrom<S>> as Journal>⟧.misreads
         (map string_bytes words.now) (O.contents output.old) (O.contents output.new) result }
 {
     let keeper = SqliteKeeper::new(files, "st_served", start);
     let copier = SqliteCopier::new(files);
     let seed = Seed::random(files);
-    serve_words(
+    serve_words::<_, _, _, TcpStream, Listener, _, _, _>(
         rt,
         files.alloc(),
         seed,

@@ -1,3 +1,4 @@
+pub mod Attending
 pub mod Keeping
 pub mod Running
 pub mod Serving

@@ -2,10 +2,11 @@
 use Rattle.std.specs.Prelude.{◌⊎◌, ℕ, Option, List}
 use Rattle.st_text.specs.Texts.{Text}
 use Rattle.st_journal.specs.declared.record.Record.{Record}
+use Rattle.st_peer.specs.Meeting.{Call}
 use Rattle.st_server.specs.Keeping.{IsKept}
 use Rattle.st_server.specs.Serving.{IsRefused, IsServed}
 
-abbrev pub Ran : {J : Type 0} → (List ℕ → List Record → Type 0) → (J → List Record) → (J → ℕ) → List Text → Option (List ℕ)
+abbrev pub Ran : {P J : Type 0} → (P → Call) → (List ℕ → List Record → Type 0) → (J → List Record) → (J → ℕ) → List Text → Option (List ℕ)
     → Option (List ℕ) → ℕ → Type 0
-Ran holds list misreads words old new status =
-    IsServed words old new status ⊎ (IsRefused words old new status ⊎ IsKept holds list misreads words old new status)
+Ran call holds list misreads words old new status =
+    IsServed call words old new status ⊎ (IsRefused words old new status ⊎ IsKept call holds list misreads words old new status)

@@ -1,5 +1,5 @@
 -- What a run does and tells, by the status that it gives.
-use Rattle.std.specs.Prelude.{◌≡◌, ℕ, Option, None, Result, List, map}
+use Rattle.std.specs.Prelude.{◌≡◌, ⊤, ℕ, Option, None, Result, List, map}
 use Rattle.std.specs.declared.alloc.Global.{Global}
 use Rattle.st_text.specs.Texts.{Text}
 use Rattle.st_core.specs.State.{State}
@@ -8,16 +8,19 @@ use Rattle.st_command.specs.Opening.{Opens}
 use Rattle.st_command_line.specs.declared.served_arguments.ServedArguments.{ServedArguments}
 use Rattle.st_command_line.specs.ServedArguments.{SaysServed, RefusesServedWords, place_text, store_of}
 use Rattle.st_command_line.specs.Status.{exit_status_of, exit_status_after}
+use Rattle.st_peer.specs.Meeting.{Call}
 use Rattle.st_workers.specs.Telling.{Tells}
+use Rattle.st_server.specs.Attending.{Attends}
 
--- the words name no store, they open a state, and are served by
-pub record IsServed (words : List Text) (old new : Option (List ℕ)) (status : ℕ) : Type 0 where
+-- The words name no store and open a state. Stations of a hall that begins with it served the connections.
+pub record IsServed {P : Type 0} (call : P → Call) (words : List Text) (old new : Option (List ℕ)) (status : ℕ) : Type 0 where
   pub said : ServedArguments
   pub says : SaysServed words said
   pub in_memory : store_of said ≡ None
   pub state : State Global
   pub opens : Opens said.digest.now (map (λ name. name.now) said.names.items) state
   pub ended : Result Unit Fault
+  pub attends : Attends call state (λ _. ⊤) 0 said.connections ended
   pub tells : Tells (place_text said.place) said.connections old new ended
   pub status_is : status ≡ exit_status_after ended
 

@@ -1,17 +1,16 @@
 //! A copy that follows the store of a server while that serves.
-ghost use Rattle.std.specs.Prelude.{◌≡◌, IfOk, IfErr, Some};
 ghost use Rattle.std.specs.Thread.{IsSend, IsSync};
-ghost use Rattle.st_workers.specs.Telling.{Stops};
+ghost use Rattle.st_workers.specs.Working.{Attending};
 
-use st_command_line::{Fault, ServedArguments};
+use st_command_line::ServedArguments;
 use st_connection::Attend;
 use st_copy::{Copier, CopyFault, Source};
 use st_durable::Beginning;
 use st_durable_hall::DurableHall;
 use st_hall::HallName;
 use st_journal::{ReadBack, ReadError, Record};
-use st_peer::Listener;
-use st_workers::{PROGRAM, attend};
+use st_peer::{Client, Listens};
+use st_workers::{Attended, Binds, PROGRAM, attend};
 use std::alloc::Global;
 use std::fs::Files;
 use std::io::Eprint;
@@ -147,6 +146,8 @@ fn follow<L: Source + Drop, K: Copier + Drop, R: Wait + Clock + Eprint>(
 // Serves connections as `attend` does, with a copy that follows the list where one is wanted.
 pub(crate) fn attend_and_copy<
     T: Attend + Send + Drop,
+    C: Client + Send + Drop,
+    N: Binds + Listens<Accepted = C> + Sync,
     L: Source + Drop + Send,
     K: Copier + Drop + Send,
     R: Net<Listener = TcpListener, Stream = TcpStream>
@@ -159,14 +160,13 @@ pub(crate) fn attend_and_copy<
 >(
     rt: &R,
     alloc: Global,
-    listener: &Listener,
+    listener: &N,
     said: &ServedArguments<'_>,
     list: L,
     copying: Option<Copying<'_, K>>,
     attendants: Vec<T>,
-) -> Result<u16, Fault>
-    ensures ok { IfOk result (λ number. said.now.connections ≡ Some number) }
-    ensures err { IfErr result Stops }
+) -> Attended<T>
+    ensures { Attending T.serves C.call attendants.items said.now.connections result }
 {
     let Some(copying) = copying else {
         drop(list);
@@ -178,9 +178,9 @@ pub(crate) fn attend_and_copy<
     thread::scope(
         thread::scope_env(),
         rt,
-        |scope| -> Result<u16, Fault>
+        |scope| -> Attended<T>
             requires { IsSync R.row × (IsSend L.row × IsSend K.row) }
-            ensures { IfOk result (λ number. said.entry.now.connections ≡ Some number) × IfErr result Stops }
+            ensures { Attending T.serves C.call attendants.items said.entry.now.connections result }
         {
             let thread = scope.spawn(move || follow(rt, list, copying, bell, period));
             if thread.is_err() {

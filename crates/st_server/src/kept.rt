@@ -3,6 +3,8 @@ ghost use Rattle.std.specs.Prelude.{◌≡◌, ◌<◌, ◌⊎◌, Some, List, s
 ghost use Rattle.st_text.specs.Texts.{Text};
 ghost use Rattle.st_journal.specs.Replays.{Replays};
 ghost use Rattle.st_durable.specs.Applying.{Applies};
+ghost use Rattle.st_publisher.specs.Rolls.{WasKept};
+ghost use Rattle.st_server.specs.Attending.{Attends, held_back};
 ghost use Rattle.st_server.specs.Keeping.{EndsKept, IsKept, TellsKept};
 ghost use Rattle.st_server.specs.Serving.{IsRefused};
 ghost use Rattle.st_command_line.specs.ServedArguments.{SaysServed, place_text, store_of};
@@ -18,6 +20,8 @@ use st_durable::{Beginning, ReplayedCopies};
 use st_durable_hall::DurableHall;
 use st_hall::{Hall, HallFault, HallName, UnnamedFor};
 use st_journal::ReadBack;
+use st_peer::{Client, Listens};
+use st_workers::Binds;
 use std::alloc::Global;
 use std::fs::Files;
 use std::io::{Eprint, Write};
@@ -40,6 +44,8 @@ fn open_hall<
     H: HallName + Send + Sync,
     J: ReadBack + Drop + Send,
     K: Copier + Drop + Send,
+    C: Client + Send + Drop,
+    N: Binds + Listens<Accepted = C> + Sync + Drop,
     R: Net<Listener = TcpListener, Stream = TcpStream>
         + Files
         + Threads
@@ -64,13 +70,14 @@ fn open_hall<
     requires alike { (both.0 ≡ H.start) × (both.1 ≡ H.start) }
     requires ready { J.Journal.is_ready journal }
     requires stands { J.Journal.misreads journal ≡ 0 → Replays Applies B.first (J.Journal.list journal) H.start }
-    ensures { TellsKept (place_text said.now.place) said.now.connections (O.contents output.old) (O.contents output.new) result }
+    ensures told { TellsKept (place_text said.now.place) said.now.connections (O.contents output.old) (O.contents output.new) result }
+    ensures attended { Attends C.call H.start (WasKept J.Journal.list J.Journal.misreads B.first H.start) held_back said.now.connections result }
 {
     match Hall::<H>::open_for(rt, alloc, name, both.0, both.1, workers) {
         Ok((clerk, desks)) => {
             let hall = DurableHall::<B, H, &R, J>::new(alloc, rt, clerk, journal);
             let list = KeptList { hall: &hall, rt };
-            serve_at(rt, alloc, said, &hall, list, copying, desks, output)
+            serve_at::<H, _, C, N, _, _, _, _>(rt, alloc, said, &hall, list, copying, desks, output)
         }
         Err(HallFault::NoPlace) => Err(Fault::NoPlace),
         Err(HallFault::NoMemory) => Err(Fault::NoMemory),
@@ -102,6 +109,8 @@ fn serve_kept<
     J: ReadBack + Drop + Send,
     K: Keeper<J>,
     L: Copier + Drop + Send,
+    C: Client + Send + Drop,
+    N: Binds + Listens<Accepted = C> + Sync + Drop,
     R: Net<Listener = TcpListener, Stream = TcpStream>
         + Files
         + Threads
@@ -121,7 +130,7 @@ fn serve_kept<
     output: &mut O,
 ) -> Result<(), Fault>
     requires first { copies ≡ B.first }
-    ensures { EndsKept (K.holds keeper) J.Journal.list J.Journal.misreads (string_bytes place.now.opening) B.first said.now
+    ensures { EndsKept C.call (K.holds keeper) J.Journal.list J.Journal.misreads (string_bytes place.now.opening) B.first said.now
         (O.contents output.old) (O.contents output.new) (exit_status_after result) }
 {
     let journal = keeper.open(place.path, place.opening.as_str(), &mut copies)?;
@@ -129,7 +138,7 @@ fn serve_kept<
     let workers = said.worker_count();
     let name = UnnamedFor::of(workers);
     let copying = copying_for(said, copier, place);
-    open_hall::<B, Brand, J, L, R, O>(
+    open_hall::<B, Brand, J, L, C, N, R, O>(
         rt, alloc, name, both, journal, said, copying, workers, output,
     )
 }
@@ -139,6 +148,8 @@ pub(crate) fn run_kept<
     J: ReadBack + Drop + Send,
     K: Keeper<J> + Drop,
     L: Copier + Drop + Send,
+    C: Client + Send + Drop,
+    N: Binds + Listens<Accepted = C> + Sync + Drop,
     R: Net<Listener = TcpListener, Stream = TcpStream>
         + Files
         + Threads
@@ -160,10 +171,12 @@ pub(crate) fn run_kept<
     requires named { store_of said.now ≡ Some path.now }
     ensures { (words : List Text) → SaysServed words said.now
         → IsRefused words (O.contents output.old) (O.contents output.new) (exit_status_after result)
-        ⊎ IsKept (K.holds keeper) J.Journal.list J.Journal.misreads words (O.contents output.old) (O.contents output.new) (exit_status_after result) }
+        ⊎ IsKept C.call (K.holds keeper) J.Journal.list J.Journal.misreads words (O.contents output.old) (O.contents output.new) (exit_status_after result) }
 {
     let (first, second, opening) = stores_and_opening_for(alloc, seed, said.digest, &said.names)?;
     let place = Place { path, opening };
     let copies = ReplayedCopies::new(alloc, first, second);
-    serve_kept::<Brand, J, K, L, R, O>(rt, alloc, keeper, copier, &place, copies, said, output)
+    serve_kept::<Brand, J, K, L, C, N, R, O>(
+        rt, alloc, keeper, copier, &place, copies, said, output,
+    )
 }

@@ -10,4 +10,3 @@ mod serving;
 mod stations;
 
 pub use served::serve_words;
-pub use stations::Open;

@@ -1,7 +1,8 @@
 //! A server whose store is in memory.
-ghost use Rattle.std.specs.Prelude.{◌≡◌, ◌<◌, ◌⊎◌, None, List, map};
+ghost use Rattle.std.specs.Prelude.{◌≡◌, ◌<◌, ◌⊎◌, ⊤, None, List, map};
 ghost use Rattle.st_text.specs.Texts.{Text};
 ghost use Rattle.st_command.specs.Opening.{Opens};
+ghost use Rattle.st_server.specs.Attending.{Attends};
 ghost use Rattle.st_server.specs.Serving.{IsRefused, IsServed};
 ghost use Rattle.st_workers.specs.Telling.{Tells};
 ghost use Rattle.st_command_line.specs.ServedArguments.{SaysServed, place_text, store_of};
@@ -14,6 +15,8 @@ use st_command_line::{Fault, ServedArguments};
 use st_copy::Copier;
 use st_core::{Seed, Store};
 use st_hall::{Hall, HallFault, HallName, UnnamedFor};
+use st_peer::{Client, Listens};
+use st_workers::Binds;
 use std::alloc::Global;
 use std::fs::Files;
 use std::io::{Eprint, Write};
@@ -27,6 +30,8 @@ use std::time::Clock;
 fn open_hall<
     H: HallName + Send + Sync,
     K: Copier + Drop + Send,
+    C: Client + Send + Drop,
+    N: Binds + Listens<Accepted = C> + Sync + Drop,
     R: Net<Listener = TcpListener, Stream = TcpStream>
         + Files
         + Threads
@@ -48,20 +53,15 @@ fn open_hall<
     requires workers { (name.blank.parts ≡ workers) × (H.parts ≡ workers) × (0 < workers) }
     requires alike { (both.0 ≡ H.start) × (both.1 ≡ H.start) }
     requires opens { Opens said.now.digest.now (map (λ name. name.now) said.now.names.items) both.0 }
-    ensures { Tells (place_text said.now.place) said.now.connections (O.contents output.old) (O.contents output.new) result }
+    ensures told { Tells (place_text said.now.place) said.now.connections (O.contents output.old) (O.contents output.new) result }
+    ensures attended { Attends C.call H.start (λ _. ⊤) 0 said.now.connections result }
 {
     match Hall::<H>::open_for(rt, alloc, name, both.0, both.1, workers) {
         Ok((clerk, desks)) => {
             let hall = Mutex::new(clerk);
-            serve_at(
-                rt,
-                alloc,
-                said,
-                &hall,
-                NoList,
-                None::<Copying<'_, K>>,
-                desks,
-                output,
+            let copying = None::<Copying<'_, K>>;
+            serve_at::<H, _, C, N, _, _, _, _>(
+                rt, alloc, said, &hall, NoList, copying, desks, output,
             )
         }
         Err(HallFault::NoPlace) => Err(Fault::NoPlace),
@@ -72,6 +72,8 @@ fn open_hall<
 // Opens the stores in memory, and serves as the words say.
 pub(crate) fn run_in_memory<
     K: Copier + Drop + Send,
+    C: Client + Send + Drop,
+    N: Binds + Listens<Accepted = C> + Sync + Drop,
     R: Net<Listener = TcpListener, Stream = TcpStream>
         + Files
         + Threads
@@ -89,11 +91,11 @@ pub(crate) fn run_in_memory<
 ) -> Result<(), Fault>
     requires in_memory { store_of said.now ≡ None }
     ensures { (words : List Text) → SaysServed words said.now
-        → IsServed words (O.contents output.old) (O.contents output.new) (exit_status_after result)
+        → IsServed C.call words (O.contents output.old) (O.contents output.new) (exit_status_after result)
         ⊎ IsRefused words (O.contents output.old) (O.contents output.new) (exit_status_after result) }
 {
     let both = stores_for(alloc, seed, said.digest, &said.names)?;
     let workers = said.worker_count();
     let name = UnnamedFor::of(workers);
-    open_hall::<Brand, K, R, O>(rt, alloc, name, both, said, workers, output)
+    open_hall::<Brand, K, C, N, R, O>(rt, alloc, name, both, said, workers, output)
 }

@@ -10,6 +10,8 @@ use st_command_line::{Fault, ServedArguments, give_up};
 use st_copy::Copier;
 use st_core::Seed;
 use st_journal::ReadBack;
+use st_peer::{Client, Listens};
+use st_workers::Binds;
 use std::alloc::Global;
 use std::fs::Files;
 use std::io::{Eprint, Write};
@@ -23,6 +25,8 @@ fn run<
     J: ReadBack + Drop + Send,
     K: Keeper<J> + Drop,
     L: Copier + Drop + Send,
+    C: Client + Send + Drop,
+    N: Binds + Listens<Accepted = C> + Sync + Drop,
     R: Net<Listener = TcpListener, Stream = TcpStream>
         + Files
         + Threads
@@ -40,18 +44,18 @@ fn run<
     words: &[String],
     output: &mut O,
 ) -> Result<(), Fault>
-    ensures { Ran (K.holds keeper) J.Journal.list J.Journal.misreads (map string_bytes words.now) (O.contents output.old) (O.contents output.new)
+    ensures { Ran C.call (K.holds keeper) J.Journal.list J.Journal.misreads (map string_bytes words.now) (O.contents output.old) (O.contents output.new)
         (exit_status_after result) }
 {
     let said = ServedArguments::read(alloc, words)?;
     match said.store {
-        Some(path) => run_kept::<J, K, L, R, O>(
+        Some(path) => run_kept::<J, K, L, C, N, R, O>(
             rt, alloc, seed, keeper, copier, &said, path, output,
         ),
         None => {
             drop(keeper);
             drop(copier);
-            run_in_memory::<L, R, O>(rt, alloc, seed, &said, output)
+            run_in_memory::<L, C, N, R, O>(rt, alloc, seed, &said, output)
         }
     }
 }
@@ -70,6 +74,8 @@ pub fn serve_words<
     J: ReadBack + Drop + Send,
     K: Keeper<J> + Drop,
     L: Copier + Drop + Send,
+    C: Client + Send + Drop,
+    N: Binds + Listens<Accepted = C> + Sync + Drop,
     R: Net<Listener = TcpListener, Stream = TcpStream>
         + Files
         + Threads
@@ -89,9 +95,9 @@ pub fn serve_words<
     output: &mut O,
     faults: &mut F,
 ) -> u8
-    ensures { Ran (K.holds keeper) J.Journal.list J.Journal.misreads (map string_bytes words.now) (O.contents output.old) (O.contents output.new) result }
+    ensures { Ran C.call (K.holds keeper) J.Journal.list J.Journal.misreads (map string_bytes words.now) (O.contents output.old) (O.contents output.new) result }
 {
-    match run(rt, alloc, seed, keeper, copier, words, output) {
+    match run::<J, K, L, C, N, R, O>(rt, alloc, seed, keeper, copier, words, output) {
         Ok(()) => 0,
         Err(fault) => give_up("st_served", fault, faults),
     }

@@ -1,16 +1,20 @@
 //! Serving at the desks of a hall, whatever makes its changes.
-ghost use Rattle.std.specs.Prelude.{◌≡◌, Err};
+ghost use Rattle.std.specs.Prelude.{◌≡◌, [], All, Err};
 ghost use Rattle.st_command_line.specs.ServedArguments.{place_text};
 ghost use Rattle.st_command_line.specs.declared.fault.Fault.TheVariants.{StoreLost};
+ghost use Rattle.st_hall.specs.Views.{opening_seat};
+ghost use Rattle.st_server.specs.Attending.{Attends, AttendsFrom};
 ghost use Rattle.st_server.specs.Keeping.{TellsKept};
 
 use crate::copying::{Copying, attend_and_copy};
-use crate::stations::stations_at;
+use crate::stations::{Open, stations_at};
 use st_command_line::{Fault, ServedArguments};
 use st_connection::Attend;
 use st_copy::{Copier, Source};
 use st_hall::{Commits, Desk, HallName};
-use st_workers::{begin, tell};
+use st_peer::{Client, Listens};
+use st_station::Station;
+use st_workers::{Attended, Binds, begin, tell};
 use std::alloc::Global;
 use std::fs::Files;
 use std::io::{Eprint, Write};
@@ -24,6 +28,8 @@ fn announce<
     H: HallName,
     M: Commits<H>,
     T: Attend + Send + Drop,
+    C: Client + Send + Drop,
+    N: Binds + Listens<Accepted = C> + Sync + Drop,
     L: Source + Drop + Send,
     K: Copier + Drop + Send,
     R: Net<Listener = TcpListener, Stream = TcpStream>
@@ -46,8 +52,9 @@ fn announce<
 ) -> Result<(), Fault>
     ensures told { TellsKept (place_text said.now.place) said.now.connections (O.contents output.old) (O.contents output.new) result }
     ensures lost { result ≡ Err StoreLost → M.may_lose }
+    ensures attended { AttendsFrom T.serves C.call attendants.items said.now.connections result }
 {
-    let listener = match begin(rt, alloc, said, output) {
+    let listener: N = match begin(rt, alloc, said, output) {
         Ok(listener) => listener,
         Err(fault) => {
             drop(attendants);
@@ -56,16 +63,20 @@ fn announce<
         }
     };
     let attended = attend_and_copy(rt, alloc, &listener, said, list, copying, attendants);
+    let Attended { workers, ended } = attended;
+    drop(workers);
     if hall.is_lost() {
         return Err(Fault::StoreLost);
     }
-    tell(alloc, output, "served", attended?)
+    tell(alloc, output, "served", ended?)
 }
 
 // Serves at the desks of a hall that was just opened, by a station each, as the words say. A copy follows the list where one is wanted.
 pub(crate) fn serve_at<
     H: HallName + Send + Sync,
     M: Commits<H> + Sync,
+    C: Client + Send + Drop,
+    N: Binds + Listens<Accepted = C> + Sync + Drop,
     L: Source + Drop + Send,
     K: Copier + Drop + Send,
     R: Net<Listener = TcpListener, Stream = TcpStream>
@@ -86,11 +97,15 @@ pub(crate) fn serve_at<
     desks: Vec<Desk<H>>,
     output: &mut O,
 ) -> Result<(), Fault>
+    requires { All (λ desk. desk ≡ opening_seat []) desks.items }
     ensures told { TellsKept (place_text said.now.place) said.now.connections (O.contents output.old) (O.contents output.new) result }
     ensures lost { result ≡ Err StoreLost → M.may_lose }
+    ensures attended { Attends C.call H.start M.keeps M.HOLD said.now.connections result }
 {
     match stations_at(rt, alloc, hall, desks) {
-        Ok(stations) => announce(rt, alloc, said, hall, list, copying, stations, output),
+        Ok(stations) => announce::<H, M, Station<'_, H, M, Open, R>, C, N, L, K, R, O>(
+            rt, alloc, said, hall, list, copying, stations, output,
+        ),
         Err(_) => Err(Fault::NoMemory),
     }
 }

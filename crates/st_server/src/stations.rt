@@ -1,4 +1,8 @@
 //! Stations at the desks of a hall.
+ghost use Rattle.std.specs.Prelude.{◌≡◌, [], All, IfOk};
+ghost use Rattle.st_hall.specs.Views.{opening_seat};
+ghost use Rattle.st_server.specs.Attending.{AreNew, new_station};
+
 use st_hall::{Commits, Desk, Gate, HallName};
 use st_station::Station;
 use std::alloc::{AllocError, Global};
@@ -25,7 +29,10 @@ fn station_at<'a, H: HallName, M: Commits<H>, R: Wait>(
     hall: &'a M,
     number: u64,
     desk: Desk<H>,
-) -> Result<Station<'a, H, M, Open, R>, AllocError> {
+) -> Result<Station<'a, H, M, Open, R>, AllocError>
+    requires { desk ≡ opening_seat [] }
+    ensures { IfOk result (λ station. station ≡ new_station number) }
+{
     let front = desk.front();
     if !hall.has_kept(rt, &front) {
         return Err(AllocError);
@@ -39,10 +46,14 @@ pub(crate) fn stations_at<'a, H: HallName, M: Commits<H>, R: Wait>(
     alloc: Global,
     hall: &'a M,
     desks: Vec<Desk<H>>,
-) -> Result<Vec<Station<'a, H, M, Open, R>>, AllocError> {
+) -> Result<Vec<Station<'a, H, M, Open, R>>, AllocError>
+    requires { All (λ desk. desk ≡ opening_seat []) desks.items }
+    ensures { IfOk result (λ stations. AreNew stations.items) }
+{
     let mut stations: Vec<Station<'a, H, M, Open, R>> = Vec::with_capacity(alloc, desks.len())?;
-    for (at, desk) in desks.into_iter().enumerate() {
-        let station = station_at(rt, alloc, hall, at as u64 + 1, desk)?;
+    for desk in desks {
+        let number = stations.len() as u64 + 1;
+        let station = station_at(rt, alloc, hall, number, desk)?;
         stations.push(station).map_err(|_| AllocError)?;
     }
     Ok(stations)

@@ -1,85 +1,105 @@
 //! Where connections are accepted.
-use st_peer::{Acceptor, Crowd, Listener};
-use std::io::{Eprint, ErrorKind};
+ghost use Rattle.std.specs.Prelude.{◌≡◌};
+
+use st_command_line::Fault;
+use st_peer::{Acceptor, Crowd, Listens};
+use std::io::Eprint;
 use std::net::{Net, TcpListener, TcpStream};
-use std::sync::atomic::{AtomicBool, Ordering};
-use std::sync::{Mutex, Wait};
-use std::thread::{self, Threads, available_parallelism};
-use std::time::{Clock, Duration};
+use std::sync::{Condvar, Mutex, Wait};
+use std::thread::{Threads, available_parallelism};
+use std::time::Clock;
 
 /// The program, as its lines on standard error name it.
 pub const PROGRAM: &str = "st_served";
 
-// How many knocks there are at most, how long one may take, and how long the wait is between two, in milliseconds.
-const KNOCKS: u32 = 600;
-
-const KNOCK: u64 = 1_000;
-
-const WAIT: u64 = 100;
-
-// Connects to a port, so that who accepts there goes on. While the machine is short of files or memory it tries again. Where
-// nobody answers in time so many connections wait there that who accepts goes on without it.
-fn knock<R: Net<Listener = TcpListener, Stream = TcpStream> + Clock>(
-    rt: &R,
-    listener: &TcpListener,
-) {
-    let Ok(address) = listener.local_addr() else {
-        return;
-    };
-    for _ in 0..KNOCKS {
-        match TcpStream::connect_timeout(rt, &address, Duration::from_millis(KNOCK)) {
-            Ok(_) => return,
-            Err(error) if error.kind() == ErrorKind::TimedOut => return,
-            Err(_) => thread::sleep(rt, Duration::from_millis(WAIT)),
-        }
-    }
+// Whether connections are accepted.
+#[derive(Clone, Copy, PartialEq, Eq)]
+enum Entry {
+    // That is not decided yet.
+    Waiting,
+    Open,
+    Closed,
 }
 
-// Where connections are accepted, one at a time. It is closed for good when it has no acceptor, and when it is shut.
+// Where connections are accepted, one at a time. Who comes before it is opened or closed waits. Once closed it stays closed.
 #[derive(Drop)]
-pub(crate) struct Door<'a> {
-    pub(crate) acceptor: Mutex<Option<Acceptor<'a>>>,
+pub(crate) struct Door<'a, L> {
+    acceptor: Mutex<Acceptor<'a, L>>,
     // The connections that were let in and are being answered.
     pub(crate) crowd: Crowd,
-    listener: &'a Listener,
-    is_shut: AtomicBool,
+    listener: &'a L,
+    entry: Mutex<Entry>,
+    decided: Condvar,
 }
 
-impl<'a> Door<'a> {
+impl<'a, L: Listens> Door<'a, L> {
     // A door at a listener, for as many processors as the program may use.
-    pub(crate) fn new<R: Threads>(rt: &R, listener: &'a Listener) -> Door<'a> {
+    pub(crate) fn new<R: Threads>(rt: &R, listener: &'a L) -> Door<'a, L> {
         let processors = match available_parallelism(rt) {
             Ok(number) => number.get(),
             Err(_) => 1,
         };
         Door {
-            acceptor: Mutex::new(Some(Acceptor::new(listener, PROGRAM))),
+            acceptor: Mutex::new(Acceptor::new(listener, PROGRAM)),
             crowd: Crowd::new(processors),
             listener,
-            is_shut: AtomicBool::new(false),
+            entry: Mutex::new(Entry::Waiting),
+            decided: Condvar::new(),
         }
     }
 
-    // The next connection, as long as the door is open and the listener is good. A connection that comes as the door is shut is
+    // Opens it, unless it is closed.
+    pub(crate) fn open<R: Wait>(&self, rt: &R) {
+        let mut entry = self.entry.lock(rt);
+        if *entry == Entry::Waiting {
+            *entry = Entry::Open;
+        }
+        self.decided.notify_all();
+    }
+
+    // Closes it.
+    fn close<R: Wait>(&self, rt: &R) {
+        *self.entry.lock(rt) = Entry::Closed;
+        self.decided.notify_all();
+    }
+
+    // Closes it for a fault.
+    pub(crate) fn refuse<R: Wait>(&self, rt: &R, fault: Fault) -> Fault
+        ensures { result ≡ fault }
+    {
+        self.close(rt);
+        fault
+    }
+
+    // Whether it is open, once that is decided.
+    fn is_open<R: Wait>(&self, rt: &R) -> bool {
+        let entry = self.entry.lock(rt);
+        let entry = self
+            .decided
+            .wait_while(rt, entry, |entry| *entry == Entry::Waiting);
+        *entry == Entry::Open
+    }
+
+    // The next connection, as long as the door is open and the listener is good. A connection that comes as the door is closed is
     // dropped.
-    pub(crate) fn next<R: Wait + Clock + Eprint>(&self, rt: &R) -> Option<TcpStream> {
+    pub(crate) fn next<R: Wait + Clock + Eprint>(&self, rt: &R) -> Option<L::Accepted> {
         let mut acceptor = self.acceptor.lock(rt);
-        if self.is_shut.load(Ordering::SeqCst) {
+        if !self.is_open(rt) {
             return None;
         }
-        let stream = acceptor.as_mut()?.next(rt).ok()?;
-        if self.is_shut.load(Ordering::SeqCst) {
+        let client = acceptor.next(rt).ok()?;
+        if !self.is_open(rt) {
             return None;
         }
-        Some(stream)
+        Some(client)
     }
 
-    // Shuts the door, and lets who waits at it see so.
-    pub(crate) fn shut<R: Net<Listener = TcpListener, Stream = TcpStream> + Clock>(&self, rt: &R) {
-        self.is_shut.store(true, Ordering::SeqCst);
-        match self.listener {
-            Listener::Port(port) => knock(rt, port),
-            Listener::Socket(socket) => socket.shut(),
-        }
+    // Closes it, and lets who waits for a connection see so.
+    pub(crate) fn shut<R: Net<Listener = TcpListener, Stream = TcpStream> + Wait + Clock>(
+        &self,
+        rt: &R,
+    ) {
+        self.close(rt);
+        self.listener.shut(rt);
     }
 }

@@ -1,12 +1,13 @@
 //! Workers that answer the connections of a listener, each on a thread of its own, by whatever serves a connection.
 #![tactic(auto)]
 
-mod connection;
+mod attending;
 mod door;
 mod listening;
 mod workers;
+mod working;
 
-pub use connection::{Hangup, Limits, Lost, answer_stream, converse};
+pub use attending::{Attended, attend};
 pub use door::PROGRAM;
-pub use listening::{attend, begin, tell};
-pub use workers::{serve_all, serve_number};
+pub use listening::{Binds, begin, tell};
+pub use working::Worked;

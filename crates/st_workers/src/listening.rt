@@ -1,48 +1,64 @@
 //! Listening at a port or a socket, and what is told of it.
-ghost use Rattle.std.specs.Prelude.{◌≡◌, ◌⊎◌, Err, Some, IfOk, IfErr, OnOk, codes, decimal};
+ghost use Rattle.std.specs.Prelude.{◌≡◌, ◌⊎◌, Err, IfErr, OnOk, codes, decimal};
 ghost use Rattle.std.specs.Io.KnownBytes.{Appends};
-ghost use Rattle.st_workers.specs.Telling.{Stops, Tells, line};
+ghost use Rattle.st_workers.specs.Telling.{Tells, line};
 ghost use Rattle.st_command_line.specs.ServedArguments.{place_text};
 ghost use Rattle.st_command_line.specs.declared.fault.Fault.TheVariants.{Bind, Write as Unwritten, NoMemory};
 
-use crate::connection::Limits;
-use crate::workers::{serve_all, serve_number};
 use st_command_line::{Fault, Place, ServedArguments};
-use st_connection::Attend;
-use st_peer::{Listener, SocketListener};
+use st_peer::{Listener, Listens, SocketListener};
 use std::alloc::Global;
 use std::fs::Files;
-use std::io::{Eprint, Write};
+use std::io::{self, Write};
 use std::net::{Net, SocketAddr, TcpListener, TcpStream};
-use std::sync::Wait;
-use std::thread::Threads;
-use std::time::Clock;
 
-// Listens where the words say.
-fn listen<R: Net<Listener = TcpListener, Stream = TcpStream> + Files>(
-    rt: &R,
-    said: &ServedArguments<'_>,
-) -> Result<Listener, Fault>
-    ensures { IfErr result (λ fault. fault ≡ Bind) }
-{
-    match said.place {
-        Place::Port(port) => match TcpListener::bind(rt, SocketAddr::V4(said.address(port))) {
-            Ok(listener) => Ok(Listener::Port(listener)),
-            Err(_) => Err(Fault::Bind),
-        },
-        Place::Socket(path) => match SocketListener::bind(rt, path) {
-            Ok(listener) => Ok(Listener::Socket(listener)),
-            Err(_) => Err(Fault::Bind),
-        },
+/// A listener at a place that a command line names.
+pub trait Binds: Listens {
+    /// Listens where the words say.
+    fn bind<R: Net<Listener = TcpListener, Stream = TcpStream> + Files>(
+        rt: &R,
+        said: &ServedArguments<'_>,
+    ) -> io::Result<Self>
+    where
+        Self: Sized;
+
+    /// Removes what was made at the place to listen there.
+    fn leave<R: Files>(&self, rt: &R, said: &ServedArguments<'_>);
+}
+
+impl Binds for Listener {
+    fn bind<R: Net<Listener = TcpListener, Stream = TcpStream> + Files>(
+        rt: &R,
+        said: &ServedArguments<'_>,
+    ) -> io::Result<Listener> {
+        match said.place {
+            Place::Port(port) => {
+                let port = TcpListener::bind(rt, SocketAddr::V4(said.address(port)))?;
+                Ok(Listener::Port(port))
+            }
+            Place::Socket(path) => Ok(Listener::Socket(SocketListener::bind(rt, path)?)),
+        }
+    }
+
+    fn leave<R: Files>(&self, rt: &R, said: &ServedArguments<'_>) {
+        if let Listener::Socket(socket) = self {
+            if let Place::Socket(path) = said.place {
+                socket.remove(rt, path);
+            }
+        }
     }
 }
 
-// Removes the socket, where the listener has one.
-fn leave<R: Files>(rt: &R, listener: &Listener, said: &ServedArguments<'_>) {
-    if let Listener::Socket(socket) = listener {
-        if let Place::Socket(path) = said.place {
-            socket.remove(rt, path);
-        }
+// Listens where the words say.
+fn listen<L: Binds, R: Net<Listener = TcpListener, Stream = TcpStream> + Files>(
+    rt: &R,
+    said: &ServedArguments<'_>,
+) -> Result<L, Fault>
+    ensures { IfErr result (λ fault. fault ≡ Bind) }
+{
+    match L::bind(rt, said) {
+        Ok(listener) => Ok(listener),
+        Err(_) => Err(Fault::Bind),
     }
 }
 
@@ -86,58 +102,23 @@ fn tell_place<O: Write>(alloc: Global, output: &mut O, place: Place<'_>) -> Resu
 }
 
 /// Listens at the port or the socket, and tells so.
-pub fn begin<R: Net<Listener = TcpListener, Stream = TcpStream> + Files, O: Write>(
+pub fn begin<L: Binds + Drop, R: Net<Listener = TcpListener, Stream = TcpStream> + Files, O: Write>(
     rt: &R,
     alloc: Global,
     said: &ServedArguments<'_>,
     output: &mut O,
-) -> Result<Listener, Fault>
+) -> Result<L, Fault>
     ensures ok { OnOk result (Appends (O.contents output.old) (O.contents output.new)
         (line (codes "listening") (place_text said.now.place))) }
     ensures err { IfErr result (λ fault. Tells (place_text said.now.place) said.now.connections
         (O.contents output.old) (O.contents output.new) (Err fault)) }
 {
-    let listener = listen(rt, said)?;
+    let listener: L = listen(rt, said)?;
     match tell_place(alloc, output, said.place) {
         Ok(()) => Ok(listener),
         Err(fault) => {
-            leave(rt, &listener, said);
+            listener.leave(rt, said);
             Err(fault)
         }
     }
-}
-
-/// Serves as many connections as the words say, or all that come, and gives their number. At the end a socket is removed from its path.
-pub fn attend<
-    T: Attend + Send + Drop,
-    R: Net<Listener = TcpListener, Stream = TcpStream>
-        + Files
-        + Threads
-        + Wait
-        + Clock
-        + Eprint
-        + Sync,
->(
-    rt: &R,
-    alloc: Global,
-    listener: &Listener,
-    said: &ServedArguments<'_>,
-    attendants: Vec<T>,
-) -> Result<u16, Fault>
-    ensures ok { IfOk result (λ number. said.now.connections ≡ Some number) }
-    ensures err { IfErr result Stops }
-{
-    let limits = Limits {
-        message: said.limit(),
-        idle: said.idle_limit(),
-    };
-    let Some(connections) = said.connections else {
-        let fault = serve_all(rt, listener, limits, attendants);
-        leave(rt, listener, said);
-        return Err(fault);
-    };
-    let served = serve_number(rt, alloc, listener, connections, limits, attendants);
-    leave(rt, listener, said);
-    served?;
-    Ok(connections)
 }

@@ -1,50 +1,26 @@
-//! Workers, and how connections come to them.
-ghost use Rattle.std.specs.Prelude.{◌%◌, IfErr, length};
+//! Workers, each on a thread of its own, and how connections come to them.
+ghost use Rattle.std.specs.Prelude.{◌%◌, IfErr, IfOk, length};
 ghost use Rattle.std.specs.Slice.{IsItemAt};
 ghost use Rattle.std.specs.Thread.{IsSend, IsSync};
 ghost use Rattle.st_workers.specs.Telling.{Stops};
-ghost use Rattle.st_command_line.specs.declared.fault.Fault.TheVariants.{Accept};
+ghost use Rattle.st_workers.specs.Working.{WorkedEach};
 
-use crate::connection::{Limits, Lost, converse};
 use crate::door::Door;
-use crossbeam_channel::{Receiver, Sender, unbounded};
+use crate::working::{Worked, WorksFrom, work_at_door, work_from_queue};
+use crossbeam_channel::{Sender, unbounded};
 use st_command_line::Fault;
 use st_connection::Attend;
-use st_peer::{Crowd, Listener};
+use st_peer::{Client, Limits, Listens};
 use std::alloc::{AllocError, Global};
 use std::io::Eprint;
 use std::net::{Net, TcpListener, TcpStream};
 use std::sync::Wait;
 use std::thread;
-use std::thread::Threads;
+use std::thread::{Threads, join_promised};
 use std::time::Clock;
 
-// Answers the connections of a queue, one after another.
-fn answer_queued<T: Attend, R: Wait + Clock>(
-    rt: &R,
-    attendant: &mut T,
-    queue: &Receiver<TcpStream>,
-    crowd: &Crowd,
-    limits: Limits,
-) -> Result<(), Lost> {
-    for stream in queue.iter(rt) {
-        converse(rt, attendant, stream, limits, crowd)?;
-    }
-    Ok(())
-}
-
-// One worker's thread: works until the sender of its queue is gone, or the store is lost.
-fn work_from_queue<
-    T: Attend + Drop,
-    R: Net<Listener = TcpListener, Stream = TcpStream> + Wait + Clock,
->(rt: &R, mut attendant: T, queue: Receiver<TcpStream>, door: &Door<'_>, limits: Limits) {
-    if answer_queued(rt, &mut attendant, &queue, &door.crowd, limits).is_err() {
-        door.shut(rt);
-    }
-}
-
 // The queue of the worker that a connection is for: the workers take them in turn, from number 0 on.
-fn queue_for(number: u16, queues: &[Sender<TcpStream>]) -> Option<&Sender<TcpStream>>
+fn queue_for<C>(number: u16, queues: &[Sender<C>]) -> Option<&Sender<C>>
     ensures { IsItemAt queues.now (number % length queues.now) result }
 {
     let at = (number as usize).checked_rem(queues.len())?;
@@ -52,11 +28,11 @@ fn queue_for(number: u16, queues: &[Sender<TcpStream>]) -> Option<&Sender<TcpStr
 }
 
 // Accepts this many connections, and sends each to its worker.
-fn distribute<R: Wait + Clock + Eprint>(
+fn distribute<C: Client + Drop, L: Listens<Accepted = C>, R: Wait + Clock + Eprint>(
     rt: &R,
-    door: &Door<'_>,
+    door: &Door<'_, L>,
     connections: u16,
-    queues: &[Sender<TcpStream>],
+    queues: &[Sender<C>],
 ) -> Result<(), Fault>
     ensures { IfErr result Stops }
 {
@@ -64,105 +40,113 @@ fn distribute<R: Wait + Clock + Eprint>(
         let Some(queue) = queue_for(number, queues) else {
             return Err(Fault::NoThread);
         };
-        let Some(stream) = door.next(rt) else {
+        let Some(client) = door.next(rt) else {
             return Err(Fault::Accept);
         };
-        if queue.send(rt, stream).is_err() {
+        if queue.send(rt, client).is_err() {
             return Err(Fault::NoMemory);
         }
     }
     Ok(())
 }
 
-/// Serves this many connections by a worker for each attendant, on a thread of its own. The workers take them in turn: connection
-/// number i, from 0, is for worker i mod W of W workers. Ends early where a thread was refused, when none is accepted, and where
-/// the listener is bad, a store is lost or memory runs out, when those that were accepted are answered first.
-pub fn serve_number<
+// What the workers did, and why connections were no more given to them.
+type Distributed<T> = (Vec<Worked<T>>, Result<(), Fault>);
+
+// Serves this many connections by a worker for each attendant. The workers take them in turn: connection number i, from 0, is for
+// worker i mod W of W workers. Ends early where none is accepted, and where the listener is bad, a store is lost or memory runs out,
+// when those that were accepted are answered first. Where a thread is refused, none is accepted.
+pub(crate) fn serve_number<
     T: Attend + Send + Drop,
+    C: Client + Send + Drop,
+    L: Listens<Accepted = C> + Sync,
     R: Net<Listener = TcpListener, Stream = TcpStream> + Threads + Wait + Clock + Eprint + Sync,
 >(
     rt: &R,
     alloc: Global,
-    listener: &Listener,
+    listener: &L,
     connections: u16,
     limits: Limits,
     attendants: Vec<T>,
-) -> Result<(), Fault>
-    ensures { IfErr result Stops }
+) -> Result<Distributed<T>, Fault>
+    ensures ok { IfOk result (λ r. WorkedEach T.serves C.call attendants.items r.0.items × IfErr r.1 Stops) }
+    ensures err { IfErr result Stops }
 {
     let door = Door::new(rt, listener);
     let door = &door;
     thread::scope(
         thread::scope_env(),
         rt,
-        |scope| -> Result<(), Fault>
-            requires { IsSync R.row × IsSend T.row }
-            ensures { IfErr result Stops }
+        |scope| -> Result<Distributed<T>, Fault>
+            requires { IsSync R.row × (IsSend T.row × (IsSend C.row × IsSync L.row)) }
+            ensures { IfOk result (λ r. WorkedEach T.serves C.call attendants.items r.0.items × IfErr r.1 Stops)
+                × IfErr result Stops }
         {
             let mut queues = Vec::new(alloc);
+            let mut threads = Vec::new(alloc);
             for attendant in attendants {
                 let (queue, own) = unbounded(alloc)?;
-                let thread = scope.spawn(move || work_from_queue(rt, attendant, own, door, limits));
-                if thread.is_err() {
+                let promise = WorksFrom::<T, C>::new(&attendant);
+                let work = move || work_from_queue(rt, attendant, own, door, limits);
+                let Ok(thread) = scope.spawn_with(promise, work) else {
                     return Err(Fault::NoThread);
-                }
+                };
+                threads.push(thread).map_err(|_| AllocError)?;
                 queues.push(queue).map_err(|_| AllocError)?;
             }
-            distribute(rt, door, connections, &queues)
+            door.open(rt);
+            let distributed = distribute(rt, door, connections, &queues);
+            drop(queues);
+            match join_promised(rt, threads) {
+                Ok(workers) => Ok((workers, distributed)),
+                Err(_) => Err(Fault::NoMemory),
+            }
         },
     )
 }
 
-// Answers one connection after another at the door, until it is closed or the listener is bad.
-fn answer_at_door<
-    T: Attend,
-    R: Net<Listener = TcpListener, Stream = TcpStream> + Wait + Clock + Eprint,
->(rt: &R, attendant: &mut T, door: &Door<'_>, limits: Limits) {
-    for _ in rt.forever() {
-        let Some(stream) = door.next(rt) else {
-            return;
-        };
-        if converse(rt, attendant, stream, limits, &door.crowd).is_err() {
-            door.shut(rt);
-            return;
-        }
-    }
-}
-
-// One worker's thread: works until the door is closed.
-fn work_at_door<
-    T: Attend + Drop,
-    R: Net<Listener = TcpListener, Stream = TcpStream> + Wait + Clock + Eprint,
->(rt: &R, mut attendant: T, door: &Door<'_>, limits: Limits) {
-    answer_at_door(rt, &mut attendant, door, limits);
-}
-
-/// Serves all connections by a worker for each attendant, on a thread of its own: a worker that is free accepts the next one. Nobody
-/// accepts before all threads have begun; where one is refused, none does. Ends when the listener is bad, or once a store is lost.
-pub fn serve_all<
+// Serves all connections by a worker for each attendant: a worker that is free accepts the next one. Nobody accepts before all threads
+// have begun; where one is refused, none does. Ends when the listener is bad, or once a store is lost.
+pub(crate) fn serve_all<
     T: Attend + Send + Drop,
+    C: Client + Send + Drop,
+    L: Listens<Accepted = C> + Sync,
     R: Net<Listener = TcpListener, Stream = TcpStream> + Threads + Wait + Clock + Eprint + Sync,
->(rt: &R, listener: &Listener, limits: Limits, attendants: Vec<T>) -> Fault
-    ensures { Stops result }
+>(
+    rt: &R,
+    alloc: Global,
+    listener: &L,
+    limits: Limits,
+    attendants: Vec<T>,
+) -> Result<Vec<Worked<T>>, Fault>
+    ensures ok { IfOk result (λ workers. WorkedEach T.serves C.call attendants.items workers.items) }
+    ensures err { IfErr result Stops }
 {
     let door = Door::new(rt, listener);
     let door = &door;
     thread::scope(
         thread::scope_env(),
         rt,
-        |scope| -> Fault
-            requires { IsSync R.row × IsSend T.row }
-            ensures { Stops result }
+        |scope| -> Result<Vec<Worked<T>>, Fault>
+            requires { IsSync R.row × (IsSend T.row × IsSync L.row) }
+            ensures { IfOk result (λ workers. WorkedEach T.serves C.call attendants.items workers.items) × IfErr result Stops }
         {
-            let mut acceptor = door.acceptor.lock(rt);
+            let mut threads = Vec::new(alloc);
             for attendant in attendants {
-                let thread = scope.spawn(move || work_at_door(rt, attendant, door, limits));
-                if thread.is_err() {
-                    *acceptor = None;
-                    return Fault::NoThread;
-                }
+                let promise = WorksFrom::<T, C>::new(&attendant);
+                let work = move || work_at_door(rt, attendant, door, limits);
+                let Ok(thread) = scope.spawn_with(promise, work) else {
+                    return Err(door.refuse(rt, Fault::NoThread));
+                };
+                let Ok(()) = threads.push(thread) else {
+                    return Err(door.refuse(rt, Fault::NoMemory));
+                };
             }
-            Fault::Accept
+            door.open(rt);
+            match join_promised(rt, threads) {
+                Ok(workers) => Ok(workers),
+                Err(_) => Err(Fault::NoMemory),
+            }
         },
     )
 }

@@ -11,9 +11,9 @@ held_hall : (B H R J : RattleType) (b : _) (h : _) (l : _) (j : _) → IsSend R 
 held_hall B H R J b h l j s y t = search (sendable, crosses, held_draft, held_publisher, held_board) depth 60 fits 100000
 
 pub serve_at-requires-sync-M : goal.serve_at-requires-sync-M
-serve_at-requires-sync-M g c κs within = let r = given_sync 4 g.row.R c.type_bounds.sync-R in let j = c.type_bounds.send-J in
+serve_at-requires-sync-M g c κs within = let r = given_sync 6 g.row.R c.type_bounds.sync-R in let j = c.type_bounds.send-J in
     search (sendable, crosses, durable_hall) depth 60 fits 100000
 
 pub serve_at-requires-send-L : goal.serve_at-requires-send-L
-serve_at-requires-send-L g c κs within = let r = given_sync 4 g.row.R c.type_bounds.sync-R in let j = c.type_bounds.send-J in
+serve_at-requires-send-L g c κs within = let r = given_sync 6 g.row.R c.type_bounds.sync-R in let j = c.type_bounds.send-J in
     search (sendable, crosses, held_hall) depth 60 fits 100000

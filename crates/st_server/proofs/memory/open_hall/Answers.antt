@@ -6,10 +6,10 @@ use Rattle.st_server.proofs.Widening.{narrowed}
 use Rattle.st_server.proofs.memory.open_hall.Goals as goal
 
 pub serve_at-requires-sync-M : goal.serve_at-requires-sync-M
-serve_at-requires-sync-M g c κs within = let r = given_sync 2 g.row.R c.type_bounds.sync-R in search (sendable, crosses, clerk) depth 60 fits 100000
+serve_at-requires-sync-M g c κs within = let r = given_sync 4 g.row.R c.type_bounds.sync-R in search (sendable, crosses, clerk) depth 60 fits 100000
 
-pub returns-in-Ok : goal.returns-in-Ok
-returns-in-Ok g c =
+pub returns-in-Ok-clause-told : goal.returns-in-Ok-clause-told
+returns-in-Ok-clause-told g c =
     let said = c.args.said.now in
     narrowed (place_text said.place) said.connections (g.O.Write.contents c.args.output.now) (g.O.Write.contents c.serve_at.new.output) c.serve_at.result
     c.serve_at.ensures.lost c.serve_at.ensures.told

@@ -39,6 +39,7 @@ returns g c = λ words says.
       state = c.in_ok-both.both.0;
       opens = subst (λ (names : List (Bor Text)). Opens said.digest.now (map (λ name. name.now) names) c.in_ok-both.both.0) c.deref.ensures.value c.in_ok-both.ensures.ok;
       ended = c.open_hall.result;
-      tells = c.open_hall.ensures;
+      attends = c.open_hall.ensures.attended;
+      tells = c.open_hall.ensures.told;
       status_is = refl;
     })

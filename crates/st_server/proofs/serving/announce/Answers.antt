@@ -1,4 +1,4 @@
-use Rattle.std.proofs.Common.{Err}
+use Rattle.std.proofs.Common.{◌≡◌, Err, Some, rules}
 use Rattle.st_command_line.specs.ServedArguments.{place_text}
 use Rattle.st_workers.proofs.Telling.{all_told}
 use Rattle.st_server.proofs.Widening.{widened, not_lost}
@@ -17,13 +17,7 @@ returns-in-Err-clause-lost g c = λ lost.
 pub returns-clause-told : goal.returns-clause-told
 returns-clause-told g c =
     let said = c.args.said.now in
+    let ok : said.connections ≡ Some c.in_ok-ended.field-0 = search rules in
     widened (place_text said.place) said.connections (g.O.Write.contents c.args.output.now) (g.O.Write.contents c.tell.new.output) c.tell.result
     (all_told (place_text said.place) _ said.connections (g.O.Write.contents c.args.output.now) (g.O.Write.contents c.begin.new.output)
-    (g.O.Write.contents c.tell.new.output) c.tell.result c.in-Ok.ensures.ok c.in_ok-attended.ensures.ok c.tell.ensures.ok c.tell.ensures.err)
-
-pub returns-clause-lost : goal.returns-clause-lost
-returns-clause-lost g c = λ lost.
-    let said = c.args.said.now in
-    absurd (not_lost (place_text said.place) said.connections (g.O.Write.contents c.args.output.now) (g.O.Write.contents c.tell.new.output) c.tell.result
-    (all_told (place_text said.place) _ said.connections (g.O.Write.contents c.args.output.now) (g.O.Write.contents c.begin.new.output)
-    (g.O.Write.contents c.tell.new.output) c.tell.result c.in-Ok.ensures.ok c.in_ok-attended.ensures.ok c.tell.ensures.ok c.tell.ensures.err) lost)
+    (g.O.Write.contents c.tell.new.output) c.tell.result c.in-Ok.ensures.ok ok c.tell.ensures.ok c.tell.ensures.err)

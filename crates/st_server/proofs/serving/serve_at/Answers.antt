@@ -5,5 +5,5 @@ use Rattle.st_server.proofs.stations.Open.TheSendSync as OpenCross
 use Rattle.st_server.proofs.serving.serve_at.Goals as goal
 
 pub announce-requires-send-T : goal.announce-requires-send-T
-announce-requires-send-T g c κs within = let m = given_sync 1 g.row.M c.type_bounds.sync-M in let r = given_sync 4 g.row.R c.type_bounds.sync-R in
+announce-requires-send-T g c κs within = let m = given_sync 1 g.row.M c.type_bounds.sync-M in let r = given_sync 6 g.row.R c.type_bounds.sync-R in
     search (sendable, crosses, station, OpenCross.the_sync) depth 60 fits 100000

@@ -1,12 +1,16 @@
 //! One connection.
-ghost use Rattle.std.specs.Prelude.{◌≡◌, ◌≢◌, ◌⊎◌, Bool, true, false, Ok};
+ghost use Rattle.std.specs.Prelude.{◌≡◌, ◌≢◌, ◌⊎◌, Bool, true, false, None, Ok};
 ghost use Rattle.st_connection.specs.Connection.{EndsOn};
 ghost use Rattle.st_connection.specs.declared.connection.Ended.TheVariants.{Clean, Cut};
+ghost use Rattle.st_peer.specs.Meeting.{Call, Meets};
 
+use crate::incoming::Incoming;
+use crate::outgoing::Outgoing;
+use crate::parting::part;
+use crate::watching::Crowd;
 use st_connection::Attend;
 use st_connection::connection::{Ended, IoFault, MAX_READS};
 use st_connection::streams::{FromWrite, Sink, Source};
-use st_peer::{Crowd, Incoming, Outgoing, part};
 use std::net::TcpStream;
 use std::time::{Clock, Duration};
 
@@ -70,25 +74,40 @@ pub fn answer_stream<T: Attend, R: Source, S: Sink, E: Hangup>(
     ended
 }
 
-/// The store is lost, and no more connections are answered.
-#[derive(Clone, Copy, Debug, PartialEq, Eq)]
-pub struct Lost;
+/// A client at the other end of a connection that was accepted.
+pub trait Client {
+    // The connection as it was accepted.
+    ghost call: { Self → Call };
+
+    /// Has the requests of the client answered until the connection ends, and counts it among those that are answered meanwhile: how it
+    /// ended, or none where it failed before a byte was read.
+    fn meet<T: Attend, R: Clock>(
+        self,
+        rt: &R,
+        attendant: &mut T,
+        limits: Limits,
+        crowd: &Crowd,
+    ) -> Option<Result<Ended, IoFault>>
+        ensures met { Meets T.serves attendant.old (call self) result attendant.new }
+        ensures grows { T.grows attendant.old attendant.new };
+}
 
 // Answers the requests of one connection of a crowd until it ends.
-fn converse_in<T: Attend, R: Clock>(
+fn converse<T: Attend, R: Clock>(
     rt: &R,
     attendant: &mut T,
     stream: TcpStream,
     limits: Limits,
     crowd: &Crowd,
-) -> Result<(), Lost>
-    ensures { T.grows attendant.old attendant.new }
+) -> Option<Result<Ended, IoFault>>
+    ensures met { Meets T.serves attendant.old (record { sends = None; held = None; may_fail = true }) result attendant.new }
+    ensures grows { T.grows attendant.old attendant.new }
 {
     let Ok(mut reader) = Incoming::new(rt, &stream, limits.message, limits.idle, crowd) else {
-        return Ok(());
+        return None;
     };
     let Ok(outgoing) = Outgoing::new(rt, &stream, limits.message) else {
-        return Ok(());
+        return None;
     };
     let mut writer = FromWrite::new(outgoing);
     let mut parting = Parting {
@@ -96,25 +115,23 @@ fn converse_in<T: Attend, R: Clock>(
         clock: rt,
         is_over: false,
     };
-    match answer_stream(attendant, &mut reader, &mut writer, &mut parting) {
-        Ok(Ended::Lost) => Err(Lost),
-        _ => Ok(()),
-    }
+    Some(answer_stream(attendant, &mut reader, &mut writer, &mut parting))
 }
 
-/// Answers the requests of one connection until it ends, and counts it among those that are answered meanwhile. A fault ends this
-/// connection alone; `Lost` ends all.
-pub fn converse<T: Attend, R: Clock>(
-    rt: &R,
-    attendant: &mut T,
-    stream: TcpStream,
-    limits: Limits,
-    crowd: &Crowd,
-) -> Result<(), Lost>
-    ensures { T.grows attendant.old attendant.new }
-{
-    crowd.join();
-    let ended = converse_in(rt, attendant, stream, limits, crowd);
-    crowd.leave();
-    ended
+impl Client for TcpStream {
+    // What comes over a network is not known before.
+    ghost call = { λ _. record { sends = None; held = None; may_fail = true } };
+
+    fn meet<T: Attend, R: Clock>(
+        self,
+        rt: &R,
+        attendant: &mut T,
+        limits: Limits,
+        crowd: &Crowd,
+    ) -> Option<Result<Ended, IoFault>> {
+        crowd.join();
+        let ended = converse(rt, attendant, self, limits, crowd);
+        crowd.leave();
+        ended
+    }
 }

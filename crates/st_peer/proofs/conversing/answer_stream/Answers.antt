@@ -1,5 +1,5 @@
 use Rattle.std.proofs.Common.{rules}
-use Rattle.st_workers.proofs.connection.answer_stream.Goals as goal
+use Rattle.st_peer.proofs.conversing.answer_stream.Goals as goal
 
 pub returns-then-not-matches-clause-served : goal.returns-then-not-matches-clause-served
 returns-then-not-matches-clause-served g c = search rules
