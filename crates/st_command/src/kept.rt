@@ -71,7 +71,7 @@ pub(crate) fn serve_kept<
     requires first { state ≡ B.first }
     requires reader_sound { R.has_failed reader.old ≡ false }
     requires writer_sound { W.has_failed writer.old ≡ false }
-    ensures { EndsKept (K.holds keeper) J.list J.misreads J.may_leave (string_bytes place.now.opening) B.first
+    ensures { EndsKept (K.holds keeper place.now.path.now) J.list J.misreads J.may_leave (string_bytes place.now.opening) B.first
         (streams R.left R.reads R.has_ended R.has_failed W.held W.has_failed reader.old reader.new writer.old writer.new)
         (exit_status_after result) }
 {

@@ -32,7 +32,7 @@ pub fn serve_files<
     O: Write,
     F: Write,
 >(rt: &R, files: &HostRuntime, start: S, words: &[String], output: &mut O, faults: &mut F) -> u8
-    ensures { Ran ⟦<TcpStream as Client>⟧.call (HoldStore (image_at S.Start)) ⟦<FileJournal<FileFrom<S>> as Journal>⟧.list
+    ensures { Ran ⟦<TcpStream as Client>⟧.call (λ _. HoldStore (image_at S.Start)) ⟦<FileJournal<FileFrom<S>> as Journal>⟧.list
         ⟦<FileJournal<FileFrom<S>> as Journal>⟧.misreads
         (map string_bytes words.now) (O.contents output.old) (O.contents output.new) result }
 {

@@ -48,8 +48,8 @@ abbrev pub EndsKept : {P J : Type 0} → (P → Call) → (List ℕ → List Rec
 EndsKept call holds list misreads opening first said old new status =
     IsOpened call holds list misreads opening first said old new status ⊎ IsUnopened old new status
 
--- the words name a store, and open the state that its changes lead on from
-pub record IsKept {P J : Type 0} (call : P → Call) (holds : List ℕ → List Record → Type 0) (list : J → List Record) (misreads : J → ℕ)
+-- the words name a store at a path, and open the state that its changes lead on from
+pub record IsKept {P J : Type 0} (call : P → Call) (holds : (path opening : List ℕ) → List Record → Type 0) (list : J → List Record) (misreads : J → ℕ)
     (words : List Text) (old new : Option (List ℕ)) (status : ℕ) : Type 0 where
   pub said : ServedArguments
   pub says : SaysServed words said
@@ -58,4 +58,4 @@ pub record IsKept {P J : Type 0} (call : P → Call) (holds : List ℕ → List 
   pub first : State Global
   pub opening : Text
   pub opens : OpensWith said.digest.now (map (λ name. name.now) said.names.items) first opening
-  pub ends : EndsKept call holds list misreads opening first said old new status
+  pub ends : EndsKept call (holds path) list misreads opening first said old new status

@@ -130,7 +130,7 @@ fn serve_kept<
     output: &mut O,
 ) -> Result<(), Fault>
     requires first { copies ≡ B.first }
-    ensures { EndsKept C.call (K.holds keeper) J.Journal.list J.Journal.misreads (string_bytes place.now.opening) B.first said.now
+    ensures { EndsKept C.call (K.holds keeper place.now.path.now) J.Journal.list J.Journal.misreads (string_bytes place.now.opening) B.first said.now
         (O.contents output.old) (O.contents output.new) (exit_status_after result) }
 {
     let journal = keeper.open(place.path, place.opening.as_str(), &mut copies)?;

@@ -56,7 +56,8 @@ impl<S: Start> Keeper<FileJournal<FileFrom<S>>> for SqliteKeeper<'_, S> {
     ghost use Rattle.sqlite_wal.specs.Files.{image_at};
     ghost use Rattle.st_store_file.specs.Holding.{HoldStore};
 
-    ghost holds = { λ _. HoldStore (image_at S.Start) };
+    // What the files held is supposed of all paths at once, since the kit's `Start` names none.
+    ghost holds = { λ _ _. HoldStore (image_at S.Start) };
 
     fn open<R: Replay>(
         self,
