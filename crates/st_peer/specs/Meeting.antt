@@ -1,5 +1,7 @@
 -- What a server did with a client.
 use Rattle.std.specs.Prelude.{◌≡◌, ℕ, Bool, true, Option, Some, None, List, [], ◌∷◌, length, Result}
+use Rattle.st_connection.specs.Connection.{EndsOn}
+use Rattle.st_connection.specs.declared.connection.TheConstants.{MAX_READS}
 use Rattle.st_connection.specs.declared.connection.Ended.{Ended}
 use Rattle.st_connection.specs.declared.connection.IoFault.{IoFault}
 
@@ -14,10 +16,21 @@ pub record Call : Type 0 where
 abbrev pub Serving : Type 0 → Type 1
 Serving T = T → T → Option (List ℕ) → Option (List ℕ) → Option (List ℕ) → Option (List ℕ) → Bool → Result Ended IoFault → Type 0
 
--- The attendant served the client, from the first byte that it sends on; or the connection failed before, and nothing was done.
+-- The attendant served the client, from the first byte that it sends on, and the conversation ended so for a cause.
+pub record Answered {T : Type 0} (serves : Serving T) (s : T) (call : Call) (ended : Result Ended IoFault) (t : T) : Type 0 where
+  pub left : Option (List ℕ)
+  pub held : Option (List ℕ)
+  pub reads_old : ℕ
+  pub reads_new : ℕ
+  pub has_ended : Bool
+  pub read_failed : Bool
+  pub write_failed : Bool
+  pub served : serves s t call.sends left call.held held read_failed ended
+  pub ends : EndsOn MAX_READS left reads_old reads_new has_ended read_failed write_failed ended
+
+-- It did so; or the connection failed before, and nothing was done.
 abbrev pub Meets : {T : Type 0} → Serving T → T → Call → Option (Result Ended IoFault) → T → Type 0
-Meets serves s call (Some ended) t =
-    (left : Option (List ℕ)) × (held : Option (List ℕ)) × (read_failed : Bool) × serves s t call.sends left call.held held read_failed ended
+Meets serves s call (Some ended) t = Answered serves s call ended t
 Meets serves s call None t = (call.may_fail ≡ true) × (t ≡ s)
 
 -- The attendant met these clients, one after another; the last of them stands first.
