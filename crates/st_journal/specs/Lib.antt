@@ -1,2 +1,3 @@
 pub mod Replays
+pub mod Faults
 pub mod inner

@@ -1,13 +1,17 @@
 //! What keeps the records.
-ghost use Rattle.std.specs.Prelude.{◌≡◌, ◌≢◌, ◌⊎◌, ◌≤◌, ◌++◌, ℕ, List, Err, OnOk};
+ghost use Rattle.std.specs.Prelude.{◌≡◌, ◌≢◌, ◌⊎◌, ◌≤◌, ◌++◌, ℕ, List, Err, OnOk, OnErr};
 ghost use Rattle.st_journal.specs.declared.record.Record.{Record};
+ghost use Rattle.st_journal.specs.Faults.{Rises};
 
 use crate::record::Record;
 
 /// Why records were not appended.
 #[derive(Clone, Copy, Debug, PartialEq, Eq)]
 pub enum AppendError {
-    /// None of them is kept, and none ever will be. The journal goes on.
+    /// Memory ran out, or the records are more or longer than the journal takes. None of them is kept, and none ever will be. The
+    /// journal goes on.
+    NoMemory,
+    /// The disk failed or refused. None of them is kept, and none ever will be. The journal goes on.
     NotKept,
     /// Either all of them are kept or none is: only the next opening can tell. The journal takes no more.
     Unknown,
@@ -16,13 +20,17 @@ pub enum AppendError {
 /// Keeps the records of changes, in order, so that they outlast a crash.
 ///
 /// A journal that several processes share can be one too: its list is what this process has been given of the shared one,
-/// and `NotKept` says that another process came first, so that its records have to be taken before the append is tried again.
+/// and `NotKept` says that another process came first, which is a refusal, so that its records have to be taken before the append is
+/// tried again.
 pub trait Journal {
     // The records that are kept.
     ghost list: { Self → List Record };
 
     // How often the disk returned other bytes than were written there, and nothing noticed. No code can tell.
     ghost misreads: { Self → ℕ };
+
+    // How often the disk failed or refused.
+    ghost faults: { Self → ℕ };
 
     // It takes records: it was opened, and no append was unknown.
     ghost is_ready: { Self → Type 0 };
@@ -35,8 +43,11 @@ pub trait Journal {
         requires ready { is_ready self.old }
         ensures ready { result ≢ Err AppendError.Unknown → is_ready self.new }
         ensures misreads { misreads self.old ≤ misreads self.new }
+        ensures counts { faults self.old ≤ faults self.new }
         ensures kept { misreads self.new ≡ 0 → OnOk result (list self.new ≡ list self.old ++ records.now) }
-        ensures not_kept { misreads self.new ≡ 0 → result ≡ Err AppendError.NotKept → list self.new ≡ list self.old }
+        ensures not_kept { misreads self.new ≡ 0 → result ≢ Err AppendError.Unknown → OnErr result (list self.new ≡ list self.old) }
+        ensures refused { misreads self.new ≡ 0 → result ≡ Err AppendError.NotKept → Rises (faults self.old) (faults self.new) }
+        ensures unknown { misreads self.new ≡ 0 → result ≡ Err AppendError.Unknown → Rises (faults self.old) (faults self.new) }
         // A crash inside the call is a disk that fails from some moment on, so that the call ends as `Unknown`.
         ensures crash { misreads self.new ≡ 0 → (left : List Record) → may_leave self.new left
             → (left ≡ list self.old) ⊎ (left ≡ list self.old ++ records.now) };

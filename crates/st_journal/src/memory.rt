@@ -68,6 +68,8 @@ impl Journal for MemoryJournal {
 
     ghost misreads = { λ _. 0 };
 
+    ghost faults = { λ _. 0 };
+
     ghost is_ready = { λ _. ⊤ };
 
     ghost may_leave = { λ _ _. ⊥ };
@@ -80,7 +82,7 @@ impl Journal for MemoryJournal {
             Ok(()) => Ok(()),
             Err(_) => {
                 self.records.truncate(before);
-                Err(AppendError::NotKept)
+                Err(AppendError::NoMemory)
             }
         }
     }

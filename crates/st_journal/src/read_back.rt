@@ -1,6 +1,7 @@
 //! The records that a journal keeps, read back.
 ghost use Rattle.std.specs.Prelude.{◌≡◌, ◌≢◌, ◌≤◌, List, Err, IfOk, drop, take};
 ghost use Rattle.st_journal.specs.declared.record.Record.{Record};
+ghost use Rattle.st_journal.specs.Faults.{Rises};
 
 use crate::journal::Journal;
 use crate::record::Record;
@@ -21,10 +22,13 @@ pub trait ReadBack: Journal {
         requires ready { Self.Journal.is_ready self.old }
         ensures ready { result ≢ Err ReadError.Lost → Self.Journal.is_ready self.new }
         ensures misreads { Self.Journal.misreads self.old ≤ Self.Journal.misreads self.new }
+        ensures counts { Self.Journal.faults self.old ≤ Self.Journal.faults self.new }
         ensures read { IfOk result (λ records. Self.Journal.misreads self.new ≡ 0
             → records.items ≡ take most (drop from (Self.Journal.list self.old))) }
         ensures same { Self.Journal.misreads self.new ≡ 0 → result ≢ Err ReadError.Lost
             → Self.Journal.list self.new ≡ Self.Journal.list self.old }
+        ensures lost { Self.Journal.misreads self.new ≡ 0 → result ≡ Err ReadError.Lost
+            → Rises (Self.Journal.faults self.old) (Self.Journal.faults self.new) }
         ensures crash { Self.Journal.misreads self.new ≡ 0 → (left : List Record) → Self.Journal.may_leave self.new left
             → left ≡ Self.Journal.list self.old };
 }

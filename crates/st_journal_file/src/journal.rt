@@ -1,4 +1,6 @@
-//! The journal of an open file.
+//! The journal of an open file. That each outcome of a crash has the table is a ghost field, since the store's trait cannot say so of
+//! one table. That an outcome has pages of 4,096 bytes follows from the image. `close` has no clause: it copies the log into the
+//! database, and no clause says what a checkpoint leaves.
 ghost use Rattle.std.specs.Prelude.{◌≡◌, IsTrue};
 ghost use Rattle.sqlite_trees.specs.Tree.{Trees};
 ghost use Rattle.sqlite_trees.specs.View.{doubt, IsClean};
@@ -28,10 +30,13 @@ pub struct FileJournal<D: Disk> {
 
 impl<D: Disk + Drop> Journal for FileJournal<D> {
     ghost use Rattle.sqlite_store.specs.FileStore.{view, recovers};
+    ghost use Rattle.sqlite_store.specs.FileStore as shown;
 
     ghost list = { λ j. changes_in (view j.store).committed };
 
     ghost misreads = { λ j. doubt (view j.store).is_clean };
+
+    ghost faults = { λ j. shown.faults j.store };
 
     ghost is_ready = { λ j. IsClean (view j.store) → IsReady (view j.store) j.count };
 
@@ -46,7 +51,7 @@ impl<D: Disk + Drop> Journal for FileJournal<D> {
     fn append(&mut self, records: &[Record]) -> Result<(), AppendError> {
         let added = records.len() as u64;
         if self.count > MOST || added > MOST {
-            return Err(AppendError::NotKept);
+            return Err(AppendError::NoMemory);
         }
         put_behind(&mut self.store, self.alloc, self.count, self.count, records)?;
         self.count += added;

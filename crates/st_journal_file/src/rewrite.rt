@@ -1,6 +1,8 @@
-//! Another list in place of the one that a journal has.
-ghost use Rattle.std.specs.Prelude.{◌≡◌, ◌≢◌, ◌⊎◌, ◌≤◌, Err, List, OnOk};
+//! Another list in place of the one that a journal has. Rows are taken out and put anew: changing them in place would save no write,
+//! since the numbers shift.
+ghost use Rattle.std.specs.Prelude.{◌≡◌, ◌≢◌, ◌⊎◌, ◌≤◌, Err, List, OnOk, OnErr};
 ghost use Rattle.st_journal.specs.declared.record.Record.{Record};
+ghost use Rattle.st_journal.specs.Faults.{Rises};
 
 use crate::journal::FileJournal;
 use crate::rows::put_behind;
@@ -15,10 +17,15 @@ impl<D: Disk + Drop> FileJournal<D> {
         requires ready { ⟦<FileJournal<D> as Journal>⟧.is_ready self.old }
         ensures ready { result ≢ Err AppendError.Unknown → ⟦<FileJournal<D> as Journal>⟧.is_ready self.new }
         ensures misreads { ⟦<FileJournal<D> as Journal>⟧.misreads self.old ≤ ⟦<FileJournal<D> as Journal>⟧.misreads self.new }
+        ensures counts { ⟦<FileJournal<D> as Journal>⟧.faults self.old ≤ ⟦<FileJournal<D> as Journal>⟧.faults self.new }
         ensures kept { ⟦<FileJournal<D> as Journal>⟧.misreads self.new ≡ 0
             → OnOk result (⟦<FileJournal<D> as Journal>⟧.list self.new ≡ records.now) }
-        ensures not_kept { ⟦<FileJournal<D> as Journal>⟧.misreads self.new ≡ 0 → result ≡ Err AppendError.NotKept
-            → ⟦<FileJournal<D> as Journal>⟧.list self.new ≡ ⟦<FileJournal<D> as Journal>⟧.list self.old }
+        ensures not_kept { ⟦<FileJournal<D> as Journal>⟧.misreads self.new ≡ 0 → result ≢ Err AppendError.Unknown
+            → OnErr result (⟦<FileJournal<D> as Journal>⟧.list self.new ≡ ⟦<FileJournal<D> as Journal>⟧.list self.old) }
+        ensures refused { ⟦<FileJournal<D> as Journal>⟧.misreads self.new ≡ 0 → result ≡ Err AppendError.NotKept
+            → Rises (⟦<FileJournal<D> as Journal>⟧.faults self.old) (⟦<FileJournal<D> as Journal>⟧.faults self.new) }
+        ensures unknown { ⟦<FileJournal<D> as Journal>⟧.misreads self.new ≡ 0 → result ≡ Err AppendError.Unknown
+            → Rises (⟦<FileJournal<D> as Journal>⟧.faults self.old) (⟦<FileJournal<D> as Journal>⟧.faults self.new) }
         // A crash inside the call is a disk that fails from some moment on, so that the call ends as `Unknown`.
         ensures crash { ⟦<FileJournal<D> as Journal>⟧.misreads self.new ≡ 0 → (left : List Record)
             → ⟦<FileJournal<D> as Journal>⟧.may_leave self.new left
@@ -26,7 +33,7 @@ impl<D: Disk + Drop> FileJournal<D> {
     {
         let added = records.len() as u64;
         if self.count == 0 || self.count > MOST || added > MOST {
-            return Err(AppendError::NotKept);
+            return Err(AppendError::NoMemory);
         }
         put_behind(&mut self.store, self.alloc, self.count, 1, records)?;
         self.count = 1 + added;

@@ -1,7 +1,7 @@
 //! The rows of the store in a file.
 ghost use Rattle.std.specs.Prelude.{◌≤◌, ◌<◌, ◌+◌, ◌^◌, length};
 ghost use Rattle.sqlite_trees.specs.View.{IsClean};
-ghost use Rattle.sqlite_store.specs.FileStore.{view, recovers};
+ghost use Rattle.sqlite_store.specs.FileStore.{view, faults, recovers};
 ghost use Rattle.st_journal_rows.specs.Ready.{IsReady, PutsBehind};
 
 use sqlite_disk::Disk;
@@ -22,7 +22,7 @@ pub(crate) fn put_behind<D: Disk>(
     requires fewer { kept ≤ count }
     requires some { IsClean (view store.old) → 0 < kept }
     requires fits { kept + length records.now < 2 ^ 63 }
-    ensures { PutsBehind view recovers store.old store.new count kept records.now result }
+    ensures { PutsBehind view faults recovers store.old store.new count kept records.now result }
 {
     st_journal_rows::put_behind(store, alloc, count, kept, records)
 }

@@ -1,5 +1,5 @@
 -- A transaction that was committed, and one that a crash cut off.
-use Rattle.std.proofs.Common.{◌≡◌, ◌≢◌, ◌<◌, Ok, Err, OnOk, Result, ℕ, Bool, true, false, List, [], ◌∷◌, map, length, IsTrue, refl, sym, ap, subst, ◌∙◌, arith}
+use Rattle.std.proofs.Common.{◌≡◌, ◌≢◌, ◌<◌, Ok, Err, OnOk, OnErr, Result, ℕ, Bool, true, false, List, [], ◌∷◌, map, length, IsTrue, refl, sym, ap, subst, ◌∙◌, arith}
 use Rattle.std.proofs.lemmas.Bool.Decides.{nat_tests}
 use Rattle.sqlite_value.specs.Order.{Row}
 use Rattle.sqlite_trees.specs.Tree.{Trees, with_tree}
@@ -7,7 +7,7 @@ use Rattle.sqlite_trees.specs.Objects.{catalog_tree, version_tree}
 use Rattle.sqlite_trees.specs.View.{View, IsClean, Commits, KeepsCommitted, IsRolledBack, SetsTree}
 use Rattle.st_journal.specs.declared.record.Record.{Record}
 use Rattle.st_journal.specs.declared.journal.AppendError.{AppendError}
-use Rattle.st_journal.specs.declared.journal.AppendError.TheVariants.{NotKept, Unknown}
+use Rattle.st_journal.specs.declared.journal.AppendError.TheVariants.{Unknown}
 use Rattle.st_journal_rows.specs.Table.{table_tree, rows_from, record_in, records_in}
 use Rattle.st_journal_rows.specs.Ready.{ListsTable, HasTable, HasRows, IsReady}
 use Rattle.st_journal_rows.specs.inner.Writes.{Adds}
@@ -79,6 +79,10 @@ pub on_both : {X E P Q R : Type 0} (r : Result X E) → (P → Q → R) → OnOk
 on_both (Ok x) so h q = so h q
 on_both (Err e) so h q = h
 
+pub on_err_both : {X E P Q R : Type 0} (r : Result X E) → (P → Q → R) → OnErr r P → OnErr r Q → OnErr r R
+on_err_both (Ok x) so h q = h
+on_err_both (Err e) so h q = so h q
+
 -- what was written is undone, so that the table is as it was
 pub rolled_back : (old mid new : View) (count : ℕ) → IsReady old count → KeepsCommitted old mid → IsRolledBack mid new → IsClean new
     → IsTrue new.is_open → IsReady new count
@@ -102,8 +106,8 @@ rolled_back old mid new count ready kept rolled clean open' =
       some = ready.some;
     }
 
--- an append that is known to have failed kept nothing
+-- an error that is known to be another one
 pub when_known : {X Y P : Type 0} (e : AppendError) (result : Result X AppendError) (last : Result Y AppendError) → result ≡ Err e → last ≡ Err e
-    → last ≢ Err Unknown → (result ≡ Err NotKept → P) → P
-when_known NotKept result last is was known so = so is
-when_known Unknown result last is was known so = absurd (known was)
+    → last ≢ Err Unknown → (result ≢ Err Unknown → OnErr result P) → P
+when_known {P = P} e result last is was known so =
+    subst (λ r. OnErr r P) is (so (λ bad. let both : Err e ≡ Err Unknown = sym is ∙ bad in let same : e ≡ Unknown = cc in known (was ∙ ap Err same)))

@@ -1,5 +1,6 @@
 mod ViewLemmas
 mod RowLemmas
+mod Causes
 pub mod CommitLemmas
 mod Reading
 mod LastRows

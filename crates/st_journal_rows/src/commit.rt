@@ -1,41 +1,80 @@
 //! The end of a transaction.
-ghost use Rattle.std.specs.Prelude.{◌≡◌, ◌⊎◌, ◌≤◌, false, Ok, Err, IsTrue, OnOk, OnErr};
+ghost use Rattle.std.specs.Prelude.{◌≡◌, ◌≢◌, ◌⊎◌, ◌≤◌, ℕ, ⊤, false, Ok, Err, IsTrue, IfErr, OnOk, OnErr};
+ghost use Rattle.st_journal.specs.Faults.{Rises};
 ghost use Rattle.st_journal.specs.declared.journal.AppendError.TheVariants as ends;
 ghost use Rattle.sqlite_trees.specs.Tree.{Trees};
-ghost use Rattle.sqlite_trees.specs.View.{doubt, IsClean, Commits, IsRolledBack};
+ghost use Rattle.sqlite_trees.specs.View.{View, doubt, HasCause, IsClean, Commits, IsRolledBack};
+ghost use Rattle.st_journal_rows.specs.inner.Writes.{Wrote};
 
 use sqlite_trees::error::StoreError;
 use sqlite_trees::store::Store;
 use st_journal::AppendError;
 
-// Commits what was written if all went well, and else rolls it back. `NotKept` where nothing was kept and the store goes on,
-// `Unknown` where the store is broken, so that only opening it again tells.
+// Why nothing was kept, where the store goes on after this error.
+fn reason(error: StoreError) -> AppendError
+    ensures known { result ≢ ends.Unknown }
+    ensures caused { (old : View) (before after : ℕ) → old.is_broken ≡ false → HasCause old (Rises before after) ⊤ error
+        → result ≡ ends.NotKept → Rises before after }
+{
+    match error {
+        StoreError::OutOfMemory | StoreError::Unstorable => AppendError::NoMemory,
+        StoreError::Io | StoreError::Corrupt | StoreError::Full | StoreError::Broken => {
+            AppendError::NotKept
+        }
+    }
+}
+
+// Commits what was written if all went well, and else rolls it back.
+fn conclude<S: Store>(store: &mut S, written: Result<(), StoreError>) -> Result<(), StoreError>
+    ensures clean { doubt (S.view store.old).is_clean ≤ doubt (S.view store.new).is_clean }
+    ensures counts { S.faults store.old ≤ S.faults store.new }
+    ensures numbered { IsClean (S.view store.new) → (S.view store.new).is_numbered ≡ (S.view store.old).is_numbered }
+    ensures done { OnOk result (written ≡ Ok tt) }
+    ensures ok { OnOk result (IsClean (S.view store.new) → Commits (S.view store.old) (S.view store.new)) }
+    ensures err { OnErr result (IsRolledBack (S.view store.old) (S.view store.new)) }
+    ensures cause { IfErr result (λ error. IsClean (S.view store.new) → (written ≡ Err error)
+        ⊎ ((written ≡ Ok tt) × HasCause (S.view store.old) (Rises (S.faults store.old) (S.faults store.new)) ⊥ error)) }
+    ensures closes { IsClean (S.view store.new) → IsTrue (S.view store.old).is_open
+        → IsTrue (S.view store.new).is_open ⊎ Rises (S.faults store.old) (S.faults store.new) }
+    ensures crash { (db : Trees) → S.recovers store.new db
+        → ((written ≡ Ok tt) × ((S.view store.old).is_broken ≡ false) × (db ≡ (S.view store.old).trees)) ⊎ S.recovers store.old db }
+{
+    match written {
+        Ok(()) => store.commit(),
+        Err(error) => {
+            store.rollback();
+            Err(error)
+        }
+    }
+}
+
+// Commits what was written if all went well, and else rolls it back. `NoMemory` and `NotKept` where nothing was kept and the store
+// goes on, `Unknown` where the store is broken, so that only opening it again tells.
 pub(crate) fn finish<S: Store>(
     store: &mut S,
     written: Result<(), StoreError>,
 ) -> Result<(), AppendError>
     ensures clean { doubt (S.view store.old).is_clean ≤ doubt (S.view store.new).is_clean }
+    ensures counts { S.faults store.old ≤ S.faults store.new }
     ensures numbered { IsClean (S.view store.new) → (S.view store.new).is_numbered ≡ (S.view store.old).is_numbered }
     ensures done { OnOk result (written ≡ Ok tt) }
     ensures ok { OnOk result (IsClean (S.view store.new) → Commits (S.view store.old) (S.view store.new)) }
     ensures err { OnErr result (IsRolledBack (S.view store.old) (S.view store.new)) }
-    ensures not_kept { IsClean (S.view store.new) → result ≡ Err ends.NotKept
-        → IsTrue (S.view store.new).is_open × ((S.view store.new).is_broken ≡ false) }
+    ensures not_kept { IsClean (S.view store.new) → result ≢ Err ends.Unknown
+        → OnErr result (IsTrue (S.view store.new).is_open) }
+    ensures refused { IsClean (S.view store.new) → result ≡ Err ends.NotKept → (sound : View) (before : ℕ) → before ≤ S.faults store.old
+        → Wrote sound (S.view store.old) before (S.faults store.old) written → Rises before (S.faults store.new) }
+    ensures unknown { IsClean (S.view store.new) → result ≡ Err ends.Unknown → IsTrue (S.view store.old).is_open
+        → Rises (S.faults store.old) (S.faults store.new) }
     ensures crash { (db : Trees) → S.recovers store.new db
         → ((written ≡ Ok tt) × ((S.view store.old).is_broken ≡ false) × (db ≡ (S.view store.old).trees)) ⊎ S.recovers store.old db }
 {
-    let mut went = written.is_ok();
-    if went {
-        went = store.commit().is_ok();
-    } else {
-        store.rollback();
-    }
-    if went {
+    let Err(error) = conclude(store, written) else {
         return Ok(());
-    }
+    };
     if store.is_broken() {
         Err(AppendError::Unknown)
     } else {
-        Err(AppendError::NotKept)
+        Err(reason(error))
     }
 }

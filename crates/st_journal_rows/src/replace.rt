@@ -1,6 +1,7 @@
 //! Other rows in place of those that the table has.
-ghost use Rattle.std.specs.Prelude.{◌≡◌, ◌+◌, ◌<◌, ◌≤◌, ◌^◌, length, OnOk};
-ghost use Rattle.sqlite_trees.specs.View.{IsClean, IsQuiet, KeepsCommitted};
+ghost use Rattle.std.specs.Prelude.{◌≡◌, ◌+◌, ◌<◌, ◌≤◌, ◌^◌, ⊤, length, IfErr, OnOk};
+ghost use Rattle.sqlite_trees.specs.View.{HasCause, IsClean, IsQuiet, KeepsCommitted};
+ghost use Rattle.st_journal.specs.Faults.{Rises};
 ghost use Rattle.st_journal_rows.specs.Table.{table_tree};
 ghost use Rattle.st_journal_rows.specs.Ready.{IsReady, PutsBehind};
 ghost use Rattle.st_journal_rows.specs.inner.Writes.{Replaces, Trims};
@@ -20,6 +21,8 @@ fn trim<S: Store>(store: &mut S, count: u64, kept: u64) -> Result<(), StoreError
     requires fewer { kept ≤ count }
     ensures trimmed { OnOk result (IsClean (S.view store.new) → Trims (S.view store.old) (S.view store.new) count kept) }
     ensures kept { IsClean (S.view store.new) → KeepsCommitted (S.view store.old) (S.view store.new) }
+    ensures cause { IsClean (S.view store.new)
+        → IfErr result (HasCause (S.view store.old) (Rises (S.faults store.old) (S.faults store.new)) ⊤) }
     ensures quiet { IsQuiet S.view S.faults S.recovers S.is_shielded store.old store.new }
 {
     for done in 0..count - kept {
@@ -44,6 +47,8 @@ fn replace_all<S: Store>(
     requires fits { kept + length records.now < 2 ^ 63 }
     ensures replaced { OnOk result (IsClean (S.view store.new) → Replaces (S.view store.old) (S.view store.new) count kept records.now) }
     ensures kept { IsClean (S.view store.new) → KeepsCommitted (S.view store.old) (S.view store.new) }
+    ensures cause { IsClean (S.view store.new)
+        → IfErr result (HasCause (S.view store.old) (Rises (S.faults store.old) (S.faults store.new)) ⊤) }
     ensures quiet { IsQuiet S.view S.faults S.recovers S.is_shielded store.old store.new }
 {
     trim(store, count, kept)?;
@@ -51,8 +56,8 @@ fn replace_all<S: Store>(
 }
 
 /// Puts the records behind the first `kept` of so many rows, in place of the others, all of them or none, and returns once they would
-/// outlast a crash. `NotKept` where nothing was kept and the store goes on, `Unknown` where the store is broken, so that only opening
-/// it again tells.
+/// outlast a crash. Where nothing was kept and the store goes on, `NoMemory` if memory ran out or a record is too long, and `NotKept` if
+/// the store failed or refused; `Unknown` where the store is broken, so that only opening it again tells.
 pub fn put_behind<S: Store>(
     store: &mut S,
     alloc: Global,
@@ -65,7 +70,7 @@ pub fn put_behind<S: Store>(
     requires fewer { kept ≤ count }
     requires some { IsClean (S.view store.old) → 0 < kept }
     requires fits { kept + length records.now < 2 ^ 63 }
-    ensures { PutsBehind S.view S.recovers store.old store.new count kept records.now result }
+    ensures { PutsBehind S.view S.faults S.recovers store.old store.new count kept records.now result }
 {
     let written = replace_all(store, alloc, count, kept, records);
     finish(store, written)

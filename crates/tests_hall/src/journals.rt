@@ -13,6 +13,7 @@ pub struct SlowJournal<'a, C: Clock> {
     kept: MemoryJournal,
     appends: u64,
     limit: u64,
+    refusals: u64,
 }
 
 impl<'a, C: Clock> SlowJournal<'a, C> {
@@ -25,6 +26,7 @@ impl<'a, C: Clock> SlowJournal<'a, C> {
             kept: MemoryJournal::new(alloc),
             appends: 0,
             limit,
+            refusals: 0,
         }
     }
 
@@ -44,6 +46,8 @@ impl<'a, C: Clock> Journal for SlowJournal<'a, C> {
 
     ghost misreads = { λ journal. ⟦<MemoryJournal as Journal>⟧.misreads journal.kept };
 
+    ghost faults = { λ journal. journal.refusals };
+
     ghost is_ready = { λ journal. ⟦<MemoryJournal as Journal>⟧.is_ready journal.kept };
 
     ghost may_leave = { λ journal left. ⟦<MemoryJournal as Journal>⟧.may_leave journal.kept left };
@@ -52,6 +56,7 @@ impl<'a, C: Clock> Journal for SlowJournal<'a, C> {
 
     fn append(&mut self, records: &[Record]) -> Result<(), AppendError> {
         if self.appends >= self.limit {
+            self.refusals = self.refusals.saturating_add(1);
             return Err(AppendError::NotKept);
         }
         thread::sleep(self.clock, Duration::from_millis(4));

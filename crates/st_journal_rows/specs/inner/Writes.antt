@@ -1,6 +1,8 @@
 -- Stages of the code, which no reader has to believe: what is written in the table before a commit.
-use Rattle.std.specs.Prelude.{◌≡◌, ◌≢◌, ℕ, List, ◌++◌, length, take}
-use Rattle.sqlite_trees.specs.View.{View, OnlyWrites}
+use Rattle.std.specs.Prelude.{◌≡◌, ◌≢◌, ℕ, ⊤, false, List, ◌++◌, length, take, Result, IfErr, OnOk}
+use Rattle.sqlite_trees.specs.View.{View, HasCause, OnlyWrites}
+use Rattle.sqlite_trees.specs.declared.error.StoreError.{StoreError}
+use Rattle.st_journal.specs.Faults.{Rises}
 use Rattle.st_journal.specs.declared.record.Record.{Record}
 use Rattle.st_journal_rows.specs.Table.{table_tree, rows_from}
 
@@ -24,3 +26,9 @@ pub record Replaces (old new : View) (count kept : ℕ) (more : List Record) : T
   pub others : (t : ℕ) → t ≢ table_tree → new.trees t ≡ old.trees t
   pub rows : (records : List Record) → length records ≡ count → old.trees table_tree ≡ rows_from 0 records
       → new.trees table_tree ≡ rows_from 0 (take kept records ++ more)
+
+-- The store was sound, and it still is where all was written. An error has its cause, where so many faults were counted before and after.
+pub record Wrote {X : Type 0} (old new : View) (before after : ℕ) (written : Result X StoreError) : Type 0 where
+  pub sound : old.is_broken ≡ false
+  pub went : OnOk written (new.is_broken ≡ false)
+  pub failed : IfErr written (HasCause old (Rises before after) ⊤)

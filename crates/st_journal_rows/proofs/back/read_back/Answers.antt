@@ -1,6 +1,7 @@
-use Rattle.std.proofs.Common.{◌≢◌, Err, arith, ap, sym, subst, ◌∙◌}
+use Rattle.std.proofs.Common.{◌≡◌, ◌≢◌, inl, inr, Err, arith, ap, sym, subst, ◌∙◌}
 use Rattle.st_journal.specs.declared.read_back.ReadError.TheVariants as ends
 use Rattle.sqlite_trees.specs.View.{IsClean}
+use Rattle.st_journal.proofs.Rising.{rises_after, rises_before}
 use Rattle.st_journal_rows.specs.Ready.{IsReady}
 use Rattle.st_journal_rows.proofs.ViewLemmas.{quiet_then}
 use Rattle.st_journal_rows.proofs.CommitLemmas.{rolled_back}
@@ -33,3 +34,15 @@ returns-in-Err-clause-numbered g c clean =
 
 pub returns-in-Err-clause-quiet : goal.returns-in-Err-clause-quiet
 returns-in-Err-clause-quiet g c = quiet_then c.read_from.ensures.quiet c.mend.ensures.quiet
+
+pub returns-in-Err-clause-lost : goal.returns-in-Err-clause-lost
+returns-in-Err-clause-lost g c clean is was =
+    let s = g.S.Store in
+    let begun = s.faults c.args.store.now in
+    let amid = s.faults c.read_from.new.store in
+    let mid_clean : IsClean (s.view c.read_from.new.store) = omega (arith, clean, c.mend.ensures.quiet.clean) in
+    let lost : c.mend.result ≡ ends.Lost = cc (is) in
+    elim (c.read_from.ensures.quiet.closes mid_clean was) [
+      | inl still ↦ rises_after begun amid _ c.read_from.ensures.quiet.counts (c.mend.ensures.lost clean lost still)
+      | inr fault ↦ rises_before begun amid _ fault c.mend.ensures.quiet.counts
+    ]

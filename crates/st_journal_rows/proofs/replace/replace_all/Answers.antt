@@ -1,7 +1,10 @@
 use Rattle.std.proofs.Common.{arith}
+use Rattle.std.specs.Prelude.{⊤}
 use Rattle.sqlite_trees.specs.View.{IsClean}
+use Rattle.st_journal.proofs.Rising.{rises_after}
+use Rattle.st_journal_rows.proofs.Causes.{all_carried}
 use Rattle.st_journal_rows.proofs.CommitLemmas.{on_ok}
-use Rattle.st_journal_rows.proofs.ViewLemmas.{quiet_then, kept_then}
+use Rattle.st_journal_rows.proofs.ViewLemmas.{quiet_then, kept_then, still_sound}
 use Rattle.st_journal_rows.proofs.RewriteLemmas.{replaces}
 use Rattle.st_journal_rows.proofs.replace.replace_all.Goals as goal
 
@@ -23,3 +26,12 @@ returns-clause-kept g c clean =
 
 pub returns-clause-quiet : goal.returns-clause-quiet
 returns-clause-quiet g c = quiet_then c.trim.ensures.quiet c.put_all.ensures.quiet
+
+pub returns-clause-cause : goal.returns-clause-cause
+returns-clause-cause g c clean =
+    let s = g.S.Store in
+    let old = s.view c.args.store.now in
+    let mid = s.view c.trim.new.store in
+    let mid_clean : IsClean mid = omega (arith, clean, c.put_all.ensures.quiet.clean) in
+    let same = still_sound old mid (c.in_ok-trim.ensures.trimmed mid_clean).frame in
+    all_carried ⊤ c.put_all.result old mid same (rises_after _ _ _ c.trim.ensures.quiet.counts) (c.put_all.ensures.cause clean)

@@ -1,6 +1,9 @@
-use Rattle.std.proofs.Common.{◌-◌, rules, arith}
+use Rattle.std.proofs.Common.{◌≡◌, ◌-◌, Err, rules, arith}
+use Rattle.std.proofs.lemmas.Result.{err_from_is_err_and}
 use Rattle.sqlite_trees.specs.View.{IsClean}
-use Rattle.st_journal_rows.proofs.ViewLemmas.{quiet_same, quiet_then, kept_same, kept_then, kept_write}
+use Rattle.st_journal.proofs.Rising.{rises_after}
+use Rattle.st_journal_rows.proofs.Causes.{carried, known_of}
+use Rattle.st_journal_rows.proofs.ViewLemmas.{quiet_same, quiet_then, kept_same, kept_then, kept_write, still_sound}
 use Rattle.st_journal_rows.proofs.RewriteLemmas.{trims_none, trims_one}
 use Rattle.st_journal_rows.proofs.replace.trim.Goals as goal
 
@@ -20,3 +23,15 @@ loop-done-preserved g c =
       trimmed = λ clean. trims_one (s.view c.args.store.now) mid new c.args.count (c.args.count - c.loop-done.done) _ (omega arith) (search rules) (search rules)
           (inv.trimmed (was clean)) (c.in_ok-delete.ensures.frame clean) (search rules);
     }
+
+pub returns-in_err-delete-clause-cause : goal.returns-in_err-delete-clause-cause
+returns-in_err-delete-clause-cause g c clean =
+    let s = g.S.Store in
+    let inv = c.loop-done.invariant in
+    let old = s.view c.args.store.now in
+    let mid = s.view c.loop-done.store in
+    let was : IsClean mid = omega (arith, c.delete.ensures.quiet.clean, clean) in
+    let last = err_from_is_err_and c.from_residual.result c.from_residual.ensures.1 in
+    let is : c.delete.result ≡ Err last.0 = search (rules, last.2) in
+    let same = still_sound old mid (inv.trimmed was).frame in
+    rw last.1 (carried _ old mid last.0 same (rises_after _ _ _ inv.quiet.counts) (known_of _ c.delete.result last.0 is (c.delete.ensures.cause clean)))

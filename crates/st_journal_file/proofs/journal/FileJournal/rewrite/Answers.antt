@@ -13,14 +13,25 @@ returns-then-self-eq0-clause-crash g c clean left leaves =
     let ready = c.requires.ready clean in
     inl (leaves.2 ∙ ap changes_in (settled_at c.args.self.now.store g.met.D.Disk.seen_may_stay leaves.0 ready.is_open leaves.1))
 
+pub returns-then-self-eq0-clause-refused : goal.returns-then-self-eq0-clause-refused
+returns-then-self-eq0-clause-refused g c = search rules
+
 pub returns-in_err-put_behind-clause-ready : goal.returns-in_err-put_behind-clause-ready
 returns-in_err-put_behind-clause-ready g c kept clean =
     let last = err_from_is_err_and c.from_residual.result c.from_residual.ensures.1 in
     when_known last.0 c.put_behind.result c.from_residual.result (search (rules, last.2)) last.1 kept (c.put_behind.ensures.goes_on clean)
 
 pub returns-in_err-put_behind-clause-not_kept : goal.returns-in_err-put_behind-clause-not_kept
-returns-in_err-put_behind-clause-not_kept g c clean is =
-    ap (drop 1) (c.put_behind.ensures.not_kept clean (search (rules, is)))
+returns-in_err-put_behind-clause-not_kept g c clean known =
+    let last = err_from_is_err_and c.from_residual.result c.from_residual.ensures.1 in
+    let same = when_known last.0 c.put_behind.result c.from_residual.result (search (rules, last.2)) last.1 known (c.put_behind.ensures.not_kept clean) in
+    rw last.1 (ap (drop 1) same)
+
+pub returns-in_err-put_behind-clause-refused : goal.returns-in_err-put_behind-clause-refused
+returns-in_err-put_behind-clause-refused g c clean is = c.put_behind.ensures.refused clean (search (rules, is))
+
+pub returns-in_err-put_behind-clause-unknown : goal.returns-in_err-put_behind-clause-unknown
+returns-in_err-put_behind-clause-unknown g c clean is = c.put_behind.ensures.unknown clean (search (rules, is))
 
 pub returns-in_err-put_behind-clause-crash : goal.returns-in_err-put_behind-clause-crash
 returns-in_err-put_behind-clause-crash g c clean left leaves =

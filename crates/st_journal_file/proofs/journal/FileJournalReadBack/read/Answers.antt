@@ -35,6 +35,11 @@ returns-clause-read g c = if_one c.read_back.result (λ records found clean.
     ∙ of_changes c.args.from c.args.most (records_in old.trees)
     ∙ ap (λ (t : Trees). take c.args.most (drop c.args.from (changes_in t))) ready.settled) c.read_back.ensures.found
 
+pub returns-clause-lost : goal.returns-clause-lost
+returns-clause-lost g c clean is =
+    let was : IsClean (view c.args.self.now.store) = omega (arith, clean, c.read_back.ensures.quiet.clean) in
+    c.read_back.ensures.lost clean is (c.requires.ready was).is_open
+
 pub returns-clause-crash : goal.returns-clause-crash
 returns-clause-crash g c clean left leaves =
     let was : IsClean (view c.args.self.now.store) = omega (arith, clean, c.read_back.ensures.quiet.clean) in
