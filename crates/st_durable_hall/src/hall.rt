@@ -90,7 +90,7 @@ impl<B: Beginning, H: HallName, R: Wait + Clock + Drop, J: Journal + Drop> Durab
 impl<B: Beginning, H: HallName, R: Wait + Clock + Drop, J: Journal + Drop> Commits<H>
     for DurableHall<B, H, R, J> {
     ghost use Rattle.std.specs.Prelude.{⊤};
-    ghost use Rattle.st_publisher.specs.Rolls.{WasKept};
+    ghost use Rattle.st_publisher.specs.Rolls.{HasFailed, WasKept};
     ghost use Rattle.st_durable_hall.specs.inner.Boards.{kept_before};
 
     ghost HOLD = { 16384 };
@@ -99,8 +99,10 @@ impl<B: Beginning, H: HallName, R: Wait + Clock + Drop, J: Journal + Drop> Commi
 
     ghost keeps = { WasKept J.list J.misreads B.first H.start };
 
-    // An append may fail.
+    // An append may fail, or find no memory.
     ghost may_lose = { ⊤ };
+
+    ghost fails = { HasFailed J.misreads J.faults };
 
     ghost begins = { kept_before J.list J.misreads B.first H.start };
 
@@ -161,6 +163,14 @@ impl<B: Beginning, H: HallName, R: Wait + Clock + Drop, J: Journal + Drop> Commi
 
     fn is_lost(&self) -> bool {
         self.alarm.load(Ordering::SeqCst)
+    }
+
+    fn has_failed<W: Wait>(&self, rt: &W) -> bool {
+        self.publisher.lock(rt).has_failed()
+    }
+
+    fn whole<W: Wait>(&self, rt: &W, desks: &mut [Desk<H>]) -> Front<H> {
+        self.draft.lock(rt).whole(desks)
     }
 }
 

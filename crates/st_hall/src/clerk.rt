@@ -226,6 +226,17 @@ impl<H: HallName, R: Wait + Drop> Clerk<H, R> {
     {
         self.scribe.total(desks)
     }
+
+    /// The whole list, once all desks are back: it is as long as receipts were got with them.
+    pub fn whole(&mut self, desks: &mut [Desk<H>]) -> Front<H>
+        requires all { (length desks.old ≡ H.parts) × (0 < H.parts) }
+        ensures list { result ≡ self.new.list }
+        ensures counted { length result ≡ receipts desks.old }
+        ensures same { (self.new ≡ self.old) × (desks.new ≡ desks.old) }
+    {
+        let _total = self.total(desks);
+        self.front()
+    }
 }
 
 impl<H: HallName, R: Wait + Drop> Drop for Clerk<H, R> {

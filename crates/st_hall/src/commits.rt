@@ -2,9 +2,10 @@
 //!
 //! Nothing here says which thread decides a change, nor when: a hall may decide it under a lock, keep it in a journal, or read it
 //! back from a list of several machines.
-ghost use Rattle.std.specs.Prelude.{◌≡◌, ◌+◌, true, Err, IfOk, OnErr, OnOk, MatchResult};
+ghost use Rattle.std.specs.Prelude.{◌≡◌, ◌+◌, ◌<◌, length, true, Err, IfOk, OnErr, OnOk, MatchResult};
 ghost use Rattle.st_core.specs.Step.{asks_for_change};
 ghost use Rattle.st_service.specs.Answers.{AsksBy, IsFound};
+ghost use Rattle.st_press.specs.Views.{receipts};
 ghost use Rattle.st_hall.specs.Decisions.{Decides, counted};
 ghost use Rattle.st_hall.specs.declared.commits.Undecided.TheVariants.{Lost as WasLost, NoMemory};
 
@@ -66,6 +67,9 @@ pub trait Commits<H: HallName> {
     // It is one that may come to keep nothing more.
     ghost may_lose: { Type 0 };
 
+    // What keeps its changes failed.
+    ghost fails: { Type 0 };
+
     /// Makes a change at a desk. Its reply must not go out before the list of its outcome is settled, nor may that of a change whose
     /// token does not hold. When out of memory the change is not made.
     fn change<W: Wait>(
@@ -97,6 +101,17 @@ pub trait Commits<H: HallName> {
     fn is_lost(&self) -> bool
         ensures { result ≡ true → may_lose };
 
+    /// Whether nothing more is kept since what keeps the changes failed, and not since memory ran out.
+    fn has_failed<W: Wait>(&self, rt: &W) -> bool
+        ensures { result ≡ true → fails };
+
+    /// The whole list, once all desks of the hall are back: it is as long as receipts were got with them, so each of its changes was
+    /// counted at one of them.
+    fn whole<W: Wait>(&self, rt: &W, desks: &mut [Desk<H>]) -> Front<H>
+        requires all { (length desks.old ≡ H.parts) × (0 < H.parts) }
+        ensures counted { length result ≡ receipts desks.old }
+        ensures same { desks.new ≡ desks.old };
+
     // With a list all that begins it was kept.
     ghost begins: { (front list : List Ask) → IsPrefix front list → keeps list → keeps front };
 }
@@ -112,6 +127,8 @@ impl<H: HallName, R: Wait + Drop> Commits<H> for Mutex<Clerk<H, R>> {
     ghost keeps = { λ list. ⊤ };
 
     ghost may_lose = { ⊥ };
+
+    ghost fails = { ⊥ };
 
     ghost begins = { λ front list begins kept. tt };
 
@@ -135,5 +152,13 @@ impl<H: HallName, R: Wait + Drop> Commits<H> for Mutex<Clerk<H, R>> {
 
     fn is_lost(&self) -> bool {
         false
+    }
+
+    fn has_failed<W: Wait>(&self, _rt: &W) -> bool {
+        false
+    }
+
+    fn whole<W: Wait>(&self, rt: &W, desks: &mut [Desk<H>]) -> Front<H> {
+        self.lock(rt).whole(desks)
     }
 }

@@ -342,6 +342,25 @@ impl<'a, H: HallName, M: Commits<H>, G: Gate> Worker<'a, H, M, G> {
         Ok(())
     }
 
+    /// Its desk, once it works no more.
+    pub fn into_desk(self) -> Desk<H>
+        ensures { result ≡ self.entry.post.seat }
+    {
+        let Self {
+            number: _number,
+            calls: _calls,
+            learnt: _learnt,
+            desk,
+            settled: _settled,
+            is_shown: _is_shown,
+            is_lost: _is_lost,
+            has_failed: _has_failed,
+            hall: _hall,
+            gate: _gate,
+        } = self;
+        desk
+    }
+
     /// Sees that all that was seen so far is kept. Once nothing more is kept, or where it fails, it has failed for good.
     pub fn settle<W: Wait>(&mut self, rt: &W) -> Result<(), Lost>
         ensures post { self.new.post ≡ self.old.post }

@@ -3,6 +3,7 @@ use Rattle.std.specs.Prelude.{◌≡◌, ◌⊎◌, ℕ, Bool, List, drop, take}
 use mathlib.Core.List.{IsPrefix}
 use Rattle.st_journal.specs.declared.record.Record.{Record}
 use Rattle.st_journal.specs.Replays.{Replays}
+use Rattle.st_journal.specs.Faults.{Rises}
 use Rattle.st_durable.specs.Applying.{Applies}
 use Rattle.st_press.specs.Steps.{Ask, State, state_after}
 
@@ -33,6 +34,15 @@ pub record WasKept {J : Type 0} (list_of : J → List Record) (misreads : J → 
   pub front : List Ask
   pub has : IsPrefix changes front
   pub stands : misreads journal ≡ 0 → Replays Applies first (list_of journal) (state_after start front)
+
+-- During some call the disk of a journal failed or refused.
+pub record Failing {J : Type 0} (misreads faults : J → ℕ) : Type 0 where
+  pub old : J
+  pub new : J
+  pub rose : misreads new ≡ 0 → Rises (faults old) (faults new)
+
+abbrev pub HasFailed : {J : Type 0} → (misreads faults : J → ℕ) → Type 0
+HasFailed misreads faults = ∥ Failing misreads faults ∥₁
 
 -- These records were read: at some moment they were what the journal's list had behind the first so many, at most so many, and that list
 -- led from the first state to the state after the changes that were kept.

@@ -2,7 +2,7 @@
 //!
 //! Changes wait here for the press beside their records; the draft reserves both before the change is added, so keeping takes no
 //! memory.
-ghost use Rattle.std.specs.Prelude.{◌≡◌, ◌++◌, ◌∷◌, ◌+◌, ◌<◌, [], true, false, is_some, Err, None, IfOk, OnOk, MatchResult};
+ghost use Rattle.std.specs.Prelude.{◌≡◌, ◌++◌, ◌∷◌, ◌+◌, ◌<◌, [], length, true, false, is_some, Err, None, IfOk, OnOk, MatchResult};
 ghost use Rattle.std.specs.VecDeque.{deque_len, deque_capacity};
 ghost use mathlib.Core.List.{IsPrefix};
 ghost use Rattle.st_core.specs.Step.{asker_of, asks_for_change};
@@ -10,7 +10,7 @@ ghost use Rattle.st_journal.specs.Replays.{Replays};
 ghost use Rattle.st_service.specs.Answers.{AsksBy, IsFound};
 ghost use Rattle.st_durable.specs.Applying.{Applies};
 ghost use Rattle.st_press.specs.Steps.{state_after};
-ghost use Rattle.st_press.specs.Views.{EndsAfter, IsStranger};
+ghost use Rattle.st_press.specs.Views.{EndsAfter, IsStranger, receipts};
 ghost use Rattle.st_publisher.specs.declared.fault.ChangeError.{ChangeError};
 
 use crate::fault::ChangeError;
@@ -187,6 +187,17 @@ impl<H: HallName> Draft<H> {
         ensures { result ≡ self.now.list }
     {
         self.scribe.front()
+    }
+
+    /// The whole list, once all desks are back: it is as long as receipts were got with them.
+    pub fn whole(&mut self, desks: &mut [Desk<H>]) -> Front<H>
+        requires all { (length desks.old ≡ H.parts) × (0 < H.parts) }
+        ensures list { result ≡ self.new.list }
+        ensures counted { length result ≡ receipts desks.old }
+        ensures same { (self.new ≡ self.old) × (desks.new ≡ desks.old) }
+    {
+        let _total = self.scribe.total(desks);
+        self.front()
     }
 
     /// Takes the records that were not taken yet.

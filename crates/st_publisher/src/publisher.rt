@@ -6,11 +6,11 @@ ghost use Rattle.st_journal.specs.declared.read_back.ReadError.TheVariants as en
 ghost use Rattle.st_journal.specs.Replays.{Replays};
 ghost use Rattle.st_durable.specs.Applying.{Applies};
 ghost use Rattle.st_press.specs.Steps.{state_after};
-ghost use Rattle.st_publisher.specs.Rolls.{LeadPast, LeadToOne, WasKept, WasRead};
+ghost use Rattle.st_publisher.specs.Rolls.{HasFailed, LeadPast, LeadToOne, WasKept, WasRead};
 
 use crate::draft::{Batch, Draft};
 use crate::fault::Lost;
-use crate::keeping::append_all;
+use crate::keeping::{Failure, append_all, read_from};
 use st_durable::Beginning;
 use st_journal::{Journal, ReadBack, ReadError, Record};
 use st_press::{Front, HallName, Press};
@@ -27,6 +27,7 @@ pub struct Publisher<B: Beginning, H: HallName, R: Wait + Drop, J: Journal + Dro
     tried: Front<H>,
     kept: Front<H>,
     is_lost: bool,
+    failure: Option<Failure<J>>,
     beginning: PhantomData<B>,
 }
 
@@ -39,6 +40,7 @@ impl<B: Beginning, H: HallName, R: Wait + Drop, J: Journal + Drop> Drop for Publ
             tried: _tried,
             kept: _kept,
             is_lost: _is_lost,
+            failure: _failure,
             beginning: _beginning,
         } = self;
     }
@@ -94,6 +96,7 @@ impl<B: Beginning, H: HallName, R: Wait + Drop, J: Journal + Drop> Publisher<B, 
             tried,
             kept,
             is_lost: false,
+            failure: None,
             beginning: PhantomData,
         }
     }
@@ -144,6 +147,16 @@ impl<B: Beginning, H: HallName, R: Wait + Drop, J: Journal + Drop> Publisher<B, 
         &self.journal
     }
 
+    /// Whether an append or a reading was lost since the journal failed.
+    pub fn has_failed(&self) -> bool
+        ensures { result ≡ true → HasFailed J.misreads J.faults }
+    {
+        match &self.failure {
+            Some(failure) => failure.is_shown(),
+            None => false,
+        }
+    }
+
     // Whether a front is published.
     fn shows(&self, front: &Front<H>) -> bool
         ensures { result ≡ true → IsPrefix front.now self.now.published }
@@ -178,9 +191,10 @@ impl<B: Beginning, H: HallName, R: Wait + Drop, J: Journal + Drop> Publisher<B, 
                 self.kept = to;
                 Ok(())
             }
-            Err(Lost) => {
+            Err(failure) => {
                 self.tried = to;
                 self.is_lost = true;
+                self.failure = failure;
                 Err(Lost)
             }
         }
@@ -254,8 +268,9 @@ impl<B: Beginning, H: HallName, R: Wait + Drop, J: ReadBack + Drop> Publisher<B,
         if self.is_lost {
             return Err(ReadError::Lost);
         }
-        let read = self.journal.read(from, most);
+        let (read, failure) = read_from(&mut self.journal, from, most);
         self.is_lost = says_lost(&read);
+        self.failure = failure;
         read
     }
 }

@@ -1,11 +1,13 @@
 -- What the workers of a server did.
-use Rattle.std.specs.Prelude.{◌≡◌, ◌<◌, ◌+◌, ℕ, false, Option, Some, Result, List, [], OnOk, length, slice_index_or, sum_by}
+use Rattle.std.specs.Prelude.{◌≡◌, ◌⊎◌, ◌<◌, ◌+◌, ℕ, false, Option, Some, Result, Err, List, [], All, OnOk, length, slice_index_or, sum_by}
+use mathlib.Core.List.{IsPrefix}
 use Rattle.st_peer.specs.Meeting.{Call, Serving}
 use Rattle.st_workers.specs.Working.{WorkedEach}
 use Rattle.st_workers.specs.declared.working.Worked.{Worked}
 use Rattle.st_command_line.specs.declared.fault.Fault.{Fault}
+use Rattle.st_command_line.specs.declared.fault.Fault.TheVariants.{StoreLost}
 use Rattle.st_hall.specs.Steps.{Ask, State}
-use Rattle.st_hall.specs.Views.{Post, opening_seat}
+use Rattle.st_hall.specs.Views.{Post, Seat, opening_seat}
 use Rattle.st_hall.specs.Decisions.{Standing}
 use Rattle.st_station.specs.Standing.{ServesKept}
 
@@ -24,11 +26,30 @@ AreNew stations = (k : ℕ) (d : Standing) → k < length stations → slice_ind
 abbrev pub held_back : ℕ
 held_back = 16384
 
--- What the workers of these attendants did in a run that ended so. A run that ends well met as many clients as it was to meet.
-pub record AttendsFrom {T P : Type 0} (serves : Serving T) (call : P → Call) (attendants : List T) (connections : Option ℕ)
-    (ended : Result Unit Fault) : Type 0 where
-  pub workers : List (Worked T)
+-- the desk of a worker, in the end
+abbrev pub desk_of : {T : Type 0} → (T → Standing) → Worked T → Seat
+desk_of standing worker = (standing worker.attendant).post.seat
+
+-- All that was seen at the desks of these workers is of one list of changes, and each of its changes was counted at one of the desks.
+pub record HaveOneList {T : Type 0} (standing : T → Standing) (workers : List (Worked T)) (list : List Ask) : Type 0 where
+  pub seen : All (λ worker. IsPrefix (desk_of standing worker).seen list) workers
+  pub counted : length list ≡ sum_by (λ worker. (desk_of standing worker).made) workers
+
+-- Each of these attendants met its clients, by one list of changes.
+pub record WorkedAsOne {T P : Type 0} (serves : Serving T) (call : P → Call) (standing : T → Standing) (attendants : List T)
+    (workers : List (Worked T)) : Type 0 where
   pub each : WorkedEach serves call attendants workers
+  pub list : List Ask
+  pub one : HaveOneList standing workers list
+
+-- What the workers of these attendants did in a run that ended so. A run that ends well met as many clients as it was to meet. At another
+-- end than that, or a lost store, it may not be known what they did.
+pub record AttendsFrom {T P : Type 0} (serves : Serving T) (call : P → Call) (standing : T → Standing) (attendants : List T)
+    (connections : Option ℕ) (ended : Result Unit Fault) : Type 0 where
+  pub workers : List (Worked T)
+  pub each : (workers ≡ []) ⊎ WorkedEach serves call attendants workers
+  pub ok : OnOk ended (WorkedAsOne serves call standing attendants workers)
+  pub lost : ended ≡ Err StoreLost → WorkedAsOne serves call standing attendants workers
   pub number : OnOk ended (connections ≡ Some (sum_by (λ w. w.count) workers))
 
 -- The same of a hall: each worker is a station of it.
@@ -36,4 +57,4 @@ pub record Attends {P : Type 0} (call : P → Call) (start : State) (keeps : Lis
     (ended : Result Unit Fault) : Type 0 where
   pub stations : List Standing
   pub new : AreNew stations
-  pub attends : AttendsFrom (ServesKept start keeps hold) call stations connections ended
+  pub attends : AttendsFrom (ServesKept start keeps hold) call (λ station. station) stations connections ended

@@ -1,14 +1,15 @@
 //! A server whose store a journal keeps.
-ghost use Rattle.std.specs.Prelude.{◌≡◌, ◌<◌, ◌⊎◌, Some, List, string_bytes};
+ghost use Rattle.std.specs.Prelude.{◌≡◌, ◌<◌, ◌⊎◌, Err, Some, List, string_bytes};
 ghost use Rattle.st_text.specs.Texts.{Text};
 ghost use Rattle.st_journal.specs.Replays.{Replays};
 ghost use Rattle.st_durable.specs.Applying.{Applies};
-ghost use Rattle.st_publisher.specs.Rolls.{WasKept};
+ghost use Rattle.st_publisher.specs.Rolls.{HasFailed, WasKept};
 ghost use Rattle.st_server.specs.Attending.{Attends, held_back};
 ghost use Rattle.st_server.specs.Keeping.{EndsKept, IsKept, TellsKept};
 ghost use Rattle.st_server.specs.Serving.{IsRefused};
 ghost use Rattle.st_command_line.specs.ServedArguments.{SaysServed, place_text, store_of};
 ghost use Rattle.st_command_line.specs.Status.{exit_status_after};
+ghost use Rattle.st_command_line.specs.declared.fault.Fault.TheVariants.{StoreLost};
 
 use crate::copying::{Copying, KeptList};
 use crate::serving::serve_at;
@@ -71,6 +72,7 @@ fn open_hall<
     requires ready { J.Journal.is_ready journal }
     requires stands { J.Journal.misreads journal ≡ 0 → Replays Applies B.first (J.Journal.list journal) H.start }
     ensures told { TellsKept (place_text said.now.place) said.now.connections (O.contents output.old) (O.contents output.new) result }
+    ensures failed { result ≡ Err StoreLost → HasFailed J.Journal.misreads J.Journal.faults }
     ensures attended { Attends C.call H.start (WasKept J.Journal.list J.Journal.misreads B.first H.start) held_back said.now.connections result }
 {
     match Hall::<H>::open_for(rt, alloc, name, both.0, both.1, workers) {
@@ -130,7 +132,8 @@ fn serve_kept<
     output: &mut O,
 ) -> Result<(), Fault>
     requires first { copies ≡ B.first }
-    ensures { EndsKept C.call (K.holds keeper place.now.path.now) J.Journal.list J.Journal.misreads (string_bytes place.now.opening) B.first said.now
+    ensures { EndsKept C.call (K.holds keeper place.now.path.now) J.Journal.list J.Journal.misreads J.Journal.faults
+        (string_bytes place.now.opening) B.first said.now
         (O.contents output.old) (O.contents output.new) (exit_status_after result) }
 {
     let journal = keeper.open(place.path, place.opening.as_str(), &mut copies)?;
@@ -171,7 +174,8 @@ pub(crate) fn run_kept<
     requires named { store_of said.now ≡ Some path.now }
     ensures { (words : List Text) → SaysServed words said.now
         → IsRefused words (O.contents output.old) (O.contents output.new) (exit_status_after result)
-        ⊎ IsKept C.call (K.holds keeper) J.Journal.list J.Journal.misreads words (O.contents output.old) (O.contents output.new) (exit_status_after result) }
+        ⊎ IsKept C.call (K.holds keeper) J.Journal.list J.Journal.misreads J.Journal.faults words
+        (O.contents output.old) (O.contents output.new) (exit_status_after result) }
 {
     let (first, second, opening) = stores_and_opening_for(alloc, seed, said.digest, &said.names)?;
     let place = Place { path, opening };

@@ -4,6 +4,7 @@
 
 mod copying;
 mod kept;
+mod leaving;
 mod memory;
 mod served;
 mod serving;

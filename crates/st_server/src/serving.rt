@@ -1,12 +1,13 @@
 //! Serving at the desks of a hall, whatever makes its changes.
-ghost use Rattle.std.specs.Prelude.{◌≡◌, [], All, Err};
+ghost use Rattle.std.specs.Prelude.{◌≡◌, ◌<◌, ◌⊎◌, [], All, Err, length};
 ghost use Rattle.st_command_line.specs.ServedArguments.{place_text};
-ghost use Rattle.st_command_line.specs.declared.fault.Fault.TheVariants.{StoreLost};
+ghost use Rattle.st_command_line.specs.declared.fault.Fault.TheVariants.{NoMemory, StoreLost};
 ghost use Rattle.st_hall.specs.Views.{opening_seat};
 ghost use Rattle.st_server.specs.Attending.{Attends, AttendsFrom};
 ghost use Rattle.st_server.specs.Keeping.{TellsKept};
 
 use crate::copying::{Copying, attend_and_copy};
+use crate::leaving::{AtDesk, join_lists};
 use crate::stations::{Open, stations_at};
 use st_command_line::{Fault, ServedArguments};
 use st_connection::Attend;
@@ -23,11 +24,24 @@ use std::sync::Wait;
 use std::thread::Threads;
 use std::time::Clock;
 
+// Why nothing more is kept.
+fn why_lost<H: HallName, M: Commits<H>, R: Wait>(rt: &R, hall: &M) -> Fault
+    ensures one { (result ≡ StoreLost) ⊎ (result ≡ NoMemory) }
+    ensures failed { result ≡ StoreLost → M.fails }
+{
+    let has_failed = hall.has_failed(rt);
+    if has_failed {
+        Fault::StoreLost
+    } else {
+        Fault::NoMemory
+    }
+}
+
 // Tells that the server listens, serves connections, and tells how many were served, or that the store is lost.
 fn announce<
     H: HallName,
     M: Commits<H>,
-    T: Attend + Send + Drop,
+    T: Attend + AtDesk<H> + Send + Drop,
     C: Client + Send + Drop,
     N: Binds + Listens<Accepted = C> + Sync + Drop,
     L: Source + Drop + Send,
@@ -50,9 +64,10 @@ fn announce<
     attendants: Vec<T>,
     output: &mut O,
 ) -> Result<(), Fault>
+    requires { (length attendants.items ≡ H.parts) × (0 < H.parts) }
     ensures told { TellsKept (place_text said.now.place) said.now.connections (O.contents output.old) (O.contents output.new) result }
-    ensures lost { result ≡ Err StoreLost → M.may_lose }
-    ensures attended { AttendsFrom T.serves C.call attendants.items said.now.connections result }
+    ensures failed { result ≡ Err StoreLost → M.fails }
+    ensures attended { AttendsFrom T.Attend.serves C.call T.AtDesk.standing attendants.items said.now.connections result }
 {
     let listener: N = match begin(rt, alloc, said, output) {
         Ok(listener) => listener,
@@ -64,9 +79,14 @@ fn announce<
     };
     let attended = attend_and_copy(rt, alloc, &listener, said, list, copying, attendants);
     let Attended { workers, ended } = attended;
-    drop(workers);
+    if workers.is_empty() {
+        drop(workers);
+        let Err(fault) = ended else { unreachable!() };
+        return Err(fault);
+    }
+    join_lists::<H, M, T, R>(rt, alloc, hall, workers)?;
     if hall.is_lost() {
-        return Err(Fault::StoreLost);
+        return Err(why_lost(rt, hall));
     }
     tell(alloc, output, "served", ended?)
 }
@@ -97,9 +117,10 @@ pub(crate) fn serve_at<
     desks: Vec<Desk<H>>,
     output: &mut O,
 ) -> Result<(), Fault>
-    requires { All (λ desk. desk ≡ opening_seat []) desks.items }
+    requires new { All (λ desk. desk ≡ opening_seat []) desks.items }
+    requires all { (length desks.items ≡ H.parts) × (0 < H.parts) }
     ensures told { TellsKept (place_text said.now.place) said.now.connections (O.contents output.old) (O.contents output.new) result }
-    ensures lost { result ≡ Err StoreLost → M.may_lose }
+    ensures failed { result ≡ Err StoreLost → M.fails }
     ensures attended { Attends C.call H.start M.keeps M.HOLD said.now.connections result }
 {
     match stations_at(rt, alloc, hall, desks) {

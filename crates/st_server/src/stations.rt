@@ -1,8 +1,9 @@
 //! Stations at the desks of a hall.
-ghost use Rattle.std.specs.Prelude.{◌≡◌, [], All, IfOk};
+ghost use Rattle.std.specs.Prelude.{◌≡◌, [], All, IfOk, length};
 ghost use Rattle.st_hall.specs.Views.{opening_seat};
 ghost use Rattle.st_server.specs.Attending.{AreNew, new_station};
 
+use crate::leaving::AtDesk;
 use st_hall::{Commits, Desk, Gate, HallName};
 use st_station::Station;
 use std::alloc::{AllocError, Global};
@@ -20,6 +21,14 @@ impl Gate for Open {
     fn answered(&self, _worker: u64, _call: u64) {}
 
     fn gave_up(&self, _worker: u64, _call: u64) {}
+}
+
+impl<'a, H: HallName, M: Commits<H>, R: Wait> AtDesk<H> for Station<'a, H, M, Open, R> {
+    ghost standing = { λ station. station };
+
+    fn into_desk(self) -> Desk<H> {
+        Station::into_desk(self)
+    }
 }
 
 // A station of this number at a desk of a hall that was just opened. That what the desk has seen is not kept never comes.
@@ -48,7 +57,8 @@ pub(crate) fn stations_at<'a, H: HallName, M: Commits<H>, R: Wait>(
     desks: Vec<Desk<H>>,
 ) -> Result<Vec<Station<'a, H, M, Open, R>>, AllocError>
     requires { All (λ desk. desk ≡ opening_seat []) desks.items }
-    ensures { IfOk result (λ stations. AreNew stations.items) }
+    ensures new { IfOk result (λ stations. AreNew stations.items) }
+    ensures all { IfOk result (λ stations. length stations.items ≡ length desks.items) }
 {
     let mut stations: Vec<Station<'a, H, M, Open, R>> = Vec::with_capacity(alloc, desks.len())?;
     for desk in desks {

@@ -95,6 +95,18 @@ impl<'a, H: HallName, M: Commits<H>, G: Gate, W: Wait> Answerer<'a, H, M, G, W> 
         self.worker.made()
     }
 
+    // The desk, once the worker works no more.
+    fn into_desk(self) -> Desk<H>
+        ensures { result ≡ self.entry.post.seat }
+    {
+        let Self {
+            alloc: _alloc,
+            worker,
+            rt: _rt,
+        } = self;
+        worker.into_desk()
+    }
+
     // Whether a settling failed. What had been seen when it was last settled was kept.
     fn has_failed(&self) -> bool
         ensures is { result ≡ self.now.has_failed }
@@ -308,6 +320,19 @@ impl<'a, H: HallName, M: Commits<H>, G: Gate, W: Wait> Station<'a, H, M, G, W> {
         ensures { result ≡ self.now.post.seat.made }
     {
         self.answerer.made()
+    }
+
+    /// Its desk, once it serves no more.
+    pub fn into_desk(self) -> Desk<H>
+        ensures { result ≡ self.entry.post.seat }
+    {
+        let Self {
+            answerer,
+            routes: _routes,
+            buffer: _buffer,
+            block: _block,
+        } = self;
+        answerer.into_desk()
     }
 
     /// Serves a connection, as `Service::serve` does by a service. All that was seen for an answer is kept before a byte of it is

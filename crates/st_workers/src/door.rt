@@ -94,7 +94,8 @@ impl<'a, L: Listens> Door<'a, L> {
         Some(client)
     }
 
-    // Closes it, and lets who waits for a connection see so.
+    // Closes it, and lets who waits for a connection see so: the listener connects to itself, since a thread in `accept` hears of it by
+    // nothing else.
     pub(crate) fn shut<R: Net<Listener = TcpListener, Stream = TcpStream> + Wait + Clock>(
         &self,
         rt: &R,

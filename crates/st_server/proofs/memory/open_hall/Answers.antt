@@ -12,4 +12,4 @@ pub returns-in-Ok-clause-told : goal.returns-in-Ok-clause-told
 returns-in-Ok-clause-told g c =
     let said = c.args.said.now in
     narrowed (place_text said.place) said.connections (g.O.Write.contents c.args.output.now) (g.O.Write.contents c.serve_at.new.output) c.serve_at.result
-    c.serve_at.ensures.lost c.serve_at.ensures.told
+    c.serve_at.ensures.failed c.serve_at.ensures.told

@@ -9,8 +9,8 @@ returns-in-Err-clause-told g c =
     let said = c.args.said.now in
     widened (place_text said.place) said.connections (g.O.Write.contents c.args.output.now) (g.O.Write.contents c.begin.new.output) (Err c.in-Err.fault) c.in-Err.ensures.err
 
-pub returns-in-Err-clause-lost : goal.returns-in-Err-clause-lost
-returns-in-Err-clause-lost g c = λ lost.
+pub returns-in-Err-clause-failed : goal.returns-in-Err-clause-failed
+returns-in-Err-clause-failed g c = λ lost.
     let said = c.args.said.now in
     absurd (not_lost (place_text said.place) said.connections (g.O.Write.contents c.args.output.now) (g.O.Write.contents c.begin.new.output) (Err c.in-Err.fault) c.in-Err.ensures.err lost)
 

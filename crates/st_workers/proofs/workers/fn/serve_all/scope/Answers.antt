@@ -40,7 +40,7 @@ returns-in-Ok-join_promised g c =
     let len = c.in-Ok-join_promised.ensures.len in let each = c.in-Ok-join_promised.ensures.each in
     let held : length workers.items ≡ vec_len workers = search rules in
     let given : length attendants.items ≡ vec_len attendants = search rules in
-    let whole : length workers.items ≤ length attendants.items = omega (arith, held, given, was.0, c.in-None.ensures.steps.0, began.1, len) in (
+    let whole : length workers.items ≡ length attendants.items = omega (arith, held, given, was.0, c.in-None.ensures.steps.0, began.1, len) in (
       (
         whole,
         λ i d e below.
