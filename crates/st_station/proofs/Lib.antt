@@ -1,3 +1,5 @@
 pub mod Seated
 pub mod Growing
 pub mod Crossing
+pub mod Agreeing
+pub mod EqualBytes

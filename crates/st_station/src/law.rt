@@ -1,13 +1,19 @@
 //! What the definitions say of each station, whatever the program does.
-ghost use Rattle.std.specs.Prelude.{◌≤◌, List, ℕ, Bool, Option, Result};
+ghost use Rattle.std.specs.Prelude.{◌≡◌, ◌≤◌, List, ℕ, Bool, true, Option, None, Result};
+ghost use Rattle.std.specs.declared.alloc.Global.{Global};
 ghost use mathlib.Core.List.{IsPrefix};
+ghost use Rattle.st_text.specs.Texts.{Text};
 ghost use Rattle.st_http.specs.First.{First};
+ghost use Rattle.st_core.specs.Worlds.{NeverSystem, keep};
 ghost use Rattle.st_connection.specs.Connection.{KeptPast, Run, Served, Told};
 ghost use Rattle.st_connection.specs.declared.connection.Ended.{Ended};
 ghost use Rattle.st_connection.specs.declared.connection.IoFault.{IoFault};
+ghost use Rattle.st_service.specs.Runs.{IsBusy};
+ghost use Rattle.st_service.specs.Worlds.{ItemAsks, is_of};
 ghost use Rattle.st_hall.specs.Steps.{State};
-ghost use Rattle.st_hall.specs.Views.{Post};
+ghost use Rattle.st_hall.specs.Views.{Post, Seat};
 ghost use Rattle.st_station.specs.Posts.{Answers};
+ghost use Rattle.st_station.specs.Seats.{Moves, SeatAnswers};
 ghost use Rattle.st_station.specs.Standing.{KeptAnswers, OutKept};
 
 use st_hall::{Commits, HallName};
@@ -31,4 +37,19 @@ pub fn all_were_kept<H: HallName, M: Commits<H>>()
 pub fn what_is_out_was_kept<H: HallName, M: Commits<H>>()
     ensures { (s kept t : Post) (items : List First) (answers : List (List ℕ)) (sent : List ℕ) → M.keeps kept.seat.seen
         → KeptPast (Told (Answers H.start)) s kept t items answers sent → OutKept H.start M.keeps s items answers sent }
+{}
+
+/// What a user may ever see decides, byte for byte, what stations tell that user. Two seats answer an item of the user by equal bytes
+/// where the user holds SYSTEM at no moment of what they see in the end, the same is kept of both, and neither answer is a 503. Both
+/// count a receipt for it or neither does: else a change of the token that it is asked with may be accepted at one seat, and be a
+/// stranger's at the other, which has seen it. An item that asks nothing is answered alike at any two seats.
+pub fn equal_stations()
+    ensures own { (start : State) (user : Text) (item : First) (more : ℕ) (s t u v : Seat) (answer other : List ℕ)
+        → is_of user item ≡ true → SeatAnswers start s item answer t → SeatAnswers start u item other v
+        → (IsBusy answer → ⊥) → (IsBusy other → ⊥) → Moves more s t → Moves more u v
+        → NeverSystem user start t.seen → NeverSystem user start v.seen → keep user start t.seen ≡ keep user start v.seen
+        → answer ≡ other }
+    ensures asks_nothing { (start begun : State) (item : First) (s t u v : Seat) (answer other : List ℕ) → ItemAsks {A = Global} item None
+        → SeatAnswers start s item answer t → SeatAnswers begun u item other v → (IsBusy answer → ⊥) → (IsBusy other → ⊥)
+        → answer ≡ other }
 {}
