@@ -3,3 +3,4 @@ pub mod Growing
 pub mod Crossing
 pub mod Agreeing
 pub mod EqualBytes
+pub mod EqualRuns

@@ -1,5 +1,5 @@
 //! What the definitions say of each station, whatever the program does.
-ghost use Rattle.std.specs.Prelude.{◌≡◌, ◌≤◌, List, ℕ, Bool, true, Option, None, Result};
+ghost use Rattle.std.specs.Prelude.{◌≡◌, ◌≤◌, List, ℕ, Bool, true, Option, None, Result, All};
 ghost use Rattle.std.specs.declared.alloc.Global.{Global};
 ghost use mathlib.Core.List.{IsPrefix};
 ghost use Rattle.st_text.specs.Texts.{Text};
@@ -9,11 +9,12 @@ ghost use Rattle.st_connection.specs.Connection.{KeptPast, Run, Served, Told};
 ghost use Rattle.st_connection.specs.declared.connection.Ended.{Ended};
 ghost use Rattle.st_connection.specs.declared.connection.IoFault.{IoFault};
 ghost use Rattle.st_service.specs.Runs.{IsBusy};
-ghost use Rattle.st_service.specs.Worlds.{ItemAsks, is_of};
+ghost use Rattle.st_service.specs.Worlds.{ItemAsks, answers_to, is_of};
 ghost use Rattle.st_hall.specs.Steps.{State};
 ghost use Rattle.st_hall.specs.Views.{Post, Seat};
 ghost use Rattle.st_station.specs.Posts.{Answers};
 ghost use Rattle.st_station.specs.Seats.{Moves, SeatAnswers};
+ghost use Rattle.st_station.specs.Sights.{sights};
 ghost use Rattle.st_station.specs.Standing.{KeptAnswers, OutKept};
 
 use st_hall::{Commits, HallName};
@@ -52,4 +53,15 @@ pub fn equal_stations()
     ensures asks_nothing { (start begun : State) (item : First) (s t u v : Seat) (answer other : List ℕ) → ItemAsks {A = Global} item None
         → SeatAnswers start s item answer t → SeatAnswers begun u item other v → (IsBusy answer → ⊥) → (IsBusy other → ⊥)
         → answer ≡ other }
+{}
+
+/// So it is of connections. Two runs of the same items, none of them told a 503, answer the user's items by equal bytes where after
+/// each item the same is kept of what both see then, and both have counted as many receipts for it.
+pub fn equal_runs()
+    ensures { (start : State) (user : Text) (s t u v : Post) (items : List First) (texts others : List (List ℕ))
+        (run : Run (Told (Answers start)) s items texts t) (other : Run (Told (Answers start)) u items others v)
+        → All (λ text. IsBusy text → ⊥) texts → All (λ text. IsBusy text → ⊥) others
+        → NeverSystem user start t.seat.seen → NeverSystem user start v.seat.seen
+        → sights user start s t items texts run ≡ sights user start u v items others other
+        → answers_to user items texts ≡ answers_to user items others }
 {}
