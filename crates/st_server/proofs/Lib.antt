@@ -1,2 +1,3 @@
 pub mod Widening
 pub mod Joining
+pub mod Idle

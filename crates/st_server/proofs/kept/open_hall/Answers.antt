@@ -4,6 +4,8 @@ use Rattle.std.proofs.Crossing.{crosses}
 use Rattle.st_publisher.proofs.Crossing.{held_draft, held_publisher}
 use Rattle.st_durable_hall.proofs.Crossing.{durable_hall, held_board}
 use Rattle.st_durable_hall.specs.contracts.hall.DurableHall as DurableHall
+use Rattle.st_command_line.specs.declared.fault.Fault.TheVariants.{NoMemory, NoPlace}
+use Rattle.st_server.proofs.Idle.{nobody}
 use Rattle.st_server.proofs.kept.open_hall.Goals as goal
 
 -- as a struct's field has it, which is how `search` meets it
@@ -17,3 +19,9 @@ serve_at-requires-sync-M g c κs within = let r = given_sync 6 g.row.R c.type_bo
 pub serve_at-requires-send-L : goal.serve_at-requires-send-L
 serve_at-requires-send-L g c κs within = let r = given_sync 6 g.row.R c.type_bounds.sync-R in let j = c.type_bounds.send-J in
     search (sendable, crosses, held_hall) depth 60 fits 100000
+
+pub returns-in-Err-NoPlace-clause-attended : goal.returns-in-Err-NoPlace-clause-attended
+returns-in-Err-NoPlace-clause-attended g c = nobody _ _ _ _ _ NoPlace (λ is. absurd (cc is))
+
+pub returns-clause-attended : goal.returns-clause-attended
+returns-clause-attended g c = nobody _ _ _ _ _ NoMemory (λ is. absurd (cc is))

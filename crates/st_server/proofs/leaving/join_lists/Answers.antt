@@ -1,3 +1,4 @@
+use Rattle.std.proofs.Common.{rules}
 use Rattle.st_server.proofs.Joining.{joined}
 use Rattle.st_server.proofs.leaving.join_lists.Goals as goal
 

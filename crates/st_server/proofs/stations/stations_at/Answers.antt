@@ -14,4 +14,12 @@ loop-desk-preserved g c =
       (λ k d below. below_more (λ i. get_or (vec_items c.push.new.self) i d ≡ new_station (i + 1)) done
           (λ i low. subst (λ s. s ≡ new_station (i + 1)) (sym (places.0 i d low)) (was.1 i d (omega (arith, held, low))))
           (subst (λ s. s ≡ new_station (done + 1)) (sym (places.1 d (search rules))) (search rules)) k (omega (arith, below, more, grown))),
+      search rules,
     )
+
+pub returns-clause-all : goal.returns-clause-all
+returns-clause-all g c =
+    let was = c.loop-desk.invariant in let began = c.into_iter-desk-iterator.ensures.into_iter_gives in
+    let held : length c.loop-desk.stations.items ≡ vec_len c.loop-desk.stations = search rules in
+    let given : length c.args.desks.items ≡ vec_len c.args.desks = search rules in
+    omega (arith, held, given, was.2, c.in-None.ensures.steps.0, began.1)
