@@ -9,6 +9,7 @@ import random
 import time
 from collections.abc import Iterator
 from datetime import UTC, datetime
+from functools import partial
 from served import token
 from typing import Any
 
@@ -123,3 +124,30 @@ def test_a_load_counts_each_row_once_over_connections_that_are_cut_at_random_byt
     tally = loader.tally
     assert (tally.read, tally.rejected, tally.unread, len(stored)) == (500, 0, 0, 500)
     assert 1 <= tally.replaced < 500
+
+
+def test_a_load_asks_a_table_that_it_made_for_ids_alone_that_came_before() -> None:
+    stored: set[str] = set()
+    early: list[str] = []
+
+    def answer(talk: Talk) -> None:
+        while (asked := talk.request()) is not None:
+            line, body = asked
+            if line.startswith(b"GET"):
+                talk.send(reply(200, WHOAMI))
+            elif b"/get " in line:
+                early.extend([body["id"]] if body["id"] not in stored else [])
+                talk.send(reply(200, {"rows": [{"label": "A"}] if body["id"] in stored else []}))
+            else:
+                stored.add(body["id"])
+                talk.send(OK)
+
+    text = "id,lon,lat,time,label\n" + "".join(f"r{at % 300},1,2,2024-01-01,A\n" for at in range(301))
+    for made, unseen in ((True, 0), (False, 300)):
+        stored.clear()
+        early.clear()
+        stream = io.BufferedReader(io.BytesIO(text.encode()))  # type: ignore[arg-type]
+        with scripted([answer]) as url, client(url) as server:
+            loader = Loader(server, "t", begin=partial(bool, made))
+            loader.load(Source("f", stream), FORMATS["csv"], Names())
+        assert (loader.tally.stored, loader.tally.replaced, len(early)) == (300, 1, unseen)

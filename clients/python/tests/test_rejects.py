@@ -73,7 +73,7 @@ def test_a_file_of_rejects_takes_no_rows_that_do_not_fit(run: Run, table: Table,
 
 def test_a_lost_server_ends_a_load_in_a_line_that_says_how_to_go_on(tmp_path: Path) -> None:
     file, own = tmp_path / "a.csv", tmp_path / "token"
-    rows = "".join(f"r{at},1,2,2024-05-01,A\n" for at in range(100_000))
+    rows = "".join(f"r{at},1,2,2024-05-01,A\n" for at in range(400_000))
     file.write_text("id,lon,lat,time,label\n" + rows)
     own.touch(mode=0o600)
     own.write_text(token("root"))

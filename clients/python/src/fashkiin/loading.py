@@ -1,7 +1,7 @@
 """Loading: rows of files are put in their order, and what is wrong with a row is told with its place.
 
 Before rows are put, the server is asked which rows of their ids the loader sees: so it is known which rows are replaced, and
-which ids stand under other labels too.
+which ids stand under other labels too. In a table that the load made itself, that is asked of ids alone that came before.
 """
 
 from __future__ import annotations
@@ -26,7 +26,7 @@ from fashkiin.formats import Format, Names, Prepared, Source
 from fashkiin.pipeline import NONE_SEEN, STORED, Answer, Part, Told
 from fashkiin.reading import Reading
 from fashkiin.rows import quoted, to_json
-from fashkiin.tally import Batch, Counting, Tally
+from fashkiin.tally import Batch, Counting, Met, Tally
 
 OF_A_ROW = (FieldError, LabelError, ConstraintError, SizeError)
 """The refusals that are a row's own fault; any other would meet the next row too."""
@@ -38,8 +38,8 @@ PARTS = 3
 class Loader:
     """Loads sources into a table. `reject` is told of each row that cannot be stored; without it the load stops at the first one,
     where rows within a window behind it may be stored already. `step` is called when it is known of more rows what became of
-    them, `begin` before the first row is sent. With `replace`, a row takes the place of all rows of its id that the loader sees,
-    whatever their labels."""
+    them, `begin` before the first row is sent: it says whether it made the table. With `replace`, a row takes the place of all
+    rows of its id that the loader sees, whatever their labels."""
 
     def __init__(
         self,
@@ -48,7 +48,7 @@ class Loader:
         window: int = 64,
         reject: Callable[[Fault, Source], None] | None = None,
         step: Callable[[Source, Tally], None] | None = None,
-        begin: Callable[[], None] | None = None,
+        begin: Callable[[], bool] | None = None,
         replace: bool = False,
     ) -> None:
         self._counting = Counting()
@@ -67,11 +67,13 @@ class Loader:
         self._begin = begin
         self._replace = replace
         self._auths = ""
+        self._met: Met | None = None
+        """The ids that have been put into a table without others."""
         self._labels: dict[str, LabelError | None] = {}
 
     def load(self, source: Source, form: Format, names: Names) -> None:
         """Loads one source. `StoppedError` where it stops at a row; a refusal that would meet each row is raised."""
-        reading = Reading(source, form, names)
+        reading = Reading(source, form, names, self._client.close)
         with closing(reading.batches(self._size)) as found:
             batches = map(Batch, found)
             if self._replace:
@@ -85,20 +87,25 @@ class Loader:
 
     def check(self, source: Source, form: Format, names: Names) -> None:
         """Reads one source as `load` does and puts nothing: what could be stored counts as stored. Labels the server judges."""
-        reading = Reading(source, form, names)
-        for row in chain.from_iterable(reading.batches(self._size)):
-            raw = reading.taken()
-            _, _, label, made = row
-            error = made if isinstance(made, RowError) else self._label(label)
-            if error is None:
-                self.tally.stored += 1
-            else:
-                self._fault(row, error, raw, reading)
-            if self._step is not None:
-                self._step(source, self.tally)
-            if reading.stop is not None:
-                break
+        reading = Reading(source, form, names, self._client.close)
+        with closing(reading.batches(self._size)) as found:
+            for row in chain.from_iterable(found):
+                self._check_row(row, reading)
+                if self._step is not None:
+                    self._step(source, self.tally)
+                if reading.stop is not None:
+                    break
         self._end(reading)
+
+    def _check_row(self, row: Prepared, reading: Reading) -> None:
+        """Counts a row as stored, or says why it cannot be."""
+        raw = reading.taken()
+        _, _, label, made = row
+        error = made if isinstance(made, RowError) else self._label(label)
+        if error is None:
+            self.tally.stored += 1
+        else:
+            self._fault(row, error, raw, reading)
 
     def _end(self, reading: Reading) -> None:
         """All that was read is told."""
@@ -121,7 +128,7 @@ class Loader:
         if not any(batch.good for batch in batches):
             return
         if self._begin is not None:
-            self._begin()
+            self._met = Met() if self._begin() and not self._replace else None
             self._begin = None
         if self.denied is None and not self._auths:
             self._auths = to_json(list(self._client.whoami().auths))
@@ -132,7 +139,7 @@ class Loader:
             pass
 
     def _parts(self, batch: Batch, reading: Reading) -> tuple[Part, Part, Part]:
-        """Looks for all ids, then the rows, then a look for each label that is new. A part without anything to ask is there too,
+        """Looks for the ids, then the rows, then a look for each label that is new. A part without anything to ask is there too,
         since parts are counted."""
         self._start([batch])
         return self._looks(batch), self._puts(batch, reading), self._label_looks(batch)
@@ -153,14 +160,15 @@ class Loader:
 
     def _looks(self, batch: Batch) -> Part:
         """Asks under which labels the ids of a batch are seen."""
-        names = iter(batch.ids)
+        asked = batch.ids if self._met is None else self._met.of(batch.ids)
+        names = iter(asked)
 
         def tell(answers: Sequence[Answer]) -> None:
             for answer, name in zip(answers, names):
                 if answer is not NONE_SEEN:
                     batch.labels[name] = self._seen(answer)
 
-        return Part(self._gets(batch.ids), tell)
+        return Part(self._gets(asked), tell)
 
     def _label_looks(self, batch: Batch) -> Part:
         """Asks whether rows that were put are seen, one for each label of which that is not known."""

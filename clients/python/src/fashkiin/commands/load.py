@@ -15,12 +15,12 @@ from fashkiin.client import LARGEST_WINDOW, Client
 from fashkiin.commands import DONE, REJECTED, Command, Session
 from fashkiin.commands.sources import format_for, opened
 from fashkiin.commands.where import add_table, make_table
-from fashkiin.errors import ConnectError, CutOffError, EdgeError, FashkiinError, SettingsError, shown
+from fashkiin.errors import ConnectError, CutOffError, EdgeError, FashkiinError, InputError, SettingsError, shown
 from fashkiin.faults import Fault, Rejects
 from fashkiin.formats import FORMATS, Format, Names, Source
 from fashkiin.loading import Loader
 from fashkiin.progress import Progress
-from fashkiin.reading import DAMAGED
+from fashkiin.reading import DAMAGED, numbers
 from fashkiin.texts import open_private_bytes
 
 FIELDS = {"lon": "longitude", "lat": "latitude", "time": "time", "label": "label"}
@@ -116,7 +116,7 @@ def _run(session: Session, arguments: argparse.Namespace) -> int:
                     if rejects is not None:
                         rejects.begin(source, form)
                     work = loader.check if arguments.dry_run else loader.load
-                    work(source, form, _typed(_numbered(names, source), source, form, arguments.text))
+                    work(source, form, _typed(client, _numbered(names, source), source, form, arguments.text))
                     if source.dropped:
                         session.say(f"{file}: not kept: {', '.join(source.dropped)}")
             if not arguments.dry_run and not loader.tally.read:
@@ -178,10 +178,11 @@ class _Creation:
         self._arguments = arguments
         self._made = False
 
-    def begin(self) -> None:
-        """Makes the table."""
+    def begin(self) -> bool:
+        """Makes the table, and returns whether it did."""
         if self._arguments.create:
             self._made = make_table(self._client, self._arguments, there=True)
+        return self._made
 
     def undo(self, loader: Loader) -> None:
         """Drops the table that was made, if no row came into it."""
@@ -262,14 +263,14 @@ def _numbered(names: Names, source: Source) -> Names:
     return replace(names, number=source.stem.encode()[:STEM_BYTES].decode(errors="ignore"))
 
 
-def _typed(names: Names, source: Source, form: Format, texts: Sequence[str]) -> Names:
+def _typed(client: Client, names: Names, source: Source, form: Format, texts: Sequence[str]) -> Names:
     """The names, with the properties that are numbers throughout a file, but for those that stay texts. A pipe is read but
     once, so its texts stay texts."""
     if form.numbers is None or not source.rereadable:
         return names
     try:
-        found = form.numbers(source, names)
-    except (FashkiinError, *DAMAGED):
+        found = numbers(source, form, names, client.close)
+    except (InputError, *DAMAGED):
         return names  # The load meets it where it stands, behind the rows before it.
     finally:
         source.stream.seek(0)

@@ -5,9 +5,12 @@ from __future__ import annotations
 import argparse
 import contextlib
 import io
+import os
 import shlex
+import stat
 import sys
 from collections.abc import Iterator
+from functools import partial
 from pathlib import Path
 
 from fashkiin.errors import SettingsError
@@ -15,6 +18,9 @@ from fashkiin.formats import FORMATS, Format, InputError, Source, format_of, sni
 from fashkiin.reading import DAMAGED
 
 PIPE = "-"
+LARGE = 1 << 20
+"""The fewest bytes of a file that several processes read: to start them takes a while."""
+
 OTHERS = {
     b"\x00\x00\x27\x0a": "a shapefile",
     b"SQLite format 3\x00": "a GeoPackage or another SQLite database",
@@ -40,7 +46,14 @@ def opened(file: str) -> Iterator[Source]:
     with stream:
         unpacked = _unpacked(stream)
         name = Path(file.removesuffix(".gz") if unpacked is not stream else file)
-        yield Source(file, unpacked, name.stem, packed=unpacked is not stream)
+        again = partial(opened, file) if _is_large(stream) else None
+        yield Source(file, unpacked, name.stem, packed=unpacked is not stream, again=again)
+
+
+def _is_large(stream: io.BufferedReader) -> bool:
+    """Whether a stream is a large file, and no pipe."""
+    found = os.fstat(stream.fileno())
+    return stat.S_ISREG(found.st_mode) and found.st_size >= LARGE
 
 
 def _unpacked(stream: io.BufferedReader) -> io.BufferedReader:

@@ -12,7 +12,9 @@ from typing import TextIO
 from fashkiin.errors import InputError
 from fashkiin.formats import delimited, geojson, gpx
 from fashkiin.formats.fields import Found, Names, Prepared, Source
+from fashkiin.formats.numbers import Kinds
 from fashkiin.rows import Row
+from fashkiin.shares import Share
 
 __all__ = ["FORMATS", "Format", "Found", "InputError", "Names", "Prepared", "Source", "format_of", "sniff"]
 
@@ -20,18 +22,18 @@ __all__ = ["FORMATS", "Format", "Found", "InputError", "Names", "Prepared", "Sou
 @dataclass(frozen=True, slots=True)
 class Format:
     """A format of files. `read` tells each row by its place, with the error of a row that is none; `unit` is what a place
-    counts. `write` writes rows that `read` gives back. `numbers` tells which properties are numbers throughout a file, in a
-    format of texts. `around` is what stands before, between and behind the rows of a file of rejects. `prepare`, where a format
-    has it, gives the rows of `read` by up to so many at a time, ready to be put."""
+    counts. `prepare` gives a share of these rows by up to so many at a time, ready to be put. `write` writes rows that `read`
+    gives back. `numbers` tells the kinds of the properties of a share, in a format of texts. `around` is what stands before,
+    between and behind the rows of a file of rejects."""
 
     name: str
     unit: str
     suffixes: tuple[str, ...]
     read: Callable[[Source, Names], Iterator[Found]]
+    prepare: Callable[[Source, Names, int, Share], Iterator[list[Prepared]]]
     write: Callable[[Iterable[Row], TextIO, Names], None]
-    numbers: Callable[[Source, Names], frozenset[str]] | None = None
+    numbers: Callable[[Source, Names, Share], Iterator[Kinds]] | None = None
     around: tuple[str, str, str] = ("", "", "")
-    prepare: Callable[[Source, Names, int], Iterator[list[Prepared]]] | None = None
 
 
 FORMATS = {
@@ -42,19 +44,28 @@ FORMATS = {
             "line",
             (".csv", ".tsv", ".txt"),
             delimited.read,
+            delimited.prepare,
             delimited.write,
             delimited.numbers,
-            prepare=delimited.prepare,
         ),
-        Format("geojson", "feature", (".geojson", ".json"), geojson.read, geojson.write, around=geojson.AROUND),
+        Format(
+            "geojson",
+            "feature",
+            (".geojson", ".json"),
+            geojson.read,
+            geojson.prepare,
+            geojson.write,
+            around=geojson.AROUND,
+        ),
         Format(
             "geojsonseq",
             "line",
             (".geojsonseq", ".geojsonl", ".geojsons", ".jsonl", ".ndjson"),
             geojson.read_lines,
+            geojson.prepare_lines,
             geojson.write_lines,
         ),
-        Format("gpx", "line", (".gpx",), gpx.read, gpx.write, gpx.numbers, (gpx.HEAD, "", gpx.TAIL)),
+        Format("gpx", "line", (".gpx",), gpx.read, gpx.prepare, gpx.write, gpx.numbers, (gpx.HEAD, "", gpx.TAIL)),
     )
 }
 """The formats by their names."""

@@ -16,13 +16,13 @@ from fashkiin.errors import FashkiinError, Plain, RowError
 from fashkiin.formats.columns import Bodies
 from fashkiin.formats.fields import Found, Names, Prepared, Source, degrees, join_ids, moment_of, prepared, read_point
 from fashkiin.formats.header import Columns, find_columns, read_header
-from fashkiin.formats.numbers import are_numbers, number_or_text
+from fashkiin.formats.numbers import NUMBERS_AT_A_TIME, Kinds, kinds_of, number_or_text
 from fashkiin.pipeline import pieces
 from fashkiin.rows import Row, to_json
+from fashkiin.shares import WHOLE, Share
 
 FIELDS = ("id", "lon", "lat", "time", "label")
 DELIMITERS = (",", ";", "\t")
-NUMBERS_AT_A_TIME = 1_024
 csv.field_size_limit(1 << 20)
 
 _Record = tuple[int, list[str] | RowError]
@@ -46,14 +46,17 @@ def read(source: Source, names: Names) -> Iterator[Found]:
                 yield line, _found(fields, columns, names, number)
 
 
-def prepare(source: Source, names: Names, size: int) -> Iterator[list[Prepared]]:
-    """The rows that `read` finds, by up to `size` records at a time."""
+def prepare(source: Source, names: Names, size: int, share: Share = WHOLE) -> Iterator[list[Prepared]]:
+    """A share of the rows that `read` finds, by up to `size` records at a time."""
     with _Text(source, names) as text:
         records = text.records()
         columns = find_columns(source, read_header(source, records), names)
         bodies = Bodies(columns, names)
         number = 0
-        for batch in pieces(_records(records, names), size):
+        for at, batch in enumerate(pieces(_records(records, names), size)):
+            if not share.has(at):
+                number += sum(bool(fields) for _, fields in batch)
+                continue
             whole = [fields for _, fields in batch if isinstance(fields, list)]
             try:
                 rows = bodies.read([line for line, _ in batch], whole, number + 1)
@@ -163,24 +166,20 @@ def _row(fields: list[str], columns: Columns, names: Names, number: int) -> Row:
     return Row(name, lon, lat, time, label or names.unlabelled or "", properties)
 
 
-def numbers(source: Source, names: Names) -> frozenset[str]:
-    """The properties of a CSV file that are numbers in each row that has them."""
+def numbers(source: Source, names: Names, share: Share = WHOLE) -> Iterator[Kinds]:
+    """The kinds of the properties of a CSV file, by the records of a share. It ends once none can be a number throughout."""
     with _Text(source, names) as text:
         records = text.records()
         columns = find_columns(source, read_header(source, records), names)
         left = {at: name for at, name, _ in columns.properties}
-        seen: set[str] = set()
-        for batch in pieces(_records(records, names), NUMBERS_AT_A_TIME):
-            rows = [fields for _, fields in batch if isinstance(fields, list) and len(fields) == len(columns.header)]
-            for at, name in list(left.items()):
-                texts = [fields[at] for fields in rows if fields[at]]
-                if not are_numbers(texts):
-                    del left[at]
-                elif texts:
-                    seen.add(name)
+        width = len(columns.header)
+        for batch in share.of(pieces(_records(records, names), NUMBERS_AT_A_TIME)):
+            rows = [fields for _, fields in batch if isinstance(fields, list) and len(fields) == width]
+            kinds = kinds_of((name, [fields[at] for fields in rows if fields[at]]) for at, name in left.items())
+            yield kinds
+            left = {at: name for at, name in left.items() if name not in kinds.others}
             if not left:
                 break
-        return frozenset(seen.intersection(left.values()))
 
 
 def _check_utf8(fields: Sequence[str], header: Sequence[str]) -> None:

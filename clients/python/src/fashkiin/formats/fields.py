@@ -7,14 +7,17 @@ import os
 import re
 import stat
 from collections import deque
-from collections.abc import Iterable, Mapping, Sequence
+from collections.abc import Callable, Iterable, Iterator, Mapping, Sequence
+from contextlib import AbstractContextManager
 from dataclasses import dataclass, replace
 from datetime import datetime, timedelta
-from typing import Any
+from typing import Any, TypeVar
 
 from fashkiin.cells import EPOCH, parse_time
 from fashkiin.errors import InputError, MissingError, Plain, RowError
+from fashkiin.pipeline import pieces
 from fashkiin.rows import Row
+from fashkiin.shares import Share
 
 DEFAULTS: Mapping[str, tuple[str, tuple[str, ...], tuple[str, ...]]] = {
     "id": ("id", (), ()),
@@ -51,6 +54,7 @@ Prepared = tuple[int, str, str, bytes | RowError]
 """A row as a load needs it: its place, its id and its label as far as they are known, and the body of its put or what is wrong
 with it."""
 
+Unit = TypeVar("Unit")
 _POINT = re.compile(r"\s*(?:SRID=4326\s*;\s*)?POINT\s*Z?\s*\(([^()_]*)\)\s*", re.IGNORECASE)
 LABEL_WANTED = "a label, or --default-label (the empty text shows a row to everybody)"
 
@@ -58,10 +62,21 @@ LABEL_WANTED = "a label, or --default-label (the empty text shows a row to every
 class Source:
     """An open file or pipe of rows, and its name for messages."""
 
-    def __init__(self, name: str, stream: io.BufferedReader, stem: str | None = None, packed: bool = False) -> None:
+    def __init__(
+        self,
+        name: str,
+        stream: io.BufferedReader,
+        stem: str | None = None,
+        packed: bool = False,
+        again: Callable[[], AbstractContextManager[Source]] | None = None,
+    ) -> None:
         self.name = name
         self.stream = stream
         self.stem = stem
+        self.again = again
+        """Opens it anew, where it is so large a file that several processes read it."""
+        self.reached: float | None = None
+        """How much of it these processes have read."""
         self.dropped: dict[str, None] = {}
         """What of it is kept in no row, once it is read."""
         self.raw: deque[bytes] | None = None
@@ -77,6 +92,8 @@ class Source:
 
     def fraction(self) -> float | None:
         """How much has been read, 0 to 1; None for a pipe."""
+        if self.reached is not None:
+            return self.reached
         return min(1.0, self.stream.tell() / self._size) if self._size else None
 
     def fail(self, place: str, what: str) -> InputError:
@@ -152,6 +169,17 @@ def prepared(place: int, row: Row | RowError, wrap: bool) -> Prepared:
         return place, row.id, row.label, row.body()
     except RowError as error:
         return place, row.id, row.label, error
+
+
+def prepare_each(
+    units: Iterable[tuple[int, Unit]], read: Callable[[Unit, int], Row | RowError], size: int, share: Share, wrap: bool
+) -> Iterator[list[Prepared]]:
+    """The rows of a share of units with places, by up to `size` at a time. `read` makes the row of a unit and its number."""
+    rows = (
+        (place, read(unit, number + 1) if share.has(number // size) else None) for number, (place, unit) in enumerate(units)
+    )
+    for batch in share.of(pieces(rows, size)):
+        yield [prepared(place, row, wrap) for place, row in batch if row is not None]
 
 
 def degrees(field: str, value: Any) -> float:

@@ -11,8 +11,9 @@ from typing import Any, TextIO
 from fashkiin.cells import time_text
 from fashkiin.errors import FashkiinError, MissingError, Plain, RowError
 from fashkiin.formats.collection import read_features
-from fashkiin.formats.fields import Found, Names, Source, degrees, make_row
+from fashkiin.formats.fields import Found, Names, Prepared, Source, degrees, make_row, prepare_each
 from fashkiin.rows import Row, to_json
+from fashkiin.shares import WHOLE, Share
 
 AROUND = ('{"type":"FeatureCollection","features":[\n', ",\n", "\n]}\n")
 """What stands before, between and behind the features of a FeatureCollection."""
@@ -22,15 +23,24 @@ _decode = json.JSONDecoder().raw_decode
 
 def read_lines(source: Source, names: Names) -> Iterator[Found]:
     """The rows of a file of a Feature or another object a line, by their lines."""
-    number = 0
+    for number, (line, text) in enumerate(_lines(source), 1):
+        row = _read_line(text, names, number)
+        if source.raw is not None:
+            source.raw.append(_raw_line(text, names, number))
+        yield line, row
+
+
+def prepare_lines(source: Source, names: Names, size: int, share: Share = WHOLE) -> Iterator[list[Prepared]]:
+    """A share of the rows that `read_lines` finds, by up to `size` at a time."""
+    return prepare_each(_lines(source), lambda text, number: _read_line(text, names, number), size, share, names.wrap)
+
+
+def _lines(source: Source) -> Iterator[tuple[int, bytes]]:
+    """The lines that are not blank, by their numbers."""
     for line, data in enumerate(source.stream, 1):
         text = data.strip().lstrip(b"\x1e\xef\xbb\xbf")
         if text:
-            number += 1
-            row = _read_line(text, names, number)
-            if source.raw is not None:
-                source.raw.append(_raw_line(text, names, number))
-            yield line, row
+            yield line, text
 
 
 def _read_line(text: bytes, names: Names, number: int) -> Row | RowError:
@@ -79,20 +89,36 @@ def _raw(value: Any, names: Names, number: int) -> bytes:
 
 def read(source: Source, names: Names) -> Iterator[Found]:
     """The rows of a FeatureCollection, by the numbers of their features. `InputError` where the file is none."""
+    for number, feature in _features(source, names):
+        yield number, _read_feature(feature, names, number)
+
+
+def prepare(source: Source, names: Names, size: int, share: Share = WHOLE) -> Iterator[list[Prepared]]:
+    """A share of the rows that `read` finds, by up to `size` at a time."""
+    units = _features(source, names)
+    return prepare_each(units, lambda feature, number: _read_feature(feature, names, number), size, share, names.wrap)
+
+
+def _features(source: Source, names: Names) -> Iterator[tuple[int, Any]]:
+    """The features of a FeatureCollection, by their numbers, and what rejects need of them."""
     number = 0
     try:
         for number, feature in enumerate(read_features(source.stream), 1):
             if source.raw is not None:
                 source.raw.append(_raw(feature, names, number))
-            try:
-                row: Row | RowError = read_feature(feature, names, number)
-            except RowError as error:
-                row = error
-            yield number, row
+            yield number, feature
     except LookupError:
         raise source.fail("1", "no features, wanted a GeoJSON FeatureCollection") from None
     except (ValueError, RecursionError) as error:
         raise source.fail(f"feature {number + 1}", f"{error}, wanted a GeoJSON FeatureCollection") from None
+
+
+def _read_feature(feature: Any, names: Names, number: int) -> Row | RowError:
+    """The row of a Feature, or what is wrong with it."""
+    try:
+        return read_feature(feature, names, number)
+    except RowError as error:
+        return error
 
 
 def read_object(value: dict[str, Any], names: Names, number: int) -> Row:

@@ -10,13 +10,16 @@ import json
 from collections.abc import Iterable, Iterator
 from decimal import Decimal
 from functools import lru_cache
+from itertools import chain
 from typing import TYPE_CHECKING, Any, TextIO
 
 from fashkiin.cells import parse_time, time_text
 from fashkiin.errors import MissingError, RowError
-from fashkiin.formats.fields import Found, Names, Source, degrees, make_row
-from fashkiin.formats.numbers import Throughout, with_numbers
+from fashkiin.formats.fields import Found, Names, Prepared, Source, degrees, make_row, prepare_each
+from fashkiin.formats.numbers import NUMBERS_AT_A_TIME, Kinds, kinds_of, with_numbers
+from fashkiin.pipeline import pieces
 from fashkiin.rows import Row
+from fashkiin.shares import WHOLE, Share
 
 if TYPE_CHECKING:
     from xml.etree import ElementTree
@@ -36,27 +39,34 @@ def read(source: Source, names: Names) -> Iterator[Found]:
     A point of a track has its track's name as `track`, its track's type as `type` and the number of its segment as `segment`;
     elements of extensions, such as `hr` and `cad`, have their own names. What is kept in no row is told by `source.dropped`.
     """
-    number = 0
-    for line, point, track in _points(source, names):
-        number += 1
-        try:
-            row: Row | RowError = _row(point, track, names, number, source.dropped)
-        except RowError as error:
-            row = error
+    for number, (line, (point, track)) in enumerate(_points(source, names), 1):
+        row = _read_point((point, track), names, number, source.dropped)
         if source.raw is not None:
             source.raw.append(_raw(point, track | {"id": f"{names.number}-{number}"}))
         yield line, row
 
 
-def numbers(source: Source, names: Names) -> frozenset[str]:
-    """The properties of a GPX file that are numbers in each point that has them."""
-    throughout = Throughout()
-    for _, point, _ in _points(source, names):
-        throughout.see(_values(point, source.dropped).items())
-    return throughout.names()
+def prepare(source: Source, names: Names, size: int, share: Share = WHOLE) -> Iterator[list[Prepared]]:
+    """A share of the rows that `read` finds, by up to `size` at a time."""
+    points = _points(source, names)
+    return prepare_each(points, lambda point, number: _read_point(point, names, number, source.dropped), size, share, names.wrap)
 
 
-def _points(source: Source, names: Names) -> Iterator[tuple[int, ElementTree.Element, dict[str, Any]]]:
+def numbers(source: Source, names: Names, share: Share = WHOLE) -> Iterator[Kinds]:
+    """The kinds of the properties of a GPX file, by the points of a share."""
+    values = (
+        _values(point, source.dropped) if share.has(number // NUMBERS_AT_A_TIME) else {}
+        for number, (_, (point, _)) in enumerate(_points(source, names))
+    )
+    for batch in share.of(pieces(values, NUMBERS_AT_A_TIME)):
+        texts: dict[str, list[str]] = {}
+        for name, text in chain.from_iterable(it.items() for it in batch):
+            if text:
+                texts.setdefault(name, []).append(text)
+        yield kinds_of(texts.items())
+
+
+def _points(source: Source, names: Names) -> Iterator[tuple[int, tuple[ElementTree.Element, dict[str, Any]]]]:
     """The points of a file with their lines and what they have of their tracks. What has been read is let go."""
     around: list[tuple[str, ElementTree.Element]] = []
     point: ElementTree.Element | None = None
@@ -76,7 +86,7 @@ def _points(source: Source, names: Names) -> Iterator[tuple[int, ElementTree.Ele
         around.pop()
         within, parent = around[-1] if around else ("", None)
         if point is not None:
-            yield line, element, track | ({"segment": segment} if within == "trkseg" else {})
+            yield line, (element, track | ({"segment": segment} if within == "trkseg" else {}))
             point = None
         elif tag in TRACKS and within == "gpx":
             track, segment = {}, 0
@@ -117,6 +127,16 @@ def _hint(line: bytes) -> str:
     except UnicodeDecodeError:
         return " in UTF-8, or its --encoding"
     return ""
+
+
+def _read_point(
+    found: tuple[ElementTree.Element, dict[str, Any]], names: Names, number: int, dropped: dict[str, None]
+) -> Row | RowError:
+    """The row of a point and what it has of its track, or what is wrong with it."""
+    try:
+        return _row(*found, names, number, dropped)
+    except RowError as error:
+        return error
 
 
 def _row(

@@ -4,9 +4,13 @@ from __future__ import annotations
 
 import re
 from collections.abc import Iterable, Mapping, Sequence
+from typing import NamedTuple
 
 DIGITS = 15
 """The most digits of a number that a double holds exactly, which is what most readers of JSON make of it."""
+
+NUMBERS_AT_A_TIME = 1_024
+"""Of how many rows the kinds of properties are found at a time."""
 
 _NUMBER = re.compile(r"-?(0|[1-9][0-9]*)(\.[0-9]+)?([eE][-+]?[0-9]{1,3})?\Z")
 
@@ -35,26 +39,31 @@ def are_numbers(texts: Sequence[str]) -> bool:
     return bool(short and _DECIMALS.match(together)) or all(number(text) is not None for text in texts)
 
 
-class Throughout:
-    """Which properties are numbers wherever they are there, by all that were seen."""
+class Kinds(NamedTuple):
+    """Which properties are numbers wherever some rows have them, and which are something else somewhere."""
 
-    def __init__(self) -> None:
-        self._numbers: set[str] = set()
-        self._others: set[str] = set()
+    numbers: frozenset[str]
+    others: frozenset[str]
 
-    def see(self, properties: Iterable[tuple[str, str]]) -> None:
-        """Sees properties and their texts; an empty text is as one that is not there."""
-        for name, text in properties:
-            if text and name not in self._others:
-                if number(text) is None:
-                    self._others.add(name)
-                    self._numbers.discard(name)
-                else:
-                    self._numbers.add(name)
 
-    def names(self) -> frozenset[str]:
-        """The properties."""
-        return frozenset(self._numbers)
+def kinds_of(properties: Iterable[tuple[str, Sequence[str]]]) -> Kinds:
+    """The kinds of properties by their names and all their texts in some rows. One without a text has no kind."""
+    numbers: set[str] = set()
+    others: set[str] = set()
+    for name, texts in properties:
+        if texts:
+            (numbers if are_numbers(texts) else others).add(name)
+    return Kinds(frozenset(numbers), frozenset(others))
+
+
+def throughout(kinds: Iterable[Kinds]) -> frozenset[str]:
+    """The properties that are numbers throughout, by their kinds in all parts of a file."""
+    numbers: set[str] = set()
+    others: set[str] = set()
+    for it in kinds:
+        numbers |= it.numbers
+        others |= it.others
+    return frozenset(numbers - others)
 
 
 def with_numbers(properties: Mapping[str, str], names: frozenset[str]) -> dict[str, str | int | float]:
