@@ -41,8 +41,8 @@ def gathered(
 def _told(
     again: Callable[[], AbstractContextManager[Source]], work: Callable[[Source, Share], Iterator[Item]], share: Share
 ) -> Iterator[tuple[float | None, list[str], Item | None]]:
-    """What `work` yields of a share, with how much of the source was read by then and what of it is kept in no row; these two once
-    more at the end."""
+    """What `work` yields of a share, with how much of the source was read by then and what of it is kept in no row; these two
+    once more at the end."""
     with again() as source:
         for item in work(source, share):
             yield source.fraction(), list(source.dropped), item

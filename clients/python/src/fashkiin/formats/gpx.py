@@ -28,6 +28,7 @@ POINTS = ("wpt", "trkpt", "rtept")
 TRACKS = ("trk", "rte")
 GPX = "http://www.topografix.com/GPX/1/1"
 NAMESPACE = "urn:fashkiin:row"
+ROW = f"{{{NAMESPACE}}}row"
 PIECE = 65_536
 HEAD = f'<?xml version="1.0" encoding="UTF-8"?>\n<gpx xmlns="{GPX}" version="1.1" creator="fashkiin">\n'
 TAIL = "</gpx>\n"
@@ -148,7 +149,7 @@ def _row(
         values.pop("time", "")
         if names.default_time is None:
             raise MissingError("time", "a point with a <time>, or --default-time")
-    written = point.find(f"{{*}}extensions/{{{NAMESPACE}}}row")
+    written = point.find(f"{{*}}extensions/{ROW}") if next(point.iter(ROW), None) is not None else None
     if written is not None:
         return _written(lon, lat, values.get("time", ""), written.text or "")
     return make_row(names, number, lon, lat, track | with_numbers(values, names.numbers - {"time"}))
@@ -160,7 +161,7 @@ def _raw(point: ElementTree.Element, values: dict[str, Any]) -> bytes:
 
     waypoint = ElementTree.Element(f"{{{GPX}}}wpt", point.attrib)
     waypoint.extend(point)
-    if point.find(f"{{*}}extensions/{{{NAMESPACE}}}row") is None:
+    if point.find(f"{{*}}extensions/{ROW}") is None:
         extensions = ElementTree.SubElement(waypoint, f"{{{GPX}}}extensions")
         for name, value in values.items():
             ElementTree.SubElement(extensions, f"{{{GPX}}}{name}").text = str(value)
@@ -191,7 +192,7 @@ def _leaves(element: ElementTree.Element, point: ElementTree.Element, dropped: d
     """The names and texts within an element of a point."""
     for leaf in element.iter():
         text = (leaf.text or "").strip()
-        if leaf is element or len(leaf) or leaf.tag == f"{{{NAMESPACE}}}row":
+        if leaf is element or len(leaf) or leaf.tag == ROW:
             continue
         if text:
             yield _local(leaf.tag), text
