@@ -41,7 +41,7 @@ AUTHS = ("storms", "wind", "flight")
 # How many requests of raw puts are sent at once, and how many such groups are on their way.
 GROUP, AHEAD = 64, 4
 REPLY = b'HTTP/1.1 200 OK\r\nContent-Type: application/json\r\nContent-Length: 11\r\n\r\n{"ok":true}'
-COLUMNS = "id text, time timestamptz, label text, speed double precision, name text"
+COLUMNS = "id text, time timestamptz, label text default '', speed double precision, name text"
 SCHEMA = f"""
 create extension postgis;
 create role loader login;
@@ -62,7 +62,7 @@ and shows(alternatives, string_to_array(current_setting('app.held'), ','))));
 """
 MADE = " generated always as (st_setsrid(st_makepoint(lon, lat), 4326)) stored"
 # What ogr2ogr is told of a file, and which layer it reads.
-OPTIONS = {
+OPTIONS: dict[str, list[str]] = {
     "csv": ["-oo", "X_POSSIBLE_NAMES=lon", "-oo", "Y_POSSIBLE_NAMES=lat", "-oo", "AUTODETECT_TYPE=YES", "-a_srs", "EPSG:4326"],
     "geojson": [],
     "gpx": [],
@@ -154,7 +154,7 @@ class PostGis:
         suffix = file.suffix[1:]
         target = f"PG:host={self.folder} user={user} dbname=postgres tables={table}"
         words: list[str | Path] = ["ogr2ogr", "-f", "PostgreSQL", "-append", target, file, LAYERS[suffix], "-nln", table]
-        words += ["-select", "id,time,label,speed,name", *OPTIONS[suffix], "--config", "PG_USE_COPY", copies]
+        words += [*OPTIONS[suffix], "--config", "PG_USE_COPY", copies]
         start = time.monotonic()
         subprocess.run(words, check=True)
         return self.checked(table, rows, time.monotonic() - start)
@@ -168,7 +168,7 @@ class PostGis:
 
     def checked(self, table: str, rows: int, seconds: float) -> Measured:
         """So many rows in some seconds, if they are there, with their places and labels; the table is dropped."""
-        assert self.ask(f"select count(geom) from {table} where label in (select label from labels)") == f"{rows}\n"
+        assert self.ask(f"select count(geom) from {table} where coalesce(label, '') in (select label from labels)") == f"{rows}\n"
         self.ask(f"drop table {table}")
         return Measured(rows / seconds)
 
