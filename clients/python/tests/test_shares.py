@@ -67,7 +67,8 @@ def nothing() -> None:
 
 
 def found(file: Path, form: str) -> tuple[list[Any], frozenset[str] | str, list[str], str]:
-    """The rows of a file, which properties are numbers, what of it is kept in no row, and why it cannot be read on."""
+    """The rows of a file, which properties are numbers, what of it is kept in no row, and why it cannot be read on or how much of
+    it was read."""
     with sources.opened(str(file)) as source:
         try:
             throughout: frozenset[str] | str = numbers(source, FORMATS[form], NAMES, nothing)
@@ -78,7 +79,7 @@ def found(file: Path, form: str) -> tuple[list[Any], frozenset[str] | str, list[
         reading = Reading(source, FORMATS[form], replace(NAMES, numbers=kept), nothing)
         rows = [row for batch in reading.batches(2) for row in batch]
         shown = [(*row[:3], made if isinstance(made, bytes) else str(made)) for *row, made in rows]
-        return shown, throughout, list(source.dropped), str(reading.error)
+        return shown, throughout, list(source.dropped), str(reading.error or source.fraction())
 
 
 @pytest.mark.parametrize("is_whole", [True, False], ids=["whole", "broken"])
@@ -94,7 +95,7 @@ def test_processes_read_what_one_reads(form: str, is_whole: bool, tmp_path: Path
     for module in (delimited, gpx):
         monkeypatch.setattr(module, "NUMBERS_AT_A_TIME", 2)
     wanted = found(file, form)
-    assert len(wanted[0]) > ROWS // 2 and (wanted[3] == "None") == (is_whole or form in ("csv", "geojsonseq"))
+    assert len(wanted[0]) > ROWS // 2 and (wanted[3] == "1.0") == (is_whole or form in ("csv", "geojsonseq"))
     monkeypatch.setattr(sources, "LARGE", 0)
     for turns in (1, 2, 3):
         monkeypatch.setattr("fashkiin.reading.helpers", lambda turns=turns: turns)
