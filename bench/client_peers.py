@@ -146,7 +146,7 @@ class PostGis:
         suffix = file.suffix[1:]
         target = f"PG:host={self.folder} user={user} dbname=postgres tables={table}"
         words: list[str | Path] = ["ogr2ogr", "-f", "PostgreSQL", "-append", target, file, LAYERS[suffix], "-nln", table]
-        words += [*OPTIONS[suffix], "--config", "PG_USE_COPY", copies]
+        words += [*OPTIONS[suffix], "-unsetFid", "--config", "PG_USE_COPY", copies]
         start = time.monotonic()
         subprocess.run(words, check=True)
         return self.checked(table, rows, time.monotonic() - start)
