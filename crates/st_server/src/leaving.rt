@@ -58,9 +58,11 @@ pub(crate) fn join_lists<H: HallName, M: Commits<H>, T: AtDesk<H> + Drop, W: Wai
     ensures { OnOk result ((list : List Ask) × HaveOneList T.standing workers.items list) }
 {
     let mut desks = desks_of(alloc, workers)?;
+    let still = desks.as_slice();
+    let fronts = fronts_of(alloc, still)?;
     let list = hall.whole(rt, &mut desks);
-    let fronts = fronts_of(alloc, &desks)?;
-    let longest = one_list(&list, &fronts);
+    let seen = fronts.as_slice();
+    let longest = one_list(&list, seen);
     if longest.len() == list.len() {
         Ok(())
     } else {
