@@ -51,7 +51,7 @@ pub record IsServed (words : List Text) (s : Streams) (status : ℕ) : Type 0 wh
   pub serves : Serves before after s status
 
 -- the arguments name a store at a path, and open the state that its changes lead on from
-pub record IsKept {J : Type 0} (holds : (path opening : List ℕ) → List Record → Type 0) (list : J → List Record) (misreads : J → ℕ)
+pub record IsKept {J : Type 0} (holds : (path opening : List ℕ) → List Record → Type 0) (list : J → List Record) (misreads faults : J → ℕ)
     (may_leave : J → List Record → Type 0) (words : List Text) (s : Streams) (status : ℕ) : Type 0 where
   pub said : RunArguments
   pub says : SaysRun words said
@@ -60,7 +60,7 @@ pub record IsKept {J : Type 0} (holds : (path opening : List ℕ) → List Recor
   pub first : State Global
   pub opening : Text
   pub opens : OpensWith said.digest.now (names_in said) first opening
-  pub ends : EndsKept (holds path) list misreads may_leave opening first s status
+  pub ends : EndsKept (holds path) list misreads faults may_leave opening first s status
 
 -- the arguments are refused, and nothing was read or written
 pub record IsRefused (words : List Text) (s : Streams) (status : ℕ) : Type 0 where
@@ -69,7 +69,7 @@ pub record IsRefused (words : List Text) (s : Streams) (status : ℕ) : Type 0 w
   pub status_is : status ≡ exit_status_of fault
   pub untouched : AreUntouched s
 
-abbrev pub Ran : {J : Type 0} → ((path opening : List ℕ) → List Record → Type 0) → (J → List Record) → (J → ℕ) → (J → List Record → Type 0)
+abbrev pub Ran : {J : Type 0} → ((path opening : List ℕ) → List Record → Type 0) → (J → List Record) → (misreads faults : J → ℕ) → (J → List Record → Type 0)
     → List Text → Streams → ℕ → Type 0
-Ran holds list misreads may_leave words s status =
-    IsServed words s status ⊎ (IsRefused words s status ⊎ IsKept holds list misreads may_leave words s status)
+Ran holds list misreads faults may_leave words s status =
+    IsServed words s status ⊎ (IsRefused words s status ⊎ IsKept holds list misreads faults may_leave words s status)

@@ -1,16 +1,20 @@
 //! Serves one connection from a store that a journal keeps.
-ghost use Rattle.std.specs.Prelude.{◌≡◌, false, string_bytes};
+ghost use Rattle.std.specs.Prelude.{◌≡◌, ◌⊎◌, ◌≤◌, false, None, Ok, string_bytes};
+ghost use Rattle.st_journal.specs.Replays.{Replays};
+ghost use Rattle.st_durable.specs.Applying.{Applies};
 ghost use Rattle.st_durable.specs.Keeping.{answered};
-ghost use Rattle.st_command_line.specs.Status.{exit_status_after};
-ghost use Rattle.st_command.specs.Kept.{ServesKept, EndsKept, kept_status_after};
+ghost use Rattle.st_command_line.specs.Status.{exit_status_of, exit_status_after};
+ghost use Rattle.st_command.specs.Kept.{ServesKept, EndsKept, IsUnopened, kept_status_after};
 ghost use Rattle.st_command.specs.Streams.{streams};
 
 use crate::keeper::Keeper;
 use st_command_line::Fault;
-use st_durable::{Beginning, DurableService, ReplayedStore};
+use st_core::Store;
+use st_durable::{Beginning, DurableService, Loss, ReplayedStore, Since};
 use st_journal::Journal;
 use st_service::{Ended, IoFault, Sink, Source};
 use std::alloc::Global;
+use std::marker::Brand;
 use std::time::Clock;
 
 // Where a store is kept, and what it is opened with.
@@ -20,35 +24,70 @@ pub(crate) struct Place<'a> {
     pub(crate) opening: String,
 }
 
+// Why a run ends that lost a change for this reason.
+fn fault_of(loss: Option<Loss>) -> Fault
+    ensures { exit_status_of result ≡ kept_status_after (Ok Ended.Lost) loss }
+{
+    match loss {
+        Some(Loss::Disk) => Fault::StoreLost,
+        Some(Loss::NoMemory) | None => Fault::NoMemory,
+    }
+}
+
 // How a run ends after a connection that ended so.
-fn end_after(ended: Result<Ended, IoFault>) -> Result<(), Fault>
-    ensures { exit_status_after result ≡ kept_status_after ended }
+fn end_after(ended: Result<Ended, IoFault>, loss: Option<Loss>) -> Result<(), Fault>
+    ensures { exit_status_after result ≡ kept_status_after ended loss }
 {
     match ended {
         Ok(Ended::Clean | Ended::Closed) => Ok(()),
         Ok(Ended::Cut) => Err(Fault::Cut),
         Ok(Ended::TurnsSpent) => Err(Fault::TurnsSpent),
-        Ok(Ended::Lost) => Err(Fault::StoreLost),
+        Ok(Ended::Lost) => Err(fault_of(loss)),
         Err(IoFault { .. }) => Err(Fault::Io),
     }
 }
 
 // Serves the connection.
-fn converse_kept<B: Beginning, J: Journal + Drop, C: Clock, R: Source, W: Sink>(
+fn converse_kept<B: Beginning + Since, J: Journal + Drop, C: Clock, R: Source, W: Sink>(
     service: &mut DurableService<'_, B, J, C>,
     reader: &mut R,
     writer: &mut W,
 ) -> Result<(), Fault>
     requires settled { service.old.kept ≡ answered service.old }
-    requires sound { service.old.failed ≡ false }
+    requires sound { service.old.loss ≡ None }
     requires reader_sound { R.has_failed reader.old ≡ false }
     requires writer_sound { W.has_failed writer.old ≡ false }
-    ensures { ServesKept J.list J.misreads J.may_leave B.first service.old.kept
+    ensures { ServesKept J.list J.misreads J.faults J.may_leave B.first B.faults service.old.kept
         (streams R.left R.reads R.has_ended R.has_failed W.held W.has_failed reader.old reader.new writer.old writer.new)
         (exit_status_after result) }
 {
     let ended = service.serve(reader, writer);
-    end_after(ended)
+    end_after(ended, service.loss())
+}
+
+// Serves the connection from the state after the changes of a journal.
+fn serve_opened<B: Beginning + Since, J: Journal + Drop, C: Clock, R: Source, W: Sink>(
+    clock: &C,
+    alloc: Global,
+    store: Store,
+    journal: J,
+    reader: &mut R,
+    writer: &mut W,
+) -> Result<(), Fault>
+    requires ready { J.is_ready journal }
+    requires stands { J.misreads journal ≡ 0 → Replays Applies B.first (J.list journal) store }
+    requires counts { B.faults ≤ J.faults journal }
+    requires reader_sound { R.has_failed reader.old ≡ false }
+    requires writer_sound { W.has_failed writer.old ≡ false }
+    ensures { ServesKept J.list J.misreads J.faults J.may_leave B.first B.faults store
+        (streams R.left R.reads R.has_ended R.has_failed W.held W.has_failed reader.old reader.new writer.old writer.new)
+        (exit_status_after result)
+        ⊎ IsUnopened
+        (streams R.left R.reads R.has_ended R.has_failed W.held W.has_failed reader.old reader.new writer.old writer.new)
+        (exit_status_after result) }
+{
+    let mut service = DurableService::<B, J, C>::new(alloc, clock, store, journal)?;
+    converse_kept(&mut service, reader, writer)
 }
 
 // Opens the journal over the state that its changes lead on from, and serves the connection.
@@ -71,12 +110,11 @@ pub(crate) fn serve_kept<
     requires first { state ≡ B.first }
     requires reader_sound { R.has_failed reader.old ≡ false }
     requires writer_sound { W.has_failed writer.old ≡ false }
-    ensures { EndsKept (K.holds keeper place.now.path.now) J.list J.misreads J.may_leave (string_bytes place.now.opening) B.first
+    ensures { EndsKept (K.holds keeper place.now.path.now) J.list J.misreads J.faults J.may_leave (string_bytes place.now.opening) B.first
         (streams R.left R.reads R.has_ended R.has_failed W.held W.has_failed reader.old reader.new writer.old writer.new)
         (exit_status_after result) }
 {
     let journal = keeper.open(place.path, place.opening.as_str(), &mut state)?;
     let store = state.into_store();
-    let mut service = DurableService::<B, J, C>::new(alloc, clock, store, journal)?;
-    converse_kept(&mut service, reader, writer)
+    serve_opened::<Brand, J, C, R, W>(clock, alloc, store, journal, reader, writer)
 }

@@ -32,8 +32,8 @@ pub fn one_owner()
 /// whatever moment the process ends. So nothing that was answered, in whole or in part, is taken back, and the next run goes on
 /// from there.
 pub fn nothing_is_taken_back<J: Journal>()
-    ensures { (first before found : State Heap) (s : Streams) (status : ℕ)
-        (serves : ServesKept J.list J.misreads J.may_leave first before s status)
+    ensures { (first before found : State Heap) (begun : ℕ) (s : Streams) (status : ℕ)
+        (serves : ServesKept J.list J.misreads J.faults J.may_leave first begun before s status)
         → J.misreads serves.after.journal ≡ 0 → (left : List Record) → J.may_leave serves.after.journal left
         → Replays Applies first left found → FoundAfter Answers before found s.held_old s.held_new }
 {}

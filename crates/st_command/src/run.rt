@@ -87,7 +87,7 @@ fn run_kept<J: Journal + Drop, K: Keeper<J> + Drop, C: Clock, R: Source, W: Sink
         → IsRefused words
         (streams R.left R.reads R.has_ended R.has_failed W.held W.has_failed reader.old reader.new writer.old writer.new)
         (exit_status_after result)
-        ⊎ IsKept (K.holds keeper) J.list J.misreads J.may_leave words
+        ⊎ IsKept (K.holds keeper) J.list J.misreads J.faults J.may_leave words
         (streams R.left R.reads R.has_ended R.has_failed W.held W.has_failed reader.old reader.new writer.old writer.new)
         (exit_status_after result) }
 {
@@ -108,7 +108,7 @@ fn run<J: Journal + Drop, K: Keeper<J> + Drop, C: Clock, R: Source, W: Sink>(
 ) -> Result<(), Fault>
     requires reader_sound { R.has_failed reader.old ≡ false }
     requires writer_sound { W.has_failed writer.old ≡ false }
-    ensures { Ran (K.holds keeper) J.list J.misreads J.may_leave (map string_bytes words.now)
+    ensures { Ran (K.holds keeper) J.list J.misreads J.faults J.may_leave (map string_bytes words.now)
         (streams R.left R.reads R.has_ended R.has_failed W.held W.has_failed reader.old reader.new writer.old writer.new)
         (exit_status_after result) }
 {
@@ -129,8 +129,9 @@ fn run<J: Journal + Drop, K: Keeper<J> + Drop, C: Clock, R: Source, W: Sink>(
 /// after a million reads; 5 if a read or a write failed; 6 if memory ran out. For each but 0 it
 /// writes a message to `faults`. Where the arguments name no store, it is in memory. Where they name
 /// one, the keeper opens its journal before anything is read: 5 and 8 to 13 say why it does not
-/// (`Fault`), and then nothing is read or written. Each change is kept before it is answered, and 7
-/// says that one was not, or may not have been.
+/// (`Fault`), and then nothing is read or written. Each change is kept before it is answered. 7 says
+/// that one was not, or may not have been, since the disk failed or refused; 6 comes also where one
+/// found no memory to be kept or made.
 pub fn run_words<J: Journal + Drop, K: Keeper<J> + Drop, C: Clock, R: Source, W: Sink, F: Write>(
     clock: &C,
     alloc: Global,
@@ -143,7 +144,7 @@ pub fn run_words<J: Journal + Drop, K: Keeper<J> + Drop, C: Clock, R: Source, W:
 ) -> u8
     requires reader_sound { R.has_failed reader.old ≡ false }
     requires writer_sound { W.has_failed writer.old ≡ false }
-    ensures { Ran (K.holds keeper) J.list J.misreads J.may_leave (map string_bytes words.now)
+    ensures { Ran (K.holds keeper) J.list J.misreads J.faults J.may_leave (map string_bytes words.now)
         (streams R.left R.reads R.has_ended R.has_failed W.held W.has_failed reader.old reader.new writer.old writer.new)
         result }
 {

@@ -1,16 +1,19 @@
 -- A store and its journal before and after a change is kept.
-use Rattle.std.proofs.Common.{◌≡◌, ◌⊎◌, inl, inr, ◌≤◌, ℕ, true, false, List, [], ◌∷◌, ◌++◌, Option, Some, None, refl, sym, subst, arith}
-use Rattle.std.specs.Prelude.{IfSome, Result, Ok, Err, OnOk, OnErr, Bool}
-use Rattle.std.specs.Result.{is_err}
+use Rattle.std.proofs.Common.{◌≡◌, ◌⊎◌, inl, inr, ◌≤◌, ℕ, false, List, [], ◌∷◌, ◌++◌, Option, Some, None, refl, sym, ap, subst, ◌∙◌, arith}
+use Rattle.std.specs.Prelude.{IfSome}
 use Rattle.std.specs.Option.{is_some}
 use Rattle.std.specs.declared.alloc.Global.{Global}
 use Rattle.st_core.specs.State.{State}
 use Rattle.st_core.specs.Step.{settle}
 use Rattle.st_journal.specs.declared.record.Record.{Record}
+use Rattle.st_journal.specs.Faults.{Rises}
 use Rattle.st_journal.specs.Replays.{Replays}
+use Rattle.st_journal.proofs.Rising.{rises_after}
+use Rattle.st_durable.specs.declared.loss.Loss.{Loss}
+use Rattle.st_durable.specs.declared.loss.Loss.TheVariants.{Disk}
 use Rattle.st_durable.specs.declared.pending.Pending.{Pending}
 use Rattle.st_durable.specs.Applying.{Applies}
-use Rattle.st_durable.specs.Keeping.{LeadTo, state_with}
+use Rattle.st_durable.specs.Keeping.{Keeping, LeadTo, state_with}
 use Rattle.st_durable.specs.inner.Sound.{IsNoted, IsSound}
 use Rattle.st_durable.proofs.Replaying.{one_more}
 
@@ -19,14 +22,27 @@ pub none_waits : (kept : State Global) (pending : Option Pending) → false ≡ 
 none_waits kept None e = refl
 none_waits kept (Some p) e = absurd (cc)
 
-module _ {J : Type 0} (list : J → List Record) (misreads : J → ℕ) (is_ready : J → Type 0) (may_leave : J → List Record → Type 0)
+-- where none was lost
+pub none_lost : {J : Type 0} (view now : Keeping J) → view ≡ now → is_some now.loss ≡ false → view.loss ≡ None
+none_lost {J = J} view now is sound = go view.loss (ap (λ (k : Keeping J). is_some k.loss) is ∙ sound)
+  where
+    go : (loss : Option Loss) → is_some loss ≡ false → loss ≡ None
+    go None e = refl
+    go (Some l) e = absurd (cc)
+
+module _ {J : Type 0} (list : J → List Record) (misreads faults : J → ℕ) (is_ready : J → Type 0) (may_leave : J → List Record → Type 0)
     (settled : (journal : J) (left : List Record) → misreads journal ≡ 0 → is_ready journal → may_leave journal left → left ≡ list journal)
-    (first : State Global) where
+    (first : State Global) (begun : ℕ) where
+  -- so it stands with its parts
+  abbrev Stands : State Global → J → Option Pending → Option Loss → Type 0
+  Stands kept journal pending loss =
+      IsSound list misreads faults is_ready may_leave first begun (record { kept = kept; journal = journal; pending = pending; loss = loss })
+
   -- a journal that takes records leaves its list
   pub working : (journal : J) (kept : State Global) (pending : Option Pending) → is_ready journal
-      → (misreads journal ≡ 0 → Replays Applies first (list journal) kept) → IfSome pending (IsNoted kept)
-      → IsSound list misreads is_ready may_leave first (record { kept = kept; journal = journal; pending = pending; failed = false })
-  working journal kept pending ready stands noted = record {
+      → (misreads journal ≡ 0 → Replays Applies first (list journal) kept) → IfSome pending (IsNoted kept) → begun ≤ faults journal
+      → Stands kept journal pending None
+  working journal kept pending ready stands noted grown = record {
     ready = λ _. ready;
     stands = λ _. stands;
     leaves = λ clean left leaves. record {
@@ -35,19 +51,18 @@ module _ {J : Type 0} (list : J → List Record) (misreads : J → ℕ) (is_read
       is = inl refl;
     };
     waits = noted;
+    grown = grown;
+    disk = λ clean lost. absurd (let e : None ≡ Some Disk = lost in cc);
   }
 
   -- with another change that waits
-  pub held : (journal : J) (kept : State Global) (before pending : Option Pending) (failed : Bool) → failed ≡ false
-      → IsSound list misreads is_ready may_leave first (record { kept = kept; journal = journal; pending = before; failed = failed })
-      → IfSome pending (IsNoted kept)
-      → IsSound list misreads is_ready may_leave first (record { kept = kept; journal = journal; pending = pending; failed = failed })
-  held journal kept before pending failed works sound noted =
-      subst (λ (f : Bool). IsSound list misreads is_ready may_leave first (record { kept = kept; journal = journal; pending = pending; failed = f }))
-      (sym works) (working journal kept pending (sound.ready works) (sound.stands works) noted)
+  pub held : (journal : J) (kept : State Global) (before pending : Option Pending) (loss : Option Loss) → loss ≡ None
+      → Stands kept journal before loss → IfSome pending (IsNoted kept) → Stands kept journal pending loss
+  held journal kept before pending loss works sound noted =
+      subst (Stands kept journal pending) (sym works) (working journal kept pending (sound.ready works) (sound.stands works) noted sound.grown)
 
-  module _ (old journal : J) (kept : State Global) (p : Pending) (fewer : misreads old ≤ misreads journal)
-      (stands : misreads old ≡ 0 → Replays Applies first (list old) kept) (noted : IsNoted kept p) where
+  module _ (old journal : J) (kept : State Global) (p : Pending) (fewer : misreads old ≤ misreads journal) (more : faults old ≤ faults journal)
+      (grown : begun ≤ faults old) (stands : misreads old ≡ 0 → Replays Applies first (list old) kept) (noted : IsNoted kept p) where
     was_clean : misreads journal ≡ 0 → misreads old ≡ 0
     was_clean clean = omega (arith, fewer, clean)
 
@@ -55,12 +70,13 @@ module _ {J : Type 0} (list : J → List Record) (misreads : J → ℕ) (is_read
     made : misreads journal ≡ 0 → Replays Applies first (list old ++ p.note ∷ []) (settle kept p.judged).state
     made clean = one_more Applies first kept (settle kept p.judged).state (list old) p.note (stands (was_clean clean)) noted.noted
 
-    pub is_kept : (store : State Global) → is_ready journal → (misreads journal ≡ 0 → list journal ≡ list old ++ p.note ∷ [])
-        → store ≡ (settle kept p.judged).state
-        → IsSound list misreads is_ready may_leave first (record { kept = store; journal = journal; pending = None; failed = false })
-    is_kept store ready appended is =
-        working journal store None ready (λ clean. subst (λ (s : State Global). Replays Applies first (list journal) s) (sym is)
+    pub is_kept : (store : State Global) (loss : Option Loss) → loss ≡ None → is_ready journal
+        → (misreads journal ≡ 0 → list journal ≡ list old ++ p.note ∷ []) → store ≡ (settle kept p.judged).state → Stands store journal None loss
+    is_kept store loss sound ready appended is =
+        subst (Stands store journal None) (sym sound) (working journal store None ready
+        (λ clean. subst (λ (s : State Global). Replays Applies first (list journal) s) (sym is)
         (subst (λ (l : List Record). Replays Applies first l (settle kept p.judged).state) (sym (appended clean)) (made clean))) tt
+        (omega (arith, grown, more)))
 
     left_by : misreads journal ≡ 0 → (left : List Record) → (left ≡ list old) ⊎ (left ≡ list old ++ p.note ∷ [])
         → LeadTo first kept (settle kept p.judged).state left
@@ -75,31 +91,17 @@ module _ {J : Type 0} (list : J → List Record) (misreads : J → ℕ) (is_read
       is = inr refl;
     }
 
-    pub is_lost : (misreads journal ≡ 0 → (left : List Record) → may_leave journal left → (left ≡ list old) ⊎ (left ≡ list old ++ p.note ∷ []))
-        → IsSound list misreads is_ready may_leave first (record { kept = kept; journal = journal; pending = Some p; failed = true })
-    is_lost crash = record {
-      ready = λ f. absurd (let e : true ≡ false = f in cc);
-      stands = λ f clean. absurd (let e : true ≡ false = f in cc);
-      leaves = λ clean left leaves. left_by clean left (crash clean left leaves);
-      waits = noted;
-    }
-
-    -- by what keeping the change came to
-    pub settled_lost : {T E : Type 0} (result : Result T E) (store : State Global) (pending : Option Pending) → pending ≡ Some p → true ≡ is_err result
-        → OnErr result (store ≡ kept)
+    pub is_lost : (loss : Loss) (store : State Global) (pending : Option Pending) → pending ≡ Some p → store ≡ kept
         → (misreads journal ≡ 0 → (left : List Record) → may_leave journal left → (left ≡ list old) ⊎ (left ≡ list old ++ p.note ∷ []))
-        → IsSound list misreads is_ready may_leave first (record { kept = store; journal = journal; pending = pending; failed = true })
-    settled_lost (Ok x) store pending is e unmade crash = absurd (cc)
-    settled_lost (Err x) store pending is e unmade crash =
-        subst (λ (s : State Global). IsSound list misreads is_ready may_leave first (record { kept = s; journal = journal; pending = pending; failed = true }))
-        (sym unmade) (subst (λ (o : Option Pending). IsSound list misreads is_ready may_leave first
-        (record { kept = kept; journal = journal; pending = o; failed = true })) (sym is) (is_lost crash))
-
-    pub settled_kept : {T E : Type 0} (result : Result T E) (store : State Global) (failed : Bool) → failed ≡ false → false ≡ is_err result
-        → OnOk result (is_ready journal) → OnOk result (misreads journal ≡ 0 → list journal ≡ list old ++ p.note ∷ [])
-        → OnOk result (store ≡ (settle kept p.judged).state)
-        → IsSound list misreads is_ready may_leave first (record { kept = store; journal = journal; pending = None; failed = failed })
-    settled_kept (Ok x) store failed sound e ready listed made =
-        subst (λ (f : Bool). IsSound list misreads is_ready may_leave first (record { kept = store; journal = journal; pending = None; failed = f }))
-        (sym sound) (is_kept store ready listed made)
-    settled_kept (Err x) store failed sound e ready listed made = absurd (cc)
+        → (misreads journal ≡ 0 → loss ≡ Disk → Rises (faults old) (faults journal)) → Stands store journal pending (Some loss)
+    is_lost loss store pending is unmade crash disk =
+        subst (λ (s : State Global). Stands s journal pending (Some loss)) (sym unmade)
+        (subst (λ (o : Option Pending). Stands kept journal o (Some loss)) (sym is) (record {
+          ready = λ none. absurd (let e : Some loss ≡ None = none in cc);
+          stands = λ none clean. absurd (let e : Some loss ≡ None = none in cc);
+          leaves = λ clean left leaves. left_by clean left (crash clean left leaves);
+          waits = noted;
+          grown = omega (arith, grown, more);
+          disk = λ clean lost. rises_after begun (faults old) (faults journal) grown
+              (disk clean (let e : Some loss ≡ Some Disk = lost in let is : loss ≡ Disk = cc in is));
+        }))

@@ -1,20 +1,21 @@
 -- A store whose changes are kept, and what is left of it if the process ends.
-use Rattle.std.specs.Prelude.{◌≡◌, ◌⊎◌, Bool, List, Option, Some, None}
+use Rattle.std.specs.Prelude.{◌≡◌, ◌⊎◌, List, Option, Some, None}
 use Rattle.std.specs.declared.alloc.Global.{Global}
 use Rattle.st_core.specs.State.{State}
 use Rattle.st_core.specs.Step.{settle}
 use Rattle.st_journal.specs.declared.record.Record.{Record}
 use Rattle.st_journal.specs.Replays.{Replays}
+use Rattle.st_durable.specs.declared.loss.Loss.{Loss}
 use Rattle.st_durable.specs.declared.pending.Pending.{Pending}
 use Rattle.st_durable.specs.Applying.{Applies}
 
--- The state after all changes that are kept, their journal, the change that was answered last, if it is not kept yet, and whether
--- one could not be kept.
+-- The state after all changes that are kept, their journal, the change that was answered last, if it is not kept yet, and why it was
+-- lost, if it was.
 pub record Keeping (J : Type 0) : Type 0 where
   pub kept : State Global
   pub journal : J
   pub pending : Option Pending
-  pub failed : Bool
+  pub loss : Option Loss
 
 -- the state after the pending change
 abbrev pub state_with : State Global → Option Pending → State Global

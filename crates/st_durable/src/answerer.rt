@@ -5,8 +5,9 @@ ghost use Rattle.st_service.specs.Answers.{Answers, RepliesTo, faulty};
 ghost use Rattle.st_service.specs.inner.Shown.{shown};
 
 use crate::answer::answer;
-use crate::beginning::Beginning;
+use crate::beginning::{Beginning, Since};
 use crate::keep::keep;
+use crate::loss::Loss;
 use crate::pending::Pending;
 use st_connection::Failed;
 use st_connection::replies::Replies;
@@ -20,38 +21,38 @@ use std::time::Clock;
 
 // A store, the journal of its changes, and the change that was answered last, until it is kept.
 #[derive(Drop)]
-pub(crate) struct Answerer<'a, B: Beginning, J: Journal + Drop, C: Clock> {
+pub(crate) struct Answerer<'a, B: Beginning + Since, J: Journal + Drop, C: Clock> {
     pub(crate) alloc: Global,
     pub(crate) clock: &'a C,
     pub(crate) store: Store,
     pub(crate) journal: J,
     pub(crate) pending: Option<Pending>,
-    pub(crate) failed: bool,
+    pub(crate) loss: Option<Loss>,
     pub(crate) beginning: PhantomData<B>,
 }
 
-impl<'a, B: Beginning, J: Journal + Drop, C: Clock> Model for Answerer<'a, B, J, C> {
+impl<'a, B: Beginning + Since, J: Journal + Drop, C: Clock> Model for Answerer<'a, B, J, C> {
     ghost use Rattle.st_durable.specs.Keeping.{Keeping};
     ghost use Rattle.st_durable.specs.inner.Sound.{IsSound};
 
     ghost Value = { Keeping J };
 
-    ghost view = { λ a. record { kept = a.store; journal = a.journal; pending = a.pending; failed = a.failed } };
+    ghost view = { λ a. record { kept = a.store; journal = a.journal; pending = a.pending; loss = a.loss } };
 
-    ghost invariant = { λ a. IsSound J.list J.misreads J.is_ready J.may_leave B.first
-        (record { kept = a.store; journal = a.journal; pending = a.pending; failed = a.failed }) };
+    ghost invariant = { λ a. IsSound J.list J.misreads J.faults J.is_ready J.may_leave B.first B.faults
+        (record { kept = a.store; journal = a.journal; pending = a.pending; loss = a.loss }) };
 }
 
-impl<'a, B: Beginning, J: Journal + Drop, C: Clock> Answerer<'a, B, J, C> {
+impl<'a, B: Beginning + Since, J: Journal + Drop, C: Clock> Answerer<'a, B, J, C> {
     // What is always true of it.
     pub(crate) fn show(&self)
-        ensures { IsSound J.list J.misreads J.is_ready J.may_leave B.first self.now }
+        ensures { IsSound J.list J.misreads J.faults J.is_ready J.may_leave B.first B.faults self.now }
     {
-        let _failed = self.failed;
+        let _loss = self.loss;
     }
 }
 
-impl<'a, B: Beginning, J: Journal + Drop, C: Clock> Replies for Answerer<'a, B, J, C> {
+impl<'a, B: Beginning + Since, J: Journal + Drop, C: Clock> Replies for Answerer<'a, B, J, C> {
     ghost use Rattle.std.specs.declared.alloc.Global.{Global};
     ghost use Rattle.st_core.specs.State.{State};
 
@@ -63,7 +64,9 @@ impl<'a, B: Beginning, J: Journal + Drop, C: Clock> Replies for Answerer<'a, B, 
 
     ghost kept = { λ a. a.kept };
 
-    ghost has_failed = { λ a. a.failed };
+    ghost use Rattle.std.specs.Prelude.{is_some};
+
+    ghost has_failed = { λ a. is_some a.loss };
 
     ghost answers = { Answers };
 
@@ -93,11 +96,15 @@ impl<'a, B: Beginning, J: Journal + Drop, C: Clock> Replies for Answerer<'a, B, 
         let Some(pending) = &self.pending else {
             return Ok(());
         };
-        if keep(&mut self.store, &mut self.journal, pending).is_err() {
-            self.failed = true;
-            return Err(Failed);
+        match keep(&mut self.store, &mut self.journal, pending) {
+            Ok(()) => {
+                self.pending = None;
+                Ok(())
+            }
+            Err(loss) => {
+                self.loss = Some(loss);
+                Err(Failed)
+            }
         }
-        self.pending = None;
-        Ok(())
     }
 }

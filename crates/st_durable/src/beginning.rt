@@ -15,3 +15,14 @@ impl Beginning for Brand {
 
     ghost first = { first_state [] [] };
 }
+
+/// How often the disk of a journal had failed or refused when a service took it. Each call of a program picks it.
+pub trait Since {
+    ghost use Rattle.std.specs.Prelude.{ℕ};
+
+    ghost faults: { ℕ };
+}
+
+impl Since for Brand {
+    ghost faults = { 0 };
+}

@@ -1,6 +1,7 @@
 //! A service whose changes are kept before they are answered.
-ghost use Rattle.std.specs.Prelude.{◌≡◌, ◌≢◌, false, None, Ok, List, IfOk};
+ghost use Rattle.std.specs.Prelude.{◌≡◌, ◌≢◌, ◌≤◌, false, None, Some, Ok, List, IfOk, is_some};
 ghost use Rattle.st_journal.specs.declared.record.Record.{Record};
+ghost use Rattle.st_journal.specs.Faults.{Rises};
 ghost use Rattle.st_journal.specs.Replays.{Replays};
 ghost use Rattle.st_service.specs.Answers.{Answers};
 ghost use Rattle.st_connection.specs.Connection.{EndsOn, KeptUnlessLost, ServedWithin};
@@ -8,7 +9,8 @@ ghost use Rattle.st_durable.specs.Applying.{Applies};
 ghost use Rattle.st_durable.specs.Keeping.{LeadTo, answered};
 
 use crate::answerer::Answerer;
-use crate::beginning::Beginning;
+use crate::beginning::{Beginning, Since};
+use crate::loss::Loss;
 use st_connection::Server;
 use st_connection::connection::{Ended, IoFault, MAX_READS};
 use st_connection::streams::{Sink, Source};
@@ -20,18 +22,18 @@ use std::time::Clock;
 
 /// A store that is asked over connections, one after another, and a journal of its changes. Each change whose token holds, made or
 /// refused, is in the journal before a byte of its answer is written.
-pub struct DurableService<'a, B: Beginning, J: Journal + Drop, C: Clock> {
+pub struct DurableService<'a, B: Beginning + Since, J: Journal + Drop, C: Clock> {
     server: Server<Answerer<'a, B, J, C>>,
 }
 
 // Written out, and not derived: a derived drop is proved anew in each crate that owns such a service.
-impl<'a, B: Beginning, J: Journal + Drop, C: Clock> Drop for DurableService<'a, B, J, C> {
+impl<'a, B: Beginning + Since, J: Journal + Drop, C: Clock> Drop for DurableService<'a, B, J, C> {
     fn drop(self) {
         let Self { server: _server } = self;
     }
 }
 
-impl<'a, B: Beginning, J: Journal + Drop, C: Clock> Model for DurableService<'a, B, J, C> {
+impl<'a, B: Beginning + Since, J: Journal + Drop, C: Clock> Model for DurableService<'a, B, J, C> {
     ghost use Rattle.st_durable.specs.Keeping.{Keeping};
 
     ghost Value = { Keeping J };
@@ -39,7 +41,7 @@ impl<'a, B: Beginning, J: Journal + Drop, C: Clock> Model for DurableService<'a,
     ghost view = { λ s. s.server };
 }
 
-impl<'a, B: Beginning, J: Journal + Drop, C: Clock> DurableService<'a, B, J, C> {
+impl<'a, B: Beginning + Since, J: Journal + Drop, C: Clock> DurableService<'a, B, J, C> {
     /// A service over a store, which is that after the changes of the journal. The clock tells the times of the records.
     pub fn new(
         alloc: Global,
@@ -49,7 +51,8 @@ impl<'a, B: Beginning, J: Journal + Drop, C: Clock> DurableService<'a, B, J, C> 
     ) -> Result<DurableService<'a, B, J, C>, AllocError>
         requires ready { J.is_ready journal }
         requires stands { J.misreads journal ≡ 0 → Replays Applies B.first (J.list journal) store }
-        ensures { IfOk result (λ service. service ≡ record { kept = store; journal = journal; pending = None; failed = false }) }
+        requires counts { B.faults ≤ J.faults journal }
+        ensures { IfOk result (λ service. service ≡ record { kept = store; journal = journal; pending = None; loss = None }) }
     {
         let answerer = Answerer {
             alloc,
@@ -57,7 +60,7 @@ impl<'a, B: Beginning, J: Journal + Drop, C: Clock> DurableService<'a, B, J, C> 
             store,
             journal,
             pending: None,
-            failed: false,
+            loss: None,
             beginning: PhantomData,
         };
         let server = Server::new(alloc, alloc, answerer)?;
@@ -66,19 +69,20 @@ impl<'a, B: Beginning, J: Journal + Drop, C: Clock> DurableService<'a, B, J, C> 
 
     /// Serves a connection: answers each message that the reader gives, in order, before it reads on, and says how the connection
     /// ended. `Lost` comes where a change was not kept, or may not have been, or was kept and found no memory to be made: it is not
-    /// answered, the next opening of the journal decides, and this service takes no more connections.
+    /// answered, the next opening of the journal decides, and this service takes no more connections. Then `loss` says why.
     pub fn serve<R: Source, W: Sink>(
         &mut self,
         reader: &mut R,
         writer: &mut W,
     ) -> Result<Ended, IoFault>
         requires settled { self.old.kept ≡ answered self.old }
-        requires sound { self.old.failed ≡ false }
+        requires sound { self.old.loss ≡ None }
         requires reader_sound { R.has_failed reader.old ≡ false }
         requires writer_sound { W.has_failed writer.old ≡ false }
         ensures served { ServedWithin Answers 0 self.old.kept (answered self.new) self.new.kept
             (R.left reader.old) (R.left reader.new) (W.held writer.old) (W.held writer.new) (R.has_failed reader.new) result }
-        ensures kept { KeptUnlessLost self.new.kept (answered self.new) self.new.failed result }
+        ensures kept { KeptUnlessLost self.new.kept (answered self.new) (is_some self.new.loss) result }
+        ensures disk { J.misreads self.new.journal ≡ 0 → self.new.loss ≡ Some Loss.Disk → Rises B.faults (J.faults self.new.journal) }
         ensures stands { result ≢ Ok Ended.Lost → J.misreads self.new.journal ≡ 0
             → Replays Applies B.first (J.list self.new.journal) self.new.kept }
         // A crash inside the call is a journal, a reader or a writer that fails from some moment on.
@@ -90,5 +94,11 @@ impl<'a, B: Beginning, J: Journal + Drop, C: Clock> DurableService<'a, B, J, C> 
         let ended = self.server.serve(reader, writer);
         self.server.answerer().show();
         ended
+    }
+    /// Why a change was lost, if one was.
+    pub fn loss(&self) -> Option<Loss>
+        ensures { result ≡ self.now.loss }
+    {
+        self.server.answerer().loss
     }
 }

@@ -9,15 +9,17 @@ mod durable;
 mod judged;
 mod keep;
 pub mod law;
+mod loss;
 mod noted;
 mod pending;
 mod recorded;
 mod replayed;
 mod settled;
 
-pub use beginning::Beginning;
+pub use beginning::{Beginning, Since};
 pub use copies::ReplayedCopies;
 pub use durable::DurableService;
 pub use judged::note;
+pub use loss::Loss;
 pub use pending::Pending;
 pub use replayed::ReplayedStore;

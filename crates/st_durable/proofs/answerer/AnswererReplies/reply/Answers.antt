@@ -1,10 +1,10 @@
-use Rattle.std.proofs.Common.{◌≡◌, ◌∙◌, false, sym, subst}
+use Rattle.std.proofs.Common.{◌≡◌, ◌∙◌, sym, subst}
 use Rattle.std.specs.declared.alloc.Global.{Global}
 use Rattle.st_core.specs.State.{State}
 use Rattle.st_service.specs.Answers.{RepliesTo}
 use Rattle.st_service.specs.Bytes.{bytes_of}
 use Rattle.st_durable.specs.Keeping.{answered, state_with}
-use Rattle.st_durable.proofs.Settling.{held, none_waits}
+use Rattle.st_durable.proofs.Settling.{held, none_lost, none_waits}
 use Rattle.st_durable.proofs.answerer.AnswererReplies.reply.Goals as goal
 
 pub returns-in-Some-clause-answered : goal.returns-in-Some-clause-answered
@@ -12,9 +12,10 @@ returns-in-Some-clause-answered g c = c.in-Some.ensures.told (answered c.args.se
 
 pub invariant_of-self : goal.invariant_of-self
 invariant_of-self g c =
-    let works : c.self.inside.failed ≡ false = cc (c.requires, c.self.view_is) in
-    held g.J.Journal.list g.J.Journal.misreads g.J.Journal.is_ready g.J.Journal.may_leave g.met.J.Journal.settled g.B.Beginning.first
-    c.self.inside.journal c.self.inside.store c.self.inside.pending c.answer-answer.result.1 c.self.inside.failed works c.self.invariant
+    let j = g.J.Journal in
+    let works = none_lost _ _ c.self.view_is c.requires in
+    held j.list j.misreads j.faults j.is_ready j.may_leave g.met.J.Journal.settled g.B.Beginning.first g.B.Since.faults
+    c.self.inside.journal c.self.inside.store c.self.inside.pending c.answer-answer.result.1 c.self.inside.loss works c.self.invariant
     c.answer-answer.ensures.noted
 
 pub returns-clause-answered : goal.returns-clause-answered

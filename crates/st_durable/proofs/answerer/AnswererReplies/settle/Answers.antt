@@ -1,24 +1,27 @@
-use Rattle.std.proofs.Common.{◌≡◌, Option, false, subst}
+use Rattle.std.proofs.Common.{Option, subst}
 use Rattle.std.specs.Prelude.{IfSome}
 use Rattle.st_durable.specs.declared.pending.Pending.{Pending}
 use Rattle.st_durable.specs.inner.Sound.{IsNoted}
-use Rattle.st_durable.proofs.Settling.{settled_kept, settled_lost}
+use Rattle.st_durable.proofs.Settling.{none_lost, is_kept, is_lost}
 use Rattle.st_durable.proofs.answerer.AnswererReplies.settle.Goals as goal
 
 pub invariant_of-self : goal.invariant_of-self
 invariant_of-self g c =
-    let sound : c.self.inside.failed ≡ false = cc (c.requires, c.self.view_is) in
-    let noted = subst (λ (o : Option Pending). IfSome o (IsNoted c.self.inside.store)) c.in-Some.is c.self.invariant.waits in
-    let kept = c.keep.ensures in
-    settled_lost g.J.Journal.list g.J.Journal.misreads g.J.Journal.is_ready g.J.Journal.may_leave g.met.J.Journal.settled g.B.Beginning.first
-    c.self.inside.journal c.keep.new.journal c.self.inside.store c.in-Some.pending kept.misreads (c.self.invariant.stands sound) noted
-    c.keep.result c.keep.new.store c.self.inside.pending c.in-Some.is c.if-is_err.ensures.value kept.unmade kept.crash
+    let j = g.J.Journal in
+    let had = c.self.inside in
+    let sound = none_lost _ _ c.self.view_is c.requires in
+    let noted = subst (λ (o : Option Pending). IfSome o (IsNoted had.store)) c.in-Some.is c.self.invariant.waits in
+    is_kept j.list j.misreads j.faults j.is_ready j.may_leave g.met.J.Journal.settled g.B.Beginning.first g.B.Since.faults
+    had.journal c.keep.new.journal had.store c.in-Some.pending c.keep.ensures.misreads c.keep.ensures.counts c.self.invariant.grown
+    (c.self.invariant.stands sound) noted c.keep.new.store had.loss sound c.in-Ok.ensures.ready c.in-Ok.ensures.list c.in-Ok.ensures.made
 
-pub invariant_of-self-2 : goal.invariant_of-self-2
-invariant_of-self-2 g c =
-    let sound : c.self.inside.failed ≡ false = cc (c.requires, c.self.view_is) in
-    let noted = subst (λ (o : Option Pending). IfSome o (IsNoted c.self.inside.store)) c.in-Some.is c.self.invariant.waits in
-    let kept = c.keep.ensures in
-    settled_kept g.J.Journal.list g.J.Journal.misreads g.J.Journal.is_ready g.J.Journal.may_leave g.met.J.Journal.settled g.B.Beginning.first
-    c.self.inside.journal c.keep.new.journal c.self.inside.store c.in-Some.pending kept.misreads (c.self.invariant.stands sound) noted
-    c.keep.result c.keep.new.store c.self.inside.failed sound c.if-is_err.ensures.value kept.ready kept.list kept.made
+pub invariant_of-self-in-Err : goal.invariant_of-self-in-Err
+invariant_of-self-in-Err g c =
+    let j = g.J.Journal in
+    let had = c.self.inside in
+    let sound = none_lost _ _ c.self.view_is c.requires in
+    let noted = subst (λ (o : Option Pending). IfSome o (IsNoted had.store)) c.in-Some.is c.self.invariant.waits in
+    is_lost j.list j.misreads j.faults j.is_ready j.may_leave g.met.J.Journal.settled g.B.Beginning.first g.B.Since.faults
+    had.journal c.keep.new.journal had.store c.in-Some.pending c.keep.ensures.misreads c.keep.ensures.counts c.self.invariant.grown
+    (c.self.invariant.stands sound) noted c.in-Err.loss c.keep.new.store had.pending c.in-Some.is c.in-Err.ensures.unmade c.keep.ensures.crash
+    (λ clean disk. c.in-Err.ensures.disk clean (cc (disk)))
