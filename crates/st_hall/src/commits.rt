@@ -105,8 +105,7 @@ pub trait Commits<H: HallName> {
     fn has_failed<W: Wait>(&self, rt: &W) -> bool
         ensures { result ≡ true → fails };
 
-    /// The whole list, once all desks of the hall are back: it is as long as receipts were got with them, so each of its changes was
-    /// counted at one of them.
+    /// The whole list, once all desks of the hall are back. It is as long as receipts were got with them.
     fn whole<W: Wait>(&self, rt: &W, desks: &mut [Desk<H>]) -> Front<H>
         requires all { (length desks.old ≡ H.parts) × (0 < H.parts) }
         ensures counted { length result ≡ receipts desks.old }

@@ -18,10 +18,6 @@ pub enum AppendError {
 }
 
 /// Keeps the records of changes, in order, so that they outlast a crash.
-///
-/// A journal that several processes share can be one too: its list is what this process has been given of the shared one,
-/// and `NotKept` says that another process came first, which is a refusal, so that its records have to be taken before the append is
-/// tried again.
 pub trait Journal {
     // The records that are kept.
     ghost list: { Self → List Record };

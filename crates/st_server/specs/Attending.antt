@@ -30,7 +30,7 @@ held_back = 16384
 abbrev pub desk_of : {T : Type 0} → (T → Standing) → Worked T → Seat
 desk_of standing worker = (standing worker.attendant).post.seat
 
--- All that was seen at the desks of these workers is of one list of changes, and each of its changes was counted at one of the desks.
+-- All that was seen at the desks of these workers is of one list of changes, which is as long as receipts were got at the desks.
 pub record HaveOneList {T : Type 0} (standing : T → Standing) (workers : List (Worked T)) (list : List Ask) : Type 0 where
   pub seen : All (λ worker. IsPrefix (desk_of standing worker).seen list) workers
   pub counted : length list ≡ sum_by (λ worker. (desk_of standing worker).made) workers
