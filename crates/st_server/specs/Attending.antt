@@ -1,5 +1,5 @@
 -- What the workers of a server did.
-use Rattle.std.specs.Prelude.{◌≡◌, ◌⊎◌, ◌<◌, ◌+◌, ℕ, false, Option, Some, Result, Err, List, [], All, OnOk, length, slice_index_or, sum_by}
+use Rattle.std.specs.Prelude.{◌≡◌, ◌⊎◌, ◌<◌, ◌+◌, ⊤, ℕ, false, Option, Some, Result, Err, List, [], All, OnOk, length, slice_index_or, sum_by}
 use mathlib.Core.List.{IsPrefix}
 use Rattle.st_peer.specs.Meeting.{Call, Serving}
 use Rattle.st_workers.specs.Working.{WorkedEach}
@@ -35,21 +35,22 @@ pub record HaveOneList {T : Type 0} (standing : T → Standing) (workers : List 
   pub seen : All (λ worker. IsPrefix (desk_of standing worker).seen list) workers
   pub counted : length list ≡ sum_by (λ worker. (desk_of standing worker).made) workers
 
--- Each of these attendants met its clients, by one list of changes.
-pub record WorkedAsOne {T P : Type 0} (serves : Serving T) (call : P → Call) (standing : T → Standing) (attendants : List T)
-    (workers : List (Worked T)) : Type 0 where
+-- Each of these attendants met its clients, by one list of changes, of which this holds.
+pub record WorkedAsOne {T P : Type 0} (holds : List Ask → Type 0) (serves : Serving T) (call : P → Call) (standing : T → Standing)
+    (attendants : List T) (workers : List (Worked T)) : Type 0 where
   pub each : WorkedEach serves call attendants workers
   pub list : List Ask
   pub one : HaveOneList standing workers list
+  pub is : holds list
 
--- What the workers of these attendants did in a run that ended so. A run that ends well met as many clients as it was to meet. At another
--- end than that, or a lost store, it may not be known what they did.
-pub record AttendsFrom {T P : Type 0} (serves : Serving T) (call : P → Call) (standing : T → Standing) (attendants : List T)
-    (connections : Option ℕ) (ended : Result Unit Fault) : Type 0 where
+-- What the workers of these attendants did in a run that ended so. A run that ends well met as many clients as it was to meet, and all
+-- changes were kept. At another end than that, or a lost store, it may not be known what they did.
+pub record AttendsFrom {T P : Type 0} (serves : Serving T) (call : P → Call) (standing : T → Standing) (keeps : List Ask → Type 0)
+    (attendants : List T) (connections : Option ℕ) (ended : Result Unit Fault) : Type 0 where
   pub workers : List (Worked T)
   pub each : (workers ≡ []) ⊎ WorkedEach serves call attendants workers
-  pub ok : OnOk ended (WorkedAsOne serves call standing attendants workers)
-  pub lost : ended ≡ Err StoreLost → WorkedAsOne serves call standing attendants workers
+  pub ok : OnOk ended (WorkedAsOne keeps serves call standing attendants workers)
+  pub lost : ended ≡ Err StoreLost → WorkedAsOne (λ list. ⊤) serves call standing attendants workers
   pub number : OnOk ended (connections ≡ Some (sum_by (λ w. w.count) workers))
 
 -- The same of a hall: each worker is a station of it.
@@ -57,4 +58,4 @@ pub record Attends {P : Type 0} (call : P → Call) (start : State) (keeps : Lis
     (ended : Result Unit Fault) : Type 0 where
   pub stations : List Standing
   pub new : AreNew stations
-  pub attends : AttendsFrom (ServesKept start keeps hold) call (λ station. station) stations connections ended
+  pub attends : AttendsFrom (ServesKept start keeps hold) call (λ station. station) keeps stations connections ended

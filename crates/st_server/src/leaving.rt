@@ -1,6 +1,5 @@
 //! What the stations of a hall leave, once they serve no more.
-ghost use Rattle.std.specs.Prelude.{◌≡◌, ◌<◌, IfOk, List, OnOk, length, map};
-ghost use Rattle.st_hall.specs.Steps.{Ask};
+ghost use Rattle.std.specs.Prelude.{◌≡◌, ◌<◌, IfOk, length, map};
 ghost use Rattle.st_server.specs.Attending.{HaveOneList, desk_of};
 
 use st_hall::law::one_list;
@@ -46,16 +45,16 @@ fn fronts_of<H: HallName>(alloc: Global, desks: &[Desk<H>]) -> Result<Vec<Front<
     Ok(fronts)
 }
 
-/// Takes the desks back, and sees that all that was seen there is of one list, as long as changes were counted there. That it is not
-/// so never comes.
+/// Takes the desks back, and gives the one list of which all is that was seen there. It is as long as changes were counted there. That
+/// it is not so never comes.
 pub(crate) fn join_lists<H: HallName, M: Commits<H>, T: AtDesk<H> + Drop, W: Wait>(
     rt: &W,
     alloc: Global,
     hall: &M,
     workers: Vec<Worked<T>>,
-) -> Result<(), AllocError>
+) -> Result<Front<H>, AllocError>
     requires { (length workers.items ≡ H.parts) × (0 < H.parts) }
-    ensures { OnOk result ((list : List Ask) × HaveOneList T.standing workers.items list) }
+    ensures { IfOk result (HaveOneList T.standing workers.items) }
 {
     let mut desks = desks_of(alloc, workers)?;
     let still = desks.as_slice();
@@ -64,7 +63,7 @@ pub(crate) fn join_lists<H: HallName, M: Commits<H>, T: AtDesk<H> + Drop, W: Wai
     let seen = fronts.as_slice();
     let longest = one_list(&list, seen);
     if longest.len() == list.len() {
-        Ok(())
+        Ok(list)
     } else {
         Err(AllocError)
     }

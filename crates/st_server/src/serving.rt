@@ -37,7 +37,8 @@ fn why_lost<H: HallName, M: Commits<H>, R: Wait>(rt: &R, hall: &M) -> Fault
     }
 }
 
-// Tells that the server listens, serves connections, and tells how many were served, or that the store is lost.
+// Tells that the server listens, serves connections, sees that all changes are kept, and tells how many were served, or that the store
+// is lost.
 fn announce<
     H: HallName,
     M: Commits<H>,
@@ -67,7 +68,7 @@ fn announce<
     requires { (length attendants.items ≡ H.parts) × (0 < H.parts) }
     ensures told { TellsKept (place_text said.now.place) said.now.connections (O.contents output.old) (O.contents output.new) result }
     ensures failed { result ≡ Err StoreLost → M.fails }
-    ensures attended { AttendsFrom T.Attend.serves C.call T.AtDesk.standing attendants.items said.now.connections result }
+    ensures attended { AttendsFrom T.Attend.serves C.call T.AtDesk.standing M.keeps attendants.items said.now.connections result }
 {
     let listener: N = match begin(rt, alloc, said, output) {
         Ok(listener) => listener,
@@ -84,11 +85,16 @@ fn announce<
         let Err(fault) = ended else { unreachable!() };
         return Err(fault);
     }
-    join_lists::<H, M, T, R>(rt, alloc, hall, workers)?;
+    let list = join_lists::<H, M, T, R>(rt, alloc, hall, workers)?;
     if hall.is_lost() {
         return Err(why_lost(rt, hall));
     }
-    tell(alloc, output, "served", ended?)
+    let number = ended?;
+    let settled = hall.settle(rt, &list);
+    if settled.is_err() {
+        return Err(why_lost(rt, hall));
+    }
+    tell(alloc, output, "served", number)
 }
 
 // Serves at the desks of a hall that was just opened, by a station each, as the words say. A copy follows the list where one is wanted.

@@ -16,4 +16,4 @@ returns-then-len g c =
     let same : length longest ≡ length list = search rules in
     let others = subst (λ (all : List (List Ask)). All (λ (front : List Ask). IsPrefix front longest) all) c.as_slice-seen.ensures.value
     c.one_list-longest.ensures.others in
-    (list, joined g.T.AtDesk.standing c.args.workers.items desks fronts list longest c.in_ok-desks.ensures counted seen c.one_list-longest.ensures.first same others)
+    joined g.T.AtDesk.standing c.args.workers.items desks fronts list longest c.in_ok-desks.ensures counted seen c.one_list-longest.ensures.first same others

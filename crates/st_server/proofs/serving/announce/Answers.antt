@@ -18,7 +18,7 @@ returns-in-Err-clause-failed g c = λ lost.
 pub returns-clause-told : goal.returns-clause-told
 returns-clause-told g c =
     let said = c.args.said.now in
-    let ok : said.connections ≡ Some c.in_ok-ended.field-0 = search rules in
+    let ok : said.connections ≡ Some c.in_ok-number.number = search rules in
     widened (place_text said.place) said.connections (g.O.Write.contents c.args.output.now) (g.O.Write.contents c.tell.new.output) c.tell.result
     (all_told (place_text said.place) _ said.connections (g.O.Write.contents c.args.output.now) (g.O.Write.contents c.begin.new.output)
     (g.O.Write.contents c.tell.new.output) c.tell.result c.in-Ok.ensures.ok ok c.tell.ensures.ok c.tell.ensures.err)
@@ -26,6 +26,6 @@ returns-clause-told g c =
 pub returns-in-Err-clause-attended : goal.returns-in-Err-clause-attended
 returns-in-Err-clause-attended g c =
     let said = c.args.said.now in
-    idle _ _ _ _ _ c.in-Err.fault (λ lost.
+    idle _ _ _ _ _ _ c.in-Err.fault (λ lost.
     not_lost (place_text said.place) said.connections (g.O.Write.contents c.args.output.now) (g.O.Write.contents c.begin.new.output) (Err c.in-Err.fault)
     c.in-Err.ensures.err (ap Err lost))
