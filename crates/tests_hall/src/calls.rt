@@ -75,9 +75,8 @@ pub fn are_calls<H: HallName, M: Commits<H>, W: Wait>(
         answered: AtomicU64::new(0),
         gave_up: AtomicU64::new(0),
     };
-    let told = answered(rt, alloc, hall, desk, (NUMBER, &gate), (INPUT, INPUT.len()));
-    let (_, written) = told?;
-    let is_told = written.as_slice() == OUTPUT && gate.answered.load(SeqCst) == 12_345;
+    let told = answered(rt, alloc, hall, desk, (NUMBER, &gate), (INPUT, usize::MAX));
+    let is_told = told?.written.as_slice() == OUTPUT && gate.answered.load(SeqCst) == 12_345;
     let (asked, gave_up) = if opens { (3, 0) } else { (30_000, 245) };
     let are_asked = gate.asked.load(SeqCst) == asked && gate.gave_up.load(SeqCst) == gave_up;
     Some(is_told && are_asked)

@@ -3,7 +3,7 @@ ghost use Rattle.std.specs.Prelude.{◌≡◌};
 
 use crate::asks::{entries, rows};
 use crate::opened::{Question, is_right};
-use crate::puts::{Sending, made_by_all, told_by_all};
+use crate::puts::{Sending, made_by_all, receipts, told_by_all};
 use st_hall::{Commits, Desk, HallName};
 use std::alloc::Global;
 use std::sync::Wait;
@@ -12,7 +12,7 @@ use std::thread::Threads;
 
 const EACH: u8 = 100;
 
-// How many changes are told to be made, and the rows and the entries that a further desk then tells.
+// How many changes are told to be made, the receipts, and the rows and the entries that a further desk then tells.
 fn found<H: HallName + Send + Sync, M: Commits<H> + Sync, R: Threads + Wait + Sync>(
     rt: &R,
     alloc: Global,
@@ -20,15 +20,17 @@ fn found<H: HallName + Send + Sync, M: Commits<H> + Sync, R: Threads + Wait + Sy
     mut last: Desk<H>,
     desks: Vec<Desk<H>>,
     sending: Sending,
-) -> Option<[u64; 3]> {
+) -> Option<[u64; 4]> {
     let told = told_by_all(rt, alloc, hall, desks, sending);
     let rows = rows(alloc, &mut last);
     let entries = entries(&mut last);
     drop(last);
-    Some([made_by_all(told?.as_slice()), rows?, entries?])
+    let told = told?;
+    let all = told.as_slice();
+    Some([made_by_all(all), receipts(all), rows?, entries?])
 }
 
-/// Whether a hundred puts at each of these desks are told and listed once by a further desk. Each puts rows of its own, or all put one.
+/// Whether a hundred puts at each of these desks are told, and listed once by a further desk. Each puts rows of its own, or all put one.
 pub fn are_listed_once<H: HallName + Send + Sync, M: Commits<H> + Sync, R: Threads + Wait + Sync>(
     rt: &R,
     alloc: Global,
@@ -43,7 +45,7 @@ pub fn are_listed_once<H: HallName + Send + Sync, M: Commits<H> + Sync, R: Threa
     } else {
         (Sending::Equal(EACH), 1)
     };
-    Some(found(rt, alloc, hall, last, desks, sending)? == [all, rows, all])
+    Some(found(rt, alloc, hall, last, desks, sending)? == [all, all, rows, all])
 }
 
 #[test]

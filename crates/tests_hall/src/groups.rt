@@ -21,25 +21,19 @@ fn are_kept(found: Option<Found>, workers: u64, most: u64) -> bool {
 
 #[test]
 fn each_put_of_one_desk_is_kept_by_an_append_of_its_own(rt: HostRuntime) {
-    assert!(rt; are_kept(found(&rt, rt.alloc(), (1, 1000), Sending::Own(EACH)), 1, 50));
+    assert!(rt; are_kept(found(&rt, rt.alloc(), 1, 1000, Sending::Own(EACH)), 1, 50));
 }
 
 #[test]
 fn puts_of_eight_threads_are_kept_once_and_in_order_by_fewer_appends(rt: HostRuntime) {
-    assert!(rt;
-        are_kept(
-            found(&rt, rt.alloc(), (8, 1000), Sending::Own(EACH)),
-            8,
-            200
-        )
-    );
+    assert!(rt; are_kept(found(&rt, rt.alloc(), 8, 1000, Sending::Own(EACH)), 8, 200));
 }
 
 #[test]
 fn most_puts_of_sixteen_threads_are_kept_by_the_append_of_another_one(rt: HostRuntime) {
     assert!(rt;
         are_kept(
-            found(&rt, rt.alloc(), (16, 1000), Sending::Own(EACH)),
+            found(&rt, rt.alloc(), 16, 1000, Sending::Own(EACH)),
             16,
             160
         )
@@ -56,5 +50,5 @@ fn are_told_what_is_kept(found: Option<Found>) -> bool {
 
 #[test]
 fn nobody_is_told_of_what_was_lost(rt: HostRuntime) {
-    assert!(rt; are_told_what_is_kept(found(&rt, rt.alloc(), (8, 3), Sending::Own(EACH))));
+    assert!(rt; are_told_what_is_kept(found(&rt, rt.alloc(), 8, 3, Sending::Own(EACH))));
 }

@@ -82,7 +82,8 @@ fn found_by<
     alloc: Global,
     name: UnnamedFor,
     both: (Store, Store),
-    (workers, limit): (u16, u64),
+    workers: u16,
+    limit: u64,
     sending: Sending,
 ) -> Option<Found>
     requires named { (name.seen.book ≡ H.book) × (name.blank.name ≡ H.name) }
@@ -109,12 +110,13 @@ fn found_by<
 pub fn found<R: Threads + Wait + Clock + Sync>(
     rt: &R,
     alloc: Global,
-    (workers, limit): (u16, u64),
+    workers: u16,
+    limit: u64,
     sending: Sending,
 ) -> Option<Found>
     requires { 0 < workers }
 {
     let both = stores(alloc)?;
     let name = UnnamedFor::of(workers);
-    found_by::<Brand, Brand, _>(rt, alloc, name, both, (workers, limit), sending)
+    found_by::<Brand, Brand, _>(rt, alloc, name, both, workers, limit, sending)
 }

@@ -28,6 +28,8 @@ mod puts;
 #[cfg(test)]
 mod stations;
 #[cfg(test)]
+mod strangers;
+#[cfg(test)]
 mod taken_back;
 #[cfg(test)]
 mod workers;

@@ -6,6 +6,7 @@ use crate::clerks::{Shared, Way};
 use crate::desks::are_listed_once;
 use crate::halls::stores;
 use crate::pending::are_shown_together;
+use crate::strangers::is_in_no_list;
 use crate::taken_back::{is_made, is_told};
 use crate::workers::are_told_meanwhile;
 use st_core::Store;
@@ -27,6 +28,8 @@ pub enum Question {
     Puts(bool),
     /// Whether two reads are answered while the clerk is held.
     Reads,
+    /// Whether a stranger is refused and in no list.
+    Stranger,
     /// Whether a user is made in this way.
     User(Way),
     /// Whether a user is made by a message.
@@ -45,6 +48,7 @@ fn is_so<
         Question::Pending => are_shown_together(rt, alloc, hall, &mut desk, desks.first_mut()?),
         Question::Puts(is_own) => are_listed_once(rt, alloc, hall, desk, desks, is_own),
         Question::Reads => are_told_meanwhile(rt, alloc, hall, desk, desks.pop()?),
+        Question::Stranger => is_in_no_list(rt, alloc, hall, desk),
         Question::User(way) => is_made(rt, alloc, hall, &mut desk, way),
         Question::Message => is_told(rt, alloc, hall, desk),
     }

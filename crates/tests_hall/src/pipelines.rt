@@ -12,16 +12,19 @@ const TOGETHER: u8 = 50;
 // Whether a client was told of all puts, and that the count saw them.
 fn is_counted(told: &Option<Told>) -> bool {
     match told {
-        Some((Ended::Clean, written)) => written.as_slice().ends_with(b"{\"count\":50}"),
-        _ => false,
+        Some(told) => {
+            let is_counted = told.written.as_slice().ends_with(b"{\"count\":50}");
+            told.ended == Ended::Clean && is_counted
+        }
+        None => false,
     }
 }
 
 // Whether a client was told nothing, since nothing was kept.
 fn is_lost(told: &Option<Told>) -> bool {
     match told {
-        Some((Ended::Lost, written)) => written.is_empty(),
-        _ => false,
+        Some(told) => told.ended == Ended::Lost && told.written.is_empty(),
+        None => false,
     }
 }
 
@@ -43,10 +46,10 @@ fn are_lost(found: Option<Found>) -> bool {
 
 #[test]
 fn puts_that_are_sent_together_are_kept_by_one_append(rt: HostRuntime) {
-    assert!(rt; are_counted(found(&rt, rt.alloc(), (1, 1000), Sending::Together(TOGETHER))));
+    assert!(rt; are_counted(found(&rt, rt.alloc(), 1, 1000, Sending::Together(TOGETHER))));
 }
 
 #[test]
 fn nothing_is_told_of_puts_that_were_lost(rt: HostRuntime) {
-    assert!(rt; are_lost(found(&rt, rt.alloc(), (1, 0), Sending::Together(TOGETHER))));
+    assert!(rt; are_lost(found(&rt, rt.alloc(), 1, 0, Sending::Together(TOGETHER))));
 }

@@ -106,7 +106,7 @@ fn told_at<H: HallName, M: Commits<H>, W: Wait>(
     }
 }
 
-/// What the client at each desk is told, each by a thread of its own.
+/// What comes of a connection at each desk, each at a thread of its own.
 pub fn told_by_all<H: HallName + Send + Sync, M: Commits<H> + Sync, R: Threads + Wait + Sync>(
     rt: &R,
     alloc: Global,
@@ -125,12 +125,13 @@ pub fn told_by_all<H: HallName + Send + Sync, M: Commits<H> + Sync, R: Threads +
 
 // How many changes a client was told to be made.
 fn made_in(told: &Option<Told>) -> u64 {
+    let Some(told) = told else {
+        return 0;
+    };
     let mut made = 0u64;
-    if let Some((_, written)) = told {
-        for answer in written.as_slice().chunks(MADE.len()) {
-            if answer == MADE {
-                made = made.saturating_add(1);
-            }
+    for answer in told.written.as_slice().chunks(MADE.len()) {
+        if answer == MADE {
+            made = made.saturating_add(1);
         }
     }
     made
@@ -141,6 +142,15 @@ pub fn made_by_all(all: &[Option<Told>]) -> u64 {
     let mut made = 0u64;
     for told in all {
         made = made.saturating_add(made_in(told));
+    }
+    made
+}
+
+/// How many receipts all stations got.
+pub fn receipts(all: &[Option<Told>]) -> u64 {
+    let mut made = 0u64;
+    for told in all {
+        made = made.saturating_add(told.as_ref().map_or(0, |told| told.made));
     }
     made
 }

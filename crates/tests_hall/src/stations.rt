@@ -25,8 +25,16 @@ impl Gate for Always {
     fn gave_up(&self, _worker: u64, _call: u64) {}
 }
 
-/// How a connection ended, and what was written.
-pub type Told = (Ended, Vec<u8>);
+/// What came of a connection.
+#[derive(Drop)]
+pub struct Told {
+    /// How it ended.
+    pub ended: Ended,
+    /// What was written.
+    pub written: Vec<u8>,
+    /// How many receipts the station then had.
+    pub made: u64,
+}
 
 // A reader that gives a text in pieces of so many bytes. Each is answered before the next one is read.
 #[derive(Drop)]
@@ -57,8 +65,12 @@ impl Source for Reader<'_> {
     }
 }
 
-// What a station tells a client that sends a text in pieces of so many bytes.
-fn told_of<S: Attend>(alloc: Global, station: &mut S, text: &[u8], piece: usize) -> Option<Told> {
+// How a connection ends whose client sends a text in pieces of so many bytes, and what is written.
+fn served<S: Attend>(
+    alloc: Global,
+    station: &mut S,
+    (text, piece): (&[u8], usize),
+) -> Option<(Ended, Vec<u8>)> {
     let mut reader = Reader {
         rest: text,
         piece,
@@ -74,36 +86,41 @@ fn told_of<S: Attend>(alloc: Global, station: &mut S, text: &[u8], piece: usize)
 }
 
 // The same, where the text is sent once more if memory ran out.
-fn told_at_last<S: Attend>(
+fn served_at_last<S: Attend>(
     alloc: Global,
     station: &mut S,
-    text: &[u8],
-    piece: usize,
-) -> Option<Told> {
-    let (ended, written) = told_of(alloc, station, text, piece)?;
+    sent: (&[u8], usize),
+) -> Option<(Ended, Vec<u8>)> {
+    let (ended, written) = served(alloc, station, sent)?;
     if written.as_slice() != BUSY {
         return Some((ended, written));
     }
     drop(written);
-    told_of(alloc, station, text, piece)
+    served(alloc, station, sent)
 }
 
-/// What a station of this number and gate at a desk tells a client that sends a text in pieces of so many bytes, and sends it once
-/// more where it is told that memory ran out.
+/// What comes of a connection at a new station of this number and gate, whose client sends a text in pieces of so many bytes, and
+/// sends it once more where it is told that memory ran out.
 pub fn answered<H: HallName, M: Commits<H>, G: Gate, W: Wait>(
     rt: &W,
     alloc: Global,
     hall: &M,
     desk: Desk<H>,
     (number, gate): (u64, &G),
-    (text, piece): (&[u8], usize),
+    sent: (&[u8], usize),
 ) -> Option<Told> {
     if !hall.has_kept(rt, &desk.front()) {
         drop(desk);
         return None;
     }
     let mut station = Station::new(rt, alloc, number, desk, hall, gate).ok()?;
-    let told = told_at_last(alloc, &mut station, text, piece);
+    let served = served_at_last(alloc, &mut station, sent);
+    let made = station.made();
     drop(station);
-    told
+    let (ended, written) = served?;
+    Some(Told {
+        ended,
+        written,
+        made,
+    })
 }

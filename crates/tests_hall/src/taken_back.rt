@@ -51,8 +51,8 @@ pub fn is_told<H: HallName, M: Commits<H>, W: Wait>(
     hall: &M,
     desk: Desk<H>,
 ) -> Option<bool> {
-    let (_, written) = answered(rt, alloc, hall, desk, (1, &Always), (USER, USER.len()))?;
-    Some(written.as_slice() == MADE)
+    let told = answered(rt, alloc, hall, desk, (1, &Always), (USER, usize::MAX))?;
+    Some(told.written.as_slice() == MADE)
 }
 
 #[test]

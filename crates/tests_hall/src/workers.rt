@@ -77,8 +77,8 @@ fn counts_none<H: HallName, M: Commits<H>, G: Gate, W: Wait>(
     desk: Desk<H>,
     gated: (u64, &G),
 ) -> bool {
-    match answered(rt, alloc, hall, desk, gated, (COUNT, COUNT.len())) {
-        Some((_, written)) => written.as_slice() == NO_ROWS,
+    match answered(rt, alloc, hall, desk, gated, (COUNT, usize::MAX)) {
+        Some(told) => told.written.as_slice() == NO_ROWS,
         None => false,
     }
 }

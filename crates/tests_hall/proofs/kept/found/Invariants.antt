@@ -5,7 +5,7 @@ abbrev pub ghosts-found_by-H-HallName : goal.ghosts-found_by-H-HallName
 ghosts-found_by-H-HallName g a = record { start = a.both.0; book = a.name.seen.book }
 
 abbrev pub ghosts-found_by-H-Ledger : goal.ghosts-found_by-H-Ledger
-ghosts-found_by-H-Ledger g a = record { name = a.name.blank.name; parts = a._2.0 }
+ghosts-found_by-H-Ledger g a = record { name = a.name.blank.name; parts = a.workers }
 
 abbrev pub ghosts-found_by-B-Beginning : goal.ghosts-found_by-B-Beginning
 ghosts-found_by-B-Beginning g a = record { first = a.both.0 }
