@@ -1,14 +1,14 @@
 //! Puts at up to sixteen desks, each by a thread of its own, into a journal whose appends take time.
 ghost use Rattle.std.specs.Prelude.{◌≡◌};
 
-use crate::kept::{Found, found};
+use crate::kept::{Findings, found};
 use crate::puts::Sending;
 use std::test::*;
 
 const EACH: u8 = 50;
 
 // Whether all puts of so many desks are told, and kept once and in order, by at most so many appends.
-fn are_kept(found: Option<Found>, workers: u64, most: u64) -> bool {
+fn are_kept(found: Option<Findings>, workers: u64, most: u64) -> bool {
     match found {
         Some(found) => {
             let all = workers.saturating_mul(EACH as u64);
@@ -41,7 +41,7 @@ fn most_puts_of_sixteen_threads_are_kept_by_the_append_of_another_one(rt: HostRu
 }
 
 // Whether nobody was told of a put that is not kept, where the fourth append fails.
-fn are_told_what_is_kept(found: Option<Found>) -> bool {
+fn are_told_what_is_kept(found: Option<Findings>) -> bool {
     match found {
         Some(found) => { found.in_order < EACH && found.appends == 3 && found.made() <= found.kept }
         None => false,

@@ -18,7 +18,7 @@ use std::time::Clock;
 
 /// What is found after the puts.
 #[derive(Drop)]
-pub struct Found {
+pub struct Findings {
     /// What the client at each desk was told.
     pub told: Vec<Option<Told>>,
     /// How many puts of each client are kept at least, in order.
@@ -28,7 +28,7 @@ pub struct Found {
     pub appends: u64,
 }
 
-impl Found {
+impl Findings {
     /// How many puts the clients were told to be made.
     pub fn made(&self) -> u64 {
         made_by_all(self.told.as_slice())
@@ -62,9 +62,9 @@ fn found_in<C: Clock>(
     journal: &SlowJournal<'_, C>,
     workers: u16,
     told: Vec<Option<Told>>,
-) -> Found {
+) -> Findings {
     let records = journal.records();
-    Found {
+    Findings {
         told,
         in_order: least_in_order(records, workers),
         kept: records.len() as u64,
@@ -85,7 +85,7 @@ fn found_by<
     workers: u16,
     limit: u64,
     sending: Sending,
-) -> Option<Found>
+) -> Option<Findings>
     requires named { (name.seen.book ≡ H.book) × (name.blank.name ≡ H.name) }
     requires workers { (name.blank.parts ≡ workers) × (H.parts ≡ workers) × (0 < workers) }
     requires alike { (both.0 ≡ H.start) × (both.1 ≡ H.start) × (B.first ≡ H.start) }
@@ -113,7 +113,7 @@ pub fn found<R: Threads + Wait + Clock + Sync>(
     workers: u16,
     limit: u64,
     sending: Sending,
-) -> Option<Found>
+) -> Option<Findings>
     requires { 0 < workers }
 {
     let both = stores(alloc)?;

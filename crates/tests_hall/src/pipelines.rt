@@ -1,7 +1,7 @@
 //! Puts that a client sends together.
 ghost use Rattle.std.specs.Prelude.{◌≡◌};
 
-use crate::kept::{Found, found};
+use crate::kept::{Findings, found};
 use crate::puts::Sending;
 use crate::stations::Told;
 use st_connection::Ended;
@@ -29,7 +29,7 @@ fn is_lost(told: &Option<Told>) -> bool {
 }
 
 // Whether the only client was told of all puts, and all were kept by one append.
-fn are_counted(found: Option<Found>) -> bool {
+fn are_counted(found: Option<Findings>) -> bool {
     match found {
         Some(found) => found.appends == 1 && found.told.iter().all(is_counted),
         None => false,
@@ -37,7 +37,7 @@ fn are_counted(found: Option<Found>) -> bool {
 }
 
 // Whether the only client was told nothing.
-fn are_lost(found: Option<Found>) -> bool {
+fn are_lost(found: Option<Findings>) -> bool {
     match found {
         Some(found) => found.told.iter().all(is_lost),
         None => false,
