@@ -4,7 +4,7 @@ ghost use Rattle.std.specs.Prelude.{◌≡◌, ◌<◌};
 use crate::halls::stores;
 use crate::journals::SlowJournal;
 use crate::puts::{Sending, id_of, letter_of, made_by_all, told_by_all};
-use crate::stations::Told;
+use crate::stations::{Always, Told};
 use st_core::Store;
 use st_durable::Beginning;
 use st_durable_hall::DurableHall;
@@ -95,7 +95,7 @@ fn found_by<
     let hall: DurableHall<B, H, &R, SlowJournal<'_, R>> = DurableHall::new(
         alloc, rt, clerk, journal,
     );
-    let told = told_by_all(rt, alloc, &hall, desks, sending);
+    let told = told_by_all(rt, alloc, &hall, &Always, desks, sending);
     let (draft, publisher) = hall.apart();
     drop(draft);
     let found = match told {

@@ -47,7 +47,7 @@ fn is_so<
         Question::Calls(opens) => are_calls(rt, alloc, hall, desk, opens),
         Question::Pending => are_shown_together(rt, alloc, hall, &mut desk, desks.first_mut()?),
         Question::Puts(is_own) => are_listed_once(rt, alloc, hall, desk, desks, is_own),
-        Question::Reads => are_told_meanwhile(rt, alloc, hall, desk, desks.pop()?),
+        Question::Reads => are_told_meanwhile(rt, alloc, hall, desks),
         Question::Stranger => is_in_no_list(rt, alloc, hall, desk),
         Question::User(way) => is_made(rt, alloc, hall, &mut desk, way),
         Question::Message => is_told(rt, alloc, hall, desk),

@@ -2,8 +2,8 @@
 ghost use Rattle.std.specs.Prelude.{◌≡◌};
 
 use crate::halls::{COUNT, MADE};
-use crate::stations::{Always, Told, answered};
-use st_hall::{Commits, Desk, HallName};
+use crate::stations::{Told, answered};
+use st_hall::{Commits, Desk, Gate, HallName};
 use std::alloc::Global;
 use std::sync::Wait;
 use std::sync::atomic::AtomicU64;
@@ -24,6 +24,8 @@ pub enum Sending {
     Own(u8),
     /// So many puts of rows of its own and a count, all together.
     Together(u8),
+    /// A count.
+    Count,
 }
 
 /// The letter with which the ids of a client's rows begin.
@@ -53,6 +55,7 @@ fn puts_of(alloc: Global, letter: u8, sending: Sending) -> Option<Vec<u8>> {
     let (each, is_own) = match sending {
         Sending::Equal(each) => (each, false),
         Sending::Own(each) | Sending::Together(each) => (each, true),
+        Sending::Count => (0, false),
     };
     let mut text = Vec::new(alloc);
     for number in 0..each {
@@ -74,7 +77,7 @@ fn text_of(alloc: Global, letter: u8, sending: Sending) -> Option<(Vec<u8>, usiz
             let piece = text.len().checked_div(each as usize)?;
             Some((text, piece))
         }
-        Sending::Together(_) => {
+        Sending::Together(_) | Sending::Count => {
             text.extend_from_slice(COUNT).ok()?;
             Some((text, usize::MAX))
         }
@@ -82,12 +85,12 @@ fn text_of(alloc: Global, letter: u8, sending: Sending) -> Option<(Vec<u8>, usiz
 }
 
 // What a client at a desk is told.
-fn told_at<H: HallName, M: Commits<H>, W: Wait>(
+fn told_at<H: HallName, M: Commits<H>, G: Gate, W: Wait>(
     rt: &W,
     alloc: Global,
     hall: &M,
     desk: Desk<H>,
-    place: u64,
+    (place, gate): (u64, &G),
     sending: Sending,
 ) -> Option<Told> {
     match text_of(alloc, letter_of(place), sending) {
@@ -96,7 +99,7 @@ fn told_at<H: HallName, M: Commits<H>, W: Wait>(
             alloc,
             hall,
             desk,
-            (place, &Always),
+            (place.saturating_add(1), gate),
             (text.as_slice(), piece),
         ),
         None => {
@@ -106,11 +109,17 @@ fn told_at<H: HallName, M: Commits<H>, W: Wait>(
     }
 }
 
-/// What comes of a connection at each desk, each at a thread of its own.
-pub fn told_by_all<H: HallName + Send + Sync, M: Commits<H> + Sync, R: Threads + Wait + Sync>(
+/// What comes of a connection at each desk, each at a thread of its own. Stations are numbered from 1.
+pub fn told_by_all<
+    H: HallName + Send + Sync,
+    M: Commits<H> + Sync,
+    G: Gate + Sync,
+    R: Threads + Wait + Sync,
+>(
     rt: &R,
     alloc: Global,
     hall: &M,
+    gate: &G,
     desks: Vec<Desk<H>>,
     sending: Sending,
 ) -> Option<Vec<Option<Told>>> {
@@ -118,7 +127,10 @@ pub fn told_by_all<H: HallName + Send + Sync, M: Commits<H> + Sync, R: Threads +
     map_vec(
         rt,
         desks,
-        &|desk| { told_at(rt, alloc, hall, desk, clients.fetch_add(1, SeqCst), sending) },
+        &|desk| {
+            let place = clients.fetch_add(1, SeqCst);
+            told_at(rt, alloc, hall, desk, (place, gate), sending)
+        },
     )
     .ok()
 }

@@ -1,11 +1,11 @@
 //! Two stations that answer reads while the clerk is held.
 ghost use Rattle.std.specs.Prelude.{◌≡◌};
-ghost use Rattle.std.specs.Thread.{IsSync};
+ghost use denote.Param.Send.{IsSend, IsSync};
 
 use crate::clerks::{Shared, Turn};
-use crate::halls::COUNT;
 use crate::opened::{Question, is_right};
-use crate::stations::answered;
+use crate::puts::{Sending, told_by_all};
+use crate::stations::Told;
 use st_hall::{Commits, Desk, Gate, HallName};
 use std::alloc::Global;
 use std::sync::Wait;
@@ -69,48 +69,28 @@ impl<R: Clock> Turn for Turns<'_, R> {
     }
 }
 
-// Whether a station counts no rows.
-fn counts_none<H: HallName, M: Commits<H>, G: Gate, W: Wait>(
-    rt: &W,
-    alloc: Global,
-    hall: &M,
-    desk: Desk<H>,
-    gated: (u64, &G),
-) -> bool {
-    match answered(rt, alloc, hall, desk, gated, (COUNT, usize::MAX)) {
-        Some(told) => told.written.as_slice() == NO_ROWS,
-        None => false,
+// Whether each client was told that no rows are there.
+fn are_none(told: Option<Vec<Option<Told>>>) -> bool {
+    let Some(all) = told else {
+        return false;
+    };
+    let mut are_none = true;
+    for told in all.as_slice() {
+        are_none = are_none
+            && match told {
+                Some(told) => told.written.as_slice() == NO_ROWS,
+                None => false,
+            };
     }
+    are_none
 }
 
-// Whether each of two stations counts no rows while a third thread holds the clerk's lock, and both were let pass then.
-fn are_told_by<
-    H: HallName + Send + Sync,
-    M: Commits<H> + Shared<H> + Sync,
-    R: Threads + Wait + Clock + Sync,
->(rt: &R, alloc: Global, hall: &M, turns: &Turns<'_, R>, one: Desk<H>, two: Desk<H>) -> bool {
-    let (held, (first, second)) = join(
-        rt,
-        || hall.holds(rt, turns),
-        || -> (bool, bool)
-            requires { IsSync R.row × IsSync M.row }
-        {
-            join(
-                rt,
-                || counts_none(rt, alloc, hall, one, (1, turns)),
-                || counts_none(rt, alloc, hall, two, (2, turns)),
-            )
-        },
-    );
-    held && first && second && turns.gave_up.load(SeqCst) == 0
-}
-
-/// Whether two reads are answered at once, while the clerk is held.
+/// Whether reads at both desks are answered at once, while the clerk is held.
 pub fn are_told_meanwhile<
     H: HallName + Send + Sync,
     M: Commits<H> + Shared<H> + Sync,
     R: Threads + Wait + Clock + Sync,
->(rt: &R, alloc: Global, hall: &M, one: Desk<H>, two: Desk<H>) -> Option<bool> {
+>(rt: &R, alloc: Global, hall: &M, desks: Vec<Desk<H>>) -> Option<bool> {
     let turns = Turns {
         rt,
         locked: AtomicU64::new(0),
@@ -118,10 +98,17 @@ pub fn are_told_meanwhile<
         told_two: AtomicU64::new(0),
         gave_up: AtomicU64::new(0),
     };
-    Some(are_told_by(rt, alloc, hall, &turns, one, two))
+    let (held, told) = join(
+        rt,
+        || hall.holds(rt, &turns),
+        || -> Option<Vec<Option<Told>>>
+            requires { IsSync R.row × IsSync M.row × IsSend H.row × IsSync H.row }
+        { told_by_all(rt, alloc, hall, &turns, desks, Sending::Count) },
+    );
+    Some(held && are_none(told) && turns.gave_up.load(SeqCst) == 0)
 }
 
 #[test]
 fn two_reads_at_once(rt: HostRuntime) {
-    assert!(rt; is_right(&rt, rt.alloc(), 2, Question::Reads));
+    assert!(rt; is_right(&rt, rt.alloc(), 2 + 1, Question::Reads));
 }
