@@ -7,7 +7,7 @@ use st_auth::Auths;
 use st_box::Query;
 use st_core::{Asked, Call, Reply, Token};
 use st_dir::{Name, TableName};
-use st_hall::{AskFault, Desk, Front, HallName, Receipt};
+use st_hall::{Desk, HallName};
 use st_index::{Id, Note, Row};
 use st_key::Point;
 use st_label::Label;
@@ -87,8 +87,8 @@ pub fn create_user(alloc: Global) -> Option<Asked>
     })
 }
 
-/// A count by root of all rows that everybody may see.
-pub fn count(alloc: Global) -> Option<Asked>
+// A count by root of all rows that everybody may see.
+fn count(alloc: Global) -> Option<Asked>
     ensures { IfSome result (λ asked. asks_for_change asked ≡ false) }
 {
     let request = Request::Count {
@@ -112,23 +112,16 @@ fn audit() -> Asked
     }
 }
 
-/// The number of a count.
-pub fn number_in(told: &Result<Reply, AllocError>) -> Option<u64> {
+// The number of a count, or of the entries of a listing.
+fn number_in(told: &Result<Reply, AllocError>) -> Option<u64> {
     match told {
         Ok(Reply::Count(number)) => Some(*number),
+        Ok(Reply::Audit(entries)) => Some(entries.len() as u64),
         _ => None,
     }
 }
 
-// How many entries a listing has.
-fn entries_in(told: &Result<Reply, AllocError>) -> Option<usize> {
-    match told {
-        Ok(Reply::Audit(entries)) => Some(entries.len()),
-        _ => None,
-    }
-}
-
-// The number that a desk tells of a count.
+// The number that a desk tells.
 fn number_of<D: Reads>(desk: &mut D, asked: Asked) -> Option<u64>
     requires { asks_for_change asked ≡ false }
 {
@@ -145,20 +138,9 @@ pub fn rows<D: Reads>(alloc: Global, desk: &mut D) -> Option<u64> {
     number_of(desk, asked)
 }
 
-// How many entries a desk tells in a listing.
-fn entries_of<D: Reads>(desk: &mut D, asked: Asked) -> Option<usize>
-    requires { asks_for_change asked ≡ false }
-{
-    let told = desk.answer(&asked);
-    drop(asked);
-    let count = entries_in(&told);
-    drop(told);
-    count
-}
-
 /// How many changes a desk lists that were asked for.
-pub fn entries<D: Reads>(desk: &mut D) -> Option<usize> {
-    entries_of(desk, audit())
+pub fn entries<D: Reads>(desk: &mut D) -> Option<u64> {
+    number_of(desk, audit())
 }
 
 // Whether entries are of these requests, in this order.
@@ -193,17 +175,4 @@ fn is_listing<D: Reads>(desk: &mut D, asked: Asked, wanted: &[&str]) -> bool
 /// Whether a desk lists changes by these requests, in this order.
 pub fn are_listed<D: Reads>(desk: &mut D, wanted: &[&str]) -> bool {
     is_listing(desk, audit(), wanted)
-}
-
-/// Whether a change is told to be made.
-pub fn is_accepted(told: &Result<Reply, AskFault>) -> bool {
-    matches!(told, Ok(Reply::Accepted))
-}
-
-/// The front of a receipt.
-pub fn front_of<H: HallName>(told: &mut Result<Receipt<H>, AskFault>) -> Option<Front<H>> {
-    match told {
-        Ok(receipt) => receipt.front.take(),
-        Err(_) => None,
-    }
 }

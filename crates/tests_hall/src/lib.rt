@@ -1,5 +1,4 @@
-//! Tests of two copies, a clerk and desks, and of the stations at these desks: messages that they answer, and connections that
-//! fail; and of a hall whose changes are kept in groups.
+//! Tests of two copies, a clerk and desks, and of the stations at these desks; and of a hall whose changes are kept in groups.
 #![tactic(auto)]
 
 #[cfg(test)]
@@ -7,13 +6,9 @@ mod asks;
 #[cfg(test)]
 mod calls;
 #[cfg(test)]
+mod clerks;
+#[cfg(test)]
 mod desks;
-#[cfg(test)]
-mod dropped;
-#[cfg(test)]
-mod faults;
-#[cfg(test)]
-mod fronts;
 #[cfg(test)]
 mod groups;
 #[cfg(test)]
@@ -21,15 +16,17 @@ mod halls;
 #[cfg(test)]
 mod journals;
 #[cfg(test)]
-mod kept_puts;
-#[cfg(test)]
-mod messages;
+mod kept;
 #[cfg(test)]
 mod opened;
 #[cfg(test)]
 mod pending;
 #[cfg(test)]
 mod pipelines;
+#[cfg(test)]
+mod puts;
+#[cfg(test)]
+mod stations;
 #[cfg(test)]
 mod strangers;
 #[cfg(test)]

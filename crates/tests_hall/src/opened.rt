@@ -1,131 +1,91 @@
-//! Halls that are opened for what is asked in them.
-ghost use Rattle.std.specs.Prelude.{◌≡◌};
+//! Halls in memory that are opened for what is asked in them.
+ghost use Rattle.std.specs.Prelude.{◌≡◌, ◌<◌};
 
+use crate::calls::are_calls;
+use crate::clerks::{Shared, Way};
+use crate::desks::are_listed_once;
 use crate::halls::stores;
-use st_connection::Attend;
+use crate::pending::are_shown_together;
+use crate::strangers::is_in_no_list;
+use crate::taken_back::{is_made, is_told};
+use crate::workers::are_told_meanwhile;
 use st_core::Store;
-use st_hall::{Clerk, Desk, Gate, Hall, HallName, Unnamed};
-use st_http::message::Message;
-use st_station::Station;
+use st_hall::{Commits, Desk, Hall, HallName, UnnamedFor};
 use std::alloc::Global;
 use std::marker::Brand;
 use std::sync::{Mutex, Wait};
+use std::thread::Threads;
+use std::time::Clock;
 
-/// What is asked at the two desks of a hall.
-pub trait AtDesks {
-    type Found;
-
-    fn ask<H: HallName, C: Wait + Drop, W: Wait>(
-        &self,
-        rt: &W,
-        alloc: Global,
-        clerk: &Mutex<Clerk<H, C>>,
-        one: &mut Desk<H>,
-        two: &mut Desk<H>,
-    ) -> Option<Self::Found>;
+/// What is asked in a hall. One function opens halls for all that is asked, since each call of it that names types is dear to prove.
+#[derive(Clone, Copy)]
+pub enum Question {
+    /// Whether each message is a call, at a gate that lets reads pass or does not.
+    Calls(bool),
+    /// Whether changes are pending until one is published.
+    Pending,
+    /// Whether puts are listed once, of rows of each desk's own or not.
+    Puts(bool),
+    /// Whether two reads are answered while the clerk is held.
+    Reads,
+    /// Whether a stranger is refused and in no list.
+    Stranger,
+    /// Whether a user is made in this way.
+    User(Way),
+    /// Whether a user is made by a message.
+    Message,
 }
 
-/// What answers messages and connections, as a station does.
-pub trait Answers: Attend {
-    // Puts the answer to a message behind what was told before.
-    fn tell(&mut self, message: &Message<'_>, told: &mut Vec<u8>) -> Option<()>;
-
-    // How many receipts it got.
-    fn made(&self) -> u64;
-}
-
-impl<H: HallName, C: Wait + Drop, G: Gate, W: Wait> Answers
-    for Station<'_, H, Mutex<Clerk<H, C>>, G, W> {
-    fn tell(&mut self, message: &Message<'_>, told: &mut Vec<u8>) -> Option<()> {
-        let answer = self.reply_to(message);
-        told.extend_from_slice(answer.as_bytes()).ok()
+// Whether it is as it should be at these desks.
+fn is_so<
+    H: HallName + Send + Sync,
+    M: Commits<H> + Shared<H> + Sync,
+    R: Threads + Wait + Clock + Sync,
+>(rt: &R, alloc: Global, hall: &M, mut desks: Vec<Desk<H>>, question: Question) -> Option<bool> {
+    let mut desk = desks.pop()?;
+    match question {
+        Question::Calls(opens) => are_calls(rt, alloc, hall, desk, opens),
+        Question::Pending => are_shown_together(rt, alloc, hall, &mut desk, desks.first_mut()?),
+        Question::Puts(is_own) => are_listed_once(rt, alloc, hall, desk, desks, is_own),
+        Question::Reads => are_told_meanwhile(rt, alloc, hall, desks),
+        Question::Stranger => is_in_no_list(rt, alloc, hall, desk),
+        Question::User(way) => is_made(rt, alloc, hall, &mut desk, way),
+        Question::Message => is_told(rt, alloc, hall, desk),
     }
-
-    fn made(&self) -> u64 {
-        Station::made(self)
-    }
 }
 
-/// What is asked of a station.
-pub trait AtStation {
-    type Found;
-
-    fn ask<S: Answers>(&self, alloc: Global, station: &mut S) -> Option<Self::Found>;
-}
-
-// What is found at the desks of a new hall.
-fn found_at_desks<H: HallName, R: Wait, A: AtDesks>(
+// The same in a new hall.
+fn is_so_in<H: HallName + Send + Sync, R: Threads + Wait + Clock + Sync>(
     rt: &R,
     alloc: Global,
-    name: Unnamed,
+    name: UnnamedFor,
     both: (Store, Store),
-    asked: &A,
-) -> Option<A::Found>
-    requires named { (name.seen.book ≡ H.book) × (name.blank.name ≡ H.name) × (H.parts ≡ 2) }
+    workers: u16,
+    question: Question,
+) -> Option<bool>
+    requires named { (name.seen.book ≡ H.book) × (name.blank.name ≡ H.name) }
+    requires workers { (name.blank.parts ≡ workers) × (H.parts ≡ workers) × (0 < workers) }
     requires alike { (both.0 ≡ H.start) × (both.1 ≡ H.start) }
 {
-    let (clerk, mut one, mut two) = Hall::<H>::open(rt, alloc, name, both.0, both.1).ok()?;
+    let (clerk, desks) = Hall::<H>::open_for(rt, alloc, name, both.0, both.1, workers).ok()?;
     let clerk = Mutex::new(clerk);
-    let found = asked.ask(rt, alloc, &clerk, &mut one, &mut two);
-    drop(two);
-    drop(one);
+    let found = is_so(rt, alloc, &clerk, desks, question);
     drop(clerk);
     found
 }
 
-/// What is found at the desks of a hall whose root has these authorizations.
-pub fn at_desks<R: Wait, A: AtDesks>(
+/// Whether it is as it should be in a hall with so many desks.
+pub fn is_right<R: Threads + Wait + Clock + Sync>(
     rt: &R,
     alloc: Global,
-    auths: &[&str],
-    asked: &A,
-) -> Option<A::Found> {
-    found_at_desks::<Brand, _, _>(rt, alloc, Unnamed::new(), stores(alloc, auths)?, asked)
-}
-
-// What is found of a station at this desk.
-fn found_of_station<H: HallName, C: Wait + Drop, G: Gate, R: Wait, A: AtStation>(
-    rt: &R,
-    alloc: Global,
-    clerk: &Mutex<Clerk<H, C>>,
-    desk: Desk<H>,
-    (number, gate): (u64, &G),
-    asked: &A,
-) -> Option<A::Found> {
-    let mut station = Station::new(rt, alloc, number, desk, clerk, gate).ok()?;
-    let found = asked.ask(alloc, &mut station);
-    drop(station);
-    found
-}
-
-// What is found of a station at the first desk of a new hall.
-fn found_at_station<H: HallName, G: Gate, R: Wait, A: AtStation>(
-    rt: &R,
-    alloc: Global,
-    name: Unnamed,
-    both: (Store, Store),
-    gated: (u64, &G),
-    asked: &A,
-) -> Option<A::Found>
-    requires named { (name.seen.book ≡ H.book) × (name.blank.name ≡ H.name) × (H.parts ≡ 2) }
-    requires alike { (both.0 ≡ H.start) × (both.1 ≡ H.start) }
+    workers: u16,
+    question: Question,
+) -> bool
+    requires { 0 < workers }
 {
-    let (clerk, desk, other) = Hall::<H>::open(rt, alloc, name, both.0, both.1).ok()?;
-    drop(other);
-    let clerk = Mutex::new(clerk);
-    let found = found_of_station(rt, alloc, &clerk, desk, gated, asked);
-    drop(clerk);
-    found
-}
-
-/// What is found of a station that has this number and gate, in a hall whose root has these authorizations.
-pub fn at_station<R: Wait, G: Gate, A: AtStation>(
-    rt: &R,
-    alloc: Global,
-    auths: &[&str],
-    gated: (u64, &G),
-    asked: &A,
-) -> Option<A::Found> {
-    let both = stores(alloc, auths)?;
-    found_at_station::<Brand, _, _, _>(rt, alloc, Unnamed::new(), both, gated, asked)
+    let Some(both) = stores(alloc) else {
+        return false;
+    };
+    let name = UnnamedFor::of(workers);
+    is_so_in::<Brand, _>(rt, alloc, name, both, workers, question) == Some(true)
 }

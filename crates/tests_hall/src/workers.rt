@@ -1,23 +1,26 @@
 //! Two stations that answer reads while the clerk is held.
 ghost use Rattle.std.specs.Prelude.{◌≡◌};
-ghost use Rattle.std.specs.Thread.{IsSync};
+ghost use denote.Param.Send.{IsSend, IsSync};
 
-use crate::halls::{COUNT, NO_ROWS, stores};
-use crate::messages::is_answered;
-use st_core::Store;
-use st_hall::{Clerk, Desk, Gate, Hall, HallName, Unnamed};
-use st_station::Station;
+use crate::clerks::{Shared, Turn};
+use crate::opened::{Question, is_right};
+use crate::puts::{Sending, told_by_all};
+use crate::stations::Told;
+use st_hall::{Commits, Desk, Gate, HallName};
 use std::alloc::Global;
-use std::marker::Brand;
+use std::sync::Wait;
 use std::sync::atomic::AtomicU64;
 use std::sync::atomic::Ordering::SeqCst;
-use std::sync::{Mutex, Wait};
 use std::test::*;
 use std::thread;
 use std::thread::{Threads, join};
 use std::time::{Clock, Duration};
 
 const TURNS: u32 = 10_000;
+
+// The answer to a count where no rows are.
+const NO_ROWS: &[u8] =
+    b"HTTP/1.1 200 OK\r\nContent-Type: application/json\r\nContent-Length: 11\r\n\r\n{\"count\":0}";
 
 // Station 1's first call passes once station 2's is answered, and both once the lock is held. No other call passes.
 #[derive(Drop)]
@@ -50,10 +53,9 @@ impl<R: Clock> Gate for Turns<'_, R> {
     }
 }
 
-impl<R: Clock + Wait> Turns<'_, R> {
-    // Holds the lock until both are answered, and says whether they were.
-    fn hold<H: HallName>(&self, rt: &R, clerk: &Mutex<Clerk<H, &R>>) -> bool {
-        let guard = clerk.lock(rt);
+impl<R: Clock> Turn for Turns<'_, R> {
+    // Goes on until both are answered, and says whether they were.
+    fn is_well(&self) -> bool {
         self.locked.store(1, SeqCst);
         let mut both = false;
         for _ in 0..TURNS {
@@ -63,48 +65,32 @@ impl<R: Clock + Wait> Turns<'_, R> {
             }
             thread::sleep(self.rt, Duration::from_millis(1));
         }
-        drop(guard);
         both
     }
 }
 
-// Whether a station counts no rows.
-fn counts_none<H: HallName, C: Wait + Drop, G: Gate, W: Wait>(
-    alloc: Global,
-    mut station: Station<'_, H, Mutex<Clerk<H, C>>, G, W>,
-) -> Option<bool> {
-    is_answered(alloc, &mut station, COUNT, NO_ROWS)
+// Whether each client was told that no rows are there.
+fn are_none(told: Option<Vec<Option<Told>>>) -> bool {
+    let Some(all) = told else {
+        return false;
+    };
+    let mut are_none = true;
+    for told in all.as_slice() {
+        are_none = are_none
+            && match told {
+                Some(told) => told.written.as_slice() == NO_ROWS,
+                None => false,
+            };
+    }
+    are_none
 }
 
-type Counted = (Option<bool>, Option<bool>, bool);
-
-// Whether each of two stations counts no rows while a third thread holds the clerk's lock, and whether both were let pass then.
-fn counted_by<H: HallName + Send + Sync, R: Threads + Wait + Clock + Sync>(
-    rt: &R,
-    alloc: Global,
-    clerk: &Mutex<Clerk<H, &R>>,
-    turns: &Turns<'_, R>,
-    one: Station<'_, H, Mutex<Clerk<H, &R>>, Turns<'_, R>, R>,
-    two: Station<'_, H, Mutex<Clerk<H, &R>>, Turns<'_, R>, R>,
-) -> Counted {
-    let (held, (a, b)) = join(
-        rt,
-        || turns.hold(rt, clerk),
-        || -> (Option<bool>, Option<bool>)
-            requires { IsSync R.row }
-        { join(rt, || counts_none(alloc, one), || counts_none(alloc, two)) },
-    );
-    (a, b, held && turns.gave_up.load(SeqCst) == 0)
-}
-
-// The same, of stations at two desks.
-fn counted_at<H: HallName + Send + Sync, R: Threads + Wait + Clock + Sync>(
-    rt: &R,
-    alloc: Global,
-    clerk: &Mutex<Clerk<H, &R>>,
-    one: Desk<H>,
-    two: Desk<H>,
-) -> Option<Counted> {
+/// Whether reads at both desks are answered at once, while the clerk is held.
+pub fn are_told_meanwhile<
+    H: HallName + Send + Sync,
+    M: Commits<H> + Shared<H> + Sync,
+    R: Threads + Wait + Clock + Sync,
+>(rt: &R, alloc: Global, hall: &M, desks: Vec<Desk<H>>) -> Option<bool> {
     let turns = Turns {
         rt,
         locked: AtomicU64::new(0),
@@ -112,32 +98,17 @@ fn counted_at<H: HallName + Send + Sync, R: Threads + Wait + Clock + Sync>(
         told_two: AtomicU64::new(0),
         gave_up: AtomicU64::new(0),
     };
-    let one = Station::new(rt, alloc, 1, one, clerk, &turns).ok()?;
-    let two = Station::new(rt, alloc, 2, two, clerk, &turns).ok()?;
-    Some(counted_by(rt, alloc, clerk, &turns, one, two))
-}
-
-// The same, of the desks of a hall.
-fn counted<H: HallName + Send + Sync, R: Threads + Wait + Clock + Sync>(
-    rt: &R,
-    alloc: Global,
-    name: Unnamed,
-    both: (Store, Store),
-) -> Option<Counted>
-    requires named { (name.seen.book ≡ H.book) × (name.blank.name ≡ H.name) × (H.parts ≡ 2) }
-    requires alike { (both.0 ≡ H.start) × (both.1 ≡ H.start) }
-{
-    match Hall::<H>::open(rt, alloc, name, both.0, both.1) {
-        Ok((clerk, one, two)) => counted_at(rt, alloc, &Mutex::new(clerk), one, two),
-        Err(_) => None,
-    }
-}
-
-fn found<R: Threads + Wait + Clock + Sync>(rt: &R, alloc: Global) -> Option<Counted> {
-    counted::<Brand, _>(rt, alloc, Unnamed::new(), stores(alloc, &[])?)
+    let (held, told) = join(
+        rt,
+        || hall.holds(rt, &turns),
+        || -> Option<Vec<Option<Told>>>
+            requires { IsSync R.row × IsSync M.row × IsSend H.row × IsSync H.row }
+        { told_by_all(rt, alloc, hall, &turns, desks, Sending::Count) },
+    );
+    Some(held && are_none(told) && turns.gave_up.load(SeqCst) == 0)
 }
 
 #[test]
 fn two_reads_at_once(rt: HostRuntime) {
-    assert!(rt; found(&rt, rt.alloc()) == Some((Some(true), Some(true), true)));
+    assert!(rt; is_right(&rt, rt.alloc(), 2 + 1, Question::Reads));
 }

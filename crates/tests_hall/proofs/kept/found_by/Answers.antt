@@ -1,0 +1,7 @@
+use denote.Param.Send.{sendable, given_sync}
+use Rattle.std.proofs.Crossing.{crosses}
+use Rattle.st_durable_hall.proofs.Crossing.{durable_hall}
+use Rattle.tests_hall.proofs.kept.found_by.Goals as goal
+
+pub told_by_all-told-requires-sync-M : goal.told_by_all-told-requires-sync-M
+told_by_all-told-requires-sync-M g c κs within = let r = given_sync 2 g.row.R c.type_bounds.sync-R in search (sendable, crosses, durable_hall) depth 60 fits 100000
