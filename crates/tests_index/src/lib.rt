@@ -23,4 +23,8 @@ mod thousands;
 #[cfg(test)]
 mod trees;
 #[cfg(test)]
+mod verdicts;
+#[cfg(test)]
 mod walks;
+#[cfg(test)]
+mod worked;
