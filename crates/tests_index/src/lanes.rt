@@ -19,54 +19,38 @@ const OFFSETS: [u32; 33] = [
     9,
 ];
 
-// The mask of the first `len` places.
-fn mask(zbox: &ZBox, len: usize) -> [bool; 33]
+// Whether the mask of the first `len` places is the plain test of each.
+fn agrees(zbox: &ZBox, len: usize) -> bool
     requires { len ≤ 33 }
 {
-    let mut out = [false; 33];
+    let mut mask = [false; 33];
     in_box_mask(
         &XS[..len],
         &YS[..len],
         &OFFSETS[..len],
         zbox,
-        &mut out[..len],
+        &mut mask[..len],
     );
-    out
-}
-
-// The plain test of each of the first `len` places.
-fn plain(zbox: &ZBox, len: usize) -> [bool; 33]
-    requires { len ≤ 33 }
-{
-    let mut out = [false; 33];
     for at in 0..len {
-        out[at] = in_box(zbox, XS[at], YS[at], OFFSETS[at]);
+        if mask[at] != in_box(zbox, XS[at], YS[at], OFFSETS[at]) {
+            return false;
+        }
     }
-    out
+    true
 }
 
-// Whether the masks of the first places are the plain tests.
-fn agree(len: usize) -> Option<bool> {
+// Whether that holds of each of these lengths.
+fn agree() -> Option<bool> {
     let zbox = ZBox::new(3, 8, 2, 6, 5, 8)?;
-    let len = len.min(33);
-    Some(mask(&zbox, len) == plain(&zbox, len))
+    for len in [0, 1, 7, 8, 9, 33usize] {
+        if !agrees(&zbox, len.min(33)) {
+            return Some(false);
+        }
+    }
+    Some(true)
 }
 
 #[test]
 fn masks(rt: HostRuntime) {
-    for len in [0, 1, 7, 8, 9, 33] {
-        assert!(rt; agree(len) == Some(true));
-    }
-}
-
-// Whether a place is in the box.
-fn is_inside(x: u32, y: u32, offset: u32) -> Option<bool> {
-    Some(in_box(&ZBox::new(3, 8, 2, 6, 5, 8)?, x, y, offset))
-}
-
-#[test]
-fn places(rt: HostRuntime) {
-    assert!(rt; is_inside(3, 2, 5) == Some(true));
-    assert!(rt; is_inside(8, 6, 8) == Some(true));
-    assert!(rt; is_inside(9, 6, 8) == Some(false));
+    assert!(rt; agree() == Some(true));
 }

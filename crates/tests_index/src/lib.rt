@@ -1,23 +1,11 @@
-//! Tests of keys, boxes, jumps, plans and lanes, of labels and sets of authorizations, of indexes, the UB-tree, walks over it and
-//! tables, and of the allocator that refuses.
+//! Tests of what no clause of lanes, labels, plans, indexes, the UB-tree, walks over it and tables says: where a tree is cut, how much
+//! memory each call takes, and that each growth can be refused.
 #![tactic(auto)]
 
-#[cfg(test)]
-mod authorizations;
-#[cfg(test)]
-mod boxes;
-#[cfg(test)]
-mod indexes;
-#[cfg(test)]
-mod jumps;
-#[cfg(test)]
-mod keys;
 #[cfg(test)]
 mod labels;
 #[cfg(test)]
 mod lanes;
-#[cfg(test)]
-mod marks;
 #[cfg(test)]
 mod on_line;
 #[cfg(test)]
@@ -35,4 +23,8 @@ mod thousands;
 #[cfg(test)]
 mod trees;
 #[cfg(test)]
+mod verdicts;
+#[cfg(test)]
 mod walks;
+#[cfg(test)]
+mod worked;

@@ -1,30 +1,42 @@
 //! The allocator that refuses a chosen growth.
 
 use refusing_alloc::Refusing;
-use std::alloc::{AllocError, Allocator};
+use std::alloc::{Allocator, Global};
 
-// Two allocations, of which either may be refused.
-fn two_vectors<A: Allocator>(first: A, second: A) -> Result<(), AllocError> {
-    let _first = Vec::<u8, A>::with_capacity(first, 10)?;
-    let _second = Vec::<u8, A>::with_capacity(second, 20)?;
-    Ok(())
+// Which growth is refused from here on, if that changes; whether two growths succeed; and whether the chosen one is still to come.
+const STEPS: [(Option<u64>, bool, bool); 7] = [
+    (Some(0), true, false),
+    (Some(1), false, false),
+    (None, true, false),
+    (Some(2), false, false),
+    (None, true, false),
+    (Some(3), true, true),
+    (None, false, false),
+];
+
+// Whether two growths succeed, of which either may be refused.
+fn has_room<A: Allocator + Copy>(alloc: A) -> bool {
+    let first = Vec::<u8, A>::with_capacity(alloc, 10);
+    let second = Vec::<u8, A>::with_capacity(alloc, 20);
+    first.is_ok() && second.is_ok()
 }
 
-#[test]
-fn refuses_the_chosen_one(rt: HostRuntime) {
-    let heap = Refusing::new(rt.alloc());
-    for (n, is_ample) in [(0, true), (1, false), (2, false), (3, true)] {
-        heap.arm(n);
-        assert!(rt; two_vectors(&heap, &heap).is_ok() == is_ample);
-        assert!(rt; heap.is_armed() == (n == 3));
+// Whether each step comes as it says.
+fn is_followed(heap: &Refusing<Global>) -> bool {
+    for (armed, is_ample, is_armed) in STEPS {
+        if let Some(n) = armed {
+            heap.arm(n);
+        }
+        if has_room(heap) != is_ample || heap.is_armed() != is_armed {
+            return false;
+        }
     }
+    true
 }
 
-// A refusal is the only one: the same call then succeeds.
+// The chosen growth is refused, and no other: the same call then succeeds.
 #[test]
-fn refuses_once(rt: HostRuntime) {
+fn refuses_the_chosen_one_once(rt: HostRuntime) {
     let heap = Refusing::new(rt.alloc());
-    heap.arm(2);
-    assert!(rt; two_vectors(&heap, &heap).is_err());
-    assert!(rt; two_vectors(&heap, &heap).is_ok());
+    assert!(rt; is_followed(&heap));
 }

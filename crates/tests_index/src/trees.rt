@@ -1,192 +1,219 @@
-//! The UB-tree.
+//! The UB-tree: where it is cut, and how much memory it takes.
 
-use crate::putting::{growths_at, put_at, take_at};
+use crate::on_line::{OnLine, Regions, put_at, take_at};
+use crate::tabling::row_of;
 use refusing_alloc::Refusing;
+use st_index::Row;
 use st_key::Period;
 use st_ubtree::UbTree;
 use std::alloc::{Allocator, Global};
 
-// A tree of so many rows, each of its own key.
-fn filled<A: Allocator + Copy>(alloc: A, count: u64) -> Option<UbTree<A>> {
-    let mut tree = UbTree::new(alloc, Period::Week).ok()?;
-    for x in 0..count {
-        put_at(&mut tree, alloc, x, ("a", ""))?;
-    }
-    Some(tree)
-}
-
-// The bounds of a tree's regions.
-fn bounds(alloc: Global, tree: &UbTree) -> Option<String> {
-    let mut bounds = String::new(alloc);
-    for range in tree.regions().ok()?.as_slice() {
-        let (first, last) = (range.first, range.last);
-        write!(
-            bounds,
-            "{}:{} to {}:{}\n",
-            first.bin(),
-            first.address(),
-            last.bin(),
-            last.address()
-        )
-        .ok()?;
-    }
-    Some(bounds)
-}
-
-const TWO: &str = "0:0 to 0:4095\n0:4096 to 32767:9223372036854775807\n";
-
-const EVENED: &str = "0:0 to 0:4607\n0:4608 to 32767:9223372036854775807\n";
-
-const THREE: &str = "0:0 to 0:4607\n0:4608 to 0:33279\n0:33280 to 32767:9223372036854775807\n";
-
-// The bounds of a tree of so many rows.
-fn split(alloc: Global, count: u64) -> Option<String> {
-    bounds(alloc, &filled(alloc, count)?)
-}
-
-// A tree of 57 rows of which the first of the second page was taken out.
-fn cut(alloc: Global) -> Option<UbTree> {
-    let mut tree = filled(alloc, 57)?;
-    take_at(&mut tree, alloc, 24, ("a", ""))?;
-    Some(tree)
-}
-
-// The bounds of that tree.
-fn merged(alloc: Global) -> Option<String> {
-    bounds(alloc, &cut(alloc)?)
-}
-
-// How many rows that tree has.
-fn len_of_merged(alloc: Global) -> Option<u64> {
-    Some(cut(alloc)?.len())
-}
-
-// Whether the text is this one.
-fn is_text(text: Option<String>, wanted: &str) -> bool {
-    text.is_some_and(|text| text.as_str() == wanted)
-}
+// The first addresses of a tree's regions, how many of them there are, and how many rows.
+type Cut = ([u64; 4], usize, u64);
 
 // Pages of 16 and 17 keys; of 24 and 25, once the second was full and was evened with the first; of 24, 16 and 17, once it was
-// full and the first had no room; and of 24 and 32.
-#[test]
-fn pages_are_split_evened_and_merged(rt: HostRuntime) {
-    assert!(rt; is_text(split(rt.alloc(), 33), TWO));
-    assert!(rt; is_text(split(rt.alloc(), 49), EVENED));
-    assert!(rt; is_text(split(rt.alloc(), 57), THREE));
-    assert!(rt; is_text(merged(rt.alloc()), EVENED));
-    assert!(rt; len_of_merged(rt.alloc()) == Some(56));
+// full and the first had no room; and of 24 and 32, once the first row of the second was taken out.
+const TWO: Cut = ([0, 4_096, 0, 0], 2, 33);
+
+const EVENED: Cut = ([0, 4_608, 0, 0], 2, 49);
+
+const THREE: Cut = ([0, 4_608, 33_280, 0], 3, 57);
+
+const MERGED: Cut = ([0, 4_608, 0, 0], 2, 56);
+
+// A page of 32 keys, of which one has two rows.
+const CROWDED: Cut = ([0; 4], 1, 33);
+
+// How a tree is cut.
+fn cut<T: Regions>(tree: &T) -> Option<Cut> {
+    let (firsts, count) = tree.regions()?;
+    Some((firsts, count, tree.len()))
 }
 
-// How many regions and rows a tree of 32 rows has once a further row of the first key is put in.
-fn crowded(alloc: Global) -> Option<(usize, u64)> {
-    let mut tree = filled(alloc, 32)?;
-    put_at(&mut tree, alloc, 0, ("b", ""))?;
-    Some((tree.regions().ok()?.len(), tree.len()))
+// Puts in a row at each of these places. How the tree is cut then.
+fn cut_with<T: OnLine + Regions>(
+    alloc: T::Alloc,
+    tree: &mut T,
+    (from, to): (u64, u64),
+) -> Option<Cut> {
+    for x in from..to {
+        put_at(tree, alloc, x, "a")?;
+    }
+    cut(tree)
+}
+
+// Whether pages are split, evened and merged as rows come, and one goes.
+fn is_cut<T: OnLine + Regions>(alloc: T::Alloc, tree: &mut T) -> Option<bool> {
+    for (places, wanted) in [((0, 33), TWO), ((33, 49), EVENED), ((49, 57), THREE)] {
+        if cut_with(alloc, tree, places)? != wanted {
+            return Some(false);
+        }
+    }
+    let was_held = take_at(tree, alloc, 24, "a")?;
+    Some(was_held && cut(tree)? == MERGED)
+}
+
+// Whether a further row of the first of 32 keys splits no page.
+fn is_crowded<T: OnLine + Regions>(alloc: T::Alloc, tree: &mut T) -> Option<bool> {
+    cut_with(alloc, tree, (0, 32))?;
+    put_at(tree, alloc, 0, "b")?;
+    Some(cut(tree)? == CROWDED)
+}
+
+// How many growths putting in a row takes, by refusing each in turn.
+fn growths<T: OnLine>(heap: &Refusing<Global>, tree: &T, row: &Row<T::Alloc>) -> Option<u64> {
+    for n in 1..100u64 {
+        heap.arm(n);
+        let has_memory = tree.has_memory(row);
+        if has_memory != heap.is_armed() {
+            return None;
+        }
+        if has_memory {
+            heap.arm(0);
+            return Some(n - 1);
+        }
+    }
+    None
+}
+
+// Puts a further row into a tree. Gives how many growths it takes.
+fn put_counted<T: OnLine>(
+    heap: &Refusing<Global>,
+    alloc: T::Alloc,
+    tree: &mut T,
+    (x, id): (u64, &str),
+) -> Option<u64> {
+    let row = row_of(alloc, (id, "", [x, 0, 0]))?;
+    let count = growths(heap, tree, &row)?;
+    tree.put(&row)?;
+    Some(count)
+}
+
+// How many growths the row of this number takes, of 65 that are put in one by one. One at a key of its own takes none but where its
+// page is full: the 33rd row splits the only page, and puts a node over the halves, which takes a list for its nodes, one for its
+// children, one for their labels' counts, two for their labels and marks, a block for these two and the first keys, and a list for
+// the marks that stay where the node splits another; for the 49th, which evens both pages, a page is prepared too; the 57th splits
+// the last page.
+fn wanted(number: u64) -> u64 {
+    match number {
+        32 => 8,
+        48 | 56 => 1,
+        _ => 0,
+    }
+}
+
+// Whether each row takes as many growths.
+fn is_counted<T: OnLine>(heap: &Refusing<Global>, alloc: T::Alloc, tree: &mut T) -> Option<bool> {
+    for x in 0..65u64 {
+        if put_counted(heap, alloc, tree, (x, "a"))? != wanted(x) {
+            return Some(false);
+        }
+    }
+    Some(true)
+}
+
+// Whether the first row at a key lies in its entry, and each further one takes a list.
+fn is_listed<T: OnLine>(heap: &Refusing<Global>, alloc: T::Alloc, tree: &mut T) -> Option<bool> {
+    for (id, wanted) in [("b", 0), ("a", 1), ("c", 1u64)] {
+        if put_counted(heap, alloc, tree, (0, id))? != wanted {
+            return Some(false);
+        }
+    }
+    Some(true)
+}
+
+// Whether memory for a tree of no rows is there.
+fn can_be_made<A: Allocator + Copy>(alloc: A) -> bool {
+    UbTree::new(alloc, Period::Week).is_ok()
+}
+
+// Whether a new tree takes its page, and the list of the regions of a tree of 33 rows itself.
+fn is_short<T: OnLine + Regions>(
+    heap: &Refusing<Global>,
+    alloc: T::Alloc,
+    tree: &mut T,
+) -> Option<bool> {
+    cut_with(alloc, tree, (0, 33))?;
+    for (n, is_there) in [(1, false), (2, true)] {
+        heap.arm(n);
+        if can_be_made(alloc) != is_there || heap.is_armed() != is_there {
+            return Some(false);
+        }
+        heap.arm(n);
+        if tree.regions().is_some() != is_there || heap.is_armed() != is_there {
+            return Some(false);
+        }
+    }
+    Some(true)
+}
+
+// What is asked of a tree.
+#[derive(Clone, Copy)]
+enum Asked {
+    Cut,
+    Crowded,
+    Counted,
+    Listed,
+    Short,
+}
+
+// Whether it is so.
+fn is_so<T: OnLine + Regions>(
+    heap: &Refusing<Global>,
+    alloc: T::Alloc,
+    tree: &mut T,
+    asked: Asked,
+) -> Option<bool> {
+    match asked {
+        Asked::Cut => is_cut(alloc, tree),
+        Asked::Crowded => is_crowded(alloc, tree),
+        Asked::Counted => is_counted(heap, alloc, tree),
+        Asked::Listed => is_listed(heap, alloc, tree),
+        Asked::Short => is_short(heap, alloc, tree),
+    }
+}
+
+// Whether it is so of a new tree over an allocator.
+fn is_so_of_new<A: Allocator + Copy>(heap: &Refusing<Global>, alloc: A, asked: Asked) -> bool {
+    let Ok(mut tree) = UbTree::new(alloc, Period::Week) else {
+        return false;
+    };
+    let is_so = is_so(heap, alloc, &mut tree, asked);
+    drop(tree);
+    is_so == Some(true)
+}
+
+// Whether it is so of a new tree over the heap that refuses.
+fn holds(heap: &Refusing<Global>, asked: Asked) -> bool {
+    is_so_of_new(heap, heap, asked)
+}
+
+#[test]
+fn pages_are_split_evened_and_merged(rt: HostRuntime) {
+    let heap = Refusing::new(rt.alloc());
+    assert!(rt; holds(&heap, Asked::Cut));
 }
 
 #[test]
 fn rows_of_one_key(rt: HostRuntime) {
-    assert!(rt; crowded(rt.alloc()) == Some((1, 33)));
+    let heap = Refusing::new(rt.alloc());
+    assert!(rt; holds(&heap, Asked::Crowded));
 }
 
-// Puts a further row into a tree of so many rows. Gives how many growths it takes, if the tree has as many with each refused.
-fn put_counted<'a>(
-    heap: &'a Refusing<Global>,
-    tree: &mut UbTree<&'a Refusing<Global>>,
-    rows: u64,
-    (x, id): (u64, &str),
-) -> Option<u64> {
-    let count = growths_at(heap, tree, x, (id, ""))?;
-    if tree.len() != rows {
-        return None;
-    }
-    put_at(tree, heap, x, (id, ""))?;
-    Some(count)
-}
-
-// How many growths each of 65 rows takes that are put into a tree one by one.
-fn growths_of_each(heap: &Refusing<Global>) -> Option<[u64; 65]> {
-    let mut tree = UbTree::new(heap, Period::Week).ok()?;
-    let mut counts = [0; 65];
-    for x in 0..65u64 {
-        counts[x as usize] = put_counted(heap, &mut tree, x, (x, "a"))?;
-    }
-    Some(counts)
-}
-
-// A row at a key of its own takes no growth but where its page is full: the 33rd row splits the only page, and puts a
-// node over the halves, which takes a list for its nodes, one for its children, one for their labels' counts, two for their
-// labels and marks, a block for these two and the first keys, and a list for the marks that stay where the node splits another;
-// for the 49th, which evens both pages, a page is prepared too; the 57th splits the last page.
 #[test]
 fn each_growth_refused(rt: HostRuntime) {
     let heap = Refusing::new(rt.alloc());
-    let mut wanted = [0; 65];
-    wanted[32] = 8;
-    wanted[48] = 1;
-    wanted[56] = 1;
-    assert!(rt; growths_of_each(&heap) == Some(wanted));
+    assert!(rt; holds(&heap, Asked::Counted));
 }
 
-// How many growths each of three rows takes that are put in at one key, one by one.
-fn growths_of_one_key(heap: &Refusing<Global>) -> Option<[u64; 3]> {
-    let mut tree = UbTree::new(heap, Period::Week).ok()?;
-    let mut counts = [0; 3];
-    for (at, id) in ["b", "a", "c"].iter().enumerate() {
-        counts[at] = put_counted(heap, &mut tree, at as u64, (0, *id))?;
-    }
-    Some(counts)
-}
-
-// The first row lies in its entry, and each further one takes a list.
 #[test]
 fn growths_at_one_key(rt: HostRuntime) {
     let heap = Refusing::new(rt.alloc());
-    assert!(rt; growths_of_one_key(&heap) == Some([0, 1, 1]));
+    assert!(rt; holds(&heap, Asked::Listed));
 }
 
-// How many growths a new tree takes, if there is none with each of them refused.
-fn growths_of_new(heap: &Refusing<Global>) -> Option<u64> {
-    for n in 1..100u64 {
-        heap.arm(n);
-        let is_made = UbTree::new(heap, Period::Week).is_ok();
-        if heap.is_armed() {
-            heap.arm(0);
-            return is_made.then_some(n - 1);
-        }
-        if is_made {
-            return None;
-        }
-    }
-    None
-}
-
-// How many growths the list of a tree's regions takes, if there is none with each of them refused.
-fn growths_of_list(heap: &Refusing<Global>, tree: &UbTree<&Refusing<Global>>) -> Option<u64> {
-    for n in 1..100u64 {
-        heap.arm(n);
-        let is_listed = tree.regions().is_ok();
-        if heap.is_armed() {
-            heap.arm(0);
-            return is_listed.then_some(n - 1);
-        }
-        if is_listed {
-            return None;
-        }
-    }
-    None
-}
-
-// How many growths the list of the regions of a tree of 33 rows takes.
-fn growths_of_regions(heap: &Refusing<Global>) -> Option<u64> {
-    let tree = filled(heap, 33)?;
-    growths_of_list(heap, &tree)
-}
-
-// A new tree takes its page, and a short list of regions itself.
 #[test]
 fn growths_of_trees_and_lists(rt: HostRuntime) {
     let heap = Refusing::new(rt.alloc());
-    assert!(rt; growths_of_new(&heap) == Some(1));
-    assert!(rt; growths_of_regions(&heap) == Some(1));
+    assert!(rt; holds(&heap, Asked::Short));
 }

@@ -1,13 +1,13 @@
 //! Walks over the regions of a UB-tree.
 
-use crate::putting::put_at;
+use crate::on_line::put_at;
 use st_box::Query;
 use st_index::{Fields, Judge, KeyRange, Leaf, Row, RowIndex};
 use st_key::{Key, Period};
 use st_plan::plan;
 use st_scan::Walk;
 use st_ubtree::UbTree;
-use std::alloc::{AllocError, Global};
+use std::alloc::{AllocError, Allocator};
 use std::cell::Cell;
 
 // An index that counts the calls of `leaf_at`.
@@ -82,15 +82,6 @@ impl<I: RowIndex> RowIndex for Counted<I> {
     }
 }
 
-// A tree of 33 rows on one line: two regions, the first of which has the keys of x 0 to 15.
-fn tree(alloc: Global) -> Option<UbTree> {
-    let mut tree = UbTree::new(alloc, Period::Week).ok()?;
-    for x in 0..33 {
-        put_at(&mut tree, alloc, x, ("a", ""))?;
-    }
-    Some(tree)
-}
-
 // What a walk did: the rows that it gave, and the regions that it opened.
 #[derive(Clone, Copy, PartialEq, Eq, Debug)]
 struct Steps {
@@ -99,7 +90,12 @@ struct Steps {
 }
 
 // Takes so many steps of a walk over a box.
-fn take_steps<I: RowIndex>(alloc: Global, index: &I, asked: [u64; 6], count: u64) -> Option<Steps> {
+fn take_steps<I: RowIndex>(
+    alloc: I::Alloc,
+    index: &I,
+    asked: [u64; 6],
+    count: u64,
+) -> Option<Steps> {
     let [x0, x1, y0, y1, t0, t1] = asked;
     let query = Query::new(x0, x1, y0, y1, t0, t1).ok()?;
     let Ok(ranges) = plan(alloc, &query, 16, index.period()) else {
@@ -116,14 +112,30 @@ fn take_steps<I: RowIndex>(alloc: Global, index: &I, asked: [u64; 6], count: u64
     Some(Steps { rows, opened })
 }
 
-// What a walk over that tree did, and how often it called `leaf_at`.
-fn walked(alloc: Global, asked: [u64; 6], count: u64) -> Option<(Steps, u64)> {
-    let index = Counted {
-        index: tree(alloc)?,
+// What a walk over an index of 33 rows on one line did, and how often it called `leaf_at`.
+fn walked_in<I: RowIndex + Drop>(
+    alloc: I::Alloc,
+    mut index: I,
+    asked: [u64; 6],
+    count: u64,
+) -> Option<(Steps, u64)> {
+    for x in 0..33 {
+        put_at(&mut index, alloc, x, "a")?;
+    }
+    let counted = Counted {
+        index,
         calls: Cell::new(0),
     };
-    let steps = take_steps(alloc, &index, asked, count)?;
-    Some((steps, index.calls.get()))
+    let steps = take_steps(alloc, &counted, asked, count)?;
+    Some((steps, counted.calls.get()))
+}
+
+// That of a walk over a tree: it has two regions, the first of which has the keys of x 0 to 15.
+fn walked<A: Allocator + Copy>(alloc: A, asked: [u64; 6], count: u64) -> Option<(Steps, u64)> {
+    match UbTree::new(alloc, Period::Week) {
+        Ok(tree) => walked_in(alloc, tree, asked, count),
+        Err(_) => None,
+    }
 }
 
 #[test]

@@ -1,28 +1,22 @@
-//! Tests of HTTP and of the service of a connection that no exchange can show: short reads and writes, hostile input, requests
-//! that run out of memory, and the server's state.
+//! Tests of the service of a connection that no exchange can show: short reads and writes, faults of either at each place, requests that
+//! run out of memory, a reader without an end, and calls that no connection makes.
 #![tactic(auto)]
 
 #[cfg(test)]
-mod blocks;
-#[cfg(test)]
-mod continues;
+mod calls;
 #[cfg(test)]
 mod cuts;
 #[cfg(test)]
 mod endless;
 #[cfg(test)]
-mod faults;
+mod fails;
 #[cfg(test)]
-mod heads;
-#[cfg(test)]
-mod json_replies;
-#[cfg(test)]
-mod narrow;
-#[cfg(test)]
-mod pieces;
+mod opened;
 #[cfg(test)]
 mod refusals;
 #[cfg(test)]
-mod runs;
-#[cfg(test)]
 mod serving;
+#[cfg(test)]
+mod streams;
+#[cfg(test)]
+mod texts;

@@ -1,6 +1,8 @@
 //! A service whose allocations fail, each in turn.
 
-use crate::serving::{DONE, INPUT, ONE, ZERO, is_joined, served};
+use crate::serving::{Found, asked};
+use crate::streams::Script;
+use crate::texts::{DONE, INPUT, ONE, ZERO, is_joined};
 use refusing_alloc::Refusing;
 use st_service::Ended;
 use std::alloc::Global;
@@ -16,89 +18,82 @@ Content-Length: 21\r\n\r\n{\"label\":\"(C|B)&A&A\"}";
 const NORMAL: &str =
     "HTTP/1.1 200 OK\r\nContent-Type: application/json\r\nContent-Length: 20\r\n\r\n{\"normal\":\"(B|C)&A\"}";
 
-// What comes of a run with a failed allocation.
-#[derive(Clone, Copy, Debug, PartialEq, Eq)]
-enum Outcome {
-    // Memory ran out before there was a service.
-    Unopened,
-    // Every answer is that of ample memory.
-    Ample,
-    // One answer says that memory ran out, and what it answers changed nothing.
-    Busy,
-    // Anything else.
-    Wrong,
+// An input, its answers with ample memory, and those with one failed allocation.
+#[derive(Clone, Copy)]
+struct Case<'t> {
+    input: &'t [u8],
+    ample: &'t [&'t str],
+    busy: &'t [&'t [&'t str]],
 }
 
-// What comes of a service of the input, whose answers are these with ample memory, or those with one failed allocation.
-fn outcome_of(
-    heap: &Refusing<Global>,
-    global: Global,
-    input: &[u8],
-    ample: &[&str],
-    busy: &[&[&str]],
-) -> Outcome {
-    let Some((ended, written)) = served(global, heap, input) else {
-        return Outcome::Unopened;
-    };
-    let text = written.as_slice();
-    if ended != Ok(Ended::Clean) {
-        Outcome::Wrong
-    } else if is_joined(text, ample) {
-        Outcome::Ample
-    } else if busy.iter().any(|answers| is_joined(text, answers)) {
-        Outcome::Busy
+// Whether the text is one of these lists of answers.
+fn is_one_of(text: &[u8], lists: &[&[&str]]) -> bool {
+    for answers in lists {
+        if is_joined(text, *answers) {
+            return true;
+        }
+    }
+    false
+}
+
+// Whether an answer says that memory ran out. None if anything else comes of a connection but that, or the answers of ample memory,
+// or if the same input, asked again, gets others than these.
+fn is_busy(found: &Found, case: Case<'_>) -> Option<bool> {
+    let text = found.text.as_slice();
+    if found.ended != Ok(Ended::Clean) || !is_joined(found.again.as_slice(), case.ample) {
+        return None;
+    }
+    if is_joined(text, case.ample) {
+        return Some(false);
+    }
+    if is_one_of(text, case.busy) {
+        Some(true)
     } else {
-        Outcome::Wrong
+        None
     }
 }
 
-// In how many of the runs, while each allocation fails in turn, an answer says that memory ran out. None if anything else
-// comes of a run but that, no service, or the answers of ample memory, which come once no allocation is left to fail. The
-// cache of verdicts does without its memory.
-fn busy_runs(
-    heap: &Refusing<Global>,
-    global: Global,
-    input: &[u8],
-    ample: &[&str],
-    busy: &[&[&str]],
-) -> Option<u64> {
+// In how many of the runs, while each allocation fails in turn, an answer says that memory ran out. In the others there is no
+// service, or all answers are those of ample memory, as once no allocation is left to fail. The cache of verdicts does without its
+// memory.
+fn busy_runs(heap: &Refusing<Global>, global: Global, case: Case<'_>) -> Option<u64> {
     let mut runs = 0u64;
+    let mut script = Script::of(case.input);
+    script.again = case.input;
     for n in 1..1000 {
         heap.arm(n);
-        let outcome = outcome_of(heap, global, input, ample, busy);
-        if heap.is_armed() {
-            return if outcome == Outcome::Ample {
-                Some(runs)
-            } else {
-                None
-            };
-        }
-        match outcome {
-            Outcome::Unopened | Outcome::Ample => {}
-            Outcome::Busy => runs = runs.wrapping_add(1),
-            Outcome::Wrong => return None,
+        if let Some(found) = asked(heap, global, script) {
+            if is_busy(&found, case)? {
+                runs = runs.wrapping_add(1);
+            } else if found.is_armed {
+                return Some(runs);
+            }
         }
     }
     None
 }
 
-// While any one allocation fails, an answer is that of ample memory, or says that memory ran out, and then nothing is changed.
+// While any one allocation fails, an answer is that of ample memory, or says that memory ran out, and then nothing is changed. The same
+// requests, asked again, leave all as with ample memory.
 #[test]
 fn each_growth_refused(rt: HostRuntime) {
     let heap = Refusing::new(rt.alloc());
-    let busy = [
-        &[BUSY, DONE, ONE][..],
-        &[ZERO, BUSY, ZERO][..],
-        &[ZERO, DONE, BUSY][..],
-    ];
-    let runs = busy_runs(&heap, rt.alloc(), INPUT, &[ZERO, DONE, ONE], &busy);
-    assert!(rt; runs.is_some_and(|runs| runs >= 9));
+    let case = Case {
+        input: INPUT,
+        ample: &[ZERO, DONE, ONE],
+        busy: &[&[BUSY, DONE, ONE], &[ZERO, BUSY, ZERO], &[ZERO, DONE, BUSY]],
+    };
+    assert!(rt; busy_runs(&heap, rt.alloc(), case).unwrap_or(0) >= 9);
 }
 
 // So is the answer to a request for the normal form of a label.
 #[test]
 fn each_growth_refused_to_a_label(rt: HostRuntime) {
     let heap = Refusing::new(rt.alloc());
-    let runs = busy_runs(&heap, rt.alloc(), LABEL, &[NORMAL], &[&[BUSY][..]]);
-    assert!(rt; runs.is_some_and(|runs| runs > 10));
+    let case = Case {
+        input: LABEL,
+        ample: &[NORMAL],
+        busy: &[&[BUSY][..]],
+    };
+    assert!(rt; busy_runs(&heap, rt.alloc(), case).unwrap_or(0) > 10);
 }
