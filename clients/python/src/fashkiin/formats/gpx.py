@@ -174,14 +174,17 @@ def _values(point: ElementTree.Element, dropped: dict[str, None]) -> dict[str, s
 
 def _leaves(element: ElementTree.Element, point: ElementTree.Element, dropped: dict[str, None]) -> Iterator[tuple[str, str]]:
     """The names and texts within an element of a point."""
-    for leaf in element.iter():
-        text = (leaf.text or "").strip()
-        if leaf is element or len(leaf) or leaf.tag == ROW:
+    leaves = element.iter()
+    next(leaves)  # It is the element itself.
+    for leaf in leaves:
+        tag = leaf.tag
+        if len(leaf) or tag == ROW:
             continue
+        text = (leaf.text or "").strip()
         if text:
-            yield local(leaf.tag), text
+            yield local(tag), text
         elif leaf.attrib:
-            dropped[f"{local(leaf.tag)} of {local(point.tag)}"] = None
+            dropped[f"{local(tag)} of {local(point.tag)}"] = None
 
 
 def _written(lon: float, lat: float, time: str, text: str) -> Row:

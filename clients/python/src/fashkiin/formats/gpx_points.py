@@ -25,6 +25,9 @@ PIECE = 65_536
 BLOCK = 1 << 20
 """How many bytes are read at a time where they are cut into pieces."""
 
+MOST = 64
+"""How many points are parsed at a time: more of them are not held in the caches of a processor, and take longer."""
+
 Point = tuple["ElementTree.Element", dict[str, Any]]
 """A point, and what it has of its track."""
 
@@ -88,7 +91,7 @@ def _batches(source: Source, size: int, share: Share) -> Iterator[tuple[int, lis
     batch: list[Placed] = []
     number, most = 0, RUN * size
     while True:
-        piece, starts = text.take(most - number % most, document.within is None)
+        piece, starts = text.take(min(MOST, most - number % most), document.within is None)
         if not piece:
             break
         if starts and not share.has(number // size):
