@@ -39,8 +39,8 @@ _NEXT = re.compile(
 )
 """What hides points, or the start of one."""
 
-_STOPS = {b"wpt": (b"<%strk", b"<%srte", b"</%sgpx"), b"trkpt": (b"</%strkseg",), b"rtept": (b"</%srte>",)}
-"""Where points of a name end that stand one behind another; the prefix of their name goes in."""
+_STOPS = {b"wpt": (b"<%strk", b"<%srte"), b"trkpt": (b"</%strkseg",), b"rtept": (b"</%srte>",)}
+"""What may stand between points of a name; its prefix goes in. More is found where the points are parsed."""
 
 
 @lru_cache(maxsize=1_024)
@@ -146,9 +146,7 @@ class _Text:
         starts = [it for it in starts if it < stop]
         if stop == end and at < 0:
             stop = starts.pop()  # It may go on behind what was read.
-        if data.find(b"<!--", self._at, stop) >= 0 or data.find(b"<?", self._at, stop) >= 0:
-            starts = []
-        return starts, stop
+        return ([] if data.find(b"<!--", self._at, stop) >= 0 else starts), stop
 
 
 class _Document:
