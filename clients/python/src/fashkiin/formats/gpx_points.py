@@ -34,10 +34,11 @@ Point = tuple["ElementTree.Element", dict[str, Any]]
 Placed = tuple[int, Point]
 """A point with the line on which it ends."""
 
-_NEXT = re.compile(
-    rb"<!--.*?-->|<!\[CDATA\[.*?]]>|<\?.*?\?>|<((?:[\w.-]+:)?)(wpt|trkpt|rtept)(?=[\s/>])", re.DOTALL
-)
-"""What hides points, or the start of one."""
+_NEXT = re.compile(rb"<(?:(!--|!\[CDATA\[|\?)|((?:[\w.-]+:)?)(wpt|trkpt|rtept)(?=[\s/>]))")
+"""The start of what may hide points, or of a point: its prefix and its name."""
+
+_ENDS = {b"!--": b"-->", b"![CDATA[": b"]]>", b"?": b"?>"}
+"""Where that ends."""
 
 _STOPS = {b"wpt": (b"<%strk", b"<%srte"), b"trkpt": (b"</%strkseg",), b"rtept": (b"</%srte>",)}
 """What may stand between points of a name; its prefix goes in. More is found where the points are parsed."""
@@ -127,10 +128,20 @@ class _Text:
             self._data, self._at, self._ended = self._data[self._at :] + block, 0, len(block) < BLOCK
         data, at = self._data, self._at
         found = None if is_inside else _NEXT.match(data, at)
-        starts, self._at = self._points(found[1] or b"", found[2], most) if found and found[2] else ([], at)
+        starts, self._at = self._points(found[2], found[3], most) if found and found[3] else ([], at)
         if self._at == at:
-            self._at = next((it.start() for it in _NEXT.finditer(data, at + 1) if it[2]), len(data))
+            self._at = self._next(at + 1 if found and found[3] else at)
         return data[at : self._at], [start - at for start in starts]
+
+    def _next(self, at: int) -> int:
+        """Where the next point begins that is not hidden, or what was read ends."""
+        while (found := _NEXT.search(self._data, at)) is not None:
+            if found[3]:
+                return found.start()
+            at = self._data.find(_ENDS[found[1]], found.end())
+            if at < 0:
+                break
+        return len(self._data)
 
     def _points(self, prefix: bytes, name: bytes, most: int) -> tuple[list[int], int]:
         """Where up to so many points of a name begin, and where they end."""
@@ -146,7 +157,9 @@ class _Text:
         starts = [it for it in starts if it < stop]
         if stop == end and at < 0:
             stop = starts.pop()  # It may go on behind what was read.
-        return ([] if data.find(b"<!--", self._at, stop) >= 0 else starts), stop
+        if data.find(b"<!--", self._at, stop) >= 0 or data.find(b"<?", self._at, stop) >= 0:
+            starts = []
+        return starts, stop
 
 
 class _Document:
