@@ -4,7 +4,7 @@ from __future__ import annotations
 
 import zlib
 from collections.abc import Callable, Generator, Iterator
-from contextlib import AbstractContextManager, closing
+from contextlib import AbstractContextManager, closing, suppress
 from functools import partial
 from typing import TypeVar
 
@@ -14,7 +14,7 @@ from fashkiin.formats import Format, InputError, Names, Prepared, Source
 from fashkiin.formats.fields import prepared
 from fashkiin.formats.numbers import Kinds, throughout
 from fashkiin.pipeline import pieces
-from fashkiin.shares import WHOLE, Share, helpers, shared
+from fashkiin.shares import WHOLE, Share, ShareError, helpers, shared, shares_of
 
 DAMAGED = (OSError, EOFError, zlib.error, UnicodeError)
 """What reading a file raises, packed or not, that is damaged, on a bad disk or of another encoding."""
@@ -25,17 +25,25 @@ Item = TypeVar("Item")
 def gathered(
     source: Source, work: Callable[[Source, Share], Iterator[Item]], begin: Callable[[], object]
 ) -> Generator[Item, None, None]:
-    """What `work` yields of the batches of a source, in their order. Where processes share them, each calls `begin` first."""
+    """What `work` yields of the batches of a source, in their order. Where processes share them, each calls `begin` first. Where
+    they find that the source cannot be cut, it is read anew uncut, and told from there on."""
     again, turns = source.again, helpers()
     if again is None or turns < 1:
         yield from work(source, WHOLE)
         return
-    with closing(shared(partial(_told, again, work), turns, begin)) as told:
-        for reached, dropped, item in told:
-            source.reached = reached
-            source.dropped.update(dict.fromkeys(dropped))
-            if item is not None:
-                yield item
+    items = 0
+    for is_cut in (True, False):
+        with suppress(ShareError), closing(shared(partial(_told, again, work), shares_of(turns, is_cut), begin)) as told:
+            before = items
+            for reached, dropped, item in told:
+                source.reached = reached
+                source.dropped.update(dict.fromkeys(dropped))
+                if item is not None and before:
+                    before -= 1
+                elif item is not None:
+                    items += 1
+                    yield item
+            return
 
 
 def _told(

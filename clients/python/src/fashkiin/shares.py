@@ -23,11 +23,17 @@ MOST = 3
 Item = TypeVar("Item")
 
 
+class ShareError(Exception):
+    """A file cannot be cut into shares as it seemed that it could."""
+
+
 class Share(NamedTuple):
-    """One of several equal shares of a file's batches."""
+    """One of several equal shares of a file's batches. Where it `is_cut`, its process need not parse what is of the others: it
+    raises `ShareError` in its own batches where they are not what the others take them for."""
 
     turn: int
     turns: int
+    is_cut: bool = False
 
     def has(self, batch: int) -> bool:
         """Whether a batch is of this share. They are counted from 0."""
@@ -42,13 +48,18 @@ WHOLE = Share(0, 1)
 """All batches of a file."""
 
 
+def shares_of(turns: int, is_cut: bool) -> list[Share]:
+    """So many shares of a file."""
+    return [Share(turn, turns, is_cut) for turn in range(turns)]
+
+
 def helpers() -> int:
     """How many processes may share a file, beside this one: none on a single processor, or a system that is not Linux."""
     return min(MOST, len(os.sched_getaffinity(0)) - 1) if hasattr(os, "sched_getaffinity") else 0
 
 
 def shared(
-    work: Callable[[Share], Iterator[Item]], turns: int, begin: Callable[[], object]
+    work: Callable[[Share], Iterator[Item]], shares: Sequence[Share], begin: Callable[[], object]
 ) -> Generator[Item, None, None]:
     """What `work` yields of all batches in their order. Each share is made by a process of its own, which calls `begin` first.
 
@@ -56,7 +67,7 @@ def shared(
     before it.
     """
     run: list[Item]
-    with _processes(work, turns, begin) as pipes:
+    with _processes(work, shares, begin) as pipes:
         for pipe in itertools.cycle(pipes):
             run, error, is_last = _received(pipe)
             yield from run
@@ -77,7 +88,7 @@ def _received(pipe: Connection) -> tuple[list[Item], Exception | None, bool]:
 
 @contextmanager
 def _processes(
-    work: Callable[[Share], Iterator[Item]], turns: int, begin: Callable[[], object]
+    work: Callable[[Share], Iterator[Item]], shares: Sequence[Share], begin: Callable[[], object]
 ) -> Iterator[Sequence[Connection]]:
     """The pipes of processes that tell of their shares. They end with the context, and also where this process is killed: then
     nobody reads their pipes."""
@@ -87,10 +98,10 @@ def _processes(
     pipes: list[Connection] = []
     processes = []
     try:
-        for turn in range(turns):
+        for share in shares:
             pipe, end = context.Pipe(duplex=False)
             pipes.append(pipe)
-            process = context.Process(target=_tell, args=(work, Share(turn, turns), end, pipes, begin), daemon=True)
+            process = context.Process(target=_tell, args=(work, share, end, pipes, begin), daemon=True)
             process.start()
             processes.append(process)
             end.close()

@@ -5,17 +5,18 @@ What GPX has no element for stands in `extensions`, as JSON, when rows are writt
 
 from __future__ import annotations
 
-import codecs
 import json
-from collections.abc import Iterable, Iterator
+from collections.abc import Iterable, Iterator, Sequence
+from contextlib import suppress
 from decimal import Decimal
-from functools import lru_cache
 from itertools import chain
 from typing import TYPE_CHECKING, Any, TextIO
 
 from fashkiin.cells import parse_time, time_text
 from fashkiin.errors import MissingError, RowError
-from fashkiin.formats.fields import Found, Names, Prepared, Source, degrees, make_row, prepare_each
+from fashkiin.formats.fields import Found, Names, Prepared, Source, degrees, make_row, prepare_each, prepared
+from fashkiin.formats.gpx_columns import Kind, PointBodies, Usual
+from fashkiin.formats.gpx_points import Placed, Point, local, points, shared_points
 from fashkiin.formats.numbers import NUMBERS_AT_A_TIME, Kinds, kinds_of, with_numbers
 from fashkiin.pipeline import pieces
 from fashkiin.rows import Row
@@ -24,12 +25,9 @@ from fashkiin.shares import WHOLE, Share
 if TYPE_CHECKING:
     from xml.etree import ElementTree
 
-POINTS = ("wpt", "trkpt", "rtept")
-TRACKS = ("trk", "rte")
 GPX = "http://www.topografix.com/GPX/1/1"
 NAMESPACE = "urn:fashkiin:row"
 ROW = f"{{{NAMESPACE}}}row"
-PIECE = 65_536
 HEAD = f'<?xml version="1.0" encoding="UTF-8"?>\n<gpx xmlns="{GPX}" version="1.1" creator="fashkiin">\n'
 TAIL = "</gpx>\n"
 
@@ -40,7 +38,7 @@ def read(source: Source, names: Names) -> Iterator[Found]:
     A point of a track has its track's name as `track`, its track's type as `type` and the number of its segment as `segment`;
     elements of extensions, such as `hr` and `cad`, have their own names. What is kept in no row is told by `source.dropped`.
     """
-    for number, (line, (point, track)) in enumerate(_points(source, names), 1):
+    for number, (line, (point, track)) in enumerate(points(source, names.encoding), 1):
         row = _read_point((point, track), names, number, source.dropped)
         if source.raw is not None:
             source.raw.append(_raw(point, track | {"id": f"{names.number}-{number}"}))
@@ -49,17 +47,54 @@ def read(source: Source, names: Names) -> Iterator[Found]:
 
 def prepare(source: Source, names: Names, size: int, share: Share = WHOLE) -> Iterator[list[Prepared]]:
     """A share of the rows that `read` finds, by up to `size` at a time."""
-    points = _points(source, names)
-    return prepare_each(points, lambda point, number: _read_point(point, names, number, source.dropped), size, share, names.wrap)
+    if _is_cut(names, share):
+        bodies = PointBodies(names)
+        for number, batch in shared_points(source, size, share):
+            yield _rows(batch, names, number, source.dropped, bodies)
+        return
+    units = points(source, names.encoding)
+    yield from prepare_each(units, lambda it, number: _read_point(it, names, number, source.dropped), size, share, names.wrap)
+
+
+def _is_cut(names: Names, share: Share) -> bool:
+    """Whether a process parses only its own share. In an encoding that the file does not name, points cannot be found before."""
+    return share.is_cut and not names.encoding
+
+
+def _rows(batch: list[Placed], names: Names, before: int, dropped: dict[str, None], bodies: PointBodies) -> list[Prepared]:
+    """The rows of points behind so many others: those alike together, where they are as most are."""
+    rows: dict[int, Prepared] = {}
+    kinds: dict[Kind, list[Usual]] = {}
+    lost: dict[str, None] = {}
+    for number, (line, point) in enumerate(batch, before + 1):
+        usual = _usual(number, line, point, _values(point[0], lost))
+        if usual is not None:
+            kinds.setdefault(usual.kind, []).append(usual)
+    for kind, alike in kinds.items():
+        with suppress(ValueError, OverflowError):
+            rows.update(zip([it.number for it in alike], bodies.read(kind, alike), strict=True))
+    if len(rows) == len(batch):
+        dropped.update(lost)
+        return [rows[number] for number in range(before + 1, before + 1 + len(batch))]
+    found = ((number, line, _read_point(it, names, number, dropped)) for number, (line, it) in enumerate(batch, before + 1))
+    return [rows.get(number) or prepared(line, row, names.wrap) for number, line, row in found]
+
+
+def _usual(number: int, line: int, found: Point, values: dict[str, str]) -> Usual | None:
+    """A point as most are: with a place, a time, and texts that are not empty; None for another, and for one that `write`
+    wrote."""
+    point, track = found
+    lon, lat = point.get("lon"), point.get("lat")
+    if lon is None or lat is None or not all(values.values()) or "time" not in values:
+        return None
+    if next(point.iter(ROW), None) is not None:
+        return None
+    return Usual((tuple(track), tuple(values)), number, line, lon, lat, track, values)
 
 
 def numbers(source: Source, names: Names, share: Share = WHOLE) -> Iterator[Kinds]:
     """The kinds of the properties of a GPX file, by the points of a share."""
-    values = (
-        _values(point, source.dropped) if share.has(number // NUMBERS_AT_A_TIME) else {}
-        for number, (_, (point, _)) in enumerate(_points(source, names))
-    )
-    for batch in share.of(pieces(values, NUMBERS_AT_A_TIME)):
+    for batch in _all_values(source, names, share):
         texts: dict[str, list[str]] = {}
         for name, text in chain.from_iterable(it.items() for it in batch):
             if text:
@@ -67,72 +102,21 @@ def numbers(source: Source, names: Names, share: Share = WHOLE) -> Iterator[Kind
         yield kinds_of(texts.items())
 
 
-def _points(source: Source, names: Names) -> Iterator[tuple[int, tuple[ElementTree.Element, dict[str, Any]]]]:
-    """The points of a file with their lines and what they have of their tracks. What has been read is let go."""
-    around: list[tuple[str, ElementTree.Element]] = []
-    point: ElementTree.Element | None = None
-    track: dict[str, Any] = {}
-    segment = 0
-    for line, event, element in _events(source, names.encoding):
-        if point is not None and element is not point:
-            continue  # It is within the point, and is read with it.
-        tag = _local(element.tag)
-        if event == "start":
-            if not around and tag != "gpx":
-                raise source.fail(str(line), f"an element {tag}, wanted gpx")
-            around.append((tag, element))
-            segment += tag == "trkseg"
-            point = element if tag in POINTS else None
-            continue
-        around.pop()
-        within, parent = around[-1] if around else ("", None)
-        if point is not None:
-            yield line, (element, track | ({"segment": segment} if within == "trkseg" else {}))
-            point = None
-        elif tag in TRACKS and within == "gpx":
-            track, segment = {}, 0
-        elif within in TRACKS and tag in ("name", "type") and element.text:
-            track["track" if tag == "name" else "type"] = element.text
-        elif within in ("gpx", "trkseg", *TRACKS) and tag not in ("trkseg", *TRACKS):
-            source.dropped[f"{tag} of {within}"] = None
-        if parent is not None:
-            parent.remove(element)
+def _all_values(source: Source, names: Names, share: Share) -> Iterator[Sequence[dict[str, str]]]:
+    """What the points of a share have, by many at a time."""
+    size = NUMBERS_AT_A_TIME
+    if _is_cut(names, share):
+        for _, batch in shared_points(source, size, share):
+            yield [_values(point, source.dropped) for _, (point, _) in batch]
+        return
+    values = (
+        _values(point, source.dropped) if share.has(number // size) else {}
+        for number, (_, (point, _)) in enumerate(points(source, names.encoding))
+    )
+    yield from share.of(pieces(values, size))
 
 
-def _events(source: Source, encoding: str) -> Iterator[tuple[int, str, ElementTree.Element]]:
-    """The starts and ends of the elements of a file, with their lines. An encoding counts before the one that the file names."""
-    from xml.etree import ElementTree
-
-    parser = ElementTree.XMLPullParser(["start", "end"])
-    decode = codecs.getincrementaldecoder(encoding)().decode if encoding else None
-    line, data = 1, b""
-    try:
-        for data in iter(lambda: source.stream.readline(PIECE), b""):
-            parser.feed(decode(data) if decode else data)
-            for event, element in parser.read_events():
-                yield line, event, element
-            line += data.endswith(b"\n")
-        parser.close()
-        for event, element in parser.read_events():
-            yield line, event, element
-    except ElementTree.ParseError as error:
-        raise source.fail(str(error.position[0]), f"{error}, wanted GPX" + _hint(data)) from None
-    except (LookupError, ValueError) as error:
-        raise source.fail(str(line), f"{error}, wanted GPX in another --encoding") from None
-
-
-def _hint(line: bytes) -> str:
-    """What to try where a line is no XML."""
-    try:
-        line.decode()
-    except UnicodeDecodeError:
-        return " in UTF-8, or its --encoding"
-    return ""
-
-
-def _read_point(
-    found: tuple[ElementTree.Element, dict[str, Any]], names: Names, number: int, dropped: dict[str, None]
-) -> Row | RowError:
+def _read_point(found: Point, names: Names, number: int, dropped: dict[str, None]) -> Row | RowError:
     """The row of a point and what it has of its track, or what is wrong with it."""
     try:
         return _row(*found, names, number, dropped)
@@ -174,30 +158,33 @@ def _values(point: ElementTree.Element, dropped: dict[str, None]) -> dict[str, s
     values: dict[str, str] = {}
     larger: list[tuple[str, str]] = []
     for child in point:
-        name, text = _local(child.tag), child.text or ""
+        name, text = local(child.tag), child.text or ""
         if name == "link":
             larger.append(("link", child.get("href", "")))
-            dropped.update({f"{_local(it.tag)} of link": None for it in child})
+            dropped.update({f"{local(it.tag)} of link": None for it in child})
         elif len(child) or name == "extensions":
             larger += _leaves(child, point, dropped)
         elif values.setdefault(name, text) != text:
-            dropped[f"a further {name} of {_local(point.tag)}"] = None
+            dropped[f"a further {name} of {local(point.tag)}"] = None
     for name, text in larger:
         if values.setdefault(name, text) != text:
-            dropped[f"a further {name} of {_local(point.tag)}"] = None
+            dropped[f"a further {name} of {local(point.tag)}"] = None
     return values
 
 
 def _leaves(element: ElementTree.Element, point: ElementTree.Element, dropped: dict[str, None]) -> Iterator[tuple[str, str]]:
     """The names and texts within an element of a point."""
-    for leaf in element.iter():
-        text = (leaf.text or "").strip()
-        if leaf is element or len(leaf) or leaf.tag == ROW:
+    leaves = element.iter()
+    next(leaves)  # It is the element itself.
+    for leaf in leaves:
+        tag = leaf.tag
+        if len(leaf) or tag == ROW:
             continue
+        text = (leaf.text or "").strip()
         if text:
-            yield _local(leaf.tag), text
+            yield local(tag), text
         elif leaf.attrib:
-            dropped[f"{_local(leaf.tag)} of {_local(point.tag)}"] = None
+            dropped[f"{local(tag)} of {local(point.tag)}"] = None
 
 
 def _written(lon: float, lat: float, time: str, text: str) -> Row:
@@ -216,11 +203,6 @@ def _attribute(point: ElementTree.Element, field: str) -> str:
     if value is None:
         raise MissingError(field, f"a point with a {field}")
     return value
-
-
-@lru_cache(maxsize=1_024)
-def _local(tag: str) -> str:
-    return tag.rsplit("}", 1)[-1]
 
 
 def write(rows: Iterable[Row], out: TextIO, names: Names) -> None:
