@@ -102,7 +102,7 @@ pub fn are_told_meanwhile<
         rt,
         || hall.holds(rt, &turns),
         || -> Option<Vec<Option<Told>>>
-            requires { IsSync R.row × IsSync M.row × IsSend H.row × IsSync H.row }
+            requires { IsSync R.row × (IsSync M.row × (IsSend H.row × IsSync H.row)) }
         { told_by_all(rt, alloc, hall, &turns, desks, Sending::Count) },
     );
     Some(held && are_none(told) && turns.gave_up.load(SeqCst) == 0)
