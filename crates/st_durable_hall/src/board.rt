@@ -72,6 +72,13 @@ impl<B: Beginning, H: HallName, J: Journal + Drop> Board<B, H, J> {
         front.len() <= self.shown.len()
     }
 
+    // What is known to be kept by now.
+    pub(crate) fn kept(&self) -> Front<H>
+        ensures { WasKept J.list J.misreads B.first H.start result }
+    {
+        self.sure.again()
+    }
+
     // Whether a front is known to be kept by now, also where a thread still leads.
     pub(crate) fn is_sure(&self, front: &Front<H>) -> bool
         ensures { result ≡ true → WasKept J.list J.misreads B.first H.start front.now }

@@ -5,11 +5,12 @@ ghost use Rattle.st_durable.specs.Applying.{Applies};
 ghost use Rattle.st_publisher.specs.Rolls.{WasKept, WasRead};
 
 use crate::board::Board;
+use crate::reading::Reading;
 use st_core::Asked;
 use st_durable::Beginning;
 use st_hall::{Clerk, Commits, Desk, Front, HallName, Lost, Outcome, Undecided};
 use st_http::message::Message;
-use st_journal::{Journal, ReadBack, ReadError, Record};
+use st_journal::{Journal, ReadBack, ReadError};
 use st_publisher::{ChangeError, Draft, Publisher};
 use std::alloc::Global;
 use std::sync::atomic::{AtomicBool, Ordering};
@@ -62,6 +63,13 @@ impl<B: Beginning, H: HallName, R: Wait + Clock + Drop, J: Journal + Drop> Durab
         (draft.into_inner(), publisher.into_inner())
     }
 
+    /// What is known to be kept by now. It waits for no change.
+    pub fn kept<W: Wait>(&self, rt: &W) -> Front<H>
+        ensures { WasKept J.list J.misreads B.first H.start result }
+    {
+        self.board.lock(rt).kept()
+    }
+
     // Tells all threads that a change was lost.
     fn lose(&self) {
         self.alarm.store(true, Ordering::SeqCst);
@@ -90,7 +98,7 @@ impl<B: Beginning, H: HallName, R: Wait + Clock + Drop, J: Journal + Drop> Durab
 impl<B: Beginning, H: HallName, R: Wait + Clock + Drop, J: Journal + Drop> Commits<H>
     for DurableHall<B, H, R, J> {
     ghost use Rattle.std.specs.Prelude.{⊤};
-    ghost use Rattle.st_publisher.specs.Rolls.{HasFailed, WasKept};
+    ghost use Rattle.st_publisher.specs.Rolls.{HasFailed, Leaves, WasKept};
     ghost use Rattle.st_durable_hall.specs.inner.Boards.{kept_before};
 
     ghost HOLD = { 16384 };
@@ -103,6 +111,8 @@ impl<B: Beginning, H: HallName, R: Wait + Clock + Drop, J: Journal + Drop> Commi
     ghost may_lose = { ⊤ };
 
     ghost fails = { HasFailed J.misreads J.faults };
+
+    ghost leaves = { Leaves J.misreads J.may_leave B.first H.start };
 
     ghost begins = { kept_before J.list J.misreads B.first H.start };
 
@@ -172,6 +182,10 @@ impl<B: Beginning, H: HallName, R: Wait + Clock + Drop, J: Journal + Drop> Commi
     fn whole<W: Wait>(&self, rt: &W, desks: &mut [Desk<H>]) -> Front<H> {
         self.draft.lock(rt).whole(desks)
     }
+
+    fn left<W: Wait>(&self, rt: &W, list: &Front<H>) -> Option<Front<H>> {
+        self.publisher.lock(rt).left(list)
+    }
 }
 
 impl<B: Beginning, H: HallName, R: Wait + Clock + Drop, J: ReadBack + Drop> DurableHall<
@@ -182,9 +196,15 @@ impl<B: Beginning, H: HallName, R: Wait + Clock + Drop, J: ReadBack + Drop> Dura
 > {
     /// The kept records behind the first `from`, in order, at most so many: what the journal had there at the moment of the reading.
     /// No change is kept meanwhile. `Lost` comes once an append failed, or where the journal takes no more.
-    pub fn read<W: Wait>(&self, rt: &W, from: u64, most: usize) -> Result<Vec<Record>, ReadError>
-        ensures { IfOk result (λ records. WasRead J.Journal.list J.Journal.misreads B.first H.start from most records.items) }
+    pub fn read<W: Wait>(&self, rt: &W, from: u64, most: usize) -> Result<Reading<H>, ReadError>
+        ensures { IfOk result (λ reading. WasRead J.Journal.list J.Journal.misreads B.first H.start reading.kept
+            from most reading.records.items) }
     {
-        self.publisher.lock(rt).read(from, most)
+        let mut publisher = self.publisher.lock(rt);
+        let records = publisher.read(from, most)?;
+        Ok(Reading {
+            records,
+            kept: publisher.kept(),
+        })
     }
 }

@@ -5,7 +5,11 @@ ghost use Rattle.st_journal.specs.declared.record.Record.{Record};
 ghost use Rattle.st_journal.specs.Replays.{Replays};
 ghost use Rattle.st_durable.specs.Applying.{Applies};
 ghost use Rattle.st_hall.specs.Steps.{Ask, State, state_after};
+ghost use Rattle.st_hall.specs.Views.{Beside};
 ghost use Rattle.st_publisher.specs.Rolls.{LeadPast};
+
+use crate::reading::Reading;
+use st_hall::HallName;
 
 /// What is made again from what was left is the state after a beginning of the list of changes, with at least all that was kept.
 pub fn opens_again()
@@ -13,6 +17,13 @@ pub fn opens_again()
         → Replays Applies first left again
         → (front : List Ask) × IsPrefix kept front × IsPrefix front list × (again ≡ state_after start front) }
 {}
+
+/// Two readings of a hall are of lists of which one begins the other.
+pub fn two_readings<H: HallName>(one: &Reading<H>, other: &Reading<H>)
+    ensures { Beside one.now.kept other.now.kept }
+{
+    one.kept.compare(&other.kept);
+}
 
 /// Changes after that are changes of one list, which goes on that beginning.
 pub fn goes_on()

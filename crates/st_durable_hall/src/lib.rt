@@ -4,6 +4,8 @@
 mod board;
 mod hall;
 pub mod law;
+mod reading;
 
 pub use hall::DurableHall;
+pub use reading::Reading;
 pub use st_publisher::{Batch, ChangeError, Draft, Publisher};

@@ -2,7 +2,7 @@
 //!
 //! Nothing here says which thread decides a change, nor when: a hall may decide it under a lock, keep it in a journal, or read it
 //! back from a list of several machines.
-ghost use Rattle.std.specs.Prelude.{◌≡◌, ◌+◌, ◌<◌, length, true, Err, IfOk, OnErr, OnOk, MatchResult};
+ghost use Rattle.std.specs.Prelude.{◌≡◌, ◌+◌, ◌<◌, length, true, Err, IfOk, IfSome, OnErr, OnOk, MatchResult};
 ghost use Rattle.st_core.specs.Step.{asks_for_change};
 ghost use Rattle.st_service.specs.Answers.{AsksBy, IsFound};
 ghost use Rattle.st_press.specs.Views.{receipts};
@@ -70,6 +70,9 @@ pub trait Commits<H: HallName> {
     // What keeps its changes failed.
     ghost fails: { Type 0 };
 
+    // What is left of it, if the process ends now, leads to the state after a list that goes on the first and begins the second.
+    ghost leaves: { (kept list : List Ask) → Type 0 };
+
     /// Makes a change at a desk. Its reply must not go out before the list of its outcome is settled, nor may that of a change whose
     /// token does not hold. When out of memory the change is not made.
     fn change<W: Wait>(
@@ -111,6 +114,10 @@ pub trait Commits<H: HallName> {
         ensures counted { length result ≡ receipts desks.old }
         ensures same { desks.new ≡ desks.old };
 
+    /// What is kept of the whole list, once no change is made any more. There is none where some change is not in the list.
+    fn left<W: Wait>(&self, rt: &W, list: &Front<H>) -> Option<Front<H>>
+        ensures { IfSome result (λ kept. leaves kept list.now) };
+
     // With a list all that begins it was kept.
     ghost begins: { (front list : List Ask) → IsPrefix front list → keeps list → keeps front };
 }
@@ -128,6 +135,9 @@ impl<H: HallName, R: Wait + Drop> Commits<H> for Mutex<Clerk<H, R>> {
     ghost may_lose = { ⊥ };
 
     ghost fails = { ⊥ };
+
+    // Nothing is left of it.
+    ghost leaves = { λ kept list. ⊤ };
 
     ghost begins = { λ front list begins kept. tt };
 
@@ -159,5 +169,9 @@ impl<H: HallName, R: Wait + Drop> Commits<H> for Mutex<Clerk<H, R>> {
 
     fn whole<W: Wait>(&self, rt: &W, desks: &mut [Desk<H>]) -> Front<H> {
         self.lock(rt).whole(desks)
+    }
+
+    fn left<W: Wait>(&self, _rt: &W, list: &Front<H>) -> Option<Front<H>> {
+        Some(list.again())
     }
 }

@@ -43,6 +43,13 @@ impl<H: HallName> Settled<H> {
         }
     }
 
+    // What it had seen.
+    pub(crate) fn into_seen(self) -> Front<H>
+        ensures { result ≡ self.entry.seat.seen }
+    {
+        self.seen
+    }
+
     // Whether it had seen as much as a front has.
     pub(crate) fn has_seen(&self, front: &Front<H>) -> bool
         ensures { result ≡ true → self.now.seat.seen ≡ front.now }

@@ -342,23 +342,24 @@ impl<'a, H: HallName, M: Commits<H>, G: Gate> Worker<'a, H, M, G> {
         Ok(())
     }
 
-    /// Its desk, once it works no more.
-    pub fn into_desk(self) -> Desk<H>
-        ensures { result ≡ self.entry.post.seat }
+    /// Its desk, and what it had seen when it was last settled, once it works no more.
+    pub fn apart(self) -> (Desk<H>, Front<H>)
+        ensures desk { result.0 ≡ self.entry.post.seat }
+        ensures settled { result.1 ≡ self.entry.settled.seat.seen }
     {
         let Self {
             number: _number,
             calls: _calls,
             learnt: _learnt,
             desk,
-            settled: _settled,
+            settled,
             is_shown: _is_shown,
             is_lost: _is_lost,
             has_failed: _has_failed,
             hall: _hall,
             gate: _gate,
         } = self;
-        desk
+        (desk, settled.into_seen())
     }
 
     /// Sees that all that was seen so far is kept. Once nothing more is kept, or where it fails, it has failed for good.

@@ -40,13 +40,12 @@ module _ {J : Type 0} (list_of : J → List Record) (misreads : J → ℕ) (firs
       → IfOk result (λ x. misreads new ≡ 0 → items x ≡ take most (drop from (list_of old)))
       → (misreads new ≡ 0 → result ≢ Err Lost → list_of new ≡ list_of old)
       → (misreads old ≡ 0 → Replays Applies first (list_of old) (state_after start kept))
-      → IfOk result (λ x. WasRead list_of misreads first start from most (items x))
+      → IfOk result (λ x. WasRead list_of misreads first start kept from most (items x))
   was_read items (Err e) from most fewer read same stands = tt
   was_read items (Ok x) from most fewer read same stands =
       let good : Ok x ≢ Err Lost = λ e. absurd (cc e) in
       record {
         journal = new;
-        kept = kept;
         stood = λ clean. read clean ∙ ap (λ l. take most (drop from l)) (sym (same clean good));
         stands = λ clean.
             subst (λ (l : List Record). Replays Applies first l (state_after start kept)) (sym (same clean good)) (stands (omega (arith, fewer, clean)));

@@ -23,6 +23,11 @@ pub record LeadPast (first start : State) (kept list : List Ask) (records : List
   pub begins : IsPrefix front list
   pub made : Replays Applies first records (state_after start front)
 
+-- Whatever a journal may leave, if the process ends at some moment, leads so.
+pub record Leaves {J : Type 0} (misreads : J → ℕ) (may_leave : J → List Record → Type 0) (first start : State) (kept list : List Ask) : Type 0 where
+  pub journal : J
+  pub leads : misreads journal ≡ 0 → (left : List Record) → may_leave journal left → LeadPast first start kept list left
+
 -- From the first state they lead to the state after one of two lists.
 abbrev pub LeadToOne : (first start : State) (one other : List Ask) (records : List Record) → Type 0
 LeadToOne first start one other records =
@@ -45,10 +50,9 @@ abbrev pub HasFailed : {J : Type 0} → (misreads faults : J → ℕ) → Type 0
 HasFailed misreads faults = ∥ Failing misreads faults ∥₁
 
 -- These records were read: at some moment they were what the journal's list had behind the first so many, at most so many, and that list
--- led from the first state to the state after the changes that were kept.
-pub record WasRead {J : Type 0} (list_of : J → List Record) (misreads : J → ℕ) (first start : State) (from most : ℕ)
+-- led from the first state to the state after these changes, which were kept.
+pub record WasRead {J : Type 0} (list_of : J → List Record) (misreads : J → ℕ) (first start : State) (kept : List Ask) (from most : ℕ)
     (records : List Record) : Type 0 where
   pub journal : J
-  pub kept : List Ask
   pub stood : misreads journal ≡ 0 → records ≡ take most (drop from (list_of journal))
   pub stands : misreads journal ≡ 0 → Replays Applies first (list_of journal) (state_after start kept)

@@ -1,12 +1,12 @@
 //! What keeps the changes that are decided, and publishes them.
-ghost use Rattle.std.specs.Prelude.{◌≡◌, ◌≢◌, ◌<◌, [], length, true, false, List, Err, IfOk, OnOk, MatchResult};
+ghost use Rattle.std.specs.Prelude.{◌≡◌, ◌≢◌, ◌<◌, [], length, true, false, List, Err, IfOk, IfSome, OnOk, MatchResult};
 ghost use mathlib.Core.List.{IsPrefix};
 ghost use Rattle.st_journal.specs.declared.record.Record.{Record};
 ghost use Rattle.st_journal.specs.declared.read_back.ReadError.TheVariants as ends;
 ghost use Rattle.st_journal.specs.Replays.{Replays};
 ghost use Rattle.st_durable.specs.Applying.{Applies};
 ghost use Rattle.st_press.specs.Steps.{state_after};
-ghost use Rattle.st_publisher.specs.Rolls.{HasFailed, LeadPast, LeadToOne, WasKept, WasRead};
+ghost use Rattle.st_publisher.specs.Rolls.{HasFailed, LeadPast, LeadToOne, Leaves, WasKept, WasRead};
 
 use crate::draft::{Batch, Draft};
 use crate::fault::Lost;
@@ -140,6 +140,20 @@ impl<B: Beginning, H: HallName, R: Wait + Drop, J: Journal + Drop> Publisher<B, 
         self.press.shown()
     }
 
+    /// What is kept: also what is left, if the process ends now, has that, and nothing beyond a list. There is none where an append was
+    /// given more than the list.
+    pub fn left(&self, list: &Front<H>) -> Option<Front<H>>
+        ensures { IfSome result (λ kept. Leaves J.misreads J.may_leave B.first H.start kept list.now) }
+    {
+        self.show();
+        list.compare(&self.tried);
+        if self.tried.len() <= list.len() {
+            Some(self.kept())
+        } else {
+            None
+        }
+    }
+
     /// The journal.
     pub fn journal(&self) -> &J
         ensures { result.now ≡ self.now.journal }
@@ -262,7 +276,8 @@ fn says_lost(read: &Result<Vec<Record>, ReadError>) -> bool
 impl<B: Beginning, H: HallName, R: Wait + Drop, J: ReadBack + Drop> Publisher<B, H, R, J> {
     /// The kept records behind the first `from`, in order, at most so many. At `Lost` the journal takes no more.
     pub fn read(&mut self, from: u64, most: usize) -> Result<Vec<Record>, ReadError>
-        ensures read { IfOk result (λ records. WasRead J.Journal.list J.Journal.misreads B.first H.start from most records.items) }
+        ensures read { IfOk result (λ records. WasRead J.Journal.list J.Journal.misreads B.first H.start self.old.kept
+            from most records.items) }
         ensures same { (self.new.list ≡ self.old.list) × (self.new.kept ≡ self.old.kept) × (self.new.published ≡ self.old.published) }
     {
         if self.is_lost {

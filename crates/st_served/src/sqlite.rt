@@ -34,7 +34,7 @@ pub fn serve_files<
 >(rt: &R, files: &HostRuntime, start: S, words: &[String], output: &mut O, faults: &mut F) -> u8
     ensures { Ran ⟦<TcpStream as Client>⟧.call (λ _. HoldStore (image_at S.Start)) ⟦<FileJournal<FileFrom<S>> as Journal>⟧.list
         ⟦<FileJournal<FileFrom<S>> as Journal>⟧.misreads ⟦<FileJournal<FileFrom<S>> as Journal>⟧.faults
-        (map string_bytes words.now) (O.contents output.old) (O.contents output.new) result }
+        ⟦<FileJournal<FileFrom<S>> as Journal>⟧.may_leave (map string_bytes words.now) (O.contents output.old) (O.contents output.new) result }
 {
     let keeper = SqliteKeeper::new(files, "st_served", start);
     let copier = SqliteCopier::new(files);

@@ -1,3 +1,4 @@
 pub mod Widening
 pub mod Joining
+pub mod Chained
 pub mod Idle

@@ -1,11 +1,11 @@
 -- What the workers of a server did.
-use Rattle.std.specs.Prelude.{◌≡◌, ◌⊎◌, ◌<◌, ◌+◌, ⊤, ℕ, false, Option, Some, Result, Err, List, [], All, OnOk, length, slice_index_or, sum_by}
+use Rattle.std.specs.Prelude.{◌≡◌, ◌⊎◌, ◌<◌, ◌+◌, ℕ, false, Option, Some, Result, Err, List, [], All, OnOk, length, slice_index_or, sum_by}
 use mathlib.Core.List.{IsPrefix}
 use Rattle.st_peer.specs.Meeting.{Call, Serving}
 use Rattle.st_workers.specs.Working.{WorkedEach}
 use Rattle.st_workers.specs.declared.working.Worked.{Worked}
 use Rattle.st_command_line.specs.declared.fault.Fault.{Fault}
-use Rattle.st_command_line.specs.declared.fault.Fault.TheVariants.{StoreLost}
+use Rattle.st_command_line.specs.declared.fault.Fault.TheVariants.{NoMemory, StoreLost}
 use Rattle.st_hall.specs.Steps.{Ask, State}
 use Rattle.st_hall.specs.Views.{Post, Seat, opening_seat}
 use Rattle.st_hall.specs.Decisions.{Standing}
@@ -30,32 +30,49 @@ held_back = 16384
 abbrev pub desk_of : {T : Type 0} → (T → Standing) → Worked T → Seat
 desk_of standing worker = (standing worker.attendant).post.seat
 
+-- what had been seen there when the worker was last settled
+abbrev pub settled_of : {T : Type 0} → (T → Standing) → Worked T → List Ask
+settled_of standing worker = (standing worker.attendant).settled.seat.seen
+
 -- All that was seen at the desks of these workers is of one list of changes, which is as long as receipts were got at the desks.
 pub record HaveOneList {T : Type 0} (standing : T → Standing) (workers : List (Worked T)) (list : List Ask) : Type 0 where
   pub seen : All (λ worker. IsPrefix (desk_of standing worker).seen list) workers
   pub counted : length list ≡ sum_by (λ worker. (desk_of standing worker).made) workers
 
--- Each of these attendants met its clients, by one list of changes, of which this holds.
-pub record WorkedAsOne {T P : Type 0} (holds : List Ask → Type 0) (serves : Serving T) (call : P → Call) (standing : T → Standing)
+-- Each of these attendants met its clients, by one list of changes. What is kept of it has all that was seen when its worker was last
+-- settled, and of both this holds.
+pub record WorkedAsOne {T P : Type 0} (holds : (kept list : List Ask) → Type 0) (serves : Serving T) (call : P → Call) (standing : T → Standing)
     (attendants : List T) (workers : List (Worked T)) : Type 0 where
   pub each : WorkedEach serves call attendants workers
   pub list : List Ask
   pub one : HaveOneList standing workers list
-  pub is : holds list
+  pub kept : List Ask
+  pub has : All (λ worker. IsPrefix (settled_of standing worker) kept) workers
+  pub is : holds kept list
+
+-- What a hall says of its list: which was kept, and what is left of it if the process ends.
+pub record Keeps : Type 1 where
+  pub keeps : List Ask → Type 0
+  pub leaves : (kept list : List Ask) → Type 0
+
+-- the whole list is kept, and just that is left
+abbrev pub KeptWhole : Keeps → (kept list : List Ask) → Type 0
+KeptWhole hall kept list = (kept ≡ list) × (hall.keeps list × hall.leaves kept list)
 
 -- What the workers of these attendants did in a run that ended so. A run that ends well met as many clients as it was to meet, and all
--- changes were kept. At another end than that, or a lost store, it may not be known what they did.
-pub record AttendsFrom {T P : Type 0} (serves : Serving T) (call : P → Call) (standing : T → Standing) (keeps : List Ask → Type 0)
+-- changes were kept. Where memory ran out, or no worker served to the end, it may not be known what they did.
+pub record AttendsFrom {T P : Type 0} (hall : Keeps) (serves : Serving T) (call : P → Call) (standing : T → Standing)
     (attendants : List T) (connections : Option ℕ) (ended : Result Unit Fault) : Type 0 where
   pub workers : List (Worked T)
   pub each : (workers ≡ []) ⊎ WorkedEach serves call attendants workers
-  pub ok : OnOk ended (WorkedAsOne keeps serves call standing attendants workers)
-  pub lost : ended ≡ Err StoreLost → WorkedAsOne (λ list. ⊤) serves call standing attendants workers
+  pub ok : OnOk ended (WorkedAsOne (KeptWhole hall) serves call standing attendants workers)
+  pub lost : ended ≡ Err StoreLost → WorkedAsOne hall.leaves serves call standing attendants workers
+  pub known : (ended ≡ Err NoMemory → ⊥) → (workers ≡ []) ⊎ WorkedAsOne hall.leaves serves call standing attendants workers
   pub number : OnOk ended (connections ≡ Some (sum_by (λ w. w.count) workers))
 
 -- The same of a hall: each worker is a station of it.
-pub record Attends {P : Type 0} (call : P → Call) (start : State) (keeps : List Ask → Type 0) (hold : ℕ) (connections : Option ℕ)
+pub record Attends {P : Type 0} (call : P → Call) (start : State) (hall : Keeps) (hold : ℕ) (connections : Option ℕ)
     (ended : Result Unit Fault) : Type 0 where
   pub stations : List Standing
   pub new : AreNew stations
-  pub attends : AttendsFrom (ServesKept start keeps hold) call (λ station. station) keeps stations connections ended
+  pub attends : AttendsFrom hall (ServesKept start hall.keeps hold) call (λ station. station) stations connections ended

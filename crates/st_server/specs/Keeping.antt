@@ -13,9 +13,9 @@ use Rattle.st_command_line.specs.declared.served_arguments.ServedArguments.{Serv
 use Rattle.st_command_line.specs.ServedArguments.{SaysServed, place_text, store_of}
 use Rattle.st_command_line.specs.Status.{exit_status_of, exit_status_after}
 use Rattle.st_command.specs.Opening.{IsOfStore, OpensWith}
-use Rattle.st_publisher.specs.Rolls.{HasFailed, WasKept}
+use Rattle.st_publisher.specs.Rolls.{HasFailed, Leaves, WasKept}
 use Rattle.st_peer.specs.Meeting.{Call}
-use Rattle.st_server.specs.Attending.{Attends, held_back}
+use Rattle.st_server.specs.Attending.{Attends, Keeps, held_back}
 use Rattle.st_workers.specs.Telling.{Tells, line}
 
 -- What is told of it: as of any server, and it may end since its store is lost, which is said on standard error.
@@ -23,16 +23,22 @@ abbrev pub TellsKept : Text → Option ℕ → Option (List ℕ) → Option (Lis
 TellsKept place connections old new (Err StoreLost) = Appends old new (line (codes "listening") place)
 TellsKept place connections old new ended = Tells place connections old new ended
 
--- A journal was opened. Stations of a hall that begins with the state after its changes served the connections, and what they answered was
--- kept. The store is lost only where a journal failed.
+-- a hall that keeps its list in a journal, from these states on
+abbrev pub kept_by : {J : Type 0} → (list : J → List Record) → (misreads : J → ℕ) → (may_leave : J → List Record → Type 0)
+    → (first start : State Global) → Keeps
+kept_by list misreads may_leave first start =
+    record { keeps = WasKept list misreads first start; leaves = Leaves misreads may_leave first start }
+
+-- A journal was opened. Stations of a hall that begins with the state after its changes served the connections; what they answered was
+-- kept, and is left in the end. The store is lost only where a journal failed.
 pub record IsOpened {P J : Type 0} (call : P → Call) (holds : List ℕ → List Record → Type 0) (list : J → List Record)
-    (misreads faults : J → ℕ) (opening : List ℕ) (first : State Global) (said : ServedArguments) (old new : Option (List ℕ)) (status : ℕ) : Type 0 where
+    (misreads faults : J → ℕ) (may_leave : J → List Record → Type 0) (opening : List ℕ) (first : State Global) (said : ServedArguments) (old new : Option (List ℕ)) (status : ℕ) : Type 0 where
   pub journal : J
   pub before : State Global
   pub found : misreads journal ≡ 0 → holds opening (list journal)
   pub made : misreads journal ≡ 0 → Replays Applies first (list journal) before
   pub ended : Result Unit Fault
-  pub attends : Attends call before (WasKept list misreads first before) held_back said.connections ended
+  pub attends : Attends call before (kept_by list misreads may_leave first before) held_back said.connections ended
   pub cause : ended ≡ Err StoreLost → HasFailed misreads faults
   pub tells : TellsKept (place_text said.place) said.connections old new ended
   pub status_is : status ≡ exit_status_after ended
@@ -44,14 +50,14 @@ pub record IsUnopened (old new : Option (List ℕ)) (status : ℕ) : Type 0 wher
   pub status_is : status ≡ exit_status_of fault
   pub untold : new ≡ old
 
-abbrev pub EndsKept : {P J : Type 0} → (P → Call) → (List ℕ → List Record → Type 0) → (J → List Record) → (J → ℕ) → (J → ℕ) → List ℕ
-    → State Global → ServedArguments → Option (List ℕ) → Option (List ℕ) → ℕ → Type 0
-EndsKept call holds list misreads faults opening first said old new status =
-    IsOpened call holds list misreads faults opening first said old new status ⊎ IsUnopened old new status
+abbrev pub EndsKept : {P J : Type 0} → (P → Call) → (List ℕ → List Record → Type 0) → (J → List Record) → (J → ℕ) → (J → ℕ)
+    → (J → List Record → Type 0) → List ℕ → State Global → ServedArguments → Option (List ℕ) → Option (List ℕ) → ℕ → Type 0
+EndsKept call holds list misreads faults may_leave opening first said old new status =
+    IsOpened call holds list misreads faults may_leave opening first said old new status ⊎ IsUnopened old new status
 
 -- the words name a store at a path, and open the state that its changes lead on from
 pub record IsKept {P J : Type 0} (call : P → Call) (holds : (path opening : List ℕ) → List Record → Type 0) (list : J → List Record)
-    (misreads faults : J → ℕ) (words : List Text) (old new : Option (List ℕ)) (status : ℕ) : Type 0 where
+    (misreads faults : J → ℕ) (may_leave : J → List Record → Type 0) (words : List Text) (old new : Option (List ℕ)) (status : ℕ) : Type 0 where
   pub said : ServedArguments
   pub says : SaysServed words said
   pub path : Text
@@ -59,4 +65,4 @@ pub record IsKept {P J : Type 0} (call : P → Call) (holds : (path opening : Li
   pub first : State Global
   pub opening : Text
   pub opens : OpensWith said.digest.now (map (λ name. name.now) said.names.items) first opening
-  pub ends : EndsKept call (holds path) list misreads faults opening first said old new status
+  pub ends : EndsKept call (holds path) list misreads faults may_leave opening first said old new status

@@ -7,6 +7,7 @@ use Rattle.st_server.specs.Keeping.{IsKept}
 use Rattle.st_server.specs.Serving.{IsRefused, IsServed}
 
 abbrev pub Ran : {P J : Type 0} → (P → Call) → ((path opening : List ℕ) → List Record → Type 0) → (J → List Record) → (J → ℕ) → (J → ℕ)
-    → List Text → Option (List ℕ) → Option (List ℕ) → ℕ → Type 0
-Ran call holds list misreads faults words old new status =
-    IsServed call words old new status ⊎ (IsRefused words old new status ⊎ IsKept call holds list misreads faults words old new status)
+    → (J → List Record → Type 0) → List Text → Option (List ℕ) → Option (List ℕ) → ℕ → Type 0
+Ran call holds list misreads faults may_leave words old new status =
+    IsServed call words old new status
+    ⊎ (IsRefused words old new status ⊎ IsKept call holds list misreads faults may_leave words old new status)

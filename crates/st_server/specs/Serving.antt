@@ -10,17 +10,21 @@ use Rattle.st_command_line.specs.ServedArguments.{SaysServed, RefusesServedWords
 use Rattle.st_command_line.specs.Status.{exit_status_of, exit_status_after}
 use Rattle.st_peer.specs.Meeting.{Call}
 use Rattle.st_workers.specs.Telling.{Tells}
-use Rattle.st_server.specs.Attending.{Attends}
+use Rattle.st_server.specs.Attending.{Attends, Keeps}
+
+-- a hall in memory: each list is kept, and nothing is left
+abbrev pub in_memory : Keeps
+in_memory = record { keeps = λ list. ⊤; leaves = λ kept list. ⊤ }
 
 -- The words name no store and open a state. Stations of a hall that begins with it served the connections.
 pub record IsServed {P : Type 0} (call : P → Call) (words : List Text) (old new : Option (List ℕ)) (status : ℕ) : Type 0 where
   pub said : ServedArguments
   pub says : SaysServed words said
-  pub in_memory : store_of said ≡ None
+  pub unnamed : store_of said ≡ None
   pub state : State Global
   pub opens : Opens said.digest.now (map (λ name. name.now) said.names.items) state
   pub ended : Result Unit Fault
-  pub attends : Attends call state (λ _. ⊤) 0 said.connections ended
+  pub attends : Attends call state in_memory 0 said.connections ended
   pub tells : Tells (place_text said.place) said.connections old new ended
   pub status_is : status ≡ exit_status_after ended
 

@@ -6,8 +6,8 @@ use st_command_line::ServedArguments;
 use st_connection::Attend;
 use st_copy::{Copier, CopyFault, Source};
 use st_durable::Beginning;
-use st_durable_hall::DurableHall;
-use st_hall::HallName;
+use st_durable_hall::{DurableHall, Reading};
+use st_hall::{Front, HallName};
 use st_journal::{ReadBack, ReadError, Record};
 use st_peer::{Client, Listens};
 use st_workers::{Attended, Binds, PROGRAM, attend};
@@ -52,7 +52,7 @@ impl Bell {
     }
 }
 
-// The list that a hall's journal keeps.
+// The list that a hall's journal keeps, and as much of it as was kept when it was read last.
 #[derive(Drop)]
 pub(crate) struct KeptList<
     'a,
@@ -64,16 +64,21 @@ pub(crate) struct KeptList<
 > {
     pub(crate) hall: &'a DurableHall<B, H, C, J>,
     pub(crate) rt: &'a R,
+    pub(crate) kept: Front<H>,
 }
 
 impl<B: Beginning, H: HallName, C: Wait + Clock + Drop, J: ReadBack + Drop, R: Wait> Source
     for KeptList<'_, B, H, C, J, R> {
-    ghost use Rattle.st_publisher.specs.Rolls.{WasRead};
+    ghost use Rattle.st_server.specs.inner.Reading.{GivesOf};
 
-    ghost gives = { λ _ from most records. WasRead J.Journal.list J.Journal.misreads B.first H.start from most records };
+    // All that is ever read is of beginnings of one list.
+    ghost gives = { λ s. GivesOf J.Journal.list J.Journal.misreads B.first H.start s.kept };
 
     fn read(&mut self, from: u64, most: usize) -> Result<Vec<Record>, ReadError> {
-        self.hall.read(self.rt, from, most)
+        let reading = self.hall.read(self.rt, from, most)?;
+        let Reading { records, kept } = reading;
+        self.kept = self.kept.longer(&kept);
+        Ok(records)
     }
 }
 

@@ -3,9 +3,9 @@ ghost use Rattle.std.specs.Prelude.{◌≡◌, ◌<◌, ◌⊎◌, Err, Some, Li
 ghost use Rattle.st_text.specs.Texts.{Text};
 ghost use Rattle.st_journal.specs.Replays.{Replays};
 ghost use Rattle.st_durable.specs.Applying.{Applies};
-ghost use Rattle.st_publisher.specs.Rolls.{HasFailed, WasKept};
+ghost use Rattle.st_publisher.specs.Rolls.{HasFailed};
 ghost use Rattle.st_server.specs.Attending.{Attends, held_back};
-ghost use Rattle.st_server.specs.Keeping.{EndsKept, IsKept, TellsKept};
+ghost use Rattle.st_server.specs.Keeping.{EndsKept, IsKept, TellsKept, kept_by};
 ghost use Rattle.st_server.specs.Serving.{IsRefused};
 ghost use Rattle.st_command_line.specs.ServedArguments.{SaysServed, place_text, store_of};
 ghost use Rattle.st_command_line.specs.Status.{exit_status_after};
@@ -73,12 +73,18 @@ fn open_hall<
     requires stands { J.Journal.misreads journal ≡ 0 → Replays Applies B.first (J.Journal.list journal) H.start }
     ensures told { TellsKept (place_text said.now.place) said.now.connections (O.contents output.old) (O.contents output.new) result }
     ensures failed { result ≡ Err StoreLost → HasFailed J.Journal.misreads J.Journal.faults }
-    ensures attended { Attends C.call H.start (WasKept J.Journal.list J.Journal.misreads B.first H.start) held_back said.now.connections result }
+    ensures attended { Attends C.call H.start
+        (kept_by J.Journal.list J.Journal.misreads J.Journal.may_leave B.first H.start) held_back said.now.connections result }
 {
     match Hall::<H>::open_for(rt, alloc, name, both.0, both.1, workers) {
         Ok((clerk, desks)) => {
             let hall = DurableHall::<B, H, &R, J>::new(alloc, rt, clerk, journal);
-            let list = KeptList { hall: &hall, rt };
+            let kept = hall.kept(rt);
+            let list = KeptList {
+                hall: &hall,
+                rt,
+                kept,
+            };
             serve_at::<H, _, C, N, _, _, _, _>(rt, alloc, said, &hall, list, copying, desks, output)
         }
         Err(HallFault::NoPlace) => Err(Fault::NoPlace),
@@ -133,7 +139,7 @@ fn serve_kept<
 ) -> Result<(), Fault>
     requires first { copies ≡ B.first }
     ensures { EndsKept C.call (K.holds keeper place.now.path.now) J.Journal.list J.Journal.misreads J.Journal.faults
-        (string_bytes place.now.opening) B.first said.now
+        J.Journal.may_leave (string_bytes place.now.opening) B.first said.now
         (O.contents output.old) (O.contents output.new) (exit_status_after result) }
 {
     let journal = keeper.open(place.path, place.opening.as_str(), &mut copies)?;
@@ -174,8 +180,8 @@ pub(crate) fn run_kept<
     requires named { store_of said.now ≡ Some path.now }
     ensures { (words : List Text) → SaysServed words said.now
         → IsRefused words (O.contents output.old) (O.contents output.new) (exit_status_after result)
-        ⊎ IsKept C.call (K.holds keeper) J.Journal.list J.Journal.misreads J.Journal.faults words
-        (O.contents output.old) (O.contents output.new) (exit_status_after result) }
+        ⊎ IsKept C.call (K.holds keeper) J.Journal.list J.Journal.misreads J.Journal.faults J.Journal.may_leave
+        words (O.contents output.old) (O.contents output.new) (exit_status_after result) }
 {
     let (first, second, opening) = stores_and_opening_for(alloc, seed, said.digest, &said.names)?;
     let place = Place { path, opening };

@@ -1,6 +1,7 @@
 //! What the stations of a hall leave, once they serve no more.
-ghost use Rattle.std.specs.Prelude.{◌≡◌, ◌<◌, IfOk, length, map};
-ghost use Rattle.st_server.specs.Attending.{HaveOneList, desk_of};
+ghost use Rattle.std.specs.Prelude.{◌≡◌, ◌<◌, All, IfOk, length, map, true};
+ghost use mathlib.Core.List.{IsPrefix};
+ghost use Rattle.st_server.specs.Attending.{HaveOneList, desk_of, settled_of};
 
 use st_hall::law::one_list;
 use st_hall::{Commits, Desk, Front, HallName};
@@ -15,23 +16,29 @@ pub(crate) trait AtDesk<H: HallName> {
     // How it stands.
     ghost standing: { Self → Standing };
 
-    fn into_desk(self) -> Desk<H>
-        ensures { result ≡ (standing self).post.seat };
+    // The desk, and what had been seen there when it was last settled.
+    fn apart(self) -> (Desk<H>, Front<H>)
+        ensures desk { result.0 ≡ (standing self).post.seat }
+        ensures settled { result.1 ≡ (standing self).settled.seat.seen };
 }
 
-// The desks of the workers.
+// The desks of the workers, and what had been seen there when the workers were last settled.
 fn desks_of<H: HallName, T: AtDesk<H> + Drop>(
     alloc: Global,
     workers: Vec<Worked<T>>,
-) -> Result<Vec<Desk<H>>, AllocError>
-    ensures { IfOk result (λ desks. desks.items ≡ map (desk_of T.standing) workers.items) }
+) -> Result<(Vec<Desk<H>>, Vec<Front<H>>), AllocError>
+    ensures desks { IfOk result (λ both. both.0.items ≡ map (desk_of T.standing) workers.items) }
+    ensures settled { IfOk result (λ both. both.1.items ≡ map (settled_of T.standing) workers.items) }
 {
     let mut desks = Vec::with_capacity(alloc, workers.len())?;
+    let mut settled = Vec::with_capacity(alloc, workers.len())?;
     for worker in workers {
         let Worked { attendant, .. } = worker;
-        desks.push(attendant.into_desk()).map_err(|_| AllocError)?;
+        let (desk, seen) = attendant.apart();
+        desks.push(desk).map_err(|_| AllocError)?;
+        settled.push(seen).map_err(|_| AllocError)?;
     }
-    Ok(desks)
+    Ok((desks, settled))
 }
 
 // What has been seen at the desks.
@@ -45,26 +52,61 @@ fn fronts_of<H: HallName>(alloc: Global, desks: &[Desk<H>]) -> Result<Vec<Front<
     Ok(fronts)
 }
 
-/// Takes the desks back, and gives the one list of which all is that was seen there. It is as long as changes were counted there. That
-/// it is not so never comes.
+// The one list of all that was seen at the desks, and what had been seen there when the workers were last settled.
+#[derive(Drop)]
+pub(crate) struct Joined<H: HallName> {
+    pub(crate) list: Front<H>,
+    pub(crate) settled: Vec<Front<H>>,
+}
+
+/// Takes the desks back. The list is as long as changes were counted there. That it is not so never comes.
 pub(crate) fn join_lists<H: HallName, M: Commits<H>, T: AtDesk<H> + Drop, W: Wait>(
     rt: &W,
     alloc: Global,
     hall: &M,
     workers: Vec<Worked<T>>,
-) -> Result<Front<H>, AllocError>
+) -> Result<Joined<H>, AllocError>
     requires { (length workers.items ≡ H.parts) × (0 < H.parts) }
-    ensures { IfOk result (HaveOneList T.standing workers.items) }
+    ensures one { IfOk result (λ joined. HaveOneList T.standing workers.items joined.list) }
+    ensures settled { IfOk result (λ joined. joined.settled.items ≡ map (settled_of T.standing) workers.items) }
 {
-    let mut desks = desks_of(alloc, workers)?;
+    let (mut desks, settled) = desks_of(alloc, workers)?;
     let still = desks.as_slice();
     let fronts = fronts_of(alloc, still)?;
     let list = hall.whole(rt, &mut desks);
     let seen = fronts.as_slice();
     let longest = one_list(&list, seen);
     if longest.len() == list.len() {
-        Ok(list)
+        Ok(Joined { list, settled })
     } else {
         Err(AllocError)
     }
+}
+
+/// What is kept of the list. That it has not all that was seen when the workers were last settled never comes.
+pub(crate) fn kept_of<H: HallName, M: Commits<H>, W: Wait>(
+    rt: &W,
+    hall: &M,
+    joined: &Joined<H>,
+) -> Result<Front<H>, AllocError>
+    ensures leaves { IfOk result (λ kept. M.leaves kept joined.now.list) }
+    ensures has { IfOk result (λ kept. All (λ front. IsPrefix front kept) joined.now.settled.items) }
+{
+    let Some(kept) = hall.left(rt, &joined.list) else {
+        return Err(AllocError);
+    };
+    let longest = one_list(&kept, joined.settled.as_slice());
+    if longest.len() == kept.len() {
+        Ok(kept)
+    } else {
+        Err(AllocError)
+    }
+}
+
+// Whether two lists of a hall are equal.
+pub(crate) fn are_equal<H: HallName>(one: &Front<H>, other: &Front<H>) -> bool
+    ensures { result ≡ true → one.now ≡ other.now }
+{
+    one.compare(other);
+    one.len() == other.len()
 }

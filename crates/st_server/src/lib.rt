@@ -4,6 +4,7 @@
 
 mod copying;
 mod kept;
+pub mod law;
 mod leaving;
 mod memory;
 mod served;

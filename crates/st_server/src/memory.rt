@@ -1,9 +1,9 @@
 //! A server whose store is in memory.
-ghost use Rattle.std.specs.Prelude.{◌≡◌, ◌<◌, ◌⊎◌, ⊤, None, List, map};
+ghost use Rattle.std.specs.Prelude.{◌≡◌, ◌<◌, ◌⊎◌, None, List, map};
 ghost use Rattle.st_text.specs.Texts.{Text};
 ghost use Rattle.st_command.specs.Opening.{Opens};
 ghost use Rattle.st_server.specs.Attending.{Attends};
-ghost use Rattle.st_server.specs.Serving.{IsRefused, IsServed};
+ghost use Rattle.st_server.specs.Serving.{IsRefused, IsServed, in_memory};
 ghost use Rattle.st_workers.specs.Telling.{Tells};
 ghost use Rattle.st_command_line.specs.ServedArguments.{SaysServed, place_text, store_of};
 ghost use Rattle.st_command_line.specs.Status.{exit_status_after};
@@ -54,7 +54,7 @@ fn open_hall<
     requires alike { (both.0 ≡ H.start) × (both.1 ≡ H.start) }
     requires opens { Opens said.now.digest.now (map (λ name. name.now) said.now.names.items) both.0 }
     ensures told { Tells (place_text said.now.place) said.now.connections (O.contents output.old) (O.contents output.new) result }
-    ensures attended { Attends C.call H.start (λ _. ⊤) 0 said.now.connections result }
+    ensures attended { Attends C.call H.start in_memory 0 said.now.connections result }
 {
     match Hall::<H>::open_for(rt, alloc, name, both.0, both.1, workers) {
         Ok((clerk, desks)) => {

@@ -44,8 +44,8 @@ fn run<
     words: &[String],
     output: &mut O,
 ) -> Result<(), Fault>
-    ensures { Ran C.call (K.holds keeper) J.Journal.list J.Journal.misreads J.Journal.faults (map string_bytes words.now)
-        (O.contents output.old) (O.contents output.new)
+    ensures { Ran C.call (K.holds keeper) J.Journal.list J.Journal.misreads J.Journal.faults J.Journal.may_leave
+        (map string_bytes words.now) (O.contents output.old) (O.contents output.new)
         (exit_status_after result) }
 {
     let said = ServedArguments::read(alloc, words)?;
@@ -96,8 +96,8 @@ pub fn serve_words<
     output: &mut O,
     faults: &mut F,
 ) -> u8
-    ensures { Ran C.call (K.holds keeper) J.Journal.list J.Journal.misreads J.Journal.faults (map string_bytes words.now)
-        (O.contents output.old) (O.contents output.new) result }
+    ensures { Ran C.call (K.holds keeper) J.Journal.list J.Journal.misreads J.Journal.faults J.Journal.may_leave
+        (map string_bytes words.now) (O.contents output.old) (O.contents output.new) result }
 {
     match run::<J, K, L, C, N, R, O>(rt, alloc, seed, keeper, copier, words, output) {
         Ok(()) => 0,

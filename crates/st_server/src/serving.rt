@@ -1,5 +1,5 @@
 //! Serving at the desks of a hall, whatever makes its changes.
-ghost use Rattle.std.specs.Prelude.{◌≡◌, ◌<◌, ◌⊎◌, [], All, Err, length};
+ghost use Rattle.std.specs.Prelude.{◌≡◌, ◌<◌, ◌⊎◌, [], All, Err, IfErr, IfOk, Ok, length};
 ghost use Rattle.st_command_line.specs.ServedArguments.{place_text};
 ghost use Rattle.st_command_line.specs.declared.fault.Fault.TheVariants.{NoMemory, StoreLost};
 ghost use Rattle.st_hall.specs.Views.{opening_seat};
@@ -7,12 +7,12 @@ ghost use Rattle.st_server.specs.Attending.{Attends, AttendsFrom};
 ghost use Rattle.st_server.specs.Keeping.{TellsKept};
 
 use crate::copying::{Copying, attend_and_copy};
-use crate::leaving::{AtDesk, join_lists};
+use crate::leaving::{AtDesk, are_equal, join_lists, kept_of};
 use crate::stations::{Open, stations_at};
 use st_command_line::{Fault, ServedArguments};
 use st_connection::Attend;
 use st_copy::{Copier, Source};
-use st_hall::{Commits, Desk, HallName};
+use st_hall::{Commits, Desk, Front, HallName};
 use st_peer::{Client, Listens};
 use st_station::Station;
 use st_workers::{Attended, Binds, begin, tell};
@@ -35,6 +35,28 @@ fn why_lost<H: HallName, M: Commits<H>, R: Wait>(rt: &R, hall: &M) -> Fault
     } else {
         Fault::NoMemory
     }
+}
+
+// How serving ends once all workers are back: well where all changes are kept.
+fn finish<H: HallName, M: Commits<H>, R: Wait>(
+    rt: &R,
+    hall: &M,
+    ended: Result<u64, Fault>,
+    list: &Front<H>,
+) -> Result<u64, Fault>
+    ensures ok { IfOk result (λ number. (ended ≡ Ok number) × M.keeps list.now) }
+    ensures err { IfErr result (λ fault. (ended ≡ Err fault) ⊎ ((fault ≡ StoreLost) ⊎ (fault ≡ NoMemory))) }
+    ensures failed { result ≡ Err StoreLost → (ended ≡ Err StoreLost) ⊎ M.fails }
+{
+    if hall.is_lost() {
+        return Err(why_lost(rt, hall));
+    }
+    let number = ended?;
+    let settled = hall.settle(rt, list);
+    if settled.is_err() {
+        return Err(why_lost(rt, hall));
+    }
+    Ok(number)
 }
 
 // Tells that the server listens, serves connections, sees that all changes are kept, and tells how many were served, or that the store
@@ -68,7 +90,8 @@ fn announce<
     requires { (length attendants.items ≡ H.parts) × (0 < H.parts) }
     ensures told { TellsKept (place_text said.now.place) said.now.connections (O.contents output.old) (O.contents output.new) result }
     ensures failed { result ≡ Err StoreLost → M.fails }
-    ensures attended { AttendsFrom T.Attend.serves C.call T.AtDesk.standing M.keeps attendants.items said.now.connections result }
+    ensures attended { AttendsFrom (record { keeps = M.keeps; leaves = M.leaves }) T.Attend.serves C.call T.AtDesk.standing
+        attendants.items said.now.connections result }
 {
     let listener: N = match begin(rt, alloc, said, output) {
         Ok(listener) => listener,
@@ -85,14 +108,13 @@ fn announce<
         let Err(fault) = ended else { unreachable!() };
         return Err(fault);
     }
-    let list = join_lists::<H, M, T, R>(rt, alloc, hall, workers)?;
-    if hall.is_lost() {
-        return Err(why_lost(rt, hall));
-    }
-    let number = ended?;
-    let settled = hall.settle(rt, &list);
-    if settled.is_err() {
-        return Err(why_lost(rt, hall));
+    let joined = join_lists::<H, M, T, R>(rt, alloc, hall, workers)?;
+    let finished = finish(rt, hall, ended, &joined.list);
+    let kept = kept_of(rt, hall, &joined)?;
+    let number = finished?;
+    // That what is kept is not the whole list never comes.
+    if !are_equal(&kept, &joined.list) {
+        return Err(Fault::NoMemory);
     }
     tell(alloc, output, "served", number)
 }
@@ -127,7 +149,7 @@ pub(crate) fn serve_at<
     requires all { (length desks.items ≡ H.parts) × (0 < H.parts) }
     ensures told { TellsKept (place_text said.now.place) said.now.connections (O.contents output.old) (O.contents output.new) result }
     ensures failed { result ≡ Err StoreLost → M.fails }
-    ensures attended { Attends C.call H.start M.keeps M.HOLD said.now.connections result }
+    ensures attended { Attends C.call H.start (record { keeps = M.keeps; leaves = M.leaves }) M.HOLD said.now.connections result }
 {
     match stations_at(rt, alloc, hall, desks) {
         Ok(stations) => announce::<H, M, Station<'_, H, M, Open, R>, C, N, L, K, R, O>(

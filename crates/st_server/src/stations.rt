@@ -4,7 +4,7 @@ ghost use Rattle.st_hall.specs.Views.{opening_seat};
 ghost use Rattle.st_server.specs.Attending.{AreNew, new_station};
 
 use crate::leaving::AtDesk;
-use st_hall::{Commits, Desk, Gate, HallName};
+use st_hall::{Commits, Desk, Front, Gate, HallName};
 use st_station::Station;
 use std::alloc::{AllocError, Global};
 use std::sync::Wait;
@@ -26,8 +26,8 @@ impl Gate for Open {
 impl<'a, H: HallName, M: Commits<H>, R: Wait> AtDesk<H> for Station<'a, H, M, Open, R> {
     ghost standing = { λ station. station };
 
-    fn into_desk(self) -> Desk<H> {
-        Station::into_desk(self)
+    fn apart(self) -> (Desk<H>, Front<H>) {
+        Station::apart(self)
     }
 }
 

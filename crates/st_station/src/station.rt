@@ -20,7 +20,7 @@ use st_connection::connection::{Ended, IoFault, MAX_READS, ROOM, serve_connectio
 use st_connection::replies::Replies;
 use st_connection::streams::{Sink, Source};
 use st_core::{Reply, Token, copy_token};
-use st_hall::{Clerk, Commits, Desk, Gate, HallName, Lost, Undecided, Worker};
+use st_hall::{Clerk, Commits, Desk, Front, Gate, HallName, Lost, Undecided, Worker};
 use st_http::message::Message;
 use st_http::routes::Routes;
 use st_service::{Answer, asked_with, is_long, to_stranger, token_of};
@@ -95,16 +95,17 @@ impl<'a, H: HallName, M: Commits<H>, G: Gate, W: Wait> Answerer<'a, H, M, G, W> 
         self.worker.made()
     }
 
-    // The desk, once the worker works no more.
-    fn into_desk(self) -> Desk<H>
-        ensures { result ≡ self.entry.post.seat }
+    // The desk, and what it had seen when the worker was last settled, once that works no more.
+    fn apart(self) -> (Desk<H>, Front<H>)
+        ensures desk { result.0 ≡ self.entry.post.seat }
+        ensures settled { result.1 ≡ self.entry.settled.seat.seen }
     {
         let Self {
             alloc: _alloc,
             worker,
             rt: _rt,
         } = self;
-        worker.into_desk()
+        worker.apart()
     }
 
     // Whether a settling failed. What had been seen when it was last settled was kept.
@@ -322,9 +323,10 @@ impl<'a, H: HallName, M: Commits<H>, G: Gate, W: Wait> Station<'a, H, M, G, W> {
         self.answerer.made()
     }
 
-    /// Its desk, once it serves no more.
-    pub fn into_desk(self) -> Desk<H>
-        ensures { result ≡ self.entry.post.seat }
+    /// Its desk, and what had been seen there when it was last settled, once it serves no more.
+    pub fn apart(self) -> (Desk<H>, Front<H>)
+        ensures desk { result.0 ≡ self.entry.post.seat }
+        ensures settled { result.1 ≡ self.entry.settled.seat.seen }
     {
         let Self {
             answerer,
@@ -332,7 +334,7 @@ impl<'a, H: HallName, M: Commits<H>, G: Gate, W: Wait> Station<'a, H, M, G, W> {
             buffer: _buffer,
             block: _block,
         } = self;
-        answerer.into_desk()
+        answerer.apart()
     }
 
     /// Serves a connection, as `Service::serve` does by a service. All that was seen for an answer is kept before a byte of it is

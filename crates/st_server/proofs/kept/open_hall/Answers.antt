@@ -1,6 +1,7 @@
 use denote.RattleType.{RattleType}
 use denote.Param.Send.{IsSend, IsSync, sendable, given_sync}
 use Rattle.std.proofs.Crossing.{crosses}
+use Rattle.st_press.proofs.front.Front.TheSendSync as FrontCross
 use Rattle.st_publisher.proofs.Crossing.{held_draft, held_publisher}
 use Rattle.st_durable_hall.proofs.Crossing.{durable_hall, held_board}
 use Rattle.st_durable_hall.specs.contracts.hall.DurableHall as DurableHall
@@ -18,7 +19,7 @@ serve_at-requires-sync-M g c κs within = let r = given_sync 6 g.row.R c.type_bo
 
 pub serve_at-requires-send-L : goal.serve_at-requires-send-L
 serve_at-requires-send-L g c κs within = let r = given_sync 6 g.row.R c.type_bounds.sync-R in let j = c.type_bounds.send-J in
-    search (sendable, crosses, held_hall) depth 60 fits 100000
+    search (sendable, crosses, FrontCross.the_field_send, held_hall) depth 60 fits 100000
 
 pub returns-in-Err-NoPlace-clause-attended : goal.returns-in-Err-NoPlace-clause-attended
 returns-in-Err-NoPlace-clause-attended g c = nobody _ _ _ _ _ NoPlace (λ is. absurd (cc is))

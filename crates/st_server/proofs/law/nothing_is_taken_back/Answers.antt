@@ -1,0 +1,14 @@
+use mathlib.Core.List.{IsPrefix}
+use Rattle.st_press.proofs.Fronts.{prefix_trans}
+use Rattle.st_station.proofs.Growing.{out_kept, run_kept}
+use Rattle.st_server.proofs.Chained.{each_so}
+use Rattle.st_server.proofs.law.nothing_is_taken_back.Goals as goal
+
+pub returns-clause-each : goal.returns-clause-each
+returns-clause-each c = λ call start keeps hold stations workers kept. each_so start keeps hold kept call stations workers
+
+pub returns-clause-out : goal.returns-clause-out
+returns-clause-out c = λ start kept. run_kept start (λ seen. IsPrefix seen kept) (λ front list begins has. prefix_trans front list kept begins has)
+
+pub returns-clause-lost : goal.returns-clause-lost
+returns-clause-lost c = λ start kept. out_kept start (λ seen. IsPrefix seen kept) (λ front list begins has. prefix_trans front list kept begins has)

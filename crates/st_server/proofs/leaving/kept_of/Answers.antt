@@ -1,0 +1,9 @@
+use Rattle.std.proofs.Common.{◌≡◌, length, rules}
+use Rattle.st_server.proofs.Joining.{settled_in}
+use Rattle.st_server.proofs.leaving.kept_of.Goals as goal
+
+pub returns-then-len-clause-has : goal.returns-then-len-clause-has
+returns-then-len-clause-has g c =
+    let kept = c.in-Some.kept in let longest = c.one_list-longest.result in
+    let same : length longest ≡ length kept = search rules in
+    settled_in kept longest c.args.joined.now.settled.items c.one_list-longest.ensures.first same c.one_list-longest.ensures.others

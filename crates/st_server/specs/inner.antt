@@ -1,0 +1,2 @@
+-- Views of a representation, which no reader has to believe: no clause of a public function cites them.
+pub mod Reading

@@ -1,0 +1,13 @@
+-- What a list that follows a hall gives.
+use Rattle.std.specs.Prelude.{ℕ, List}
+use mathlib.Core.List.{IsPrefix}
+use Rattle.st_journal.specs.declared.record.Record.{Record}
+use Rattle.st_hall.specs.Steps.{Ask, State}
+use Rattle.st_publisher.specs.Rolls.{WasRead}
+
+-- the records were read when a beginning of this list was kept
+pub record GivesOf {J : Type 0} (list_of : J → List Record) (misreads : J → ℕ) (first start : State) (list : List Ask) (from most : ℕ)
+    (records : List Record) : Type 0 where
+  pub kept : List Ask
+  pub begins : IsPrefix kept list
+  pub read : WasRead list_of misreads first start kept from most records
