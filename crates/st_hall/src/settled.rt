@@ -45,7 +45,7 @@ impl<H: HallName> Settled<H> {
 
     // What it had seen.
     pub(crate) fn into_seen(self) -> Front<H>
-        ensures { result ≡ self.entry.seat.seen }
+        ensures { result ≡ self.seat.seen }
     {
         self.seen
     }

@@ -16,6 +16,7 @@ invariant_of-self g c = (
 
 pub returns-clause-read : goal.returns-clause-read
 returns-clause-read g c =
-    was_read g.J.Journal.list g.J.Journal.misreads g.B.Beginning.first g.H.HallName.start c.self.inside.kept c.self.inside.journal c.read_from-read.new.journal
+    rw (← c.self.view_is)
+    (was_read g.J.Journal.list g.J.Journal.misreads g.B.Beginning.first g.H.HallName.start c.self.inside.kept c.self.inside.journal c.read_from-read.new.journal
     (λ records. records.items) c.read_from-read.result.0 c.args.from c.args.most c.read_from-read.ensures.misreads c.read_from-read.ensures.read c.read_from-read.ensures.same
-    (c.self.invariant.2.stands c.if-self.false)
+    (c.self.invariant.2.stands c.if-self.false))
