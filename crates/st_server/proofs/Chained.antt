@@ -111,7 +111,10 @@ module _ (start : State) (keeps : List Ask → Type 0) (hold : ℕ) (kept : List
       → All (λ worker. IsPrefix (settled_of (λ station. station) worker) kept) workers
       → WorkedEach (ServesKept start keeps hold) call stations workers
       → WorkedEach (ServesKept start (λ seen. IsPrefix seen kept) hold) call stations workers
-  each_so stations workers new has (alike, each) = (alike, λ i d e below.
-      let m = each i d e below in
-      let fresh = subst IsSynced (sym (new i d (omega (arith, alike, below)))) (λ _. refl) in
-      (m.0, m.1, all_met_so (slice_index_or stations i d) m.0 (slice_index_or workers i e).attendant fresh (has i e below) m.2))
+  each_so stations workers new has (alike, each) = (
+    alike,
+    λ i d e below.
+        let m = each i d e below in
+        let fresh = subst IsSynced (sym (new i d (omega (arith, alike, below)))) (λ _. refl) in
+        (m.0, m.1, all_met_so (slice_index_or stations i d) m.0 (slice_index_or workers i e).attendant fresh (has i e below) m.2),
+  )

@@ -41,9 +41,9 @@ fn why_lost<H: HallName, M: Commits<H>, R: Wait>(rt: &R, hall: &M) -> Fault
 fn finish<H: HallName, M: Commits<H>, R: Wait>(
     rt: &R,
     hall: &M,
-    ended: Result<u64, Fault>,
+    ended: Result<u16, Fault>,
     list: &Front<H>,
-) -> Result<u64, Fault>
+) -> Result<u16, Fault>
     ensures ok { IfOk result (λ number. (ended ≡ Ok number) × M.keeps list.now) }
     ensures err { IfErr result (λ fault. (ended ≡ Err fault) ⊎ ((fault ≡ StoreLost) ⊎ (fault ≡ NoMemory))) }
     ensures failed { result ≡ Err StoreLost → (ended ≡ Err StoreLost) ⊎ M.fails }
