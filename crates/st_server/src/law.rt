@@ -21,7 +21,7 @@ ghost use Rattle.st_server.specs.Attending.{AreNew, settled_of};
 /// it has all that was seen for each answer of a connection, and `lost`: for each answer that is out of one that ended as lost.
 /// `found`: the next opening finds the state after a list that goes on what is kept, and begins the one list.
 pub fn nothing_is_taken_back()
-    ensures each { {P : Type 0} → (call : P → Call) (start : State) (keeps : List Ask → Type 0) (hold : ℕ) (stations : List Standing)
+    ensures each { (P : Type 0) (call : P → Call) (start : State) (keeps : List Ask → Type 0) (hold : ℕ) (stations : List Standing)
         (workers : List (Worked Standing)) (kept : List Ask) → AreNew stations
         → All (λ worker. IsPrefix (settled_of (λ station. station) worker) kept) workers
         → WorkedEach (ServesKept start keeps hold) call stations workers

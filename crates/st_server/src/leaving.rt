@@ -70,7 +70,8 @@ pub(crate) fn join_lists<H: HallName, M: Commits<H>, T: AtDesk<H> + Drop, W: Wai
     ensures one { IfOk result (λ joined. HaveOneList T.standing workers.items joined.list) }
     ensures settled { IfOk result (λ joined. joined.settled.items ≡ map (settled_of T.standing) workers.items) }
 {
-    let (mut desks, settled) = desks_of(alloc, workers)?;
+    let both = desks_of(alloc, workers)?;
+    let (mut desks, settled) = both;
     let still = desks.as_slice();
     let fronts = fronts_of(alloc, still)?;
     let list = hall.whole(rt, &mut desks);
@@ -107,6 +108,6 @@ pub(crate) fn kept_of<H: HallName, M: Commits<H>, W: Wait>(
 pub(crate) fn are_equal<H: HallName>(one: &Front<H>, other: &Front<H>) -> bool
     ensures { result ≡ true → one.now ≡ other.now }
 {
-    one.compare(other);
+    let _both = one.longer(other);
     one.len() == other.len()
 }

@@ -1,6 +1,7 @@
 use denote.RattleType.{RattleType}
 use denote.Param.Send.{IsSend, IsSync, sendable, given_sync}
 use Rattle.std.proofs.Crossing.{crosses}
+use Rattle.st_press.specs.contracts.front.Front as Front
 use Rattle.st_press.proofs.front.Front.TheSendSync as FrontCross
 use Rattle.st_publisher.proofs.Crossing.{held_draft, held_publisher}
 use Rattle.st_durable_hall.proofs.Crossing.{durable_hall, held_board}
@@ -13,13 +14,16 @@ use Rattle.st_server.proofs.kept.open_hall.Goals as goal
 held_hall : (B H R J : RattleType) (b : _) (h : _) (l : _) (j : _) → IsSend R → IsSync R → IsSend J → IsSync (DurableHall.the_field B H R J b h l j).row
 held_hall B H R J b h l j s y t = search (sendable, crosses, held_draft, held_publisher, held_board) depth 60 fits 100000
 
+held_front : (H : RattleType) (h : _) (l : _) → IsSend (Front.the_field H h l).row
+held_front H h l = FrontCross.the_send H h l
+
 pub serve_at-requires-sync-M : goal.serve_at-requires-sync-M
 serve_at-requires-sync-M g c κs within = let r = given_sync 6 g.row.R c.type_bounds.sync-R in let j = c.type_bounds.send-J in
     search (sendable, crosses, durable_hall) depth 60 fits 100000
 
 pub serve_at-requires-send-L : goal.serve_at-requires-send-L
 serve_at-requires-send-L g c κs within = let r = given_sync 6 g.row.R c.type_bounds.sync-R in let j = c.type_bounds.send-J in
-    search (sendable, crosses, FrontCross.the_field_send, held_hall) depth 60 fits 100000
+    search (sendable, crosses, held_front, held_hall) depth 60 fits 100000
 
 pub returns-in-Err-NoPlace-clause-attended : goal.returns-in-Err-NoPlace-clause-attended
 returns-in-Err-NoPlace-clause-attended g c = nobody _ _ _ _ _ NoPlace (λ is. absurd (cc is))

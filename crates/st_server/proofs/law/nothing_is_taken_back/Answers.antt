@@ -5,7 +5,7 @@ use Rattle.st_server.proofs.Chained.{each_so}
 use Rattle.st_server.proofs.law.nothing_is_taken_back.Goals as goal
 
 pub returns-clause-each : goal.returns-clause-each
-returns-clause-each c = λ call start keeps hold stations workers kept. each_so start keeps hold kept call stations workers
+returns-clause-each c = λ P call start keeps hold stations workers kept. each_so start keeps hold kept call stations workers
 
 pub returns-clause-out : goal.returns-clause-out
 returns-clause-out c = λ start kept. run_kept start (λ seen. IsPrefix seen kept) (λ front list begins has. prefix_trans front list kept begins has)

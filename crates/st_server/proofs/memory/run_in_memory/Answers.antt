@@ -35,7 +35,7 @@ returns g c = λ words says.
     inl (record {
       said = said;
       says = says;
-      in_memory = c.requires.in_memory;
+      unnamed = c.requires.in_memory;
       state = c.in_ok-both.both.0;
       opens = subst (λ (names : List (Bor Text)). Opens said.digest.now (map (λ name. name.now) names) c.in_ok-both.both.0) c.deref.ensures.value c.in_ok-both.ensures.ok;
       ended = c.open_hall.result;
