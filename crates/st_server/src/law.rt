@@ -9,7 +9,6 @@ ghost use Rattle.st_connection.specs.Connection.{KeptPast, Run, Told};
 ghost use Rattle.st_hall.specs.Steps.{Ask, State, state_after};
 ghost use Rattle.st_hall.specs.Views.{Post};
 ghost use Rattle.st_hall.specs.Decisions.{Standing};
-ghost use Rattle.st_peer.specs.Meeting.{Call};
 ghost use Rattle.st_publisher.specs.Rolls.{LeadPast};
 ghost use Rattle.st_station.specs.Posts.{Answers};
 ghost use Rattle.st_station.specs.Standing.{KeptAnswers, OutKept, ServesKept};
@@ -17,15 +16,17 @@ ghost use Rattle.st_workers.specs.Working.{WorkedEach};
 ghost use Rattle.st_workers.specs.declared.working.Worked.{Worked};
 ghost use Rattle.st_server.specs.Attending.{AreNew, settled_of};
 
+use st_hall::{Commits, HallName};
+use st_peer::Client;
+
 /// No answer of any worker is taken back. `each`: what is kept in the end has all that was kept when a connection ended. `out`: so
 /// it has all that was seen for each answer of a connection, and `lost`: for each answer that is out of one that ended as lost.
 /// `found`: the next opening finds the state after a list that goes on what is kept, and begins the one list.
-pub fn nothing_is_taken_back()
-    ensures each { (P : Type 0) (call : P → Call) (start : State) (keeps : List Ask → Type 0) (hold : ℕ) (stations : List Standing)
-        (workers : List (Worked Standing)) (kept : List Ask) → AreNew stations
+pub fn nothing_is_taken_back<H: HallName, M: Commits<H>, C: Client>()
+    ensures each { (hold : ℕ) (stations : List Standing) (workers : List (Worked Standing)) (kept : List Ask) → AreNew stations
         → All (λ worker. IsPrefix (settled_of (λ station. station) worker) kept) workers
-        → WorkedEach (ServesKept start keeps hold) call stations workers
-        → WorkedEach (ServesKept start (λ seen. IsPrefix seen kept) hold) call stations workers }
+        → WorkedEach (ServesKept H.start M.keeps hold) C.call stations workers
+        → WorkedEach (ServesKept H.start (λ seen. IsPrefix seen kept) hold) C.call stations workers }
     ensures out { (start : State) (kept : List Ask) (s t : Post) (items : List First) (answers : List (List ℕ))
         → IsPrefix t.seat.seen kept → Run (Told (Answers start)) s items answers t
         → Run (Told (KeptAnswers start (λ seen. IsPrefix seen kept))) s items answers t }

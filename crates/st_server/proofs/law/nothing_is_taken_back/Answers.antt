@@ -5,10 +5,10 @@ use Rattle.st_server.proofs.Chained.{each_so}
 use Rattle.st_server.proofs.law.nothing_is_taken_back.Goals as goal
 
 pub returns-clause-each : goal.returns-clause-each
-returns-clause-each c = λ P call start keeps hold stations workers kept. each_so start keeps hold kept call stations workers
+returns-clause-each g c = λ hold stations workers kept. each_so g.H.HallName.start g.M.Commits.keeps hold kept g.C.Client.call stations workers
 
 pub returns-clause-out : goal.returns-clause-out
-returns-clause-out c = λ start kept. run_kept start (λ seen. IsPrefix seen kept) (λ front list begins has. prefix_trans front list kept begins has)
+returns-clause-out g c = λ start kept. run_kept start (λ seen. IsPrefix seen kept) (λ front list begins has. prefix_trans front list kept begins has)
 
 pub returns-clause-lost : goal.returns-clause-lost
-returns-clause-lost c = λ start kept. out_kept start (λ seen. IsPrefix seen kept) (λ front list begins has. prefix_trans front list kept begins has)
+returns-clause-lost g c = λ start kept. out_kept start (λ seen. IsPrefix seen kept) (λ front list begins has. prefix_trans front list kept begins has)

@@ -3,7 +3,7 @@ use Rattle.std.proofs.lemmas.Result.{err_from_is_err_and}
 use Rattle.st_command_line.specs.ServedArguments.{place_text}
 use Rattle.st_workers.proofs.Telling.{all_told}
 use Rattle.st_workers.specs.Working.{WorkedEach}
-use Rattle.st_server.specs.Attending.{KeptWhole}
+use Rattle.st_server.specs.Attending.{Keeps, KeptWhole}
 use Rattle.st_server.proofs.Idle.{idle}
 use Rattle.st_server.proofs.Joining.{as_one}
 use Rattle.st_server.proofs.Widening.{widened, not_lost}
@@ -60,7 +60,7 @@ returns-clause-attended g c =
     let workers = c.attend_and_copy-attended.result.workers.items in
     let each : WorkedEach g.T.Attend.serves g.C.Client.call c.args.attendants.items workers = search rules in
     let joined = c.in_ok-joined in let kept = c.in_ok-kept in
-    let hall = record { keeps = g.M.Commits.keeps; leaves = g.M.Commits.leaves } in
+    let hall : Keeps = record { keeps = g.M.Commits.keeps; leaves = g.M.Commits.leaves } in
     let one = as_one g.M.Commits.leaves g.T.Attend.serves g.C.Client.call g.T.AtDesk.standing c.args.attendants.items workers
     joined.joined.settled.items joined.joined.list kept.kept each joined.ensures.one joined.ensures.settled kept.ensures.has kept.ensures.leaves in
     let whole = as_one (KeptWhole hall) g.T.Attend.serves g.C.Client.call g.T.AtDesk.standing c.args.attendants.items workers
