@@ -1,5 +1,6 @@
 use mathlib.Core.List.{IsPrefix}
 use Rattle.st_press.proofs.Fronts.{prefix_trans}
+use Rattle.st_publisher.proofs.Batches.{again}
 use Rattle.st_station.proofs.Growing.{out_kept, run_kept}
 use Rattle.st_server.proofs.Chained.{each_so}
 use Rattle.st_server.proofs.law.nothing_is_taken_back.Goals as goal
@@ -12,3 +13,6 @@ returns-clause-out g c = λ start kept. run_kept start (λ seen. IsPrefix seen k
 
 pub returns-clause-lost : goal.returns-clause-lost
 returns-clause-lost g c = λ start kept. out_kept start (λ seen. IsPrefix seen kept) (λ front list begins has. prefix_trans front list kept begins has)
+
+pub returns-clause-found : goal.returns-clause-found
+returns-clause-found g c = λ first start found kept list left. again first start found kept list left
