@@ -94,8 +94,9 @@ class Run:
         return entries
 
     def end(self) -> tuple[int, bytes, bytes]:
-        """Ends the input: the status, and the rest of both streams."""
-        self.stdin.close()
+        """Ends the input: the status, and the rest of both streams. What a program that has ended did not read is dropped."""
+        with suppress(BrokenPipeError):
+            self.stdin.close()
         rest, faults = self.stdout.read(), self.stderr.read()
         return self.process.wait(PATIENCE), rest, faults
 
