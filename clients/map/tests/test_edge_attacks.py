@@ -151,9 +151,16 @@ def test_no_port_is_left_where_another_account_could_listen(tmp_path: Path) -> N
         assert listening(int((tmp_path / "nginx/pid").read_text())) == set()
 
 
+def links(folder: Path) -> Iterator[str]:
+    """Where the links of a folder lead. Those that go meanwhile are left out."""
+    for link in folder.iterdir():
+        with suppress(FileNotFoundError):
+            yield os.readlink(link)
+
+
 def listening(process: int) -> set[int]:
     """The ports of TCP at which a process listens."""
-    files = {os.readlink(it) for it in Path(f"/proc/{process}/fd").iterdir()}
+    files = set(links(Path(f"/proc/{process}/fd")))
     rows = [line.split() for table in ("tcp", "tcp6") for line in Path(f"/proc/net/{table}").read_text().splitlines()[1:]]
     return {int(it[1].rpartition(":")[2], 16) for it in rows if it[3] == "0A" and f"socket:[{it[9]}]" in files}
 
