@@ -11,7 +11,7 @@ use Rattle.hex.proofs.HexLemmas.{IsDigits-lower_digits, decode_sized-ok, decode_
 use Rattle.st_text.specs.Texts.{Text}
 use Rattle.st_auth.specs.Names.{first_bad}
 use Rattle.st_core.specs.State.{State, first_state}
-use Rattle.st_command.specs.Opening.{OpensWith, name_text, names_text, opening_text}
+use Rattle.st_command.specs.Opening.{OpensWith, sized_name, names_text, opening_text}
 
 -- digits before a colon end at it
 same_digits : (xs ys a b : List ℕ) → AllDigits 10 xs → AllDigits 10 ys → xs ++ (58 ∷ a) ≡ ys ++ (58 ∷ b) → (xs ≡ ys) × (a ≡ b)
@@ -28,7 +28,7 @@ same_front (x ∷ xs) [] a b long same = grind arith
 same_front (x ∷ xs) (y ∷ ys) a b long same = grind (arith, same_front xs ys a b)
 
 same_name : (name other more others : List ℕ) → length name < 2 ^ 64 → length other < 2 ^ 64
-    → name_text name ++ more ≡ name_text other ++ others → (name ≡ other) × (more ≡ others)
+    → sized_name name ++ more ≡ sized_name other ++ others → (name ≡ other) × (more ≡ others)
 same_name name other more others fits fits_other same =
     let n = decimal (length name) in
     let m = decimal (length other) in

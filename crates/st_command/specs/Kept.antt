@@ -1,5 +1,5 @@
 -- How a connection is served from a store that a journal keeps.
-use Rattle.std.specs.Prelude.{◌≡◌, ◌≢◌, ◌⊎◌, ℕ, Option, Some, is_some, Result, Ok, Err, List}
+use Rattle.std.specs.Prelude.{◌≡◌, ◌≢◌, ℕ, Option, Some, is_some, Result, Ok, Err, List}
 use Rattle.std.specs.declared.alloc.Global.{Global}
 use Rattle.st_core.specs.State.{State}
 use Rattle.st_journal.specs.declared.record.Record.{Record}
@@ -11,41 +11,38 @@ use Rattle.st_connection.specs.declared.connection.TheConstants.{MAX_READS}
 use Rattle.st_connection.specs.declared.connection.Ended.{Ended}
 use Rattle.st_connection.specs.declared.connection.Ended.TheVariants.{Clean, Closed, Cut, TurnsSpent, Lost}
 use Rattle.st_connection.specs.declared.connection.IoFault.{IoFault}
-use Rattle.st_durable.specs.declared.loss.Loss.{Loss}
-use Rattle.st_durable.specs.declared.loss.Loss.TheVariants.{Disk}
-use Rattle.st_durable.specs.Applying.{Applies}
-use Rattle.st_durable.specs.Keeping.{Keeping, LeadTo, answered}
-use Rattle.st_command_line.specs.declared.fault.Fault.{Fault}
-use Rattle.st_command_line.specs.Status.{exit_status_of}
-use Rattle.st_command.specs.Opening.{IsOfStore}
-use Rattle.st_command.specs.Streams.{Streams, AreUntouched}
+use Rattle.st_journal_store.specs.declared.loss.Loss.{Loss}
+use Rattle.st_journal_store.specs.declared.loss.Loss.TheVariants.{Disk}
+use Rattle.st_journal_store.specs.Applying.{Applies}
+use Rattle.st_journal_store.specs.Keeping.{Keeping, LeadTo, answered}
+use Rattle.st_connection.specs.Streams.{Streams}
 
 -- the exit status after a connection that ended so, where this is why a change was lost
-abbrev pub kept_status_after : Result Ended IoFault → Option Loss → ℕ
-kept_status_after (Ok Clean) loss = 0
-kept_status_after (Ok Closed) loss = 0
-kept_status_after (Ok Cut) loss = 3
-kept_status_after (Ok TurnsSpent) loss = 4
-kept_status_after (Ok Lost) (Some Disk) = 7
-kept_status_after (Ok Lost) loss = 6
-kept_status_after (Err broken) loss = 5
+abbrev pub status_after : Result Ended IoFault → Option Loss → ℕ
+status_after (Ok Clean) loss = 0
+status_after (Ok Closed) loss = 0
+status_after (Ok Cut) loss = 3
+status_after (Ok TurnsSpent) loss = 4
+status_after (Ok Lost) (Some Disk) = 7
+status_after (Ok Lost) loss = 6
+status_after (Err broken) loss = 5
 
 -- The connection was served from this state, and the status says how it ended, and only so where it did. Each change that was answered
 -- is kept, unless a change was lost, and then its answer was not written. Whatever is left if the process ends leads from the first
 -- state to that after all that was kept, or after the lost change too. The disk is why a change was lost only where it failed or refused
 -- more often than `begun`.
-pub record ServesKept {J : Type 0} (list : J → List Record) (misreads faults : J → ℕ) (may_leave : J → List Record → Type 0)
+pub record ServesStored {J : Type 0} (list : J → List Record) (misreads faults : J → ℕ) (may_leave : J → List Record → Type 0)
     (first : State Global) (begun : ℕ) (before : State Global) (s : Streams) (status : ℕ) : Type 0 where
   pub ended : Result Ended IoFault
   pub after : Keeping J
-  pub served : ServedWithin Answers 0 before (answered after) after.kept s.left_old s.left_new s.held_old s.held_new s.read_failed ended
-  pub ends : EndsOn MAX_READS s.left_new s.reads_old s.reads_new s.has_ended s.read_failed s.write_failed ended
+  pub served : ServedWithin Answers 0 before (answered after) after.kept s ended
+  pub ends : EndsOn MAX_READS s ended
   pub kept : KeptUnlessLost after.kept (answered after) (is_some after.loss) ended
   pub stands : ended ≢ Ok Lost → misreads after.journal ≡ 0 → Replays Applies first (list after.journal) after.kept
   pub leaves : misreads after.journal ≡ 0 → (left : List Record) → may_leave after.journal left
       → LeadTo first after.kept (answered after) left
   pub disk : misreads after.journal ≡ 0 → after.loss ≡ Some Disk → Rises begun (faults after.journal)
-  pub status_is : status ≡ kept_status_after ended after.loss
+  pub status_is : status ≡ status_after ended after.loss
 
 -- a journal was opened, and the connection was served from the state after its changes
 pub record IsOpened {J : Type 0} (holds : List ℕ → List Record → Type 0) (list : J → List Record) (misreads faults : J → ℕ)
@@ -54,16 +51,4 @@ pub record IsOpened {J : Type 0} (holds : List ℕ → List Record → Type 0) (
   pub before : State Global
   pub found : misreads journal ≡ 0 → holds opening (list journal)
   pub made : misreads journal ≡ 0 → Replays Applies first (list journal) before
-  pub serves : ServesKept list misreads faults may_leave first (faults journal) before s status
-
--- no journal was opened, and nothing was read or written
-pub record IsUnopened (s : Streams) (status : ℕ) : Type 0 where
-  pub fault : Fault
-  pub why : IsOfStore fault
-  pub status_is : status ≡ exit_status_of fault
-  pub untouched : AreUntouched s
-
-abbrev pub EndsKept : {J : Type 0} → (List ℕ → List Record → Type 0) → (J → List Record) → (misreads faults : J → ℕ)
-    → (J → List Record → Type 0) → List ℕ → State Global → Streams → ℕ → Type 0
-EndsKept holds list misreads faults may_leave opening first s status =
-    IsOpened holds list misreads faults may_leave opening first s status ⊎ IsUnopened s status
+  pub serves : ServesStored list misreads faults may_leave first (faults journal) before s status

@@ -1,4 +1,3 @@
-pub mod Streams
 pub mod Opening
 pub mod Kept
 pub mod Running

@@ -8,22 +8,23 @@ use Rattle.st_core.specs.State.{State, first_state}
 use Rattle.st_command_line.specs.declared.fault.Fault.{Fault}
 use Rattle.st_command_line.specs.declared.fault.Fault.TheVariants.{OtherStore, OtherNames, StoreInUse, LaterStore, NoStore, StoreDamaged}
 use Rattle.st_command_line.specs.declared.fault.Fault.TheVariants.{StoreInterrupted, StoreIo, NoMemory}
+use Rattle.st_command_line.specs.Status.{exit_status_of}
 
 -- the state that a server begins with: root has these authorizations, each of them valid, and the digest that the
 -- 64 hexadecimal digits write
-pub record Opens (digits : Text) (names : List Text) (state : State Global) : Type 0 where
+pub record OpensState (digits : Text) (names : List Text) (state : State Global) : Type 0 where
   pub digest : List ℕ
   pub written : decode_sized digits 32 ≡ Ok digest
   pub good : first_bad names ≡ None
   pub is : state ≡ first_state digest names
 
 -- a name behind its length in bytes
-abbrev pub name_text : Text → Text
-name_text name = codes " " ++ (decimal (length name) ++ (codes ":" ++ name))
+abbrev pub sized_name : Text → Text
+sized_name name = codes " " ++ (decimal (length name) ++ (codes ":" ++ name))
 
 unfoldable pub names_text : List Text → Text
 names_text [] = []
-names_text (name ∷ names) = name_text name ++ names_text names
+names_text (name ∷ names) = sized_name name ++ names_text names
 
 -- what a journal says that its store was opened with: root's digest in 64 lower-case hexadecimal digits, and root's authorizations
 -- in the order given
@@ -32,7 +33,7 @@ opening_text digest names = encode_lower digest ++ names_text names
 
 -- the state that a server begins with, and how a journal says it
 pub record OpensWith (digits : Text) (names : List Text) (state : State Global) (opening : Text) : Type 0 where
-  pub opens : Opens digits names state
+  pub opens : OpensState digits names state
   pub opening_is : opening ≡ opening_text opens.digest names
 
 -- why the journal of a store is not opened
@@ -47,3 +48,10 @@ IsOfStore StoreInterrupted = Unit {0}
 IsOfStore StoreIo = Unit {0}
 IsOfStore NoMemory = Unit {0}
 IsOfStore _ = ⊥
+
+-- a run ends by a fault of such a cause, which the status says, and did nothing
+pub record Fails (causes : Fault → Type 0) (nothing : Type 0) (status : ℕ) : Type 0 where
+  pub fault : Fault
+  pub why : causes fault
+  pub status_is : status ≡ exit_status_of fault
+  pub idle : nothing

@@ -1,5 +1,5 @@
 -- What a run of `st_run` does, by its exit status.
-use Rattle.std.specs.Prelude.{◌≡◌, ◌⊎◌, ℕ, Some, None, Result, Ok, Err, List, map}
+use Rattle.std.specs.Prelude.{◌≡◌, ◌⊎◌, ℕ, Some, None, Result, List, map}
 use Rattle.std.specs.declared.alloc.Global.{Global}
 use Rattle.st_text.specs.Texts.{Text}
 use Rattle.st_core.specs.State.{State}
@@ -7,34 +7,22 @@ use Rattle.st_service.specs.Answers.{Answers}
 use Rattle.st_connection.specs.Connection.{EndsOn, Served}
 use Rattle.st_connection.specs.declared.connection.TheConstants.{MAX_READS}
 use Rattle.st_connection.specs.declared.connection.Ended.{Ended}
-use Rattle.st_connection.specs.declared.connection.Ended.TheVariants.{Clean, Closed, Cut, TurnsSpent, Lost}
 use Rattle.st_connection.specs.declared.connection.IoFault.{IoFault}
-use Rattle.st_command_line.specs.declared.fault.Fault.{Fault}
 use Rattle.st_journal.specs.declared.record.Record.{Record}
 use Rattle.st_command_line.specs.Common.{RefusesWords}
 use Rattle.st_command_line.specs.RunArguments.{SaysRun, run_command, store_of}
 use Rattle.st_command_line.specs.declared.run_arguments.RunArguments.{RunArguments}
-use Rattle.st_command.specs.Opening.{Opens, OpensWith}
-use Rattle.st_command.specs.Streams.{Streams, AreUntouched}
-use Rattle.st_command.specs.Kept.{EndsKept}
-use Rattle.st_command_line.specs.Status.{exit_status_of}
-
--- the exit status after a connection that ended so
-abbrev pub status_after : Result Ended IoFault → ℕ
-status_after (Ok Clean) = 0
-status_after (Ok Closed) = 0
-status_after (Ok Cut) = 3
-status_after (Ok TurnsSpent) = 4
-status_after (Ok Lost) = 5
-status_after (Err broken) = 5
+use Rattle.st_command.specs.Opening.{Fails, IsOfStore, OpensState, OpensWith}
+use Rattle.st_connection.specs.Streams.{Streams, AreUntouched}
+use Rattle.st_command.specs.Kept.{IsOpened, status_after}
 
 -- The connection was served from the first state to the second, and the status says how it ended: a status that names an end, a spent
 -- number of reads or a fault comes only where there was one.
 pub record Serves (before after : State Global) (s : Streams) (status : ℕ) : Type 0 where
   pub ended : Result Ended IoFault
-  pub served : Served Answers before after s.left_old s.left_new s.held_old s.held_new s.read_failed ended
-  pub ends : EndsOn MAX_READS s.left_new s.reads_old s.reads_new s.has_ended s.read_failed s.write_failed ended
-  pub status_is : status ≡ status_after ended
+  pub served : Served Answers before after s ended
+  pub ends : EndsOn MAX_READS s ended
+  pub status_is : status ≡ status_after ended None
 
 -- root's authorizations, as the arguments name them
 abbrev pub names_in : RunArguments → List Text
@@ -46,11 +34,12 @@ pub record IsServed (words : List Text) (s : Streams) (status : ℕ) : Type 0 wh
   pub says : SaysRun words said
   pub in_memory : store_of said ≡ None
   pub before : State Global
-  pub opens : Opens said.digest.now (names_in said) before
+  pub opens : OpensState said.digest.now (names_in said) before
   pub after : State Global
   pub serves : Serves before after s status
 
--- the arguments name a store at a path, and open the state that its changes lead on from
+-- The arguments name a store at a path, and open the state that its changes lead on from. Its journal was opened, or it was not, and
+-- nothing was read or written.
 pub record IsKept {J : Type 0} (holds : (path opening : List ℕ) → List Record → Type 0) (list : J → List Record) (misreads faults : J → ℕ)
     (may_leave : J → List Record → Type 0) (words : List Text) (s : Streams) (status : ℕ) : Type 0 where
   pub said : RunArguments
@@ -60,16 +49,10 @@ pub record IsKept {J : Type 0} (holds : (path opening : List ℕ) → List Recor
   pub first : State Global
   pub opening : Text
   pub opens : OpensWith said.digest.now (names_in said) first opening
-  pub ends : EndsKept (holds path) list misreads faults may_leave opening first s status
+  pub ends : IsOpened (holds path) list misreads faults may_leave opening first s status ⊎ Fails IsOfStore (AreUntouched s) status
 
--- the arguments are refused, and nothing was read or written
-pub record IsRefused (words : List Text) (s : Streams) (status : ℕ) : Type 0 where
-  pub fault : Fault
-  pub why : RefusesWords run_command words fault
-  pub status_is : status ≡ exit_status_of fault
-  pub untouched : AreUntouched s
-
+-- it was one of these, or the arguments are refused, and nothing was read or written
 abbrev pub Ran : {J : Type 0} → ((path opening : List ℕ) → List Record → Type 0) → (J → List Record) → (misreads faults : J → ℕ) → (J → List Record → Type 0)
     → List Text → Streams → ℕ → Type 0
 Ran holds list misreads faults may_leave words s status =
-    IsServed words s status ⊎ (IsRefused words s status ⊎ IsKept holds list misreads faults may_leave words s status)
+    IsServed words s status ⊎ (Fails (RefusesWords run_command words) (AreUntouched s) status ⊎ IsKept holds list misreads faults may_leave words s status)

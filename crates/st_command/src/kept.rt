@@ -1,17 +1,18 @@
 //! Serves one connection from a store that a journal keeps.
 ghost use Rattle.std.specs.Prelude.{◌≡◌, ◌⊎◌, ◌≤◌, false, None, Ok, string_bytes};
 ghost use Rattle.st_journal.specs.Replays.{Replays};
-ghost use Rattle.st_durable.specs.Applying.{Applies};
-ghost use Rattle.st_durable.specs.Keeping.{answered};
+ghost use Rattle.st_journal_store.specs.Applying.{Applies};
+ghost use Rattle.st_journal_store.specs.Keeping.{answered};
 ghost use Rattle.st_command_line.specs.Status.{exit_status_of, exit_status_after};
-ghost use Rattle.st_command.specs.Kept.{ServesKept, EndsKept, IsUnopened, kept_status_after};
-ghost use Rattle.st_command.specs.Streams.{streams};
+ghost use Rattle.st_command.specs.Kept.{IsOpened, ServesStored, status_after};
+ghost use Rattle.st_command.specs.Opening.{Fails, IsOfStore};
+ghost use Rattle.st_connection.specs.Streams.{AreUntouched, streams};
 
 use crate::keeper::Keeper;
 use st_command_line::Fault;
 use st_core::Store;
-use st_durable::{Beginning, DurableService, Loss, ReplayedStore, Since};
 use st_journal::Journal;
+use st_journal_store::{Beginning, DurableService, Loss, ReplayedStore, Since};
 use st_service::{Ended, IoFault, Sink, Source};
 use std::alloc::Global;
 use std::marker::Brand;
@@ -26,7 +27,7 @@ pub(crate) struct Place<'a> {
 
 // Why a run ends that lost a change for this reason.
 fn fault_of(loss: Option<Loss>) -> Fault
-    ensures { exit_status_of result ≡ kept_status_after (Ok Ended.Lost) loss }
+    ensures { exit_status_of result ≡ status_after (Ok Ended.Lost) loss }
 {
     match loss {
         Some(Loss::Disk) => Fault::StoreLost,
@@ -35,8 +36,8 @@ fn fault_of(loss: Option<Loss>) -> Fault
 }
 
 // How a run ends after a connection that ended so.
-fn end_after(ended: Result<Ended, IoFault>, loss: Option<Loss>) -> Result<(), Fault>
-    ensures { exit_status_after result ≡ kept_status_after ended loss }
+pub(crate) fn end_after(ended: Result<Ended, IoFault>, loss: Option<Loss>) -> Result<(), Fault>
+    ensures { exit_status_after result ≡ status_after ended loss }
 {
     match ended {
         Ok(Ended::Clean | Ended::Closed) => Ok(()),
@@ -57,7 +58,7 @@ fn converse_kept<B: Beginning + Since, J: Journal + Drop, C: Clock, R: Source, W
     requires sound { service.old.loss ≡ None }
     requires reader_sound { R.has_failed reader.old ≡ false }
     requires writer_sound { W.has_failed writer.old ≡ false }
-    ensures { ServesKept J.list J.misreads J.faults J.may_leave B.first B.faults service.old.kept
+    ensures { ServesStored J.list J.misreads J.faults J.may_leave B.first B.faults service.old.kept
         (streams R.left R.reads R.has_ended R.has_failed W.held W.has_failed reader.old reader.new writer.old writer.new)
         (exit_status_after result) }
 {
@@ -79,11 +80,11 @@ fn serve_opened<B: Beginning + Since, J: Journal + Drop, C: Clock, R: Source, W:
     requires counts { B.faults ≤ J.faults journal }
     requires reader_sound { R.has_failed reader.old ≡ false }
     requires writer_sound { W.has_failed writer.old ≡ false }
-    ensures { ServesKept J.list J.misreads J.faults J.may_leave B.first B.faults store
+    ensures { ServesStored J.list J.misreads J.faults J.may_leave B.first B.faults store
         (streams R.left R.reads R.has_ended R.has_failed W.held W.has_failed reader.old reader.new writer.old writer.new)
         (exit_status_after result)
-        ⊎ IsUnopened
-        (streams R.left R.reads R.has_ended R.has_failed W.held W.has_failed reader.old reader.new writer.old writer.new)
+        ⊎ Fails IsOfStore
+        (AreUntouched (streams R.left R.reads R.has_ended R.has_failed W.held W.has_failed reader.old reader.new writer.old writer.new))
         (exit_status_after result) }
 {
     let mut service = DurableService::<B, J, C>::new(alloc, clock, store, journal)?;
@@ -110,8 +111,11 @@ pub(crate) fn serve_kept<
     requires first { state ≡ B.first }
     requires reader_sound { R.has_failed reader.old ≡ false }
     requires writer_sound { W.has_failed writer.old ≡ false }
-    ensures { EndsKept (K.holds keeper place.now.path.now) J.list J.misreads J.faults J.may_leave (string_bytes place.now.opening) B.first
+    ensures { IsOpened (K.holds keeper place.now.path.now) J.list J.misreads J.faults J.may_leave (string_bytes place.now.opening) B.first
         (streams R.left R.reads R.has_ended R.has_failed W.held W.has_failed reader.old reader.new writer.old writer.new)
+        (exit_status_after result)
+        ⊎ Fails IsOfStore
+        (AreUntouched (streams R.left R.reads R.has_ended R.has_failed W.held W.has_failed reader.old reader.new writer.old writer.new))
         (exit_status_after result) }
 {
     let journal = keeper.open(place.path, place.opening.as_str(), &mut state)?;

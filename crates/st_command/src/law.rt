@@ -7,11 +7,11 @@ ghost use Rattle.st_core.specs.State.{State};
 ghost use Rattle.st_journal.specs.declared.record.Record.{Record};
 ghost use Rattle.st_journal.specs.Replays.{Replays};
 ghost use Rattle.st_service.specs.Answers.{Answers};
-ghost use Rattle.st_durable.specs.Applying.{Applies};
-ghost use Rattle.st_durable.specs.Found.{FoundAfter};
+ghost use Rattle.st_journal_store.specs.Applying.{Applies};
+ghost use Rattle.st_journal_store.specs.Found.{FoundAfter};
 ghost use Rattle.st_command.specs.Opening.{OpensWith};
-ghost use Rattle.st_command.specs.Kept.{ServesKept};
-ghost use Rattle.st_command.specs.Streams.{Streams};
+ghost use Rattle.st_command.specs.Kept.{ServesStored};
+ghost use Rattle.st_connection.specs.Streams.{Streams};
 
 use st_journal::Journal;
 
@@ -33,7 +33,7 @@ pub fn one_owner()
 /// from there.
 pub fn nothing_is_taken_back<J: Journal>()
     ensures { (first before found : State Heap) (begun : ℕ) (s : Streams) (status : ℕ)
-        (serves : ServesKept J.list J.misreads J.faults J.may_leave first begun before s status)
+        (serves : ServesStored J.list J.misreads J.faults J.may_leave first begun before s status)
         → J.misreads serves.after.journal ≡ 0 → (left : List Record) → J.may_leave serves.after.journal left
         → Replays Applies first left found → FoundAfter Answers before found s.held_old s.held_new }
 {}

@@ -8,5 +8,5 @@ mod opening;
 mod run;
 
 pub use keeper::Keeper;
-pub use opening::{stores_and_opening_for, stores_for};
+pub use opening::{store_and_opening_for, stores_for};
 pub use run::run_words;

@@ -6,13 +6,13 @@ ghost use Rattle.st_text.specs.Texts.{Text};
 ghost use Rattle.st_auth.specs.Names.{first_bad};
 ghost use Rattle.st_core.specs.State.{first_state};
 ghost use Rattle.st_command_line.specs.Common.{SaysRoot, RefusesWords};
-ghost use Rattle.st_command.specs.Opening.{Opens, OpensWith, name_text, names_text, opening_text};
+ghost use Rattle.st_command.specs.Opening.{OpensState, OpensWith, sized_name, names_text, opening_text};
 ghost use Rattle.st_command_line.specs.declared.fault.Fault.TheVariants.{BadDigest, BadName, NoMemory};
 
 use st_auth::AuthsFault;
 use st_command_line::Fault;
 use st_core::{Seed, Store};
-use st_durable::ReplayedStore;
+use st_journal_store::ReplayedStore;
 use st_service::Service;
 use std::alloc::{AllocError, Global};
 
@@ -50,7 +50,7 @@ pub fn service_for(
     digits: &str,
     names: &[&str],
 ) -> Result<Service, Fault>
-    ensures ok { IfOk result (Opens digits.now (map (λ name. name.now) names.now)) }
+    ensures ok { IfOk result (OpensState digits.now (map (λ name. name.now) names.now)) }
     ensures err { IfErr result (λ fault. (app : App) (words : List Text)
         → SaysRoot app words digits.now (map (λ name. name.now) names.now) → RefusesWords app words fault) }
 {
@@ -68,19 +68,19 @@ pub fn stores_for(
     names: &[&str],
 ) -> Result<(Store, Store), Fault>
     ensures alike { IfOk result (λ both. both.1 ≡ both.0) }
-    ensures ok { IfOk result (λ both. Opens digits.now (map (λ name. name.now) names.now) both.0) }
+    ensures ok { IfOk result (λ both. OpensState digits.now (map (λ name. name.now) names.now) both.0) }
     ensures err { IfErr result (λ fault. (app : App) (words : List Text)
         → SaysRoot app words digits.now (map (λ name. name.now) names.now) → RefusesWords app words fault) }
 {
     let digest = digest_of(digits)?;
     let first = store_for(alloc, seed, digest, names)?;
-    let second = store_for(alloc, seed, digest, names)?;
+    let second = first.copy()?;
     Ok((first, second))
 }
 
 // Puts a name and its length behind a text.
 fn push_name(text: &mut String, alloc: Global, name: &str) -> Result<(), AllocError>
-    ensures { OnOk result (string_bytes text.new ≡ string_bytes text.old ++ name_text name.now) }
+    ensures { OnOk result (string_bytes text.new ≡ string_bytes text.old ++ sized_name name.now) }
 {
     let length = name.len();
     let part = format!(in alloc; " {length}:{name}")?;
@@ -106,24 +106,22 @@ fn opening_for(alloc: Global, digest: [u8; 32], names: &[&str]) -> Result<String
     Ok(text)
 }
 
-/// Two stores of the state that 64 hexadecimal digits and names open, and what a journal of their changes says that its store was
-/// opened with. An invalid digest is reported before an invalid name.
-pub fn stores_and_opening_for(
+/// A store of the state that 64 hexadecimal digits and names open, and what a journal of its changes says that it was opened with. An
+/// invalid digest is reported before an invalid name.
+pub fn store_and_opening_for(
     alloc: Global,
     seed: Seed,
     digits: &str,
     names: &[&str],
-) -> Result<(Store, Store, String), Fault>
-    ensures alike { IfOk result (λ opened. opened.1 ≡ opened.0) }
-    ensures ok { IfOk result (λ opened. OpensWith digits.now (map (λ name. name.now) names.now) opened.0 (string_bytes opened.2)) }
+) -> Result<(Store, String), Fault>
+    ensures ok { IfOk result (λ both. OpensWith digits.now (map (λ name. name.now) names.now) both.0 (string_bytes both.1)) }
     ensures err { IfErr result (λ fault. (app : App) (words : List Text)
         → SaysRoot app words digits.now (map (λ name. name.now) names.now) → RefusesWords app words fault) }
 {
     let digest = digest_of(digits)?;
     let opened = store_for(alloc, seed, digest, names)?;
-    let copy = store_for(alloc, seed, digest, names)?;
     let opening = opening_for(alloc, digest, names)?;
-    Ok((opened, copy, opening))
+    Ok((opened, opening))
 }
 
 // The state that 64 hexadecimal digits and names open, to which the changes of a journal are applied, and what that journal says
@@ -138,8 +136,6 @@ pub(crate) fn replayed_for(
     ensures err { IfErr result (λ fault. (app : App) (words : List Text)
         → SaysRoot app words digits.now (map (λ name. name.now) names.now) → RefusesWords app words fault) }
 {
-    let digest = digest_of(digits)?;
-    let opened = store_for(alloc, seed, digest, names)?;
-    let opening = opening_for(alloc, digest, names)?;
+    let (opened, opening) = store_and_opening_for(alloc, seed, digits, names)?;
     Ok((ReplayedStore::new(alloc, opened), opening))
 }

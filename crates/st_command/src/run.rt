@@ -1,34 +1,24 @@
 //! Serves one connection from a reader to a writer, by the arguments of a command line.
 ghost use Rattle.std.specs.Prelude.{◌≡◌, ◌⊎◌, false, Some, None, List, map, string_bytes};
 ghost use Rattle.st_text.specs.Texts.{Text};
-ghost use Rattle.st_command.specs.Running.{Serves, IsServed, IsRefused, IsKept, Ran, status_after};
-ghost use Rattle.st_command.specs.Streams.{streams};
-ghost use Rattle.st_command_line.specs.RunArguments.{SaysRun, store_of};
+ghost use Rattle.st_command.specs.Running.{Serves, IsServed, IsKept, Ran};
+ghost use Rattle.st_command.specs.Opening.{Fails};
+ghost use Rattle.st_connection.specs.Streams.{AreUntouched, streams};
+ghost use Rattle.st_command_line.specs.Common.{RefusesWords};
+ghost use Rattle.st_command_line.specs.RunArguments.{SaysRun, run_command, store_of};
 ghost use Rattle.st_command_line.specs.Status.{exit_status_after};
 
 use crate::keeper::Keeper;
-use crate::kept::{Place, serve_kept};
+use crate::kept::{Place, end_after, serve_kept};
 use crate::opening::{replayed_for, service_for};
 use st_command_line::{Fault, RunArguments, give_up};
 use st_core::Seed;
 use st_journal::Journal;
-use st_service::{Ended, IoFault, Service, Sink, Source};
+use st_service::{Service, Sink, Source};
 use std::alloc::Global;
 use std::io::Write;
 use std::marker::Brand;
 use std::time::Clock;
-
-// How a run ends after a connection that ended so.
-fn end_after(ended: Result<Ended, IoFault>) -> Result<(), Fault>
-    ensures { exit_status_after result ≡ status_after ended }
-{
-    match ended {
-        Ok(Ended::Clean | Ended::Closed) => Ok(()),
-        Ok(Ended::Cut) => Err(Fault::Cut),
-        Ok(Ended::TurnsSpent) => Err(Fault::TurnsSpent),
-        Ok(Ended::Lost) | Err(IoFault { .. }) => Err(Fault::Io),
-    }
-}
 
 // Serves the connection.
 fn converse<R: Source, W: Sink>(
@@ -43,7 +33,7 @@ fn converse<R: Source, W: Sink>(
         (exit_status_after result) }
 {
     let ended = service.serve(reader, writer);
-    end_after(ended)
+    end_after(ended, None)
 }
 
 // Serves the connection from a store in memory.
@@ -61,8 +51,8 @@ fn run_in_memory<R: Source, W: Sink>(
         → IsServed words
         (streams R.left R.reads R.has_ended R.has_failed W.held W.has_failed reader.old reader.new writer.old writer.new)
         (exit_status_after result)
-        ⊎ IsRefused words
-        (streams R.left R.reads R.has_ended R.has_failed W.held W.has_failed reader.old reader.new writer.old writer.new)
+        ⊎ Fails (RefusesWords run_command words)
+        (AreUntouched (streams R.left R.reads R.has_ended R.has_failed W.held W.has_failed reader.old reader.new writer.old writer.new))
         (exit_status_after result) }
 {
     let mut service = service_for(alloc, seed, said.digest, &said.names)?;
@@ -84,8 +74,8 @@ fn run_kept<J: Journal + Drop, K: Keeper<J> + Drop, C: Clock, R: Source, W: Sink
     requires reader_sound { R.has_failed reader.old ≡ false }
     requires writer_sound { W.has_failed writer.old ≡ false }
     ensures { (words : List Text) → SaysRun words said.now
-        → IsRefused words
-        (streams R.left R.reads R.has_ended R.has_failed W.held W.has_failed reader.old reader.new writer.old writer.new)
+        → Fails (RefusesWords run_command words)
+        (AreUntouched (streams R.left R.reads R.has_ended R.has_failed W.held W.has_failed reader.old reader.new writer.old writer.new))
         (exit_status_after result)
         ⊎ IsKept (K.holds keeper) J.list J.misreads J.faults J.may_leave words
         (streams R.left R.reads R.has_ended R.has_failed W.held W.has_failed reader.old reader.new writer.old writer.new)

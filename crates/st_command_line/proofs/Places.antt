@@ -4,20 +4,20 @@ use Rattle.std.specs.Borrow.{Bor}
 use Rattle.std.proofs.Common.{◌≡◌, ℕ, refl, sym, subst}
 use Rattle.st_text.specs.Texts.{Text}
 use Rattle.st_command_line.specs.declared.served_arguments.Place.TheVariants.{Port, Socket}
-use Rattle.st_command_line.specs.ServedArguments.{Gives, GivesPlace, IsNoPlace}
+use Rattle.st_command_line.specs.ServedArguments.{Gives, GivesPlace, IsNoPlace, Writes}
 
-pub both_named : (port socket : Option Text) (number : ℕ) (path : Text) → Gives port (Some number) → socket ≡ Some path → IsNoPlace port socket
+pub both_named : (port socket : Option Text) (number : ℕ) (path : Text) → Gives Writes port (Some number) → socket ≡ Some path → IsNoPlace port socket
 both_named None socket number path gives is = absurd gives
 both_named (Some text) socket number path gives is = subst (IsNoPlace (Some text)) (sym is) tt
 
-pub none_named : (port socket : Option Text) → Gives port None → socket ≡ None → IsNoPlace port socket
+pub none_named : (port socket : Option Text) → Gives Writes port None → socket ≡ None → IsNoPlace port socket
 none_named None socket gives is = subst (IsNoPlace None) (sym is) tt
 none_named (Some text) socket gives is = absurd gives
 
-pub port_given : (port socket : Option Text) (number : ℕ) → Gives port (Some number) → socket ≡ None → GivesPlace port socket (Port number)
+pub port_given : (port socket : Option Text) (number : ℕ) → Gives Writes port (Some number) → socket ≡ None → GivesPlace port socket (Port number)
 port_given None socket number gives is = absurd gives
 port_given (Some text) socket number gives is = subst (λ s. GivesPlace (Some text) s (Port number)) (sym is) gives
 
-pub socket_given : (port socket : Option Text) (name : Bor Text) → Gives port None → socket ≡ Some name.now → GivesPlace port socket (Socket name)
+pub socket_given : (port socket : Option Text) (name : Bor Text) → Gives Writes port None → socket ≡ Some name.now → GivesPlace port socket (Socket name)
 socket_given None socket name gives is = subst (λ s. GivesPlace None s (Socket name)) (sym is) refl
 socket_given (Some text) socket name gives is = absurd gives

@@ -1,20 +1,20 @@
 -- The command lines: what the code builds, what it reads, and what it refuses.
 use Rattle.std.specs.Prelude.{IfErr, IfOk, Option, Some, None, Result, Ok, Err, map, option_map, unwrap_or}
 use Rattle.std.specs.Borrow.{Bor}
-use Rattle.std.specs.List.{All, slice_index_or}
+use Rattle.std.specs.List.{All, fold, slice_index_or}
 use Rattle.std.proofs.lemmas.List.Elements.{All-head, All-tail}
 use Rattle.std.proofs.Common.{ap, ◌≡◌, ◌∙◌, ◌<◌, ◌&&◌, ℕ, Bool, T, not, false, length, List, [], ◌∷◌, true, inl, inr, refl, sym, subst, zero, suc, arith}
 use Rattle.std.proofs.lemmas.Bool.{and_parts, not-true, false≢true}
 use Rattle.std.specs.Str.{bytes_eq}
 use Rattle.clap.specs.Built.{AddsArg, AddsInTurn, FitsChain, HasDistinctIds, IsPlainArg}
 use Rattle.clap.specs.declared.builder.arg.Arg.{Arg}
-use Rattle.clap.specs.Words.{App, HasKind, IsAmong, app_of, fault_of, kind_of, rule_of, with_rule}
+use Rattle.clap.specs.Words.{App, HasKind, Rule, IsAmong, app_of, fault_of, kind_of, rule_of, with_rule}
 use Rattle.clap.specs.declared.builder.command.Command.{Command}
 use Rattle.clap.specs.declared.error.Error.{Error}
 use Rattle.clap.specs.declared.error.kind.ErrorKind.{ErrorKind}
 use Rattle.clap.specs.declared.error.kind.ErrorKind.TheVariants.{OutOfMemory}
 use Rattle.st_text.specs.Texts.{Text}
-use Rattle.st_command_line.specs.Common.{RefusesWords, with_rules}
+use Rattle.st_command_line.specs.Common.{RefusesWords}
 use Rattle.st_command_line.specs.Status.{as_fault}
 use Rattle.st_command_line.specs.inner.Commands.{is_own}
 
@@ -26,6 +26,10 @@ if_ok P Q (Err e) f h = tt
 pub if_err : {T E : Type 0} (P Q : E → Type 0) (r : Result T E) → ((e : E) → P e → Q e) → IfErr r P → IfErr r Q
 if_err P Q (Ok x) f h = tt
 if_err P Q (Err e) f h = f e h
+
+-- a command with each of these rules added in turn
+abbrev pub with_rules : App → List Rule → App
+with_rules app rules = fold with_rule app rules
 
 -- a command with arguments added in turn is that of their rules
 pub chained : (old new : Command) (args : List Arg) (app : App) → app_of old ≡ app → All FitsChain args → AddsInTurn AddsArg old args new

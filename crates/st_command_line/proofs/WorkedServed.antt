@@ -4,7 +4,7 @@ use Rattle.std.proofs.Common.{[], ◌∷◌, codes, ◌≡◌, refl}
 use Rattle.clap.specs.Words.{fault_of, first_of, matches_of}
 use Rattle.clap.specs.declared.error.kind.ErrorKind.TheVariants.{DisplayVersion, MissingRequiredArgument, ValueValidation}
 use Rattle.clap.proofs.OnLiterals.{clap_on_literals}
-use Rattle.st_command_line.specs.ServedArguments.{served_command, text_of}
+use Rattle.st_command_line.specs.ServedArguments.{served_command, value_of}
 
 whole : fault_of served_command (codes "st_served" ∷ codes "--root" ∷ codes "66" ∷ codes "--port" ∷ codes "47001" ∷ codes "--connections" ∷ codes "0" ∷ codes "A" ∷ []) ≡ []
 unfolding clap_on_literals
@@ -50,7 +50,7 @@ every_option : fault_of served_command (codes "st_served" ∷ codes "--root=66" 
 unfolding clap_on_literals
 every_option = refl
 
-the_listener : text_of (codes "listen") (codes "st_served" ∷ codes "--root=66" ∷ codes "--port=47001" ∷ codes "--listen" ∷ codes "10.0.0.7" ∷ []) ≡ Some (codes "10.0.0.7")
+the_listener : value_of (codes "listen") (codes "st_served" ∷ codes "--root=66" ∷ codes "--port=47001" ∷ codes "--listen" ∷ codes "10.0.0.7" ∷ []) ≡ Some (codes "10.0.0.7")
 unfolding clap_on_literals
 the_listener = refl
 

@@ -3,8 +3,7 @@
 use Rattle.std.specs.Prelude.{◌≡◌, ◌⊎◌, ℕ, ℤ, Bool, List, [], ◌∷◌, Option, Some, None, Ok, IsErr, IsSome, codes, true, false, unwrap_or}
 use Rattle.std.specs.Str.{bytes_eq}
 use Rattle.hex.specs.Hex.{decode_sized}
-use Rattle.clap.specs.Words.{App, Rule, IsAmong, all_of, fault_of, first_of, found_of, kind_of, matches_of, new_rule, rows_of, with_rule}
-use Rattle.clap.specs.declared.parser.matches.ArgMatches.{ArgMatches}
+use Rattle.clap.specs.Words.{App, Rule, IsAmong, all_of, fault_of, first_of, kind_of, matches_of, new_rule}
 use Rattle.clap.specs.declared.builder.action.ArgAction.TheVariants.{Append, Set, SetTrue}
 use Rattle.clap.specs.declared.builder.value_parser.ValueParser.TheVariants.{Signed}
 use Rattle.st_text.specs.Texts.{Text}
@@ -15,11 +14,6 @@ use Rattle.st_command_line.specs.declared.fault.Fault.TheVariants.{Usage, WantsS
 -- a command that tells a version when it is asked for one
 abbrev pub with_version : App → App
 with_version app = record app { top = record app.top { has_version = true } }
-
--- a command with each of these rules added in turn
-abbrev pub with_rules : App → List Rule → App
-with_rules app [] = app
-with_rules app (rule ∷ rules) = with_rules (with_rule app rule) rules
 
 -- an option with this name that takes one value, and may be there once
 abbrev pub option_rule : Text → Rule
@@ -44,11 +38,6 @@ compact_flag = record (new_rule (codes "compact")) { long = Some (codes "compact
 -- the names, any number of them
 abbrev pub name_operand : Rule
 name_operand = record (new_rule (codes "NAME")) { action = Some Append }
-
--- the words are such a command line, and these are their matches
-pub record IsParsed (app : App) (words : List Text) (matches : ArgMatches) : Type 0 where
-  pub whole : fault_of app words ≡ []
-  pub rows_are : rows_of (found_of matches) ≡ matches_of app words
 
 -- the words are such a command line, with this digest and these names
 pub record SaysRoot (app : App) (words : List Text) (digits : Text) (names : List Text) : Type 0 where

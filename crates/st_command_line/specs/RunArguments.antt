@@ -1,16 +1,17 @@
 -- The command line `st_run --root DIGEST [--store FILE] [--compact] [NAME]...`, and what its words say.
 use Rattle.std.specs.Prelude.{◌≡◌, List, [], ◌∷◌, Option, codes, map, option_map}
-use Rattle.clap.specs.Words.{App, Rule, first_of, matches_of, new_app}
+use Rattle.std.specs.List.{fold}
+use Rattle.clap.specs.Words.{App, Rule, first_of, matches_of, new_app, with_rule}
 use Rattle.st_text.specs.Texts.{Text}
 use Rattle.st_command_line.specs.declared.run_arguments.RunArguments.{RunArguments}
 use Rattle.st_command_line.specs.Common.{SaysRoot, NamesItsStore, has_flag}
-use Rattle.st_command_line.specs.Common.{root_option, store_option, compact_flag, name_operand, with_rules, with_version}
+use Rattle.st_command_line.specs.Common.{root_option, store_option, compact_flag, name_operand, with_version}
 
 abbrev pub run_rules : List Rule
 run_rules = root_option ∷ store_option ∷ compact_flag ∷ name_operand ∷ []
 
 abbrev pub run_command : App
-run_command = with_rules (with_version (new_app (codes "st_run"))) run_rules
+run_command = fold with_rule (with_version (new_app (codes "st_run"))) run_rules
 
 -- the path of the store, where the words name one
 abbrev pub store_of : RunArguments → Option Text

@@ -12,7 +12,7 @@ is_for_show DisplayVersion = true
 is_for_show _ = false
 
 -- whether the words ask for it, as far as they are read
-abbrev pub Shows : App → List Text → Bool → Type 0
-Shows app words true = (kind : ErrorKind) × (is_for_show kind ≡ true) × IsAmong kind (fault_of app words)
-Shows app words false =
+abbrev pub AsksToSee : App → List Text → Bool → Type 0
+AsksToSee app words true = (kind : ErrorKind) × (is_for_show kind ≡ true) × IsAmong kind (fault_of app words)
+AsksToSee app words false =
     (fault_of app words ≡ []) ⊎ ((kind : ErrorKind) × (is_for_show kind ≡ false) × IsAmong kind (fault_of app words))

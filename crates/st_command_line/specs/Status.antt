@@ -4,33 +4,23 @@ use Rattle.clap.specs.declared.error.Error.{Error}
 use Rattle.clap.specs.declared.error.kind.ErrorKind.{ErrorKind}
 use Rattle.clap.specs.declared.error.kind.ErrorKind.TheVariants.{OutOfMemory}
 use Rattle.st_command_line.specs.declared.fault.Fault.{Fault}
-use Rattle.st_command_line.specs.declared.fault.Fault.TheVariants.{Usage, NotText, BadNumber, BadAddress, BadDigest, BadName, Cut}
-use Rattle.st_command_line.specs.declared.fault.Fault.TheVariants.{WantsPlace, WantsPort, WantsStore, WantsCopy}
+use Rattle.st_command_line.specs.declared.fault.Fault.TheVariants.{Usage, Cut}
 use Rattle.st_command_line.specs.declared.fault.Fault.TheVariants.{TurnsSpent, Io, Bind, Accept, Write, NoMemory, NoPlace, NoThread}
 use Rattle.st_command_line.specs.declared.fault.Fault.TheVariants.{OtherStore, OtherNames, StoreInUse, LaterStore, NoStore, StoreDamaged}
 use Rattle.st_command_line.specs.declared.fault.Fault.TheVariants.{StoreInterrupted, StoreIo, StoreLost}
 
+-- 2 if the words are refused
 abbrev pub exit_status_of : Fault → ℕ
-exit_status_of (Usage error) = 2
-exit_status_of NotText = 2
-exit_status_of BadNumber = 2
-exit_status_of BadAddress = 2
-exit_status_of WantsPlace = 2
-exit_status_of WantsPort = 2
-exit_status_of WantsStore = 2
-exit_status_of WantsCopy = 2
-exit_status_of BadDigest = 2
-exit_status_of BadName = 2
 exit_status_of Cut = 3
 exit_status_of TurnsSpent = 4
 exit_status_of Io = 5
 exit_status_of Bind = 5
 exit_status_of Accept = 5
 exit_status_of Write = 5
+exit_status_of StoreIo = 5
 exit_status_of NoMemory = 6
 exit_status_of NoPlace = 6
 exit_status_of NoThread = 6
-exit_status_of StoreIo = 5
 exit_status_of StoreLost = 7
 exit_status_of OtherStore = 8
 exit_status_of OtherNames = 8
@@ -39,6 +29,7 @@ exit_status_of (LaterStore format) = 10
 exit_status_of NoStore = 11
 exit_status_of StoreDamaged = 12
 exit_status_of StoreInterrupted = 13
+exit_status_of _ = 2
 
 -- the exit status after a run
 abbrev pub exit_status_after : Result Unit Fault → ℕ

@@ -1,9 +1,9 @@
 //! The command line `st_run --root DIGEST [--store FILE] [--compact] [NAME]...`.
 ghost use Rattle.std.specs.Prelude.{◌≡◌, IfOk, IfErr, IsSome, codes, map, string_bytes};
 ghost use Rattle.clap.specs.Words.{first_value, found_of};
-ghost use Rattle.st_command_line.specs.Common.{IsParsed, RefusesWords};
+ghost use Rattle.st_command_line.specs.Common.{RefusesWords};
 ghost use Rattle.st_command_line.specs.RunArguments.{run_command, SaysRun};
-ghost use Rattle.st_command_line.specs.inner.Commands.{Builds};
+ghost use Rattle.st_command_line.specs.inner.Commands.{Builds, IsParsed};
 
 use crate::common::{check_store, compact, flag, named, names, parse_by, root, store};
 use crate::fault::Fault;

@@ -1,14 +1,16 @@
 //! The command line `st_served --root DIGEST (--port P [--listen ADDRESS] | --socket PATH) [--store FILE] [--compact] [--copy FILE]
 //! [--copy-every SECONDS] [--connections N] [--workers N] [--timeout SECONDS] [--idle SECONDS] [NAME]...`.
 ghost use Rattle.std.specs.Prelude.{◌≡◌, ◌<◌, ◌*◌, IfOk, IfErr, OnOk, List, codes, map, string_bytes, unwrap_or};
+ghost use Rattle.std.specs.Net.Grammar.{IsIpv4Text};
 ghost use Rattle.std.specs.Net.Socket.{v4_port};
 ghost use Rattle.std.specs.Duration.{as_nanos};
 ghost use Rattle.st_text.specs.Texts.{Text};
-ghost use Rattle.st_command_line.specs.Common.{IsParsed, NamesItsStore, file_of};
-ghost use Rattle.st_command_line.specs.ServedArguments.{Gives, GivesAddress, GivesPlace, NamesItsCopy, NamesItsPort, ListensAt};
+ghost use Rattle.st_command_line.specs.Common.{NamesItsStore, file_of};
+ghost use Rattle.st_command_line.specs.inner.Commands.{IsParsed};
+ghost use Rattle.st_command_line.specs.ServedArguments.{Gives, GivesPlace, ListensAt, WantsWith, Writes};
 ghost use Rattle.st_command_line.specs.ServedArguments.{SaysServed, RefusesServedWords};
-ghost use Rattle.st_command_line.specs.ServedArguments.{served_command, text_of};
-ghost use Rattle.st_command_line.specs.ServedArguments.{seconds_of, idle_seconds_of, copy_seconds_of, workers_of};
+ghost use Rattle.st_command_line.specs.ServedArguments.{served_command, value_of};
+ghost use Rattle.st_command_line.specs.ServedArguments.{message_seconds_of, idle_seconds_of, copy_seconds_of, workers_of};
 
 use crate::common::{check_store, flag};
 use crate::fault::Fault;
@@ -65,7 +67,7 @@ pub struct ServedArguments<'a> {
 // The number of an optional option.
 fn number(matches: &ArgMatches<'_>, id: &str) -> Result<Option<u16>, Fault>
     ensures ok { IfOk result (λ number. (words : List Text) → IsParsed served_command words matches.now
-        → Gives (text_of id.now words) number) }
+        → Gives Writes (value_of id.now words) number) }
     ensures err { IfErr result (λ fault. (words : List Text) → IsParsed served_command words matches.now
         → RefusesServedWords words fault) }
 {
@@ -78,7 +80,7 @@ fn number(matches: &ArgMatches<'_>, id: &str) -> Result<Option<u16>, Fault>
 // The address of an optional option.
 fn address_in(matches: &ArgMatches<'_>, id: &str) -> Result<Option<Ipv4Addr>, Fault>
     ensures ok { IfOk result (λ address. (words : List Text) → IsParsed served_command words matches.now
-        → GivesAddress (text_of id.now words) address) }
+        → Gives IsIpv4Text (value_of id.now words) address) }
     ensures err { IfErr result (λ fault. (words : List Text) → IsParsed served_command words matches.now
         → RefusesServedWords words fault) }
 {
@@ -91,7 +93,7 @@ fn address_in(matches: &ArgMatches<'_>, id: &str) -> Result<Option<Ipv4Addr>, Fa
 // Where the words say that the server listens.
 fn place_in<'a>(matches: &ArgMatches<'a>) -> Result<Place<'a>, Fault>
     ensures ok { IfOk result (λ place. (words : List Text) → IsParsed served_command words matches.now
-        → GivesPlace (text_of (codes "port") words) (file_of (codes "socket") served_command words) place) }
+        → GivesPlace (value_of (codes "port") words) (file_of (codes "socket") served_command words) place) }
     ensures err { IfErr result (λ fault. (words : List Text) → IsParsed served_command words matches.now
         → RefusesServedWords words fault) }
 {
@@ -110,7 +112,8 @@ fn place_in<'a>(matches: &ArgMatches<'a>) -> Result<Place<'a>, Fault>
 
 // Refuses words that name an address and no port.
 fn check_listen(matches: &ArgMatches<'_>) -> Result<(), Fault>
-    ensures ok { OnOk result ((words : List Text) → IsParsed served_command words matches.now → NamesItsPort words) }
+    ensures ok { OnOk result ((words : List Text) → IsParsed served_command words matches.now
+        → WantsWith (codes "listen") (codes "port") words) }
     ensures err { IfErr result (λ fault. (words : List Text) → IsParsed served_command words matches.now
         → RefusesServedWords words fault) }
 {
@@ -125,7 +128,8 @@ fn check_listen(matches: &ArgMatches<'_>) -> Result<(), Fault>
 
 // Refuses words that want a copy and name none.
 fn check_copy(matches: &ArgMatches<'_>) -> Result<(), Fault>
-    ensures ok { OnOk result ((words : List Text) → IsParsed served_command words matches.now → NamesItsCopy words) }
+    ensures ok { OnOk result ((words : List Text) → IsParsed served_command words matches.now
+        → WantsWith (codes "copy-every") (codes "copy") words) }
     ensures err { IfErr result (λ fault. (words : List Text) → IsParsed served_command words matches.now
         → RefusesServedWords words fault) }
 {
@@ -140,10 +144,12 @@ fn check_copy(matches: &ArgMatches<'_>) -> Result<(), Fault>
 
 // Refuses words that want a file or a port and name none.
 fn check_wants(matches: &ArgMatches<'_>) -> Result<(), Fault>
-    ensures listen { OnOk result ((words : List Text) → IsParsed served_command words matches.now → NamesItsPort words) }
+    ensures listen { OnOk result ((words : List Text) → IsParsed served_command words matches.now
+        → WantsWith (codes "listen") (codes "port") words) }
     ensures store { OnOk result ((words : List Text) → IsParsed served_command words matches.now
         → NamesItsStore served_command words) }
-    ensures copy { OnOk result ((words : List Text) → IsParsed served_command words matches.now → NamesItsCopy words) }
+    ensures copy { OnOk result ((words : List Text) → IsParsed served_command words matches.now
+        → WantsWith (codes "copy-every") (codes "copy") words) }
     ensures err { IfErr result (λ fault. (words : List Text) → IsParsed served_command words matches.now
         → RefusesServedWords words fault) }
 {
@@ -212,7 +218,7 @@ impl<'a> ServedArguments<'a> {
 
     /// How long a message may take from its first byte to its last, and so a reply: 30 seconds without `--timeout`.
     pub fn limit(&self) -> Duration
-        ensures { as_nanos result ≡ seconds_of self.now * 1000000000 }
+        ensures { as_nanos result ≡ message_seconds_of self.now * 1000000000 }
     {
         Duration::from_secs(u64::from(self.timeout.unwrap_or(SECONDS)))
     }

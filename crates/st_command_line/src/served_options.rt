@@ -1,12 +1,10 @@
 //! The options of `st_served`, and the parsing of its words.
-ghost use Rattle.std.specs.Prelude.{◌≡◌, IfOk, IfErr, IsSome, codes, map, string_bytes, true};
+ghost use Rattle.std.specs.Prelude.{◌≡◌, IfOk, IfErr, IsSome, codes, map, pos, string_bytes, true};
 ghost use Rattle.clap.specs.Built.{FitsChain};
 ghost use Rattle.clap.specs.Words.{first_value, found_of, rule_of};
-ghost use Rattle.st_command_line.specs.Common.{IsParsed, RefusesWords, number_rule};
-ghost use Rattle.st_command_line.specs.ServedArguments.{served_command, port_option, socket_option, connections_option};
-ghost use Rattle.st_command_line.specs.ServedArguments.{copy_option, copy_every_option, workers_option};
-ghost use Rattle.st_command_line.specs.ServedArguments.{timeout_option, idle_option, listen_option};
-ghost use Rattle.st_command_line.specs.inner.Commands.{Builds, is_own};
+ghost use Rattle.st_command_line.specs.Common.{RefusesWords, number_rule, option_rule};
+ghost use Rattle.st_command_line.specs.ServedArguments.{served_command};
+ghost use Rattle.st_command_line.specs.inner.Commands.{Builds, IsParsed, is_own};
 
 use crate::common::{compact, named, names, option, parse_by, root, store};
 use crate::fault::Fault;
@@ -41,7 +39,7 @@ fn number<'a>(
 // The option `--port P`.
 fn port<'a>(alloc: Global) -> Arg<'a>
     ensures id { result.id.now ≡ codes "port" }
-    ensures rule { rule_of result ≡ port_option }
+    ensures rule { rule_of result ≡ number_rule (codes "port") (pos 1) (pos 65535) }
     ensures fits { FitsChain result }
 {
     number(
@@ -57,7 +55,7 @@ fn port<'a>(alloc: Global) -> Arg<'a>
 // The option `--socket PATH`.
 fn socket<'a>(alloc: Global) -> Arg<'a>
     ensures id { result.id.now ≡ codes "socket" }
-    ensures rule { rule_of result ≡ socket_option }
+    ensures rule { rule_of result ≡ option_rule (codes "socket") }
     ensures fits { FitsChain result }
 {
     option(
@@ -71,7 +69,7 @@ fn socket<'a>(alloc: Global) -> Arg<'a>
 // The option `--copy FILE`.
 fn copy<'a>(alloc: Global) -> Arg<'a>
     ensures id { result.id.now ≡ codes "copy" }
-    ensures rule { rule_of result ≡ copy_option }
+    ensures rule { rule_of result ≡ option_rule (codes "copy") }
     ensures fits { FitsChain result }
 {
     option(
@@ -85,7 +83,7 @@ fn copy<'a>(alloc: Global) -> Arg<'a>
 // The option `--copy-every SECONDS`.
 fn copy_every<'a>(alloc: Global) -> Arg<'a>
     ensures id { result.id.now ≡ codes "copy-every" }
-    ensures rule { rule_of result ≡ copy_every_option }
+    ensures rule { rule_of result ≡ number_rule (codes "copy-every") (pos 1) (pos 3600) }
     ensures fits { FitsChain result }
 {
     number(
@@ -101,7 +99,7 @@ fn copy_every<'a>(alloc: Global) -> Arg<'a>
 // The option `--connections N`.
 fn connections<'a>(alloc: Global) -> Arg<'a>
     ensures id { result.id.now ≡ codes "connections" }
-    ensures rule { rule_of result ≡ connections_option }
+    ensures rule { rule_of result ≡ number_rule (codes "connections") (pos 0) (pos 1000) }
     ensures fits { FitsChain result }
 {
     number(
@@ -117,7 +115,7 @@ fn connections<'a>(alloc: Global) -> Arg<'a>
 // The option `--workers N`.
 fn workers<'a>(alloc: Global) -> Arg<'a>
     ensures id { result.id.now ≡ codes "workers" }
-    ensures rule { rule_of result ≡ workers_option }
+    ensures rule { rule_of result ≡ number_rule (codes "workers") (pos 1) (pos 256) }
     ensures fits { FitsChain result }
 {
     number(
@@ -133,7 +131,7 @@ fn workers<'a>(alloc: Global) -> Arg<'a>
 // The option `--timeout SECONDS`.
 fn timeout<'a>(alloc: Global) -> Arg<'a>
     ensures id { result.id.now ≡ codes "timeout" }
-    ensures rule { rule_of result ≡ timeout_option }
+    ensures rule { rule_of result ≡ number_rule (codes "timeout") (pos 1) (pos 3600) }
     ensures fits { FitsChain result }
 {
     number(
@@ -149,7 +147,7 @@ fn timeout<'a>(alloc: Global) -> Arg<'a>
 // The option `--idle SECONDS`.
 fn idle<'a>(alloc: Global) -> Arg<'a>
     ensures id { result.id.now ≡ codes "idle" }
-    ensures rule { rule_of result ≡ idle_option }
+    ensures rule { rule_of result ≡ number_rule (codes "idle") (pos 1) (pos 3600) }
     ensures fits { FitsChain result }
 {
     number(
@@ -165,7 +163,7 @@ fn idle<'a>(alloc: Global) -> Arg<'a>
 // The option `--listen ADDRESS`.
 fn listen<'a>(alloc: Global) -> Arg<'a>
     ensures id { result.id.now ≡ codes "listen" }
-    ensures rule { rule_of result ≡ listen_option }
+    ensures rule { rule_of result ≡ option_rule (codes "listen") }
     ensures fits { FitsChain result }
 {
     option(

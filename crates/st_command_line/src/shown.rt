@@ -2,10 +2,11 @@
 ghost use Rattle.std.specs.Prelude.{◌≡◌, ◌⊎◌, Ok, IfOk, IfErr, List, false, map, string_bytes};
 ghost use Rattle.clap.specs.Words.{App, kind_of};
 ghost use Rattle.st_text.specs.Texts.{Text};
-ghost use Rattle.st_command_line.specs.Common.{IsParsed, RefusesWords};
+ghost use Rattle.st_command_line.specs.Common.{RefusesWords};
+ghost use Rattle.st_command_line.specs.inner.Commands.{IsParsed};
 ghost use Rattle.st_command_line.specs.RunArguments.{run_command};
 ghost use Rattle.st_command_line.specs.ServedArguments.{served_command};
-ghost use Rattle.st_command_line.specs.Shown.{Shows, is_for_show};
+ghost use Rattle.st_command_line.specs.Shown.{AsksToSee, is_for_show};
 ghost use Rattle.st_command_line.specs.declared.fault.Fault.TheVariants.{NoMemory, Write as Unwritten};
 
 use crate::fault::Fault;
@@ -38,7 +39,7 @@ fn is_for_show(error: &clap::Error) -> bool
 // Writes the text of a fault that is one to be shown.
 fn show_fault<O: Write>(fault: &Fault, output: &mut O) -> Result<bool, Fault>
     ensures ok { IfOk result (λ is_shown. (app : App) (words : List Text) → RefusesWords app words fault.now
-        → Shows app words is_shown) }
+        → AsksToSee app words is_shown) }
     ensures unasked { (result ≡ Ok false) → O.contents output.new ≡ O.contents output.old }
     ensures err { IfErr result (λ fault. (fault ≡ NoMemory) ⊎ (fault ≡ Unwritten)) }
 {
@@ -58,7 +59,7 @@ fn show_fault<O: Write>(fault: &Fault, output: &mut O) -> Result<bool, Fault>
 // Writes what a parse gave to be shown, if it gave that.
 fn show<O: Write>(parsed: &Result<ArgMatches<'_>, Fault>, output: &mut O) -> Result<bool, Fault>
     ensures ok { IfOk result (λ is_shown. (app : App) (words : List Text) → IfOk parsed.now (IsParsed app words)
-        → IfErr parsed.now (RefusesWords app words) → Shows app words is_shown) }
+        → IfErr parsed.now (RefusesWords app words) → AsksToSee app words is_shown) }
     ensures unasked { (result ≡ Ok false) → O.contents output.new ≡ O.contents output.old }
     ensures err { IfErr result (λ fault. (fault ≡ NoMemory) ⊎ (fault ≡ Unwritten)) }
 {
@@ -70,7 +71,7 @@ fn show<O: Write>(parsed: &Result<ArgMatches<'_>, Fault>, output: &mut O) -> Res
 
 /// Writes the help or the version of `st_run` to the output where the words ask for it, and says whether they do.
 pub fn show_run<O: Write>(alloc: Global, words: &[String], output: &mut O) -> Result<bool, Fault>
-    ensures ok { IfOk result (Shows run_command (map string_bytes words.now)) }
+    ensures ok { IfOk result (AsksToSee run_command (map string_bytes words.now)) }
     ensures unasked { (result ≡ Ok false) → O.contents output.new ≡ O.contents output.old }
     ensures err { IfErr result (λ fault. (fault ≡ NoMemory) ⊎ (fault ≡ Unwritten)) }
 {
@@ -79,7 +80,7 @@ pub fn show_run<O: Write>(alloc: Global, words: &[String], output: &mut O) -> Re
 
 /// Writes the help or the version of `st_served` to the output where the words ask for it, and says whether they do.
 pub fn show_served<O: Write>(alloc: Global, words: &[String], output: &mut O) -> Result<bool, Fault>
-    ensures ok { IfOk result (Shows served_command (map string_bytes words.now)) }
+    ensures ok { IfOk result (AsksToSee served_command (map string_bytes words.now)) }
     ensures unasked { (result ≡ Ok false) → O.contents output.new ≡ O.contents output.old }
     ensures err { IfErr result (λ fault. (fault ≡ NoMemory) ⊎ (fault ≡ Unwritten)) }
 {

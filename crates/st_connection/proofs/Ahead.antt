@@ -4,7 +4,7 @@ use Rattle.std.specs.List.{concat}
 use Rattle.std.specs.Io.KnownBytes.{Appends}
 use Rattle.std.proofs.KnownBytes.{Appends-nil, Appends-trans}
 use Rattle.st_http.specs.First.{First, IsFirst, more, expects}
-use Rattle.st_connection.specs.Items.{Begins}
+use Rattle.st_connection.specs.Items.{BeginsWith}
 use Rattle.st_connection.specs.Connection.{Amid, Run}
 use Rattle.st_connection.specs.Render.{continue_text, interim}
 use Rattle.st_connection.specs.inner.Stages.{Whole, Broken, Loses, Spoken, One, Sent, Stands, Answered, AnsweredTold, AnsweredOn, AnsweredText, Passed}
@@ -95,20 +95,22 @@ module _ {S : Type 0} (step : S → First → List ℕ → S → Type 0) (hold :
       rest = rest;
       answers = (interim told ++ answer) ∷ [];
       sent = interim told;
-      begins = subst (λ (t : List ℕ). Begins text (one.item ∷ []) t) (sym one.rest_is) (begins_one text one.item one.is one.some);
+      begins = subst (λ (t : List ℕ). BeginsWith text (one.item ∷ []) t) (sym one.rest_is) (begins_one text one.item one.is one.some);
       run = run_one;
       past = record {
-        done = [];
-        others = one.item ∷ [];
-        out = [];
-        back = (interim told ++ answer) ∷ [];
         mid = old;
-        items_are = refl;
-        answers_are = refl;
-        said = interim told;
-        hears = inr (ap interim (sym expected));
-        sent_is = refl;
-        run = refl;
+        front = record {
+          done = [];
+          others = one.item ∷ [];
+          out = [];
+          back = (interim told ++ answer) ∷ [];
+          items_are = refl;
+          answers_are = refl;
+          said = interim told;
+          hears = inr (ap interim (sym expected));
+          sent_is = refl;
+          run = refl;
+        };
         amid = amid_one last (either last is);
       };
       wrote = subst (λ (l : List ℕ). Appends held hn l) (append-nil (interim told)) (Appends-trans held ho hn (interim told) [] wrote out);

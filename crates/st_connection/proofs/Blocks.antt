@@ -1,13 +1,13 @@
 -- Answers that are held back, and what comes of them.
-use Rattle.std.proofs.Common.{◌≡◌, ◌⊎◌, inl, inr, ◌∙◌, ℕ, ◌+◌, ◌*◌, ◌^◌, ◌≤◌, Bool, true, false, Option, Ok, Err, List, [], ◌∷◌, ◌++◌, length, take, drop, refl, sym, ap, subst, arith, append_assoc, append-nil, length-append}
+use Rattle.std.proofs.Common.{◌≡◌, ◌⊎◌, inl, inr, ◌∙◌, ℕ, ◌+◌, ◌*◌, ◌^◌, ◌≤◌, Bool, true, false, Option, Ok, Err, List, [], ◌∷◌, ◌++◌, length, refl, sym, ap, subst, arith, append_assoc, append-nil, length-append}
 use Rattle.std.specs.Prelude.{Result}
 use Rattle.std.specs.List.{concat}
 use Rattle.std.specs.Io.KnownBytes.{Appends}
 use Rattle.std.proofs.KnownBytes.{Appends-trans}
 use Rattle.std.proofs.lemmas.List.Folds.{concat-append}
 use Rattle.st_http.specs.First.{First}
-use Rattle.st_connection.specs.Items.{Begins, is_closed}
-use Rattle.st_connection.specs.Connection.{Run, Reaches, ReachesWithin, all_but_last, Amid, MayHear}
+use Rattle.st_connection.specs.Items.{BeginsWith, is_closed}
+use Rattle.st_connection.specs.Connection.{Run, ReachesWithin, all_but_last, Amid, MayHear}
 use Rattle.st_connection.specs.inner.Stages.{Whole, Broken, Loses, One, Sent, Passed}
 use Rattle.st_connection.specs.declared.sending.Stopped.{Stopped}
 use Rattle.st_connection.specs.declared.sending.Stopped.TheVariants as stopped
@@ -15,27 +15,6 @@ use Rattle.st_connection.proofs.Reading.{begins_one, begins_none, begins_join, c
 use Rattle.st_connection.proofs.Joins.{run_join, whole_join}
 
 -- ---- fronts of answers
-
-same_front : (answer sent rests missing : List ℕ) → answer ++ rests ≡ sent ++ missing → length answer ≤ length sent
-    → (later : List ℕ) × (sent ≡ answer ++ later) × (rests ≡ later ++ missing)
-same_front [] sent rests missing e le = (sent, refl, e)
-same_front (a ∷ answer) [] rests missing e le = absurd (omega (arith, le))
-same_front (a ∷ answer) (b ∷ sent) rests missing e le =
-    let tail : answer ++ rests ≡ sent ++ missing = ap (drop 1) e in
-    let heads : a ∷ [] ≡ b ∷ [] = ap (take 1) e in
-    let le2 : length answer ≤ length sent = omega (arith, le) in
-    let r = same_front answer sent rests missing tail le2 in
-    (r.0, ap (λ (l : List ℕ). l ++ sent) (sym heads) ∙ ap (λ (l : List ℕ). a ∷ l) r.1, r.2)
-
--- where nothing is held back, each answer but the last is out whole
-pub reaches_now : (answers : List (List ℕ)) (said sent : List ℕ) → ReachesWithin 0 answers said sent → Reaches answers said sent
-reaches_now [] said sent (missing, e, le) = (missing, e)
-reaches_now (answer ∷ []) said sent (missing, e, le) = (missing, ap (λ (l : List ℕ). l ++ said) (sym (append-nil answer)) ∙ e)
-reaches_now (answer ∷ next ∷ answers) said sent (missing, e, le) =
-    let fits : length answer ≤ length sent = omega (arith, le, length-append answer (concat (all_but_last (next ∷ answers)))) in
-    let r = same_front answer sent (concat (next ∷ answers) ++ said) missing (sym (append_assoc answer (concat (next ∷ answers)) said) ∙ e) fits in
-    let n : length sent ≡ length answer + length r.0 = ap length r.1 ∙ length-append answer r.0 in
-    (r.0, r.1, reaches_now (next ∷ answers) said r.0 (missing, r.2, omega (arith, le, n, length-append answer (concat (all_but_last (next ∷ answers))))))
 
 pub all_but_most : (answers : List (List ℕ)) → length (concat (all_but_last answers)) ≤ length (concat answers)
 all_but_most [] = omega arith
@@ -104,7 +83,7 @@ module _ {S : Type 0} (step : S → First → List ℕ → S → Type 0) where
     pub whole : Whole step false old mid text between ho hn wo wn
     pub items : List First
     pub answers : List (List ℕ)
-    pub begins : Begins between items rest
+    pub begins : BeginsWith between items rest
     pub ends : is_closed items ≡ closed
     pub run : Run step mid items answers now
     pub bytes_are : bytes ≡ concat answers
@@ -174,17 +153,19 @@ module _ {S : Type 0} (step : S → First → List ℕ → S → Type 0) where
       begins = begins_join text a.whole.items a.between a.items rest a.whole.begins a.whole.ends a.begins;
       run = run_join step old a.mid now a.whole.items a.items a.whole.answers a.answers a.whole.run a.run;
       past = record {
-        done = a.whole.items;
-        others = a.items;
-        out = a.whole.answers;
-        back = a.answers;
         mid = a.mid;
-        items_are = refl;
-        answers_are = refl;
-        said = [];
-        hears = hears_none a.items;
-        sent_is = sym (append-nil (concat a.whole.answers));
-        run = a.whole.run;
+        front = record {
+          done = a.whole.items;
+          others = a.items;
+          out = a.whole.answers;
+          back = a.answers;
+          items_are = refl;
+          answers_are = refl;
+          said = [];
+          hears = hears_none a.items;
+          sent_is = sym (append-nil (concat a.whole.answers));
+          run = a.whole.run;
+        };
         amid = elim which [
           | inl same ↦ subst (λ (s : S). Amid step a.mid s now a.items a.answers) (sym same) a.amid
           | inr all ↦ amid_all a.mid now after a.items a.answers a.run all
@@ -228,7 +209,7 @@ module _ {S : Type 0} (step : S → First → List ℕ → S → Type 0) where
       → Gathered hold closed old new after text end ho hn wo wn (bytes ++ answer)
   gathered_one hold old now kept text rest ho hn wo wn bytes a le closed new after end answer one which =
       let run1 : Run step now (one.item ∷ []) (answer ∷ []) new = (new, one.stepped, refl) in
-      let begins1 : Begins rest (one.item ∷ []) end = subst (λ (t : List ℕ). Begins rest (one.item ∷ []) t) (sym one.rest_is) (begins_one rest one.item one.is one.some) in
+      let begins1 : BeginsWith rest (one.item ∷ []) end = subst (λ (t : List ℕ). BeginsWith rest (one.item ∷ []) t) (sym one.rest_is) (begins_one rest one.item one.is one.some) in
       let run = run_join step a.mid now new a.items (one.item ∷ []) a.answers (answer ∷ []) a.run run1 in
       let whole_bytes : bytes ++ answer ≡ concat (a.answers ++ answer ∷ []) = ap (λ (l : List ℕ). l ++ answer) a.bytes_are ∙ sym (concat_end a.answers answer) in
       record {
@@ -341,19 +322,23 @@ module _ {S : Type 0} (step : S → First → List ℕ → S → Type 0) where
     begins = begins_join text a.items rest b.items b.rest a.begins a.ends b.begins;
     run = run_join step old mid new a.items b.items a.answers b.answers a.run b.run;
     past = record {
-      done = a.items ++ b.past.done;
-      others = b.past.others;
-      out = a.answers ++ b.past.out;
-      back = b.past.back;
       mid = b.past.mid;
-      items_are = ap (λ (l : List First). a.items ++ l) b.past.items_are ∙ sym (append_assoc a.items b.past.done b.past.others);
-      answers_are = ap (λ (l : List (List ℕ)). a.answers ++ l) b.past.answers_are ∙ sym (append_assoc a.answers b.past.out b.past.back);
-      said = b.past.said;
-      hears = b.past.hears;
-      sent_is =
-          ap (λ (l : List ℕ). concat a.answers ++ l) b.past.sent_is ∙ sym (append_assoc (concat a.answers) (concat b.past.out) b.past.said)
-          ∙ ap (λ (l : List ℕ). l ++ b.past.said) (sym (concat-append a.answers b.past.out));
-      run = run_join step old mid b.past.mid a.items b.past.done a.answers b.past.out a.run b.past.run;
+      front = record {
+        done = a.items ++ b.past.front.done;
+        others = b.past.front.others;
+        out = a.answers ++ b.past.front.out;
+        back = b.past.front.back;
+        items_are = ap (λ (l : List First). a.items ++ l) b.past.front.items_are ∙ sym (append_assoc a.items b.past.front.done b.past.front.others);
+        answers_are = ap (λ (l : List (List ℕ)). a.answers ++ l) b.past.front.answers_are
+            ∙ sym (append_assoc a.answers b.past.front.out b.past.front.back);
+        said = b.past.front.said;
+        hears = b.past.front.hears;
+        sent_is =
+            ap (λ (l : List ℕ). concat a.answers ++ l) b.past.front.sent_is
+            ∙ sym (append_assoc (concat a.answers) (concat b.past.front.out) b.past.front.said)
+            ∙ ap (λ (l : List ℕ). l ++ b.past.front.said) (sym (concat-append a.answers b.past.front.out));
+        run = run_join step old mid b.past.mid a.items b.past.front.done a.answers b.past.front.out a.run b.past.front.run;
+      };
       amid = b.past.amid;
     };
     wrote = Appends-trans ho hm hn (concat a.answers) b.sent a.wrote b.wrote;

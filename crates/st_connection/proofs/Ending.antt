@@ -1,17 +1,18 @@
 -- What a call leaves of its reader and its writer, and of what answers, at each of its ends.
-use Rattle.std.proofs.Common.{◌≡◌, ◌⊎◌, inl, inr, ◌-◌, ◌+◌, ◌^◌, min, ℕ, Bool, true, false, Option, Ok, Err, List, refl, ap}
+use Rattle.std.proofs.Common.{◌≡◌, ◌⊎◌, inl, inr, ◌-◌, ◌+◌, ◌^◌, min, ℕ, Bool, true, false, Ok, Err, refl, ap}
 use Rattle.std.specs.Prelude.{Result}
 use Rattle.std.specs.Io.KnownBytes.{IsAtEnd}
 use Rattle.st_connection.specs.Connection.{EndsOn, KeptUnlessLost}
+use Rattle.st_connection.specs.Streams.{Streams}
 use Rattle.st_connection.specs.declared.connection.Ended.{Ended}
 use Rattle.st_connection.specs.declared.connection.Ended.TheVariants.{Clean, Closed, Cut, TurnsSpent, Lost}
 use Rattle.st_connection.specs.declared.connection.IoFault.{IoFault}
 use Rattle.st_connection.specs.declared.sending.Stopped.{Stopped}
 use Rattle.st_connection.specs.declared.sending.Stopped.TheVariants as stopped
 
-module _ (most : ℕ) (left : Option (List ℕ)) (first_reads reads : ℕ) (has_ended read_failed write_failed : Bool) where
-  pub on_fault : (fault : IoFault) → (read_failed ≡ true) ⊎ (write_failed ≡ true)
-      → EndsOn most left first_reads reads has_ended read_failed write_failed (Err fault)
+module _ (most : ℕ) (s : Streams) where
+  pub on_fault : (fault : IoFault) → (s.read_failed ≡ true) ⊎ (s.write_failed ≡ true)
+      → EndsOn most s (Err fault)
   on_fault fault broke = record {
     at_end = elim [ inl e ↦ cc | inr e ↦ cc ];
     turns = λ e. cc;
@@ -19,8 +20,8 @@ module _ (most : ℕ) (left : Option (List ℕ)) (first_reads reads : ℕ) (has_
     sound = tt;
   }
 
-  module _ (sound : (read_failed ≡ false) × (write_failed ≡ false)) where
-    pub on_clean : (has_ended ≡ true) × IsAtEnd left → EndsOn most left first_reads reads has_ended read_failed write_failed (Ok Clean)
+  module _ (sound : (s.read_failed ≡ false) × (s.write_failed ≡ false)) where
+    pub on_clean : (s.has_ended ≡ true) × IsAtEnd s.left_new → EndsOn most s (Ok Clean)
     on_clean at_end = record {
       at_end = λ e. at_end;
       turns = λ e. cc;
@@ -28,7 +29,7 @@ module _ (most : ℕ) (left : Option (List ℕ)) (first_reads reads : ℕ) (has_
       sound = sound;
     }
 
-    pub on_cut : (has_ended ≡ true) × IsAtEnd left → EndsOn most left first_reads reads has_ended read_failed write_failed (Ok Cut)
+    pub on_cut : (s.has_ended ≡ true) × IsAtEnd s.left_new → EndsOn most s (Ok Cut)
     on_cut at_end = record {
       at_end = λ e. at_end;
       turns = λ e. cc;
@@ -36,7 +37,7 @@ module _ (most : ℕ) (left : Option (List ℕ)) (first_reads reads : ℕ) (has_
       sound = sound;
     }
 
-    pub on_closed : EndsOn most left first_reads reads has_ended read_failed write_failed (Ok Closed)
+    pub on_closed : EndsOn most s (Ok Closed)
     on_closed = record {
       at_end = elim [ inl e ↦ cc | inr e ↦ cc ];
       turns = λ e. cc;
@@ -44,7 +45,7 @@ module _ (most : ℕ) (left : Option (List ℕ)) (first_reads reads : ℕ) (has_
       sound = sound;
     }
 
-    pub on_lost : EndsOn most left first_reads reads has_ended read_failed write_failed (Ok Lost)
+    pub on_lost : EndsOn most s (Ok Lost)
     on_lost = record {
       at_end = elim [ inl e ↦ cc | inr e ↦ cc ];
       turns = λ e. cc;
@@ -52,8 +53,8 @@ module _ (most : ℕ) (left : Option (List ℕ)) (first_reads reads : ℕ) (has_
       sound = sound;
     }
 
-    pub on_turns : reads ≡ min (first_reads + most) (2 ^ 64 - 1)
-        → EndsOn most left first_reads reads has_ended read_failed write_failed (Ok TurnsSpent)
+    pub on_turns : s.reads_new ≡ min (s.reads_old + most) (2 ^ 64 - 1)
+        → EndsOn most s (Ok TurnsSpent)
     on_turns turns = record {
       at_end = elim [ inl e ↦ cc | inr e ↦ cc ];
       turns = λ e. turns;

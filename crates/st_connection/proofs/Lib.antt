@@ -8,5 +8,4 @@ pub mod Buffer
 pub mod Ahead
 pub mod Turns
 pub mod Blocks
-pub mod AtOnce
 pub mod Ending

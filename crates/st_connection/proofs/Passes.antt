@@ -107,17 +107,19 @@ whole_stops {S = S} step hold closed old now text rest ho hn wo wn a kept last h
   begins = a.begins;
   run = a.run;
   past = record {
-    done = a.items;
-    others = [];
-    out = a.answers;
-    back = [];
     mid = now;
-    items_are = sym (append-nil a.items);
-    answers_are = sym (append-nil a.answers);
-    said = [];
-    hears = refl;
-    sent_is = sym (append-nil (concat a.answers));
-    run = a.run;
+    front = record {
+      done = a.items;
+      others = [];
+      out = a.answers;
+      back = [];
+      items_are = sym (append-nil a.items);
+      answers_are = sym (append-nil a.answers);
+      said = [];
+      hears = refl;
+      sent_is = sym (append-nil (concat a.answers));
+      run = a.run;
+    };
     amid = amid_all step now now last [] [] refl (elim s.1 [
       | inl keeps ↦ keeps ∙ same
       | inr all ↦ all

@@ -10,7 +10,7 @@ use Rattle.st_http.specs.First.{First, IsItem, message, fault, more, IsFirst, fi
 use Rattle.st_http.specs.Items.{after_message, Items, none, faulty, last, next}
 use Rattle.st_http.proofs.FirstLemmas.{first_unique, first_kept}
 use Rattle.st_http.proofs.ItemLemmas.{message_size}
-use Rattle.st_connection.specs.Items.{closes, after_item, is_closed, Begins}
+use Rattle.st_connection.specs.Items.{closes, after_item, is_closed, BeginsWith}
 
 -- what follows a text follows what its item leaves
 after_grows : (text after : List ℕ) (item : First) → IsFirst text item → IsItem item → closes item ≡ false
@@ -39,47 +39,47 @@ closed_one item = grind (arith, common_steps)
 pub closed_join : (items others : List First) → is_closed items ≡ false → is_closed (items ++ others) ≡ is_closed others
 closed_join items others o = grind (arith, common_steps, list_any-append closes items others, o)
 
-pub begins_none : (text : List ℕ) → Begins text [] text
-unfolding Begins
+pub begins_none : (text : List ℕ) → BeginsWith text [] text
+unfolding BeginsWith
 begins_none text = refl
 
-pub begins_one : (text : List ℕ) (item : First) → IsFirst text item → IsItem item → Begins text (item ∷ []) (after_item text item)
-unfolding Begins
+pub begins_one : (text : List ℕ) (item : First) → IsFirst text item → IsItem item → BeginsWith text (item ∷ []) (after_item text item)
+unfolding BeginsWith
 begins_one text item is some = (is, some, (λ closing. refl), refl)
 
-pub begins_grows : (text : List ℕ) (items : List First) (rest after : List ℕ) → Begins text items rest → is_closed items ≡ false
-    → Begins (text ++ after) items (rest ++ after)
-unfolding Begins
+pub begins_grows : (text : List ℕ) (items : List First) (rest after : List ℕ) → BeginsWith text items rest → is_closed items ≡ false
+    → BeginsWith (text ++ after) items (rest ++ after)
+unfolding BeginsWith
 begins_grows text [] rest after b o = ap (λ (t : List ℕ). t ++ after) b
 begins_grows text (item ∷ items) rest after (is, some, ends, later) o =
     let tail = begins_grows (after_item text item) items rest after later (rest_open item items o) in
     let grows = after_grows text after item is some (first_open item items o) in
-    (first_kept text after item some is, some, ends, subst (λ (t : List ℕ). Begins t items (rest ++ after)) (sym grows) tail)
+    (first_kept text after item some is, some, ends, subst (λ (t : List ℕ). BeginsWith t items (rest ++ after)) (sym grows) tail)
 
-pub begins_join : (text : List ℕ) (items : List First) (rest : List ℕ) (others : List First) (end : List ℕ) → Begins text items rest
-    → is_closed items ≡ false → Begins rest others end → Begins text (items ++ others) end
-unfolding Begins
-begins_join text [] rest others end b o c = subst (λ (t : List ℕ). Begins t others end) b c
+pub begins_join : (text : List ℕ) (items : List First) (rest : List ℕ) (others : List First) (end : List ℕ) → BeginsWith text items rest
+    → is_closed items ≡ false → BeginsWith rest others end → BeginsWith text (items ++ others) end
+unfolding BeginsWith
+begins_join text [] rest others end b o c = subst (λ (t : List ℕ). BeginsWith t others end) b c
 begins_join text (item ∷ items) rest others end (is, some, ends, later) o c =
     let stays = first_open item items o in
     (is, some, (λ closing. absurd (let e : closes item ≡ false = stays in cc)), begins_join (after_item text item) items rest others end later (rest_open item items o) c)
 
 -- each item after which the connection stays takes a byte at least
-pub few_items : (text : List ℕ) (items : List First) (rest : List ℕ) → Begins text items rest → is_closed items ≡ false
+pub few_items : (text : List ℕ) (items : List First) (rest : List ℕ) → BeginsWith text items rest → is_closed items ≡ false
     → length items + length rest ≤ length text
-unfolding Begins
+unfolding BeginsWith
 few_items text [] rest b o = omega (arith, ap length b)
 few_items text (item ∷ items) rest (is, some, ends, later) o =
     let tail = few_items (after_item text item) items rest later (rest_open item items o) in
     let shorter = after_shorter text item is some (first_open item items o) in omega (arith, tail, shorter)
 
 message_whole : (text : List ℕ) (h : RequestHead) (body : List ℕ) (bare : Bool) (items : List First) (rest : List ℕ)
-    → IsFirst text (message h body bare) → (closes_after h.minor (fields_of h) ≡ true → items ≡ []) → Begins (after_message text h body) items rest
+    → IsFirst text (message h body bare) → (closes_after h.minor (fields_of h) ≡ true → items ≡ []) → BeginsWith (after_message text h body) items rest
     → (closes_after h.minor (fields_of h) ≡ false → Items (after_message text h body) items rest) → Items text (message h body bare ∷ items) rest
-unfolding Begins
+unfolding BeginsWith
 message_whole text h body bare items rest is ends later others = go (closes_after h.minor (fields_of h)) refl
   where
-    single : (after : List First) → after ≡ [] → Begins (after_message text h body) after rest → closes_after h.minor (fields_of h) ≡ true
+    single : (after : List First) → after ≡ [] → BeginsWith (after_message text h body) after rest → closes_after h.minor (fields_of h) ≡ true
         → Items text (message h body bare ∷ after) rest
     single [] e b closing = subst (λ (t : List ℕ). Items text (message h body bare ∷ []) t) (sym b) (last is closing)
     single (other ∷ after) e b closing = cc
@@ -89,8 +89,8 @@ message_whole text h body bare items rest is ends later others = go (closes_afte
     go false e = next is e (others e)
 
 fault_whole : (text : List ℕ) (reason : Reason) (bare : Bool) (items : List First) (rest : List ℕ) → IsFirst text (fault reason bare)
-    → items ≡ [] → Begins text items rest → Items text (fault reason bare ∷ items) rest
-unfolding Begins
+    → items ≡ [] → BeginsWith text items rest → Items text (fault reason bare ∷ items) rest
+unfolding BeginsWith
 fault_whole text reason bare [] rest is e b = subst (λ (t : List ℕ). Items text (fault reason bare ∷ []) t) (sym b) (faulty is)
 fault_whole text reason bare (other ∷ items) rest is e b = cc
 
@@ -98,9 +98,9 @@ open_after : (item : First) (items : List First) → closes item ≡ false → i
 open_after item items a b = grind (arith, common_steps, a, b)
 
 -- a text that begins with items has these and no more, where one closes or nothing whole follows
-pub items_whole : (text : List ℕ) (items : List First) (rest : List ℕ) → Begins text items rest
+pub items_whole : (text : List ℕ) (items : List First) (rest : List ℕ) → BeginsWith text items rest
     → (waits : Bool) → (is_closed items ≡ false → IsFirst rest (more waits)) → Items text items rest
-unfolding Begins
+unfolding BeginsWith
 items_whole text [] rest b flag waits = subst (λ (t : List ℕ). Items t [] rest) b (none (waits refl))
 items_whole text (message h body bare ∷ items) rest (is, some, ends, later) flag waits =
     message_whole text h body bare items rest is ends later
@@ -114,9 +114,9 @@ ends_there : (item only : First) (items : List First) → item ≡ only → clos
 ends_there item only items e closing ends =
     let n : items ≡ [] = ends (ap closes e ∙ closing) in ([], ap (λ (i : First). i ∷ []) (sym e) ∙ ap (λ (l : List First). item ∷ (l ++ [])) (sym n))
 
-front_of : {text : List ℕ} {all : List First} {end : List ℕ} → Items text all end → (items : List First) (rest : List ℕ) → Begins text items rest
+front_of : {text : List ℕ} {all : List First} {end : List ℕ} → Items text all end → (items : List First) (rest : List ℕ) → BeginsWith text items rest
     → (others : List First) × (all ≡ items ++ others)
-unfolding Begins
+unfolding BeginsWith
 front_of {text} {all} {end} q [] rest b = (all, refl)
 front_of (none {text} {waits} f) (item ∷ items) rest (is, some, ends, later) = absurd (subst IsItem (first_unique text item (more waits) is f) some)
 front_of (faulty {text} {reason} {bare} f) (item ∷ items) rest (is, some, ends, later) =
@@ -125,10 +125,10 @@ front_of (last {text} {h} {body} {bare} f closing) (item ∷ items) rest (is, so
     ends_there item (message h body bare) items (first_unique text item (message h body bare) is f) closing ends
 front_of (next {text} {h} {body} {bare} {items = tail_items} f stays tail) (item ∷ items) rest (is, some, ends, later) =
     let e : item ≡ message h body bare = first_unique text item (message h body bare) is f in
-    let tail_begins : Begins (after_message text h body) items rest = subst (λ (i : First). Begins (after_item text i) items rest) e later in
+    let tail_begins : BeginsWith (after_message text h body) items rest = subst (λ (i : First). BeginsWith (after_item text i) items rest) e later in
     let r = front_of {text = after_message text h body} tail items rest tail_begins in
     (r.0, ap (λ (i : First). i ∷ tail_items) (sym e) ∙ ap (λ (l : List First). item ∷ l) r.1)
 
-pub begins_front : (text : List ℕ) (items all : List First) (rest end : List ℕ) → Begins text items rest → Items text all end
+pub begins_front : (text : List ℕ) (items all : List First) (rest end : List ℕ) → BeginsWith text items rest → Items text all end
     → (others : List First) × (all ≡ items ++ others)
 begins_front text items all rest end b q = front_of q items rest b

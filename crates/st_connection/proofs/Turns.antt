@@ -8,6 +8,7 @@ use Rattle.st_http.specs.Items.{Items}
 use Rattle.st_http.proofs.FirstLemmas.{first_unique, more_short}
 use Rattle.st_http.proofs.ExpectLemmas.{awaited}
 use Rattle.st_connection.specs.Connection.{ServedWithin, SaysAll, Told}
+use Rattle.st_connection.specs.Streams.{Streams}
 use Rattle.st_connection.specs.Render.{interim}
 use Rattle.st_connection.specs.inner.Stages.{Whole, Broken, Loses, Spoken, AnsweredText}
 use Rattle.st_connection.specs.declared.connection.Stop.{Stop}
@@ -18,6 +19,19 @@ use Rattle.st_connection.proofs.Reading.{few_items, items_whole}
 use Rattle.st_connection.proofs.Joins.{whole_none, whole_join, whole_grows, spoken_join}
 use Rattle.st_connection.proofs.Steps.{interim_few}
 use Rattle.st_connection.proofs.Blocks.{reaches_all, broken_join, loses_join}
+
+abbrev seen : (lo ln ho hn : Option (List ℕ)) (failed : Bool) (ro rn : ℕ) (he wf : Bool) → Streams
+seen lo ln ho hn failed ro rn he wf = record {
+  left_old = lo;
+  left_new = ln;
+  reads_old = ro;
+  reads_new = rn;
+  has_ended = he;
+  read_failed = failed;
+  held_old = ho;
+  held_new = hn;
+  write_failed = wf;
+}
 
 -- What was given is answered, up to the text, in which nothing whole stands, and whose client was told so much ahead.
 pub record Serving {S : Type 0} (step : S → First → List ℕ → S → Type 0) (old now : S) (text : List ℕ) (told : Bool) (lo ln ho hn : Option (List ℕ)) (w turn : ℕ) : Type 0 where
@@ -67,7 +81,7 @@ module _ {S : Type 0} (step : S → First → List ℕ → S → Type 0) (old no
   counts : w ≡ length said
   counts = omega (arith, s.spoken.counted, s.spoken.whole.counted, length-append (concat s.spoken.whole.answers) (interim told))
 
-  pub read_breaks : (kept : S) (lm : Option (List ℕ)) (failed : Bool) → Keeps ln lm → ServedWithin step hold old now kept lo lm ho hn failed (Err (record { written = w }))
+  pub read_breaks : {ro rn : ℕ} {he wf : Bool} (kept : S) (lm : Option (List ℕ)) (failed : Bool) → Keeps ln lm → ServedWithin step hold old now kept (seen lo lm ho hn failed ro rn he wf) (Err (record { written = w }))
   read_breaks kept lm failed keeps = record {
     given = s.given;
     gave = Consumes-kept lo ln lm s.given s.gave keeps;
@@ -85,7 +99,7 @@ module _ {S : Type 0} (step : S → First → List ℕ → S → Type 0) (old no
     );
   }
 
-  pub turns_spent : (kept : S) (failed : Bool) → ServedWithin step hold old now kept lo ln ho hn failed (Ok TurnsSpent)
+  pub turns_spent : {ro rn : ℕ} {he wf : Bool} (kept : S) (failed : Bool) → ServedWithin step hold old now kept (seen lo ln ho hn failed ro rn he wf) (Ok TurnsSpent)
   turns_spent kept failed = record {
     given = s.given;
     gave = s.gave;
@@ -111,7 +125,7 @@ module _ {S : Type 0} (step : S → First → List ℕ → S → Type 0) (old no
         let none : more told ≡ more false = first_unique [] (more told) (more false) (subst (λ (t : List ℕ). IsFirst t (more told)) empty s.waits) first_empty in
         ap (λ (first : First). concat s.spoken.whole.answers ++ interim (expects first)) none ∙ append-nil (concat s.spoken.whole.answers)
 
-    pub ends_clean : (kept : S) (failed : Bool) → got ≡ [] → text ≡ [] → ServedWithin step hold old now kept lo lm ho hn failed (Ok Clean)
+    pub ends_clean : {ro rn : ℕ} {he wf : Bool} (kept : S) (failed : Bool) → got ≡ [] → text ≡ [] → ServedWithin step hold old now kept (seen lo lm ho hn failed ro rn he wf) (Ok Clean)
     ends_clean kept failed none empty = record {
       given = s.given;
       gave = gave_none none;
@@ -124,7 +138,7 @@ module _ {S : Type 0} (step : S → First → List ℕ → S → Type 0) (old no
       ending = (all_items, s.spoken.whole.ends, empty, told_nobody empty);
     }
 
-    pub ends_cut : (kept : S) (failed : Bool) → got ≡ [] → text ≢ [] → ServedWithin step hold old now kept lo lm ho hn failed (Ok Cut)
+    pub ends_cut : {ro rn : ℕ} {he wf : Bool} (kept : S) (failed : Bool) → got ≡ [] → text ≢ [] → ServedWithin step hold old now kept (seen lo lm ho hn failed ro rn he wf) (Ok Cut)
     ends_cut kept failed none some = record {
       given = s.given;
       gave = gave_none none;
@@ -143,8 +157,8 @@ module _ {S : Type 0} (step : S → First → List ℕ → S → Type 0) (old no
           subst (λ (t : List ℕ). Whole (Told step) false old now (s.given ++ got) t ho s.spoken.held 0 s.spoken.written) (sym longer_is)
           (whole_grows (Told step) old now s.given text got ho s.spoken.held 0 s.spoken.written s.spoken.whole)
 
-      pub write_breaks : (kept : S) (failed : Bool) → failed ≡ false → Broken (Told step) hold now new longer s.spoken.held hm s.spoken.written wm
-          → ServedWithin step hold old new kept lo lm ho hm failed (Err (record { written = wm }))
+      pub write_breaks : {ro rn : ℕ} {he wf : Bool} (kept : S) (failed : Bool) → failed ≡ false → Broken (Told step) hold now new longer s.spoken.held hm s.spoken.written wm
+          → ServedWithin step hold old new kept (seen lo lm ho hm failed ro rn he wf) (Err (record { written = wm }))
       write_breaks kept failed sound a =
           let b = broken_join (Told step) hold old now new (s.given ++ got) longer ho s.spoken.held hm 0 s.spoken.written wm grown a in
           record {
@@ -159,8 +173,8 @@ module _ {S : Type 0} (step : S → First → List ℕ → S → Type 0) (old no
             ending = (b.begins, omega (arith, b.counted), (b.said, b.may, b.reaches), (λ e. absurd (let k : true ≡ false = cc (sound, e) in cc)));
           }
 
-      pub connection_lost : (kept : S) (failed : Bool) → Loses (Told step) now new kept longer s.spoken.held hm
-          → ServedWithin step hold old new kept lo lm ho hm failed (Ok Lost)
+      pub connection_lost : {ro rn : ℕ} {he wf : Bool} (kept : S) (failed : Bool) → Loses (Told step) now new kept longer s.spoken.held hm
+          → ServedWithin step hold old new kept (seen lo lm ho hm failed ro rn he wf) (Ok Lost)
       connection_lost kept failed a =
           let b = loses_join (Told step) old now new (s.given ++ got) longer ho s.spoken.held hm 0 s.spoken.written grown kept a in
           record {
@@ -175,8 +189,8 @@ module _ {S : Type 0} (step : S → First → List ℕ → S → Type 0) (old no
             ending = (b.begins, b.past);
           }
 
-      pub connection_closes : (kept : S) (failed : Bool) → (rest : List ℕ) × Whole (Told step) true now new longer rest s.spoken.held hm s.spoken.written wm
-          → ServedWithin step hold old new kept lo lm ho hm failed (Ok Closed)
+      pub connection_closes : {ro rn : ℕ} {he wf : Bool} (kept : S) (failed : Bool) → (rest : List ℕ) × Whole (Told step) true now new longer rest s.spoken.held hm s.spoken.written wm
+          → ServedWithin step hold old new kept (seen lo lm ho hm failed ro rn he wf) (Ok Closed)
       connection_closes kept failed (rest, a) =
           let b = whole_join (Told step) old now new (s.given ++ got) longer ho s.spoken.held hm 0 s.spoken.written wm grown true rest a in
           record {

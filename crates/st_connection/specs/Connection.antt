@@ -1,5 +1,5 @@
 -- What is written for what was read, and how a connection ends.
-use Rattle.std.specs.Prelude.{◌≡◌, ◌≢◌, ◌⊎◌, ◌-◌, ◌+◌, ◌^◌, ◌≤◌, ℕ, Bool, true, false, Option, Result, Ok, Err, OnOk, IsErr, min}
+use Rattle.std.specs.Prelude.{◌≡◌, ◌≢◌, ◌⊎◌, ◌-◌, ◌+◌, ◌^◌, ◌≤◌, ℕ, Bool, true, false, Result, Ok, Err, OnOk, IsErr, min}
 use Rattle.std.specs.Prelude.{List, [], ◌∷◌, ◌++◌, length}
 use Rattle.std.specs.List.{concat}
 use Rattle.std.specs.Io.KnownBytes.{Appends, Consumes, IsAtEnd}
@@ -8,7 +8,8 @@ use Rattle.st_http.specs.declared.message.Message.{Message}
 use Rattle.st_http.specs.First.{First, message, IsFirst, expects}
 use Rattle.st_http.specs.Items.{Items}
 use Rattle.st_http.specs.Message.{ShowsMessage}
-use Rattle.st_connection.specs.Items.{Begins, is_closed}
+use Rattle.st_connection.specs.Items.{BeginsWith, is_closed}
+use Rattle.st_connection.specs.Streams.{Streams}
 use Rattle.st_connection.specs.Render.{interim}
 use Rattle.st_connection.specs.declared.connection.Ended.{Ended}
 use Rattle.st_connection.specs.declared.connection.Ended.TheVariants.{Clean, Closed, Cut, TurnsSpent, Lost}
@@ -40,55 +41,16 @@ Told step old item text new = (answer : List ℕ) × (text ≡ interim (expects 
 abbrev pub Ahead : List ℕ → List ℕ → Type 0
 Ahead rest said = (first : First) × IsFirst rest first × (said ≡ interim (expects first))
 
--- ---- each answer is written at once
-
--- What is out is a front of the answers and of what is said behind them, and each answer but the last is out whole.
-abbrev pub Reaches : List (List ℕ) → List ℕ → List ℕ → Type 0
-Reaches [] said sent = (missing : List ℕ) × (said ≡ sent ++ missing)
-Reaches (answer ∷ []) said sent = (missing : List ℕ) × (answer ++ said ≡ sent ++ missing)
-Reaches (answer ∷ next ∷ answers) said sent = (later : List ℕ) × (sent ≡ answer ++ later) × Reaches (next ∷ answers) said later
-
 -- All answers are out, and what the rest is told ahead.
 abbrev pub SaysAll : List ℕ → List (List ℕ) → List ℕ → Type 0
 SaysAll rest answers sent = (said : List ℕ) × Ahead rest said × (sent ≡ concat answers ++ said)
 
--- How a call ends, by what was read, answered and written.
-abbrev pub EndsSo : Result Ended IoFault → Bool → List ℕ → List First → List ℕ → List (List ℕ) → List ℕ → Type 0
-EndsSo (Ok Clean) read_failed given items rest answers sent =
-    Items given items rest × (is_closed items ≡ false) × (rest ≡ []) × (sent ≡ concat answers)
-EndsSo (Ok Closed) read_failed given items rest answers sent =
-    Items given items rest × (is_closed items ≡ true) × (sent ≡ concat answers)
-EndsSo (Ok Cut) read_failed given items rest answers sent =
-    Items given items rest × (is_closed items ≡ false) × (rest ≢ []) × SaysAll rest answers sent
-EndsSo (Ok TurnsSpent) read_failed given items rest answers sent =
-    Items given items rest × (is_closed items ≡ false) × SaysAll rest answers sent
-EndsSo (Ok Lost) read_failed given items rest answers sent = ⊥
-EndsSo (Err broken) read_failed given items rest answers sent =
-    Begins given items rest × (broken.written ≡ length sent)
-    × ((said : List ℕ) × ((said ≡ []) ⊎ Ahead rest said) × Reaches answers said sent)
-    × (read_failed ≡ true → Items given items rest × (is_closed items ≡ false) × SaysAll rest answers sent)
-
--- What the reader gave begins with items. They got answers, each behind its interim response, and led from the old state to the new
--- one. What was sent is these answers, or a front of them, as the end says.
-pub record Served {S : Type 0} (step : Answering S) (old new : S) (left_old left_new held_old held_new : Option (List ℕ))
-    (read_failed : Bool) (result : Result Ended IoFault) : Type 0 where
-  pub given : List ℕ
-  pub gave : Consumes left_old left_new given
-  pub items : List First
-  pub rest : List ℕ
-  pub answers : List (List ℕ)
-  pub run : Run (Told step) old items answers new
-  pub sent : List ℕ
-  pub wrote : Appends held_old held_new sent
-  pub ending : EndsSo result read_failed given items rest answers sent
-
 -- What a call leaves of its reader and its writer. It makes at most so many reads.
-pub record EndsOn (most : ℕ) (left : Option (List ℕ)) (reads_old reads_new : ℕ) (has_ended read_failed write_failed : Bool)
-    (result : Result Ended IoFault) : Type 0 where
-  pub at_end : (result ≡ Ok Clean) ⊎ (result ≡ Ok Cut) → (has_ended ≡ true) × IsAtEnd left
-  pub turns : result ≡ Ok TurnsSpent → reads_new ≡ min (reads_old + most) (2 ^ 64 - 1)
-  pub faults : IsErr result → (read_failed ≡ true) ⊎ (write_failed ≡ true)
-  pub sound : OnOk result ((read_failed ≡ false) × (write_failed ≡ false))
+pub record EndsOn (most : ℕ) (s : Streams) (result : Result Ended IoFault) : Type 0 where
+  pub at_end : (result ≡ Ok Clean) ⊎ (result ≡ Ok Cut) → (s.has_ended ≡ true) × IsAtEnd s.left_new
+  pub turns : result ≡ Ok TurnsSpent → s.reads_new ≡ min (s.reads_old + most) (2 ^ 64 - 1)
+  pub faults : IsErr result → (s.read_failed ≡ true) ⊎ (s.write_failed ≡ true)
+  pub sound : OnOk result ((s.read_failed ≡ false) × (s.write_failed ≡ false))
 
 -- ---- answers are held back in a block
 
@@ -118,47 +80,65 @@ abbrev pub MayHear : List First → List ℕ → Type 0
 MayHear [] said = said ≡ []
 MayHear (item ∷ items) said = (said ≡ []) ⊎ (said ≡ interim (expects item))
 
--- What is out are whole answers, and perhaps the interim response of the next item. The kept state is that after some of the items, at
--- least those that these answer.
-pub record KeptPast {S : Type 0} (step : Answering S) (old kept new : S) (items : List First) (answers : List (List ℕ))
-    (sent : List ℕ) : Type 0 where
+-- What is out are the answers of the first items, which led to this state, and perhaps the interim response of the next item.
+pub record AreOut {S : Type 0} (step : Answering S) (old mid : S) (items : List First) (answers : List (List ℕ)) (sent : List ℕ)
+    : Type 0 where
   pub done : List First
   pub others : List First
   pub out : List (List ℕ)
   pub back : List (List ℕ)
-  pub mid : S
   pub items_are : items ≡ done ++ others
   pub answers_are : answers ≡ out ++ back
   pub said : List ℕ
   pub hears : MayHear others said
   pub sent_is : sent ≡ concat out ++ said
   pub run : Run step old done out mid
-  pub amid : Amid step mid kept new others back
 
--- How a call ends that holds back at most so many bytes of answers.
+-- The kept state is that after some of the items, at least those whose answers are out.
+pub record KeptPast {S : Type 0} (step : Answering S) (old kept new : S) (items : List First) (answers : List (List ℕ))
+    (sent : List ℕ) : Type 0 where
+  pub mid : S
+  pub front : AreOut step old mid items answers sent
+  pub amid : Amid step mid kept new front.others front.back
+
+-- How a call ends that holds back at most so many bytes of answers, by what was read, answered and written.
 abbrev pub EndsWithin : {S : Type 0} → Answering S → ℕ → S → S → S → Result Ended IoFault → Bool
     → List ℕ → List First → List ℕ → List (List ℕ) → List ℕ → Type 0
+EndsWithin step hold old new kept (Ok Clean) read_failed given items rest answers sent =
+    Items given items rest × (is_closed items ≡ false) × (rest ≡ []) × (sent ≡ concat answers)
+EndsWithin step hold old new kept (Ok Closed) read_failed given items rest answers sent =
+    Items given items rest × (is_closed items ≡ true) × (sent ≡ concat answers)
+EndsWithin step hold old new kept (Ok Cut) read_failed given items rest answers sent =
+    Items given items rest × (is_closed items ≡ false) × (rest ≢ []) × SaysAll rest answers sent
+EndsWithin step hold old new kept (Ok TurnsSpent) read_failed given items rest answers sent =
+    Items given items rest × (is_closed items ≡ false) × SaysAll rest answers sent
 EndsWithin step hold old new kept (Ok Lost) read_failed given items rest answers sent =
-    Begins given items rest × KeptPast step old kept new items answers sent
+    BeginsWith given items rest × KeptPast step old kept new items answers sent
 EndsWithin step hold old new kept (Err broken) read_failed given items rest answers sent =
-    Begins given items rest × (broken.written ≡ length sent)
+    BeginsWith given items rest × (broken.written ≡ length sent)
     × ((said : List ℕ) × ((said ≡ []) ⊎ Ahead rest said) × ReachesWithin hold answers said sent)
     × (read_failed ≡ true → Items given items rest × (is_closed items ≡ false) × SaysAll rest answers sent)
-EndsWithin step hold old new kept (Ok ended) read_failed given items rest answers sent =
-    EndsSo (Ok ended) read_failed given items rest answers sent
 
--- `Served` where at most so many bytes of answers are held back, by an answerer that keeps the state `kept` in the end.
-pub record ServedWithin {S : Type 0} (step : Answering S) (hold : ℕ) (old new kept : S)
-    (left_old left_new held_old held_new : Option (List ℕ)) (read_failed : Bool) (result : Result Ended IoFault) : Type 0 where
+-- What the reader gave begins with items. They got answers, each behind its interim response, and led from the old state to the new
+-- one. What was sent is these answers, or a front of them that lacks at most so many bytes, as the end says. The answerer keeps the state
+-- `kept` in the end.
+pub record ServedWithin {S : Type 0} (step : Answering S) (hold : ℕ) (old new kept : S) (s : Streams) (result : Result Ended IoFault)
+    : Type 0 where
   pub given : List ℕ
-  pub gave : Consumes left_old left_new given
+  pub gave : Consumes s.left_old s.left_new given
   pub items : List First
   pub rest : List ℕ
   pub answers : List (List ℕ)
   pub run : Run (Told step) old items answers new
   pub sent : List ℕ
-  pub wrote : Appends held_old held_new sent
-  pub ending : EndsWithin (Told step) hold old new kept result read_failed given items rest answers sent
+  pub wrote : Appends s.held_old s.held_new sent
+  pub ending : EndsWithin (Told step) hold old new kept result s.read_failed given items rest answers sent
+
+-- No answer was held back, so that each but the last is out whole, and nothing was lost.
+pub record Served {S : Type 0} (step : Answering S) (old new : S) (s : Streams) (result : Result Ended IoFault) : Type 0 where
+  pub kept : S
+  pub within : ServedWithin step 0 old new kept s result
+  pub not_lost : result ≢ Ok Lost
 
 -- All that was answered is kept, but where the call ended as lost, which says that the answerer has failed.
 pub record KeptUnlessLost {S : Type 0} (kept now : S) (has_failed : Bool) (result : Result Ended IoFault) : Type 0 where

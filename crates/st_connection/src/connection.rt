@@ -1,6 +1,7 @@
 //! One connection, from its first byte to its end.
 ghost use Rattle.std.specs.Prelude.{◌≡◌, ◌≢◌, ◌+◌, ◌*◌, ◌^◌, ◌<◌, ◌≤◌, Err, true, false, length, take};
 ghost use Rattle.st_connection.specs.Connection.{EndsOn, KeptUnlessLost, ServedWithin, Told};
+ghost use Rattle.st_connection.specs.Streams.{streams};
 ghost use Rattle.st_connection.specs.inner.Stages.{Answered, AnsweredNext};
 
 use crate::constant::fault_text;
@@ -185,10 +186,10 @@ pub fn serve_connection<X: Replies, R: Source, W: Sink>(
     requires reader_sound { R.has_failed reader.old ≡ false }
     requires writer_sound { W.has_failed writer.old ≡ false }
     ensures served { ServedWithin X.answers (length block.old) (X.now answerer.old) (X.now answerer.new) (X.kept answerer.new)
-        (R.left reader.old) (R.left reader.new) (W.held writer.old) (W.held writer.new) (R.has_failed reader.new) result }
+        (streams R.left R.reads R.has_ended R.has_failed W.held W.has_failed reader.old reader.new writer.old writer.new) result }
     ensures kept { KeptUnlessLost (X.kept answerer.new) (X.now answerer.new) (X.has_failed answerer.new) result }
-    ensures ends { EndsOn MAX_READS (R.left reader.new) (R.reads reader.old) (R.reads reader.new)
-        (R.has_ended reader.new) (R.has_failed reader.new) (W.has_failed writer.new) result }
+    ensures ends { EndsOn MAX_READS
+        (streams R.left R.reads R.has_ended R.has_failed W.held W.has_failed reader.old reader.new writer.old writer.new) result }
 {
     let mut written: u128 = 0;
     let mut filled = 0;

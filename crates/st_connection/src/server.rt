@@ -1,6 +1,7 @@
 //! The one owner of the serving loop.
 ghost use Rattle.std.specs.Prelude.{◌≡◌, ◌≤◌, false, length, IfOk};
 ghost use Rattle.st_connection.specs.Connection.{EndsOn, KeptUnlessLost, ServedWithin};
+ghost use Rattle.st_connection.specs.Streams.{streams};
 ghost use Rattle.st_connection.specs.declared.connection.TheConstants.{ROOM};
 
 use crate::connection::{Ended, IoFault, MAX_READS, ROOM, serve_connection};
@@ -68,10 +69,10 @@ impl<X: Replies + Drop, A: Allocator + Copy> Server<X, A> {
         requires reader_sound { R.has_failed reader.old ≡ false }
         requires writer_sound { W.has_failed writer.old ≡ false }
         ensures served { ServedWithin X.answers 0 (X.now self.old) (X.now self.new) (X.kept self.new)
-            (R.left reader.old) (R.left reader.new) (W.held writer.old) (W.held writer.new) (R.has_failed reader.new) result }
+            (streams R.left R.reads R.has_ended R.has_failed W.held W.has_failed reader.old reader.new writer.old writer.new) result }
         ensures kept { KeptUnlessLost (X.kept self.new) (X.now self.new) (X.has_failed self.new) result }
-        ensures ends { EndsOn MAX_READS (R.left reader.new) (R.reads reader.old) (R.reads reader.new)
-            (R.has_ended reader.new) (R.has_failed reader.new) (W.has_failed writer.new) result }
+        ensures ends { EndsOn MAX_READS
+            (streams R.left R.reads R.has_ended R.has_failed W.held W.has_failed reader.old reader.new writer.old writer.new) result }
     {
         serve_connection(
             &mut self.answerer,

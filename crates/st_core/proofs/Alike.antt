@@ -17,7 +17,7 @@ use Rattle.st_index.specs.Order.{scan_key}
 use Rattle.st_plan.specs.PlanOf.{plan_of}
 use Rattle.st_scan.specs.Grids.{grid_of}
 use Rattle.st_scan.specs.Pages.{is_past}
-use Rattle.st_table.specs.Rows.{Held, full_name, is_held, without_row}
+use Rattle.st_table.specs.Rows.{Held, full_name, is_held, rows_in_table, without_row}
 use Rattle.st_dir.specs.Directory.{Directory, has_auth, has_digest, has_system, has_table, is_table, period_of}
 use Rattle.st_dir.specs.Listings.{users_of, tables_of, grants_on}
 use Rattle.st_grant.specs.declared.grant.Scope.TheVariants.{OnTable, OnNamespace}
@@ -26,13 +26,13 @@ use Rattle.st_policy.specs.declared.denial.Denial.{Denial}
 use Rattle.st_policy.specs.declared.refusal.Refusal.{Refusal}
 use Rattle.st_policy.specs.declared.request.Request.{Request}
 use Rattle.st_policy.specs.declared.request.Request.TheVariants.{Whoami, Tables, Users, User, Grants, NamespaceGrants, Label, Audit, Get, Scan, Count, Grid, Plan, Put, Delete, CreateTable, DropTable, Constraint, Period as SetPeriod, CreateUser, DropUser, Token as SetToken, Auths, GrantSystem, RevokeSystem, GrantTable, RevokeTable, GrantNamespace, RevokeNamespace}
-use Rattle.st_policy.specs.Requests.{table_of, auths_of}
+use Rattle.st_policy.specs.Requests.{table_of, named_auths}
 use Rattle.st_policy.specs.Policy.{Need, need_of, meets, auths_are_held, refusal_of}
 use Rattle.st_core.specs.declared.asked.Call.{Call}
 use Rattle.st_core.specs.declared.asked.Token.{Token}
 use Rattle.st_policy.specs.declared.reply.Reply.{Reply}
 use Rattle.st_core.specs.State.{State}
-use Rattle.st_core.specs.Reads.{rows_that, rows_inside, page_of, account, shown}
+use Rattle.st_core.specs.Reads.{rows_inside, page_of, account, shown}
 use Rattle.st_core.specs.Changes.{rows_after, directory_after}
 use Rattle.st_core.specs.Step.{Judged, Unheard, Heard, asker_of, judge_call, settle}
 use Rattle.st_core.specs.Worlds.{Sight, names, may_show, matters}
@@ -45,6 +45,10 @@ pub record Covers {A : Type 0} (sight : Sight) (user : Text) (d : Directory A) :
   pub reads : (table : Text) → (is_table d table && has_table d user table Permission.Read) ≡ true → sight.reads table ≡ true
   pub holds : (auth : Text) → has_auth d user auth ≡ true → sight.holds auth ≡ true
   pub system : has_system d user Permission.System ≡ false
+
+-- the rows of the table that pass the test and whose label is true for the authorizations
+abbrev rows_that : {A : Type 0} → (Row A → Bool) → Text → List Text → List (Held A) → List (Row A)
+rows_that test table auths rows = filter (λ row. test row && is_true (is_among auths) row.label) (rows_in_table table rows)
 
 abbrev pub is_visible : {A : Type 0} → Sight → Held A → Bool
 is_visible sight held = sight.reads held.table && is_true sight.holds held.row.label
@@ -160,7 +164,7 @@ module _ {A : Type 0} (sight : Sight) (user : Text) (s t : State A) (alike : Ali
 
   -- a read that is allowed is of a table that may be read, by authorizations that are held
   allowed : (request : Request A) (table : Text) (auths : List Text) → refusal_of s.directory user request ≡ None
-      → table_of request ≡ Some table → need_of request ≡ Need.Table table Permission.Read → auths_of request ≡ auths → MayRead table auths
+      → table_of request ≡ Some table → need_of request ≡ Need.Table table Permission.Read → named_auths request ≡ auths → MayRead table auths
   allowed request table auths h of_table needs names = record {
     there = allowed_table s.directory user request h table of_table;
     may_read = met (has_table s.directory user table Permission.Read) (Refusal.Denied (Denial.Permission Permission.Read (Some table)))

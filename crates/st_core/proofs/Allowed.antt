@@ -11,12 +11,12 @@ use Rattle.st_policy.specs.declared.denial.Denial.{Denial}
 use Rattle.st_policy.specs.declared.refusal.Refusal.{Refusal}
 use Rattle.st_policy.specs.declared.refusal.Refusal.TheVariants.{NoTable, NoUser, TableExists, UserExists}
 use Rattle.st_policy.specs.declared.request.Request.{Request}
-use Rattle.st_policy.specs.Requests.{table_of, user_of, auths_of}
+use Rattle.st_policy.specs.Requests.{table_of, user_of, named_auths, first_some}
 use Rattle.st_core.specs.declared.asked.Token.{Token}
 use Rattle.st_core.specs.Step.{asker_of}
-use Rattle.st_policy.specs.Policy.{first_of, unless, refusal_of, table_exists, user_exists, name_is_free, need_of, meets, auths_are_held, label_is_met, is_not_oneself}
+use Rattle.st_policy.specs.Policy.{unless, refusal_of, table_exists, user_exists, name_is_free, need_of, meets, auths_are_held, label_is_met, is_not_oneself}
 
-none_first : (o : Option Refusal) (others : List (Option Refusal)) → first_of (o ∷ others) ≡ None → (o ≡ None) × (first_of others ≡ None)
+none_first : (o : Option Refusal) (others : List (Option Refusal)) → first_some (o ∷ others) ≡ None → (o ≡ None) × (first_some others ≡ None)
 none_first None others e = (refl, e)
 none_first (Some refusal) others e = cc
 
@@ -33,7 +33,7 @@ module _ {A : Type 0} (d : Directory A) (asker : Text) (request : Request A) whe
   behind_auths = label_is_met d asker request ∷ is_not_oneself asker request ∷ []
 
   abbrev behind_need : List (Option Refusal)
-  behind_need = auths_are_held d asker (auths_of request) ∷ behind_auths
+  behind_need = auths_are_held d asker (named_auths request) ∷ behind_auths
 
   abbrev behind_name : List (Option Refusal)
   behind_name = meets d asker (need_of request) ∷ behind_need
@@ -44,10 +44,10 @@ module _ {A : Type 0} (d : Directory A) (asker : Text) (request : Request A) whe
   abbrev behind_table : List (Option Refusal)
   behind_table = user_exists d (user_of request) ∷ behind_user
 
-  past_table : refusal_of d asker request ≡ None → first_of behind_table ≡ None
+  past_table : refusal_of d asker request ≡ None → first_some behind_table ≡ None
   past_table allowed = (none_first (table_exists d (table_of request)) behind_table allowed).1
 
-  past_user : refusal_of d asker request ≡ None → first_of behind_user ≡ None
+  past_user : refusal_of d asker request ≡ None → first_some behind_user ≡ None
   past_user allowed = (none_first (user_exists d (user_of request)) behind_user (past_table allowed)).1
 
   -- the table that it is about is there
@@ -63,7 +63,7 @@ module _ {A : Type 0} (d : Directory A) (asker : Text) (request : Request A) whe
   pub allowed_name : refusal_of d asker request ≡ None → name_is_free d request ≡ None
   allowed_name allowed = (none_first (name_is_free d request) behind_name (past_user allowed)).0
 
-  past_name : refusal_of d asker request ≡ None → first_of behind_name ≡ None
+  past_name : refusal_of d asker request ≡ None → first_some behind_name ≡ None
   past_name allowed = (none_first (name_is_free d request) behind_name (past_user allowed)).1
 
   -- what it needs is met
@@ -71,10 +71,10 @@ module _ {A : Type 0} (d : Directory A) (asker : Text) (request : Request A) whe
   allowed_need allowed = (none_first (meets d asker (need_of request)) behind_need (past_name allowed)).0
 
   -- the authorizations that it names are the asker's
-  pub allowed_auths : refusal_of d asker request ≡ None → auths_are_held d asker (auths_of request) ≡ None
+  pub allowed_auths : refusal_of d asker request ≡ None → auths_are_held d asker (named_auths request) ≡ None
   allowed_auths allowed =
       let past_need = (none_first (meets d asker (need_of request)) behind_need (past_name allowed)).1 in
-      (none_first (auths_are_held d asker (auths_of request)) behind_auths past_need).0
+      (none_first (auths_are_held d asker (named_auths request)) behind_auths past_need).0
 
 -- the name that is made is free
 pub allowed_new_table : {A : Type 0} (d : Directory A) (asker table : Text) (period : Period) → refusal_of d asker (Request.CreateTable table period) ≡ None → is_table d table ≡ false

@@ -16,7 +16,7 @@ mod table_changes;
 mod tables;
 
 use crate::asked::Asked;
-use audit::AUDIT_LEN;
+use audit::{AUDIT_LEN, copy_listing};
 use circular_buffer::HeapCircularBuffer;
 use st_auth::{Auths, AuthsFault};
 use st_dir::{Directory, Name, TableName};
@@ -75,6 +75,24 @@ fn first_parts<A: Allocator + Copy>(
     }
 }
 
+// Equal tables, and an equal listing.
+fn copy_parts<A: Allocator + Copy>(
+    alloc: A,
+    tables: &Tables<A>,
+    audit: &HeapCircularBuffer<Entry, A>,
+) -> Result<(Tables<A>, HeapCircularBuffer<Entry, A>), AllocError>
+    ensures { IfOk result (λ parts. (parts.0 ≡ tables.now) × (parts.1 ≡ audit.now)) }
+{
+    let tables = tables.copy(alloc)?;
+    match copy_listing(alloc, audit) {
+        Ok(audit) => Ok((tables, audit)),
+        Err(fault) => {
+            drop(tables);
+            Err(fault)
+        }
+    }
+}
+
 // The name of the table that a server begins with.
 fn points() -> TableName
     ensures { result ≡ codes "points" }
@@ -112,6 +130,26 @@ impl<A: Allocator + Copy> Store<A> {
             Err(fault) => {
                 drop(directory);
                 Err(AuthsFault::from(fault))
+            }
+        }
+    }
+
+    /// An equal store. An error when out of memory.
+    pub fn copy(&self) -> Result<Store<A>, AllocError>
+        ensures { IfOk result (λ store. store ≡ self.now) }
+    {
+        let alloc = self.alloc;
+        let directory = self.directory.copy()?;
+        match copy_parts(alloc, &self.tables, &self.audit) {
+            Ok((tables, audit)) => Ok(Store {
+                alloc,
+                directory,
+                tables,
+                audit,
+            }),
+            Err(fault) => {
+                drop(directory);
+                Err(fault)
             }
         }
     }

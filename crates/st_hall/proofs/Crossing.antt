@@ -3,11 +3,11 @@ use denote.RattleType.{RattleType}
 use denote.Ref.{NamedLft}
 use denote.Param.Send.{IsSend, IsSync, sendable}
 use Rattle.std.proofs.Crossing.{crosses}
-use Rattle.st_desk.proofs.Crossing.{held_desk, held_front, held_press, held_scribe}
+use Rattle.st_hall_desk.proofs.Crossing.{held_desk, held_front, held_press, held_scribe}
 use Rattle.st_hall.specs.contracts.clerk.Clerk as Clerk
 use Rattle.st_hall.specs.contracts.settled.Settled as Settled
 use Rattle.st_hall.specs.contracts.worker.Worker as Worker
-use Rattle.st_press.specs.declared.name.HallName as hall
+use Rattle.st_hall_press.specs.declared.name.HallName as hall
 use Rattle.core.specs.declared.ledger.Ledger as ledger
 
 pub clerk : (H R : RattleType) (h : hall.Ghosts H.Denot) (l : ledger.Ghosts H.Denot) (a : _) → IsSend R → IsSend (Clerk.the_row H R h l a)

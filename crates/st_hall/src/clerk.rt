@@ -4,9 +4,9 @@
 ghost use Rattle.std.specs.Prelude.{◌≡◌, ◌+◌, ◌<◌, [], ◌∷◌, ◌++◌, length, true, is_some, Err, None, IfOk, OnOk, OnErr, MatchOption, MatchResult};
 ghost use mathlib.Core.List.{IsPrefix};
 ghost use Rattle.st_core.specs.Step.{asker_of, asks_for_change};
-ghost use Rattle.st_press.specs.Steps.{reply_of, state_after};
-ghost use Rattle.st_press.specs.Views.{Beside, IsStranger, receipts};
-ghost use Rattle.st_press.specs.declared.fault.AskFault.TheVariants.{Stranger};
+ghost use Rattle.st_hall_press.specs.Steps.{reply_of, state_after};
+ghost use Rattle.st_hall_press.specs.Views.{Beside, IsStranger, receipts};
+ghost use Rattle.st_hall_press.specs.declared.fault.AskFault.TheVariants.{Stranger};
 ghost use Rattle.st_hall.specs.Decisions.{Decides, counted};
 ghost use Rattle.st_hall.specs.declared.commits.Undecided.TheVariants.{NoMemory};
 
@@ -14,11 +14,11 @@ use crate::commits::{Outcome, Undecided};
 use crate::receipt::{Receipt, receipt_of};
 use left_right::Absorb;
 use st_core::{Asked, Reply, Store};
-use st_desk::{Desk, Scribe};
 use st_dir::Directory;
-use st_press::edition::{Edition, Queued};
-use st_press::front::Front;
-use st_press::{AskFault, HallName, Press};
+use st_hall_desk::{Desk, Scribe};
+use st_hall_press::edition::{Edition, Queued};
+use st_hall_press::front::Front;
+use st_hall_press::{AskFault, HallName, Press};
 use std::alloc::AllocError;
 use std::marker::Model;
 use std::sync::Wait;
@@ -38,7 +38,7 @@ where
     Edition<H>: Absorb<Queued<H>, State = Edition<H>>,
 {
     ghost use Rattle.std.specs.Prelude.{◌≡◌};
-    ghost use Rattle.st_press.specs.Views.{Roll};
+    ghost use Rattle.st_hall_press.specs.Views.{Roll};
 
     ghost Value = { Roll };
 

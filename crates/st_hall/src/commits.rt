@@ -5,16 +5,16 @@
 ghost use Rattle.std.specs.Prelude.{◌≡◌, ◌+◌, ◌<◌, length, true, Err, IfOk, IfSome, OnErr, OnOk, MatchResult};
 ghost use Rattle.st_core.specs.Step.{asks_for_change};
 ghost use Rattle.st_service.specs.Answers.{AsksBy, IsFound};
-ghost use Rattle.st_press.specs.Views.{receipts};
+ghost use Rattle.st_hall_press.specs.Views.{receipts};
 ghost use Rattle.st_hall.specs.Decisions.{Decides, counted};
 ghost use Rattle.st_hall.specs.declared.commits.Undecided.TheVariants.{Lost as WasLost, NoMemory};
 
 use crate::clerk::Clerk;
 use st_core::{Asked, Reply};
-use st_desk::Desk;
+use st_hall_desk::Desk;
+use st_hall_press::HallName;
+use st_hall_press::front::Front;
 use st_http::message::Message;
-use st_press::HallName;
-use st_press::front::Front;
 use std::alloc::AllocError;
 use std::sync::{Mutex, Wait};
 
@@ -54,7 +54,7 @@ pub struct Lost;
 pub trait Commits<H: HallName> {
     ghost use Rattle.std.specs.Prelude.{ℕ, List};
     ghost use mathlib.Core.List.{IsPrefix};
-    ghost use Rattle.st_press.specs.Steps.{Ask};
+    ghost use Rattle.st_hall_press.specs.Steps.{Ask};
 
     // How many bytes of answers a station holds back, so that the changes that a client sends together are kept together.
     ghost HOLD: { ℕ };

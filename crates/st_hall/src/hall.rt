@@ -2,27 +2,27 @@
 ghost use Rattle.std.specs.Prelude.{◌≡◌, ◌+◌, ◌<◌, [], drop, replicate, true, is_some, List, Err, IfOk, IfSome, OnOk, MatchResult};
 ghost use mathlib.Core.List.{IsPrefix};
 ghost use Rattle.st_core.specs.Step.{asker_of, asks_for_change};
-ghost use Rattle.st_press.specs.Steps.{Ask, state_after};
-ghost use Rattle.st_press.specs.Views.{EndsAfter, IsStranger, opening_seat};
-ghost use Rattle.st_press.specs.declared.fault.AskFault.TheVariants.{Stranger};
-ghost use Rattle.st_press.specs.inner.Editions.{Agrees};
+ghost use Rattle.st_hall_press.specs.Steps.{Ask, state_after};
+ghost use Rattle.st_hall_press.specs.Views.{EndsAfter, IsStranger, opening_seat};
+ghost use Rattle.st_hall_press.specs.declared.fault.AskFault.TheVariants.{Stranger};
+ghost use Rattle.st_hall_press.specs.inner.Editions.{Agrees};
 
 use crate::clerk::Clerk;
 use crate::receipt::Receipt;
 use left_right::writer::Writer;
 use st_core::{Asked, Store};
-use st_desk::{Desk, EditionReader, Scribe};
 use st_dir::Directory;
-use st_press::edition::Edition;
-use st_press::front::{Front, begin};
-use st_press::queue::EditionWriter;
-use st_press::{AskFault, HallFault, HallName, Press, Unnamed, UnnamedFor};
+use st_hall_desk::{Desk, EditionReader, Scribe};
+use st_hall_press::edition::Edition;
+use st_hall_press::front::{Front, begin};
+use st_hall_press::queue::EditionWriter;
+use st_hall_press::{AskFault, HallFault, HallName, Press, Unnamed, UnnamedFor};
 use std::alloc::{AllocError, Global};
 use std::marker::PhantomData;
 use std::sync::ledger::Share;
 use std::sync::{Mutex, Wait};
 
-#[tactic(auto, using(st_press::proofs::Following::after_none))]
+#[tactic(auto, using(st_hall_press::proofs::Following::after_none))]
 // What publishes two copies of a state to so many readers.
 fn writer_of<H: HallName>(
     alloc: Global,
@@ -105,7 +105,7 @@ fn begun<H: HallName>(
 
 type Begun<H> = (Directory, EditionWriter<H>, Vec<Desk<H>>);
 
-#[tactic(auto, using(st_press::proofs::Following::after_none))]
+#[tactic(auto, using(st_hall_press::proofs::Following::after_none))]
 // The users of a state, what publishes its two copies, and its desks.
 fn copies<H: HallName, R: Wait + Drop>(
     rt: &R,

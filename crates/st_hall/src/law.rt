@@ -1,12 +1,12 @@
 //! What the definitions say of all changes that were answered, whatever the program does.
 ghost use Rattle.std.specs.Prelude.{All, List};
 ghost use mathlib.Core.List.{IsPrefix};
-ghost use Rattle.st_press.specs.Steps.{Ask, State, Told};
-ghost use Rattle.st_press.specs.Views.{EndsWith};
+ghost use Rattle.st_hall_press.specs.Steps.{Ask, State, Said};
+ghost use Rattle.st_hall_press.specs.Views.{EndsWith};
 ghost use Rattle.st_hall.specs.Decisions.{StandsIn};
 
-use st_press::HallName;
-use st_press::front::Front;
+use st_hall_press::HallName;
+use st_hall_press::front::Front;
 
 /// Fronts of one hall begin one list: the longest of them, which it gives.
 pub fn one_list<H: HallName>(first: &Front<H>, others: &[Front<H>]) -> Front<H>
@@ -23,6 +23,6 @@ pub fn one_list<H: HallName>(first: &Front<H>, others: &[Front<H>]) -> Front<H>
 
 /// A change whose front begins a list stands in that list, and its reply is that of its place.
 pub fn each_at_its_place()
-    ensures { (start : State) (front list : List Ask) (asked : Ask) (reply : Told) → EndsWith start front asked reply
+    ensures { (start : State) (front list : List Ask) (asked : Ask) (reply : Said) → EndsWith start front asked reply
         → IsPrefix front list → StandsIn start list asked reply }
 {}

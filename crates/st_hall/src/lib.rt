@@ -16,8 +16,8 @@ pub use clerk::Clerk;
 pub use commits::{Commits, Lost, Outcome, Undecided};
 pub use hall::Hall;
 pub use receipt::Receipt;
-pub use st_desk::{Desk, Scribe};
-pub use st_press::{
+pub use st_hall_desk::{Desk, Scribe};
+pub use st_hall_press::{
     Agreeing, AskFault, Consistent, Edition, Front, HallFault, HallName, Press, Queued, Unnamed,
     UnnamedFor,
 };

@@ -2,8 +2,8 @@
 ghost use Rattle.std.specs.Prelude.{◌≡◌, Ok, Err, MatchResult};
 
 use st_core::{Asked, Reply};
-use st_press::front::Front;
-use st_press::{AskFault, HallName};
+use st_hall_press::front::Front;
+use st_hall_press::{AskFault, HallName};
 
 /// What a change is answered: the change itself, its reply, the list that ends with it, and the same as a front where it was
 /// published at once.

@@ -1,9 +1,9 @@
 //! How a worker stood.
 ghost use Rattle.std.specs.Prelude.{◌≡◌, true};
 
-use st_desk::Desk;
-use st_press::HallName;
-use st_press::front::Front;
+use st_hall_desk::Desk;
+use st_hall_press::HallName;
+use st_hall_press::front::Front;
 use std::marker::Model;
 
 // A worker's post as it was.
@@ -17,7 +17,7 @@ pub(crate) struct Settled<H: HallName> {
 }
 
 impl<H: HallName> Model for Settled<H> {
-    ghost use Rattle.st_press.specs.Views.{Post};
+    ghost use Rattle.st_hall_press.specs.Views.{Post};
 
     ghost Value = { Post };
 

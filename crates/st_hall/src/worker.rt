@@ -4,8 +4,8 @@
 ghost use Rattle.std.specs.Prelude.{◌≡◌, ◌+◌, ◌-◌, ◌^◌, true, false, min, Some, is_some, Err, IfOk, OnErr, OnOk, MatchResult};
 ghost use mathlib.Core.List.{IsPrefix};
 ghost use Rattle.st_core.specs.Step.{asker_of, asks_for_change};
-ghost use Rattle.st_press.specs.Steps.{reply_of, state_after};
-ghost use Rattle.st_press.specs.Views.{Learns};
+ghost use Rattle.st_hall_press.specs.Steps.{reply_of, state_after};
+ghost use Rattle.st_hall_press.specs.Views.{Learns};
 ghost use Rattle.st_service.specs.Answers.{AsksBy, IsFound};
 ghost use Rattle.st_hall.specs.Decisions.{Decides, counted};
 ghost use Rattle.st_hall.specs.declared.commits.Undecided.TheVariants.{Lost as WasLost};
@@ -13,10 +13,10 @@ ghost use Rattle.st_hall.specs.declared.commits.Undecided.TheVariants.{Lost as W
 use crate::commits::{Commits, Lost, Outcome, Undecided};
 use crate::settled::Settled;
 use st_core::{Asked, Reply, Token};
-use st_desk::Desk;
+use st_hall_desk::Desk;
+use st_hall_press::HallName;
+use st_hall_press::front::Front;
 use st_http::message::Message;
-use st_press::HallName;
-use st_press::front::Front;
 use std::alloc::AllocError;
 use std::marker::Model;
 use std::sync::Wait;

@@ -8,7 +8,7 @@ use Rattle.st_http.specs.declared.fields.Reason.{Reason}
 use Rattle.st_http.specs.declared.fields.Reason.TheVariants as reasons
 use Rattle.st_http.specs.Head.{window, whole, begun, hopeless}
 use Rattle.st_http.specs.Fields.{body_length_of}
-use Rattle.st_http.specs.First.{First, message, fault, more, with_body, waits_with, expects, fields_of, first_of, IsFirst}
+use Rattle.st_http.specs.First.{First, message, fault, more, with_body, waits_with, expects, fields_of, first_by, IsFirst}
 use Rattle.st_http.proofs.WindowLemmas.{window_grows}
 use Rattle.st_http.proofs.BareLemmas.{bare_by_head}
 use Rattle.st_http.proofs.FirstLemmas.{first_unique}
@@ -30,8 +30,8 @@ body_expects h text after bare (Ok n) is = before (nat_le n (length text)) is
     before false e = later (nat_le n (length after)) refl (let w : true ≡ waits_with h n = cc in sym w)
 body_expects h text after bare (Err reason) is = absurd (cc)
 
-first_expects : (text after : List ℕ) (h : RequestHead) (bare : Bool) → more true ≡ first_of text bare (whole h)
-    → expects (first_of after bare (whole h)) ≡ true
+first_expects : (text after : List ℕ) (h : RequestHead) (bare : Bool) → more true ≡ first_by text bare (whole h)
+    → expects (first_by after bare (whole h)) ≡ true
 first_expects text after h bare is = go (nat_lt 64 (length h.fields)) is
   where
     go : (t : Bool) → more true ≡ cond t (fault reasons.Headers bare) (with_body h (drop (length (print_request h)) text) bare (body_length_of h.minor (fields_of h)))
@@ -42,14 +42,14 @@ first_expects text after h bare is = go (nat_lt 64 (length h.fields)) is
 pub awaited : (text after : List ℕ) (first : First) → IsFirst text (more true) → IsFirst (text ++ after) first → expects first ≡ true
 awaited text after first (whole h, bare, reads, tells, is) longer =
     let grown = window_grows text after in
-    let still : IsFirst (text ++ after) (first_of (text ++ after) bare (whole h)) = (
+    let still : IsFirst (text ++ after) (first_by (text ++ after) bare (whole h)) = (
       whole h,
       bare,
       (reads.0 ++ grown.0, subst (λ (t : List ℕ). ReadsRequest t h (reads.0 ++ grown.0)) (sym grown.1) (ReadsRequest-append (window text) h reads.0 grown.0 reads.1)),
       bare_by_head text after reads.0 h bare reads.1 tells,
       refl,
     ) in
-    ap expects (first_unique (text ++ after) first (first_of (text ++ after) bare (whole h)) longer still) ∙ first_expects text (text ++ after) h bare is
+    ap expects (first_unique (text ++ after) first (first_by (text ++ after) bare (whole h)) longer still) ∙ first_expects text (text ++ after) h bare is
 awaited text after first (begun, bare, reads, tells, is) longer = go (nat_lt (length text) 8192) is
   where
     go : (t : Bool) → more true ≡ cond t (more false) (fault reasons.Headers bare) → expects first ≡ true

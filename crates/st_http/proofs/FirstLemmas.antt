@@ -9,13 +9,13 @@ use Rattle.httparse.specs.Grammar.{RequestHead, print_request, ReadsRequest}
 use Rattle.httparse.proofs.GrammarLemmas.{request_unique, ReadsRequest-append}
 use Rattle.st_http.specs.declared.fields.Reason.{Reason}
 use Rattle.st_http.specs.declared.fields.Reason.TheVariants as reasons
-use Rattle.st_http.specs.Head.{window, Reading, whole, begun, hopeless, Reads}
+use Rattle.st_http.specs.Head.{window, Reading, whole, begun, hopeless, HasReading}
 use Rattle.st_http.specs.Fields.{Fields, body_length_of, length_by, is_number, breaks_host, has_coding, values_of}
-use Rattle.st_http.specs.First.{First, IsItem, message, fault, more, with_body, waits_with, fields_of, first_of, IsFirst}
+use Rattle.st_http.specs.First.{First, IsItem, message, fault, more, with_body, waits_with, fields_of, first_by, IsFirst}
 use Rattle.st_http.proofs.WindowLemmas.{window_grows, window_full, window-length, window_short, hopeless_stays}
 use Rattle.st_http.proofs.BareLemmas.{bare_by_head, bare_by_length, bare_by_garbage, bare_unique}
 
-reading_unique : (p : List ℕ) (a b : Reading) → Reads p a → Reads p b → a ≡ b
+reading_unique : (p : List ℕ) (a b : Reading) → HasReading p a → HasReading p b → a ≡ b
 reading_unique p (whole h) (whole k) x y = ap whole (request_unique p h k x.0 y.0 x.1 y.1).0
 reading_unique p (whole h) begun x y = absurd (y.0 h x.0 x.1)
 reading_unique p (whole h) hopeless x y = absurd (y.0 h x.0 x.1)
@@ -29,8 +29,8 @@ reading_unique p hopeless hopeless x y = refl
 pub first_unique : (text : List ℕ) (a b : First) → IsFirst text a → IsFirst text b → a ≡ b
 first_unique text a b (x, bare_x, reads_x, tells_x, is_x) (y, bare_y, reads_y, tells_y, is_y) =
     is_x
-    ∙ ap (λ (flag : Bool). first_of text flag x) (bare_unique text bare_x bare_y tells_x tells_y)
-    ∙ ap (first_of text bare_y) (reading_unique (window text) x y reads_x reads_y)
+    ∙ ap (λ (flag : Bool). first_by text flag x) (bare_unique text bare_x bare_y tells_x tells_y)
+    ∙ ap (first_by text bare_y) (reading_unique (window text) x y reads_x reads_y)
     ∙ sym is_y
 
 -- with more text the body is the same
@@ -52,7 +52,7 @@ head_fits text rest h reads =
     omega (arith, window-length text, ap length reads.1, length-append (print_request h) rest)
 
 whole_stays : (text after rest : List ℕ) (h : RequestHead) (bare : Bool) → ReadsRequest (window text) h rest
-    → IsItem (first_of text bare (whole h)) → first_of text bare (whole h) ≡ first_of (text ++ after) bare (whole h)
+    → IsItem (first_by text bare (whole h)) → first_by text bare (whole h) ≡ first_by (text ++ after) bare (whole h)
 whole_stays text after rest h bare reads some = go (nat_lt 64 (length h.fields)) some
   where
     go : (t : Bool) → IsItem (cond t (fault reasons.Headers bare) (with_body h (drop (length (print_request h)) text) bare (body_length_of h.minor (fields_of h))))
@@ -80,7 +80,7 @@ first_kept text after first some (begun, bare, reads, tells, is) = go (nat_lt (l
     go false e here =
         let full : 8192 ≤ length text = ltb-false _ _ e in
         let test : nat_lt (length (text ++ after)) 8192 ≡ false = le-ltb _ _ (omega (arith, length-append text after)) in
-        (begun, bare, subst (λ (t : List ℕ). Reads t begun) (sym (window_full text after full)) reads, bare_by_length text after bare full tells, here ∙ rw test refl)
+        (begun, bare, subst (λ (t : List ℕ). HasReading t begun) (sym (window_full text after full)) reads, bare_by_length text after bare full tells, here ∙ rw test refl)
 first_kept text after first some (hopeless, bare, reads, tells, is) = go (nat_lt (length text) 8192) refl
   where
     go : (t : Bool) → nat_lt (length text) 8192 ≡ t → IsFirst (text ++ after) first
@@ -88,10 +88,10 @@ first_kept text after first some (hopeless, bare, reads, tells, is) = go (nat_lt
         let short : length text < 8192 = ltb-true _ _ e in
         let grown = window_grows text after in
         let stays = hopeless_stays (window text) grown.0 reads in
-        (hopeless, bare, subst (λ (t : List ℕ). Reads t hopeless) (sym grown.1) stays, bare_by_garbage text after bare reads.1 tells, is)
+        (hopeless, bare, subst (λ (t : List ℕ). HasReading t hopeless) (sym grown.1) stays, bare_by_garbage text after bare reads.1 tells, is)
     go false e =
         let full : 8192 ≤ length text = ltb-false _ _ e in
-        (hopeless, bare, subst (λ (t : List ℕ). Reads t hopeless) (sym (window_full text after full)) reads, bare_by_length text after bare full tells, is)
+        (hopeless, bare, subst (λ (t : List ℕ). HasReading t hopeless) (sym (window_full text after full)) reads, bare_by_length text after bare full tells, is)
 
 -- a body that is awaited has at most 65,536 bytes
 length_by_fits : (values : List (List ℕ)) (n : ℕ) → length_by values ≡ Ok n → n ≤ 65536

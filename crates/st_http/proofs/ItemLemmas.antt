@@ -16,7 +16,7 @@ use Rattle.st_http.proofs.FirstLemmas.{first_unique, first_kept}
 use Rattle.st_http.proofs.LengthLemmas.{head_length}
 use Rattle.st_http.specs.declared.message.Take.{Take}
 use Rattle.st_http.specs.declared.message.Take.TheVariants as takes
-use Rattle.st_http.specs.Message.{Takes, IsWithin}
+use Rattle.st_http.specs.Message.{Takes, FitsIn}
 use Rattle.std.proofs.lemmas.List.{drop-append-le}
 
 -- the whole text begins with the window's head
@@ -177,7 +177,7 @@ message_size text h body bare first =
       omega (arith, length-append (print_request h) (body ++ m.rest), length-append body m.rest),
     )
 
-pub takes_within : (text : List ℕ) (taken : Take) → Takes text taken → IsWithin (length text) taken
+pub takes_within : (text : List ℕ) (taken : Take) → Takes text taken → FitsIn (length text) taken
 takes_within text (takes.Message m used) (message h body bare, first, shows) =
     let long = message_size text h body bare first in rw shows.1 long
 takes_within text (takes.Message m used) (fault reason bare, first, shows) = absurd shows

@@ -1,6 +1,7 @@
 -- A name is text, and the user of a token is a name.
 use Rattle.std.proofs.Common.{◌≡◌, ℕ, ◌<◌, Bool, true, false, cond, List, [], ◌∷◌, length, drop, refl, ap, subst, arith, nat_lt, Option, Some, None, Result, Ok, Err}
-use Rattle.std.specs.Prelude.{◌&&◌, nat_le, IsUtf8, codes}
+use Rattle.std.specs.Prelude.{◌&&◌, nat_le, IsUtf8, codes, option_map}
+use Rattle.std.specs.Result.{result_ok}
 use Rattle.std.specs.List.{list_all, before_first, after_first}
 use Rattle.std.specs.Str.{IsAscii}
 use Rattle.std.proofs.lemmas.Bool.Decides.{nat_tests}
@@ -10,7 +11,7 @@ use Rattle.hex.specs.Hex.{decode_sized}
 use Rattle.hex.specs.declared.FromHexError.{FromHexError}
 use Rattle.st_http.specs.Fields.{Fields, values_of}
 use Rattle.st_text.specs.Names.{is_dot, is_name, is_name_byte}
-use Rattle.st_http.specs.Token.{UserAndSecret, with_secret, credentials_of, skip_spaces, is_bearer, credentials_in, credentials_by, token_of}
+use Rattle.st_http.specs.Token.{UserAndSecret, credentials_of, skip_spaces, is_bearer, credentials_in, credentials_by, token_of}
 use Rattle.st_http.proofs.FieldLemmas.{and_true}
 
 and_first : (a b : Bool) → (a && b) ≡ true → a ≡ true
@@ -36,7 +37,7 @@ user_or None = []
 user_or (Some found) = found.0
 
 named_secret : (text user secret : List ℕ) (r : Result (List ℕ) FromHexError) → is_name text ≡ true
-    → with_secret text r ≡ Some (user, secret) → is_name user ≡ true
+    → option_map {U = UserAndSecret} (λ bytes. (text, bytes)) (result_ok r) ≡ Some (user, secret) → is_name user ≡ true
 unfolding user_or
 named_secret text user secret (Ok bytes) is e = let same : text ≡ user = ap user_or e in subst (λ (t : List ℕ). is_name t ≡ true) same is
 named_secret text user secret (Err e) is none = absurd (cc)
@@ -45,7 +46,7 @@ named_text : (text user secret : List ℕ) → credentials_of text ≡ Some (use
 named_text text user secret e = inside (is_name (before_first is_dot text)) refl e
   where
     inside : (t : Bool) → is_name (before_first is_dot text) ≡ t
-        → cond t (with_secret (before_first is_dot text) (decode_sized (after_first is_dot text) 32)) None ≡ Some (user, secret)
+        → cond t (option_map {U = UserAndSecret} (λ bytes. (before_first is_dot text, bytes)) (result_ok (decode_sized (after_first is_dot text) 32))) None ≡ Some (user, secret)
         → is_name user ≡ true
     inside true is f = named_secret (before_first is_dot text) user secret (decode_sized (after_first is_dot text) 32) is f
     inside false is f = absurd (cc)

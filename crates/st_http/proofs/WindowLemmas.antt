@@ -9,7 +9,7 @@ use Rattle.std.proofs.lemmas.List.{take-append-le}
 use Rattle.std.proofs.lemmas.List.Elements.{All-take, All-cons, All-nil}
 use Rattle.httparse.specs.Grammar.{AllPass, IsField, is_uri_byte, IsToken, LineEnd, lf, print_blank, RequestHead, IsRequestHead, print_request, ReadsRequest, MayBecomeRequest, EndsInTarget}
 use Rattle.httparse.proofs.GrammarLemmas.{print_request-append}
-use Rattle.st_http.specs.Head.{window, hopeless, Reads}
+use Rattle.st_http.specs.Head.{window, hopeless, HasReading}
 
 -- of two fronts of one text, one begins with the other
 pub fronts : (a b c d : List ℕ) → a ++ b ≡ c ++ d
@@ -100,7 +100,7 @@ target_open text after (blank, method, target, token, all, e) =
         subst (AllPass is_uri_byte) (take-append_seam d r) (All-take (λ v. is_uri_byte v ≡ true) (length d) (d ++ r) both)
 
 -- a hopeless text stays so
-pub hopeless_stays : (text after : List ℕ) → Reads text hopeless → Reads (text ++ after) hopeless
+pub hopeless_stays : (text after : List ℕ) → HasReading text hopeless → HasReading (text ++ after) hopeless
 hopeless_stays text after (none, never) = (
   λ h rest reads. elim (whole_or_open text after rest h reads) [ inl (r, there) ↦ none h r there | inr may ↦ never may ],
   λ may. elim may [

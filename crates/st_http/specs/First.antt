@@ -4,7 +4,7 @@ use Rattle.httparse.specs.Grammar.{RequestHead, print_request}
 use Rattle.httparse.specs.Spans.{name_and_value}
 use Rattle.st_http.specs.declared.fields.Reason.{Reason}
 use Rattle.st_http.specs.declared.fields.Reason.TheVariants as reasons
-use Rattle.st_http.specs.Head.{window, TellsBare, Reading, whole, begun, hopeless, Reads}
+use Rattle.st_http.specs.Head.{window, TellsBare, Reading, whole, begun, hopeless, HasReading}
 use Rattle.st_http.specs.Fields.{Fields, body_length_of, expects_continue}
 
 pub data First : Type 0 where
@@ -17,9 +17,8 @@ pub data First : Type 0 where
 
 -- a message or a fault
 abbrev pub IsItem : First → Type 0
-IsItem (message h body bare) = ⊤
-IsItem (fault reason bare) = ⊤
 IsItem (more waits) = ⊥
+IsItem _ = ⊤
 
 -- the fields of a head, each a name and a value
 abbrev pub fields_of : RequestHead → Fields
@@ -35,16 +34,16 @@ with_body h after bare (Ok n) = if nat_le n (length after) then message h (take 
 with_body h after bare (Err reason) = fault reason bare
 
 -- the first item of a text whose window reads so
-abbrev pub first_of : List ℕ → Bool → Reading → First
-first_of text bare (whole h) =
+abbrev pub first_by : List ℕ → Bool → Reading → First
+first_by text bare (whole h) =
     if nat_lt 64 (length h.fields) then fault reasons.Headers bare else
     with_body h (drop (length (print_request h)) text) bare (body_length_of h.minor (fields_of h))
-first_of text bare begun = if nat_lt (length text) 8192 then more false else fault reasons.Headers bare
-first_of text bare hopeless = fault reasons.Head bare
+first_by text bare begun = if nat_lt (length text) 8192 then more false else fault reasons.Headers bare
+first_by text bare hopeless = fault reasons.Head bare
 
 abbrev pub IsFirst : List ℕ → First → Type 0
 IsFirst text first =
-    (reading : Reading) × (bare : Bool) × Reads (window text) reading × TellsBare text bare × (first ≡ first_of text bare reading)
+    (reading : Reading) × (bare : Bool) × HasReading (window text) reading × TellsBare text bare × (first ≡ first_by text bare reading)
 
 -- whether the client may wait to hear that the body of the item is awaited, whether or not it came already
 abbrev pub expects : First → Bool

@@ -16,10 +16,10 @@ pub data Reading : Type 0 where
   -- neither
   hopeless : Reading
 
-abbrev pub Reads : List ℕ → Reading → Type 0
-Reads p (whole h) = (rest : List ℕ) × ReadsRequest p h rest
-Reads p begun = HasNoRequest p × MayBecomeRequest p
-Reads p hopeless = HasNoRequest p × ¬ (MayBecomeRequest p)
+abbrev pub HasReading : List ℕ → Reading → Type 0
+HasReading p (whole h) = (rest : List ℕ) × ReadsRequest p h rest
+HasReading p begun = HasNoRequest p × MayBecomeRequest p
+HasReading p hopeless = HasNoRequest p × ¬ (MayBecomeRequest p)
 
 -- after its empty lines (RFC 9112, "Message Parsing") the text begins with `HEAD `
 abbrev pub IsBare : List ℕ → Type 0

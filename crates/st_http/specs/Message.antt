@@ -20,21 +20,15 @@ pub record ShowsMessage (h : RequestHead) (body : List ℕ) (bare : Bool) (m : M
 
 abbrev pub Shows : First → Take → Type 0
 Shows (message h body bare) (takes.Message m used) = ShowsMessage h body bare m × (used ≡ size_of h body)
-Shows (message h body bare) (takes.More flag) = ⊥
-Shows (message h body bare) (takes.Fault f) = ⊥
-Shows (fault reason bare) (takes.Message m used) = ⊥
-Shows (fault reason bare) (takes.More flag) = ⊥
 Shows (fault reason bare) (takes.Fault f) = (f.reason ≡ reason) × (f.bare ≡ bare)
-Shows (more waits) (takes.Message m used) = ⊥
 Shows (more waits) (takes.More flag) = flag ≡ waits
-Shows (more waits) (takes.Fault f) = ⊥
+Shows _ _ = ⊥
 
 -- the answer is the first item of the text
 abbrev pub Takes : List ℕ → Take → Type 0
 Takes text taken = (first : First) × IsFirst text first × Shows first taken
 
 -- a message has a byte at least, and no more than the text has
-abbrev pub IsWithin : ℕ → Take → Type 0
-IsWithin n (takes.Message m used) = (0 < used) × (used ≤ n)
-IsWithin n (takes.More flag) = ⊤
-IsWithin n (takes.Fault f) = ⊤
+abbrev pub FitsIn : ℕ → Take → Type 0
+FitsIn n (takes.Message m used) = (0 < used) × (used ≤ n)
+FitsIn n _ = ⊤

@@ -1,5 +1,6 @@
 -- The paths, and the endpoints of each.
-use Rattle.std.specs.Prelude.{ℕ, List, [], ◌∷◌, ◌++◌, find, codes, option_map, Option}
+use Rattle.std.specs.Prelude.{ℕ, List, [], ◌∷◌, find, codes, option_map, Option}
+use Rattle.std.specs.List.{join_by}
 use Rattle.std.specs.Str.{bytes_eq}
 use Rattle.st_http.specs.declared.path.Path.{Path}
 use Rattle.st_http.specs.declared.path.Path.TheVariants as paths
@@ -84,9 +85,7 @@ endpoints_of paths.RevokeNamespace = (post, endpoints.RevokeNamespace) ∷ []
 
 -- the methods of these endpoints, joined by a comma and a space (RFC 9110, "Allow")
 abbrev pub allow_of : List (List ℕ × Endpoint) → List ℕ
-allow_of [] = []
-allow_of (endpoint ∷ []) = endpoint.0
-allow_of (endpoint ∷ other ∷ rest) = endpoint.0 ++ (codes ", " ++ allow_of (other ∷ rest))
+allow_of endpoints = join_by (λ endpoint. endpoint.0) (codes ", ") endpoints
 
 -- which of the endpoints has this method
 abbrev pub endpoint_of : List ℕ → List (List ℕ × Endpoint) → Option Endpoint

@@ -1,10 +1,10 @@
 -- The user and the secret that a head's Authorization field names (RFC 6750, "Authorization Request Header Field").
 use Rattle.std.specs.Prelude.{ℕ, Bool, ◌&&◌, ◌==◌, if◌then◌else◌, List, [], ◌∷◌, take, drop}
-use Rattle.std.specs.Prelude.{codes, slice_index, Option, Some, None, Result, Ok, Err}
+use Rattle.std.specs.Prelude.{codes, slice_index, Option, Some, None, option_map}
 use Rattle.std.specs.List.{before_first, after_first}
+use Rattle.std.specs.Result.{result_ok}
 use Rattle.std.specs.Str.{str_eq_ignore_ascii_case}
 use Rattle.hex.specs.Hex.{decode_sized}
-use Rattle.hex.specs.declared.FromHexError.{FromHexError}
 use Rattle.httparse.specs.Ascii.{space}
 use Rattle.st_text.specs.Names.{is_dot, is_name}
 use Rattle.st_http.specs.Fields.{Fields, values_of}
@@ -13,16 +13,11 @@ use Rattle.st_http.specs.Fields.{Fields, values_of}
 abbrev pub UserAndSecret : Type 0
 UserAndSecret = List ℕ × List ℕ
 
--- the user with the secret that its digits write
-abbrev pub with_secret : List ℕ → Result (List ℕ) FromHexError → Option UserAndSecret
-with_secret user (Ok secret) = Some (user, secret)
-with_secret user (Err e) = None
-
 -- a user name, a dot and the 64 hexadecimal digits of a secret
 abbrev pub credentials_of : List ℕ → Option UserAndSecret
 credentials_of text =
     if is_name (before_first is_dot text)
-    then with_secret (before_first is_dot text) (decode_sized (after_first is_dot text) 32)
+    then option_map (λ secret. (before_first is_dot text, secret)) (result_ok (decode_sized (after_first is_dot text) 32))
     else None
 
 -- the text without its leading spaces

@@ -5,7 +5,7 @@ ghost use Rattle.httparse.specs.Spans.{IsRequestWithin, IsRequestOf, IsRequestAt
 ghost use Rattle.st_http.specs.Head.{window as window_of};
 ghost use Rattle.st_http.specs.Fields.{body_length_of};
 ghost use Rattle.st_http.specs.First.{First, expects, with_body, fields_of};
-ghost use Rattle.st_http.specs.Message.{Shows, Takes, IsWithin};
+ghost use Rattle.st_http.specs.Message.{Shows, Takes, FitsIn};
 
 use crate::close::{closes, expects};
 use crate::fields::{Reason, body_length};
@@ -132,7 +132,7 @@ impl Routes {
     /// What a text begins with. More text behind it does not change the answer, unless that is `More`. It allocates nothing.
     pub fn take<'a>(&'a self, text: &'a [u8]) -> Take<'a>
         ensures first { Takes text.now result }
-        ensures within { IsWithin (length text.now) result }
+        ensures within { FitsIn (length text.now) result }
     {
         let window = window(text);
         let bare = is_bare(window);

@@ -12,3 +12,4 @@ pub mod Sorting
 pub mod Searching
 pub mod Ranges
 pub mod Places
+pub mod Copied

@@ -50,6 +50,22 @@ pub fn find<A: Allocator + Copy>(entries: &[Entry<A>], key: Key) -> Result<usize
     }
 }
 
+/// Equal entries, in a list with room for so many. An error if memory runs out.
+pub fn copies<A: Allocator + Copy>(
+    alloc: A,
+    entries: &[Entry<A>],
+    room: usize,
+) -> Result<Vec<Entry<A>, A>, AllocError>
+    ensures items { IfOk result (λ copies. copies.items ≡ entries.now) }
+    ensures room { IfOk result (λ copies. room ≤ vec_capacity copies) }
+{
+    let mut copies = Vec::with_capacity(alloc, room)?;
+    for entry in entries {
+        copies.push(entry.copy()?)?;
+    }
+    Ok(copies)
+}
+
 /// An empty list for one row more than a key holds, and for half as many again, so that few puts at a key move its rows. It
 /// takes no memory where the key holds none.
 pub fn list_for_more<A: Allocator + Copy>(

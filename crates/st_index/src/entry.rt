@@ -9,13 +9,14 @@ ghost use Rattle.st_index.specs.RowViews.{viewed};
 ghost use Rattle.st_index.specs.Rows.{name_cmp, name_of, NamesRise, rank_of};
 ghost use Rattle.st_index.specs.Index.{Adds, Swaps, IsAbsent};
 
+use crate::copying::copy_storage;
 use crate::placing;
 use crate::room::overwrite;
 use crate::row::Row;
 use crate::rows_view::RowsView;
 use crate::storage::{self, Storage};
 use st_key::{Key, Period};
-use std::alloc::{Allocator, Global};
+use std::alloc::{AllocError, Allocator, Global};
 use std::marker::Model;
 use std::mem;
 
@@ -49,6 +50,15 @@ impl<A: Allocator + Copy> Entry<A> {
         Entry {
             place: storage::alone(period, key, row),
         }
+    }
+
+    /// An equal entry, or an error if memory runs out.
+    pub fn copy(&self) -> Result<Self, AllocError>
+        ensures { IfOk result (λ entry. entry ≡ self.now) }
+    {
+        Ok(Entry {
+            place: copy_storage(&self.place)?,
+        })
     }
 
     /// The key.

@@ -86,6 +86,12 @@ pub trait RowIndex {
         ensures value { result ≡ period_of self.now }
         ensures lawful { IsLawful (period_of self.now) (content self.now) (regions self.now) };
 
+    /// An equal index, or an error if memory runs out.
+    fn copy(&self) -> Result<Self, AllocError>
+        ensures period { IfOk result (λ other. period_of other ≡ period_of self.now) }
+        ensures content { IfOk result (λ other. content other ≡ content self.now) }
+        ensures regions { IfOk result (λ other. regions other ≡ regions self.now) };
+
     /// The region that holds the key, with exactly the content's entries in it. It takes no memory.
     fn leaf_at(&self, key: Key) -> Leaf<'_, Self::Alloc>
         requires { rank key < key_end (period_of self.now) }

@@ -1,6 +1,7 @@
 //! Rows in scan order, and what an index of them promises.
 #![tactic(auto)]
 
+mod copying;
 pub mod counting;
 pub mod entries;
 mod entry;

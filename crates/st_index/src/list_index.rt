@@ -77,6 +77,15 @@ impl<A: Allocator + Copy> RowIndex for ListIndex<A> {
         self.period
     }
 
+    fn copy(&self) -> Result<ListIndex<A>, AllocError> {
+        let alloc = *self.entries.allocator();
+        Ok(ListIndex {
+            period: self.period,
+            entries: entries::copies(alloc, &self.entries, self.entries.len())?,
+            len: self.len,
+        })
+    }
+
     fn leaf_at(&self, _key: Key) -> Leaf<'_, A> {
         Leaf {
             entries: self.entries.as_slice(),

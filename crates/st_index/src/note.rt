@@ -30,6 +30,28 @@ impl<A: Allocator> Model for NoteText<A> {
     ghost invariant = { λ t. IsNote t.text };
 }
 
+impl<A: Allocator + Copy> NoteText<A> {
+    // An equal text with an equal label, or an error if memory runs out.
+    pub(crate) fn copy(&self) -> Result<NoteText<A>, AllocError>
+        ensures { IfOk result (λ other. other ≡ self.now) }
+    {
+        Ok(NoteText {
+            text: self.text.copy()?,
+            label: copy_label(&self.label)?,
+        })
+    }
+}
+
+// An equal label, where there is one.
+fn copy_label<A: Allocator + Copy>(label: &Option<Label<A>>) -> Result<Option<Label<A>>, AllocError>
+    ensures { IfOk result (λ other. other ≡ label.now) }
+{
+    match label {
+        Some(label) => Ok(Some(label.copy()?)),
+        None => Ok(None),
+    }
+}
+
 impl<A: Allocator> NoteText<A> {
     // The row's label, which lies here.
     pub(crate) fn label(&self) -> &Label<A>

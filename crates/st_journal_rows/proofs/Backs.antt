@@ -10,7 +10,7 @@ use Rattle.sqlite_value.proofs.OrderLemmas.{value_cmp-Int}
 use Rattle.sqlite_trees.specs.Tree.{has_rowid}
 use Rattle.sqlite_trees.specs.View.{Finds}
 use Rattle.st_journal.specs.declared.record.Record.{Record}
-use Rattle.st_journal_rows.specs.Table.{row_of, rows_from, record_in}
+use Rattle.st_journal_rows.specs.Table.{row_of, numbered_rows, record_in}
 use Rattle.st_journal_rows.proofs.RowLemmas.{below}
 
 even : (m n : ℕ) → m ≡ n → value_cmp (Int (pos m)) (Int (pos n)) ≡ Equal
@@ -24,11 +24,11 @@ abbrev rows_at : ℕ → Option Record → List Row
 rows_at number None = []
 rows_at number (Some r) = row_of number r ∷ []
 
-no_row : (n number : ℕ) (records : List Record) → number < n → filter (has_rowid (pos number)) (rows_from n records) ≡ []
+no_row : (n number : ℕ) (records : List Record) → number < n → filter (has_rowid (pos number)) (numbered_rows n records) ≡ []
 no_row n number [] low = refl
 no_row n number (r ∷ records) low = rw (above n number low) (no_row (n + 1) number records (omega (arith, low)))
 
-one_row : (n i k : ℕ) (records : List Record) → k ≡ n + i → filter (has_rowid (pos k)) (rows_from n records) ≡ rows_at k (slice_get records i)
+one_row : (n i k : ℕ) (records : List Record) → k ≡ n + i → filter (has_rowid (pos k)) (numbered_rows n records) ≡ rows_at k (slice_get records i)
 one_row n i k [] is = refl
 one_row n zero k (r ∷ records) is =
     let same : n ≡ k = omega (arith, is) in
@@ -48,13 +48,13 @@ none_at number (Some s) is = absurd (cc (is))
 
 -- the row that was found is that of the record at this number
 pub found_row : (number : ℕ) (rows : List Row) (records : List Record) (row : Row) (r : Record) → Finds rows (pos number) row true
-    → rows ≡ rows_from 0 records → row ≡ row_of number r → Some r ≡ slice_get records number
+    → rows ≡ numbered_rows 0 records → row ≡ row_of number r → Some r ≡ slice_get records number
 found_row number rows records row r finds are is =
     some_at number (slice_get records number) r
     (sym (one_row 0 number number records (omega arith)) ∙ ap (filter (has_rowid (pos number))) (sym are) ∙ finds ∙ ap (λ x. x ∷ []) is)
 
 pub found_none : (number : ℕ) (rows : List Row) (records : List Record) (row : Row) → Finds rows (pos number) row false
-    → rows ≡ rows_from 0 records → None ≡ slice_get records number
+    → rows ≡ numbered_rows 0 records → None ≡ slice_get records number
 found_none number rows records row finds are =
     none_at number (slice_get records number)
     (sym (one_row 0 number number records (omega arith)) ∙ ap (filter (has_rowid (pos number))) (sym are) ∙ finds)

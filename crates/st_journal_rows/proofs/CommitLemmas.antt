@@ -8,7 +8,7 @@ use Rattle.sqlite_trees.specs.View.{View, IsClean, Commits, KeepsCommitted, IsRo
 use Rattle.st_journal.specs.declared.record.Record.{Record}
 use Rattle.st_journal.specs.declared.journal.AppendError.{AppendError}
 use Rattle.st_journal.specs.declared.journal.AppendError.TheVariants.{Unknown}
-use Rattle.st_journal_rows.specs.Table.{table_tree, rows_from, record_in, records_in}
+use Rattle.st_journal_rows.specs.Table.{table_tree, numbered_rows, record_in, records_in}
 use Rattle.st_journal_rows.specs.Ready.{ListsTable, HasTable, HasRows, IsReady}
 use Rattle.st_journal_rows.specs.inner.Writes.{Adds}
 use Rattle.st_journal_rows.proofs.RowLemmas.{listed}
@@ -25,7 +25,7 @@ pub committed : (mid new : View) (records : List Record) (count : ℕ) → HasRo
 committed mid new records count has counted some law commits =
     let sound : new.is_broken ≡ false = ap (λ (v : View). v.is_broken) commits.is ∙ has.sound in
     let trees : new.trees ≡ mid.trees = ap (λ (v : View). v.trees) commits.is in
-    let rows : new.trees table_tree ≡ rows_from 0 records = ap (λ (t : Trees). t table_tree) trees ∙ has.rows in
+    let rows : new.trees table_tree ≡ numbered_rows 0 records = ap (λ (t : Trees). t table_tree) trees ∙ has.rows in
     let same : records_in new.trees ≡ records = ap (map record_in) rows ∙ listed 0 records in
     record {
       is_open = open_of new.is_open new.is_broken law sound;
@@ -36,7 +36,7 @@ committed mid new records count has counted some law commits =
         numbered = subst IsTrue (sym (ap (λ (v : View). v.is_numbered) commits.is)) has.numbered;
         listed = ap (λ (t : Trees). t catalog_tree) trees ∙ has.listed;
         shape = ap (λ (v : View). v.shape table_tree) commits.is ∙ has.shape;
-        rows = rows ∙ ap (rows_from 0) (sym same);
+        rows = rows ∙ ap (numbered_rows 0) (sym same);
       };
       counted = counted ∙ ap length (sym same);
       some = some;
@@ -63,7 +63,7 @@ written old mid new edit first empty sets adds = record {
 }
 
 -- a database whose table has such rows
-pub has_table : (trees : Trees) (records : List Record) → ListsTable trees → trees table_tree ≡ rows_from 0 records → 0 < length records → HasTable trees
+pub has_table : (trees : Trees) (records : List Record) → ListsTable trees → trees table_tree ≡ numbered_rows 0 records → 0 < length records → HasTable trees
 has_table trees [] listed rows some = absurd (omega (arith, some))
 has_table trees (r ∷ records) listed rows some = record { listed = listed; some = omega (arith, ap length rows) }
 
@@ -100,7 +100,7 @@ rolled_back old mid new count ready kept rolled clean open' =
         numbered = subst IsTrue (sym (rolled.numbered ∙ kept.numbered)) ready.rows.numbered;
         listed = ap (λ (t : Trees). t catalog_tree) trees ∙ ready.rows.listed;
         shape = ap (λ f. f table_tree) (rolled.shape shapes ∙ kept.shape) ∙ ready.rows.shape;
-        rows = ap (λ (t : Trees). t table_tree) trees ∙ ready.rows.rows ∙ ap (λ (t : Trees). rows_from 0 (records_in t)) (sym trees);
+        rows = ap (λ (t : Trees). t table_tree) trees ∙ ready.rows.rows ∙ ap (λ (t : Trees). numbered_rows 0 (records_in t)) (sym trees);
       };
       counted = ready.counted ∙ ap (λ (t : Trees). length (records_in t)) (sym trees);
       some = ready.some;

@@ -7,7 +7,7 @@ use Rattle.st_journal.specs.declared.record.Record.{Record}
 use Rattle.st_journal_rows.specs.declared.error.OpenError.{OpenError}
 use Rattle.st_journal_rows.specs.declared.error.OpenError.TheVariants.{OtherOwner, OtherOpening, InUse, LaterFormat, NotAJournal}
 use Rattle.st_journal_rows.specs.declared.error.OpenError.TheVariants.{Damaged, Interrupted, Io, NoMemory}
-use Rattle.st_journal_rows.specs.Table.{table_tree, row_of, rows_from, record_in, records_in, opening_record}
+use Rattle.st_journal_rows.specs.Table.{table_tree, row_of, numbered_rows, record_in, records_in, opening_record}
 use Rattle.st_journal_rows.specs.Openings.{AreOf, AreRefused}
 use Rattle.st_journal_rows.specs.inner.Telling.{TellsNoOther}
 use Rattle.st_journal_rows.specs.Begins.{IsAtRest}
@@ -52,7 +52,7 @@ refused applies opening old mid new change count before m row error had moves is
         let split : Some had.left ≡ Some (row ∷ moves.0) = sym had.cursor ∙ moves.1 in
         let left : had.left ≡ row ∷ moves.0 = cc in
         let rows : old.trees table_tree ≡ row_of count change ∷ moves.0 =
-        had.rows ∙ ap (λ l. rows_from 0 l ++ had.left) none ∙ left ∙ ap (λ r. r ∷ moves.0) is in
+        had.rows ∙ ap (λ l. numbered_rows 0 l ++ had.left) none ∙ left ∙ ap (λ r. r ∷ moves.0) is in
         let records : records_in old.trees ≡ change ∷ map record_in moves.0 = ap (map record_in) rows in
         carried opening (change ∷ []) (records_in old.trees) error (λ other are. record {
           time = are.time;

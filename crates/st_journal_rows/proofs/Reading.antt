@@ -10,10 +10,11 @@ use Rattle.sqlite_trees.specs.Objects.{catalog_tree}
 use Rattle.sqlite_trees.specs.View.{View, with_cursor, Advances}
 use Rattle.st_journal.specs.declared.record.Record.{Record}
 use Rattle.st_journal.specs.Replays.{Replays}
-use Rattle.st_journal_rows.specs.Table.{table_tree, row_of, rows_from, opening_record}
+use Rattle.st_journal_rows.specs.Table.{table_tree, row_of, numbered_rows, opening_record}
 use Rattle.st_journal_rows.specs.Table.{record_in, records_in}
 use Rattle.st_journal_rows.specs.Ready.{HasRows, IsReady}
-use Rattle.st_journal_rows.specs.Begins.{IsAtRest, Takes, AreTaken, Reads, Begins}
+use Rattle.st_journal_rows.specs.Begins.{IsAtRest, Begins}
+use Rattle.st_journal_rows.specs.inner.Taking.{Takes, AreTaken, Reads}
 use Rattle.st_journal_rows.proofs.RowLemmas.{listed}
 use Rattle.st_journal_rows.proofs.CommitLemmas.{open_of}
 
@@ -45,7 +46,7 @@ all_rows ([] ∷ rows) = refl
 all_rows ((v ∷ r) ∷ rows) = refl
 
 rows_push : (n at : ℕ) (done : List Record) (change : Record) (left : List Row) → at ≡ n + length done
-    → rows_from n done ++ row_of at change ∷ left ≡ rows_from n (done ++ change ∷ []) ++ left
+    → numbered_rows n done ++ row_of at change ∷ left ≡ numbered_rows n (done ++ change ∷ []) ++ left
 rows_push n at [] change left is = let same : at ≡ n = omega (arith, is) in ap (λ k. row_of k change ∷ left) same
 rows_push n at (x ∷ done) change left is = ap (λ rows. row_of n x ∷ rows) (rows_push (n + 1) at done change left (omega (arith, is)))
 
@@ -63,7 +64,7 @@ module _ {S : Type 0} (applies : S → Record → S → Type 0) where
   pub record HasRead (opening : List ℕ) (old now : View) (count : ℕ) (before after : S) : Type 0 where
     pub done : List Record
     pub left : List Row
-    pub rows : old.trees table_tree ≡ rows_from 0 done ++ left
+    pub rows : old.trees table_tree ≡ numbered_rows 0 done ++ left
     pub counted : count ≡ length done
     pub cursor : now.cursors 0 ≡ Some left
     pub same : now ≡ record old { cursors = now.cursors }
@@ -114,7 +115,7 @@ module _ {S : Type 0} (applies : S → Record → S → Type 0) where
       record {
         done = had.done ++ change ∷ [];
         left = moves.0;
-        rows = had.rows ∙ ap (λ l. rows_from 0 had.done ++ l) (left ∙ ap (λ r. r ∷ moves.0) is) ∙ rows_push 0 count had.done change moves.0 (omega (arith, had.counted));
+        rows = had.rows ∙ ap (λ l. numbered_rows 0 had.done ++ l) (left ∙ ap (λ r. r ∷ moves.0) is) ∙ rows_push 0 count had.done change moves.0 (omega (arith, had.counted));
         counted = omega (arith, had.counted, length-append had.done (change ∷ []));
         cursor = ap (λ (v : View). v.cursors 0) moves.2;
         same = now ∙ ap (λ (v : View). record v { cursors = new.cursors }) had.same;
@@ -128,7 +129,7 @@ module _ {S : Type 0} (applies : S → Record → S → Type 0) where
       let left : had.left ≡ [] = cc in
       record {
         records = had.done;
-        rows = had.rows ∙ ap (λ l. rows_from 0 had.done ++ l) left ∙ nil_rows (rows_from 0 had.done);
+        rows = had.rows ∙ ap (λ l. numbered_rows 0 had.done ++ l) left ∙ nil_rows (numbered_rows 0 had.done);
         counted = had.counted;
         taken = had.taken;
         same = stops.1 ∙ had.same ∙ ap (λ c. record old { cursors = c }) (ap (λ (v : View). v.cursors) (sym stops.1));
@@ -157,7 +158,7 @@ module _ {S : Type 0} (applies : S → Record → S → Type 0) where
                 numbered = subst IsTrue (sym (ap (λ (v : View). v.is_numbered) read.same)) rest.numbered;
                 listed = ap (λ t. t catalog_tree) trees ∙ rest.listed;
                 shape = ap (λ (v : View). v.shape table_tree) read.same ∙ table;
-                rows = ap (λ t. t table_tree) trees ∙ read.rows ∙ ap (rows_from 0) (sym same);
+                rows = ap (λ t. t table_tree) trees ∙ read.rows ∙ ap (numbered_rows 0) (sym same);
               };
               counted = read.counted ∙ ap length (sym same);
               some = some;
@@ -182,7 +183,7 @@ module _ {S : Type 0} (applies : S → Record → S → Type 0) where
         changes = [];
         records_are = list;
         made = rw none at read.taken;
-        found = inr (ap (λ t. t table_tree) (sym rest.settled) ∙ read.rows ∙ ap (rows_from 0) none, refl);
+        found = inr (ap (λ t. t table_tree) (sym rest.settled) ∙ read.rows ∙ ap (numbered_rows 0) none, refl);
       }
 
   -- the table of which no record was read is empty
@@ -198,7 +199,7 @@ module _ {S : Type 0} (applies : S → Record → S → Type 0) where
     where
       go : (records : List Record) → read.records ≡ records → mid.trees table_tree ≡ []
       go (first ∷ changes) is = absurd (omega (arith, read.counted, ap length is))
-      go [] none = ap (λ (v : View). v.trees table_tree) read.same ∙ read.rows ∙ ap (rows_from 0) none
+      go [] none = ap (λ (v : View). v.trees table_tree) read.same ∙ read.rows ∙ ap (numbered_rows 0) none
 
 pub if_both : {X E Q : Type 0} {P R : X → Type 0} (r : Result X E) → ((x : X) → P x → Q → R x) → IfOk r P → OnOk r Q → IfOk r R
 if_both (Ok x) so h q = so x h q

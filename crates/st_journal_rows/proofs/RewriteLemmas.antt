@@ -10,7 +10,7 @@ use Rattle.sqlite_trees.specs.Tree.{Trees, without_rowid}
 use Rattle.sqlite_trees.specs.Objects.{catalog_tree}
 use Rattle.sqlite_trees.specs.View.{View, OnlyWrites, SetsTree, Commits}
 use Rattle.st_journal.specs.declared.record.Record.{Record}
-use Rattle.st_journal_rows.specs.Table.{table_tree, row_of, rows_from, records_in, changes_in}
+use Rattle.st_journal_rows.specs.Table.{table_tree, row_of, numbered_rows, records_in, changes_in}
 use Rattle.st_journal_rows.specs.Ready.{HasRows, HasTable, IsReady}
 use Rattle.st_journal_rows.specs.inner.Writes.{Adds, Trims, Replaces}
 use Rattle.st_journal_rows.proofs.RowLemmas.{below}
@@ -23,7 +23,7 @@ equal_number : (n : ℕ) → value_cmp (Int (pos n)) (Int (pos n)) ≡ Equal
 equal_number n = value_cmp-Int (pos n) (pos n) ∙ sym (int_cmp_is (pos n) (pos n) Equal refl)
 
 pub without_last : (m n : ℕ) (list : List Record) → n ≡ m + length list → (r : Record)
-    → without_rowid (pos n) (rows_from m (list ++ r ∷ [])) ≡ rows_from m list
+    → without_rowid (pos n) (numbered_rows m (list ++ r ∷ [])) ≡ numbered_rows m list
 without_last m n [] is r = let same : n ≡ m = omega arith in rw (same, equal_number m) refl
 without_last m n (x ∷ list) is r =
     rw (below m n (omega (arith, is))) (ap (λ rows. row_of m x ∷ rows) (without_last (m + 1) n list (omega (arith, is)) r))
@@ -45,7 +45,7 @@ pub trims_none : (v : View) (count left : ℕ) → left ≡ count → Trims v v 
 trims_none v count left whole = record {
   frame = refl;
   others = λ _ _. refl;
-  rows = λ list len is. is ∙ ap (rows_from 0) (sym (take_whole left list (len ∙ sym whole)));
+  rows = λ list len is. is ∙ ap (numbered_rows 0) (sym (take_whole left list (len ∙ sym whole)));
 }
 
 pub trims_one : (old mid new : View) (count left number : ℕ) → left ≤ count → 0 < left → number ≡ left - 1 → Trims old mid count left → OnlyWrites mid new
@@ -58,7 +58,7 @@ trims_one old mid new count left number most some is had writes sets = record {
       let next : left ≡ suc number = omega (arith, is, some) in
       let last = one_less number list low in
       ap (λ (v : View). v.trees table_tree) sets.is
-      ∙ ap (without_rowid (pos number)) (had.rows list len rows ∙ ap (λ k. rows_from 0 (take k list)) next ∙ ap (rows_from 0) last.1)
+      ∙ ap (without_rowid (pos number)) (had.rows list len rows ∙ ap (λ k. numbered_rows 0 (take k list)) next ∙ ap (numbered_rows 0) last.1)
       ∙ without_last 0 number (take number list) (omega (arith, length-take-le number list (omega (arith, low)))) last.0;
 }
   where

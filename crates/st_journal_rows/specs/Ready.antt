@@ -9,7 +9,7 @@ use Rattle.st_journal.specs.declared.record.Record.{Record}
 use Rattle.st_journal.specs.declared.journal.AppendError.{AppendError}
 use Rattle.st_journal.specs.declared.journal.AppendError.TheVariants.{NotKept, Unknown}
 use Rattle.st_journal.specs.Faults.{Rises}
-use Rattle.st_journal_rows.specs.Table.{table_tree, rows_from, records_in, schema}
+use Rattle.st_journal_rows.specs.Table.{table_tree, numbered_rows, records_in, schema}
 
 -- the database lists the table, and nothing else
 abbrev pub ListsTable : Trees → Type 0
@@ -26,7 +26,7 @@ pub record HasRows (v : View) (records : List Record) : Type 0 where
   pub numbered : IsTrue v.is_numbered
   pub listed : ListsTable v.trees
   pub shape : v.shape table_tree ≡ Table
-  pub rows : v.trees table_tree ≡ rows_from 0 records
+  pub rows : v.trees table_tree ≡ numbered_rows 0 records
 
 -- The store is open, nothing is under way, and it has so many records.
 pub record IsReady (v : View) (count : ℕ) : Type 0 where

@@ -33,9 +33,9 @@ row_of number r =
     Int (pos number) ∷ Null ∷ Int r.time ∷ Text r.user ∷ Text r.request ∷ Text r.name ∷ Text r.body ∷ Text r.result ∷ []
 
 -- the rows of these records, numbered on from this number
-abbrev pub rows_from : ℕ → List Record → List Row
-rows_from number [] = []
-rows_from number (r ∷ records) = row_of number r ∷ rows_from (number + 1) records
+abbrev pub numbered_rows : ℕ → List Record → List Row
+numbered_rows number [] = []
+numbered_rows number (r ∷ records) = row_of number r ∷ numbered_rows (number + 1) records
 
 abbrev pub integer : Value → ℤ
 integer (Int n) = n

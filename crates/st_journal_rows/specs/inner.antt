@@ -1,3 +1,4 @@
 -- Stages of the code, which no reader has to believe: no clause of a public function cites them.
 pub mod Writes
+pub mod Taking
 pub mod Telling

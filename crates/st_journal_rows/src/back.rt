@@ -4,7 +4,7 @@ ghost use Rattle.st_journal.specs.declared.record.Record.{Record};
 ghost use Rattle.st_journal.specs.Faults.{Rises};
 ghost use Rattle.st_journal.specs.declared.read_back.ReadError.TheVariants as ends;
 ghost use Rattle.sqlite_trees.specs.View.{IsClean, IsQuiet, IsRolledBack, KeepsCommitted};
-ghost use Rattle.st_journal_rows.specs.Table.{table_tree, rows_from};
+ghost use Rattle.st_journal_rows.specs.Table.{table_tree, numbered_rows};
 ghost use Rattle.st_journal_rows.specs.Ready.{IsReady};
 
 use crate::error::OpenError;
@@ -25,7 +25,7 @@ fn read_one<S: Store>(
     requires table { IsClean (S.view store.old) → (S.view store.old).shape table_tree ≡ Shape.Table }
     requires number { number < 2 ^ 63 }
     ensures found { IfOk result (λ found. IsClean (S.view store.new) → (records : List Record)
-        → (S.view store.old).trees table_tree ≡ rows_from 0 records → found ≡ slice_get records number) }
+        → (S.view store.old).trees table_tree ≡ numbered_rows 0 records → found ≡ slice_get records number) }
     ensures same { OnOk result (IsClean (S.view store.new) → S.view store.new ≡ S.view store.old) }
     ensures kept { IsClean (S.view store.new) → KeepsCommitted (S.view store.old) (S.view store.new) }
     ensures quiet { IsQuiet S.view S.faults S.recovers S.is_shielded store.old store.new }
@@ -48,7 +48,7 @@ fn read_from<S: Store>(
     requires table { IsClean (S.view store.old) → (S.view store.old).shape table_tree ≡ Shape.Table }
     requires room { number + most ≤ 2 ^ 63 }
     ensures found { IfOk result (λ found. IsClean (S.view store.new) → (records : List Record)
-        → (S.view store.old).trees table_tree ≡ rows_from 0 records → found.items ≡ take most (drop number records)) }
+        → (S.view store.old).trees table_tree ≡ numbered_rows 0 records → found.items ≡ take most (drop number records)) }
     ensures same { OnOk result (IsClean (S.view store.new) → S.view store.new ≡ S.view store.old) }
     ensures kept { IsClean (S.view store.new) → KeepsCommitted (S.view store.old) (S.view store.new) }
     ensures quiet { IsQuiet S.view S.faults S.recovers S.is_shielded store.old store.new }
@@ -94,7 +94,7 @@ pub fn read_back<S: Store>(
     requires table { IsClean (S.view store.old) → (S.view store.old).shape table_tree ≡ Shape.Table }
     requires room { number + most ≤ 2 ^ 63 }
     ensures found { IfOk result (λ found. IsClean (S.view store.new) → (records : List Record)
-        → (S.view store.old).trees table_tree ≡ rows_from 0 records → found.items ≡ take most (drop number records)) }
+        → (S.view store.old).trees table_tree ≡ numbered_rows 0 records → found.items ≡ take most (drop number records)) }
     ensures ready { IsClean (S.view store.new) → result ≢ Err ends.Lost
         → (count : ℕ) → IsReady (S.view store.old) count → IsReady (S.view store.new) count }
     ensures same { IsClean (S.view store.new) → result ≢ Err ends.Lost → (S.view store.new).committed ≡ (S.view store.old).committed }

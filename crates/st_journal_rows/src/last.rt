@@ -5,7 +5,7 @@ ghost use Rattle.sqlite_value.specs.Order.{column};
 ghost use Rattle.sqlite_trees.specs.Tree.{Trees};
 ghost use Rattle.sqlite_trees.specs.View.{doubt, IsClean};
 ghost use Rattle.st_journal.specs.declared.record.Record.{Record};
-ghost use Rattle.st_journal_rows.specs.Table.{table_tree, rows_from};
+ghost use Rattle.st_journal_rows.specs.Table.{table_tree, numbered_rows};
 ghost use Rattle.st_journal_rows.specs.inner.Telling.{TellsNoOther};
 
 use crate::error::OpenError;
@@ -33,7 +33,7 @@ pub(crate) fn last_number<S: Store>(store: &mut S, alloc: Global) -> Result<u64,
     ensures same { OnOk result (IsClean (S.view store.new)
         → S.view store.new ≡ record (S.view store.old) { cursors = (S.view store.new).cursors }) }
     ensures last { IfOk result (λ last. IsClean (S.view store.new) → (records : List Record)
-        → (S.view store.old).trees table_tree ≡ rows_from 0 records → last ≡ length records - 1) }
+        → (S.view store.old).trees table_tree ≡ numbered_rows 0 records → last ≡ length records - 1) }
     ensures err { IfErr result TellsNoOther }
 {
     let mut row = Row::new(alloc);

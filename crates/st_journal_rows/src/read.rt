@@ -7,7 +7,7 @@ ghost use Rattle.sqlite_trees.specs.View.{doubt, IsClean};
 ghost use Rattle.st_journal_rows.specs.Table.{table_tree, row_of, opening_record, records_in};
 ghost use Rattle.st_journal_rows.specs.Openings.{AreRefused};
 ghost use Rattle.st_journal_rows.specs.inner.Telling.{TellsNoOther};
-ghost use Rattle.st_journal_rows.specs.Begins.{Takes, Reads};
+ghost use Rattle.st_journal_rows.specs.inner.Taking.{Takes, Reads};
 
 use crate::error::OpenError;
 use crate::last::last_number;

@@ -10,7 +10,7 @@ use Rattle.serde_json.specs.View.{items_of, items_view, view}
 use Rattle.std.specs.Prelude.{IfNone, IfSome}
 use Rattle.st_key.specs.declared.point.Point.{Point}
 use Rattle.st_json.specs.declared.value.Bounds.{Bounds}
-use Rattle.st_json.specs.Fields.{number_of, numbers_of, numbers, texts_of}
+use Rattle.st_json.specs.Fields.{as_natural, numbers_of, six_numbers, texts_of}
 use Rattle.st_json.specs.inner.Parts.{Picks, texts_among, with_text}
 
 -- both a first and the rest were there
@@ -30,10 +30,10 @@ both (Some x) (Some more) xs e = record { first = x; more = more; has_first = re
 pub same_length : (ds : List Data) (ns : List ℕ) → numbers_of (items_of ds) ≡ Some ns → length ns ≡ length ds
 same_length [] ns e = let h : ns ≡ [] = cc in ap length h
 same_length (d ∷ ds) ns e =
-    let b = both (number_of d) (numbers_of (items_of ds)) ns e in
+    let b = both (as_natural d) (numbers_of (items_of ds)) ns e in
     ap length b.all ∙ omega (arith, same_length ds b.more b.has_more)
 
-pub one_more : (vs : List Value) (v : Value) (k n : ℕ) (ns : List ℕ) → k < length vs → v ≡ get_or vs k v → number_of (view v) ≡ Some n → numbers_of (items_view (drop (suc k) vs)) ≡ Some ns → numbers_of (items_view (drop k vs)) ≡ Some (n ∷ ns)
+pub one_more : (vs : List Value) (v : Value) (k n : ℕ) (ns : List ℕ) → k < length vs → v ≡ get_or vs k v → as_natural (view v) ≡ Some n → numbers_of (items_view (drop (suc k) vs)) ≡ Some ns → numbers_of (items_view (drop k vs)) ≡ Some (n ∷ ns)
 one_more vs v k n ns inside is number rest =
     let split : drop k vs ≡ v ∷ drop (suc k) vs = drop-cons vs k v inside ∙ ap (λ w. w ∷ drop (suc k) vs) (sym is) in
     rw (split, number, rest)
@@ -51,21 +51,21 @@ some_at found x y t (Some p) e h = let a = h.0 in let b = h.1 in let d = h.2 in 
 some_at found x y t None e h = tt
 
 -- one item is no number, so the list is none of numbers
-not_here : (vs : List Value) (v : Value) (k : ℕ) (ns : List ℕ) → k < length vs → v ≡ get_or vs k v → number_of (view v) ≡ None → numbers_of (items_view vs) ≡ Some ns → ⊥
+not_here : (vs : List Value) (v : Value) (k : ℕ) (ns : List ℕ) → k < length vs → v ≡ get_or vs k v → as_natural (view v) ≡ None → numbers_of (items_view vs) ≡ Some ns → ⊥
 not_here [] v k ns inside is none all = absurd (omega (arith, inside))
 not_here (w ∷ vs) v zero ns inside is none all =
-    let b = both (number_of (view w)) (numbers_of (items_view vs)) ns all in
-    let there : None ≡ Some b.first = sym none ∙ ap (λ u. number_of (view u)) is ∙ b.has_first in
+    let b = both (as_natural (view w)) (numbers_of (items_view vs)) ns all in
+    let there : None ≡ Some b.first = sym none ∙ ap (λ u. as_natural (view u)) is ∙ b.has_first in
     cc
 not_here (w ∷ vs) v (suc k) ns inside is none all =
-    let b = both (number_of (view w)) (numbers_of (items_view vs)) ns all in
+    let b = both (as_natural (view w)) (numbers_of (items_view vs)) ns all in
     not_here vs v k b.more (omega (arith, inside)) is none b.has_more
 
-pub not_six : (vs : List Value) (v : Value) (k : ℕ) (o : Option Bounds) → k < length vs → v ≡ get_or vs k v → number_of (view v) ≡ None → IfNone o ((b : Bounds) → numbers_of (items_view vs) ≡ Some (numbers b) → ⊥)
+pub not_six : (vs : List Value) (v : Value) (k : ℕ) (o : Option Bounds) → k < length vs → v ≡ get_or vs k v → as_natural (view v) ≡ None → IfNone o ((b : Bounds) → numbers_of (items_view vs) ≡ Some (six_numbers b) → ⊥)
 not_six vs v k (Some b) inside is none = tt
-not_six vs v k None inside is none = λ b e. not_here vs v k (numbers b) inside is none e
+not_six vs v k None inside is none = λ b e. not_here vs v k (six_numbers b) inside is none e
 
-pub not_three : (vs : List Value) (v : Value) (k : ℕ) (o : Option Point) → k < length vs → v ≡ get_or vs k v → number_of (view v) ≡ None → IfNone o ((p : Point) → numbers_of (items_view vs) ≡ Some (p.x ∷ p.y ∷ p.t ∷ []) → ⊥)
+pub not_three : (vs : List Value) (v : Value) (k : ℕ) (o : Option Point) → k < length vs → v ≡ get_or vs k v → as_natural (view v) ≡ None → IfNone o ((p : Point) → numbers_of (items_view vs) ≡ Some (p.x ∷ p.y ∷ p.t ∷ []) → ⊥)
 not_three vs v k (Some p) inside is none = tt
 not_three vs v k None inside is none = λ p e. not_here vs v k (p.x ∷ p.y ∷ p.t ∷ []) inside is none e
 

@@ -1,5 +1,6 @@
 -- A body has one answer.
-use Rattle.std.proofs.Common.{◌≡◌, ◌≢◌, inl, inr, ℕ, Bool, true, false, List, [], ◌∷◌, codes, Option, Some, None, Result, Ok, Err, refl, sym, ap, ◌∙◌, subst}
+use Rattle.std.proofs.Common.{◌≡◌, ◌≢◌, ◌⊎◌, inl, inr, ℕ, Bool, true, false, List, [], ◌∷◌, codes, Option, Some, None, Result, Ok, Err, refl, sym, ap, ◌∙◌, subst}
+use Rattle.std.specs.Prelude.{IsTrue}
 use Rattle.serde_json.specs.Data.{Data, null}
 use Rattle.serde_json.specs.Find.{get}
 use Rattle.st_key.specs.declared.place.Place.{Place}
@@ -10,13 +11,14 @@ use Rattle.st_label.specs.declared.label.LabelFault.{LabelFault}
 use Rattle.st_label.specs.declared.label.LabelFault.TheVariants as fault
 use Rattle.st_label.proofs.Refused.{not_both, one_fault}
 use Rattle.st_http.specs.declared.routes.Endpoint.{Endpoint}
+use Rattle.st_text.specs.Names.{is_name, is_table_name}
 use Rattle.st_http.specs.declared.routes.Endpoint.TheVariants as endpoints
 use Rattle.st_policy.specs.declared.refusal.Refusal.{Refusal}
 use Rattle.st_policy.specs.declared.refusal.Refusal.TheVariants.{BadLabel}
 use Rattle.st_json.specs.declared.value.Bounds.{Bounds}
 use Rattle.st_json.specs.Needs.{Rule, Has, Needs, given, denied}
-use Rattle.st_json.specs.Fields.{HasBox, HasPoint, IsPlace, IsLeftOut, HasAfter, text_in, numbers}
-use Rattle.st_json.specs.Rules.{RefusesAt, LabelOf, IsQuery, IsTable, IsOwnName, AreAuths, IsObject}
+use Rattle.st_json.specs.Fields.{HasBox, HasPoint, WritesPlace, HasAfter, text_in, six_numbers}
+use Rattle.st_json.specs.Rules.{RefusesAt, LabelOf, IsQuery, AreAuths, IsObject}
 use Rattle.st_json.specs.Bodies.{ReadBody, has_body, Made, Decoded}
 use Rattle.st_json.proofs.Same.{same_point, same_place, same_query}
 
@@ -81,10 +83,10 @@ one_some o b c p q = cc
 one_equal : {U : Type 0} (u : U) → OnlyOne (λ a. a ≡ u)
 one_equal u b c p q = p ∙ sym q
 
-one_table : (text : List ℕ) → OnlyOne (IsTable text)
+one_table : (text : List ℕ) → OnlyOne (λ (t : List ℕ). (t ≡ text) × IsTrue (is_table_name text))
 one_table text b c p q = p.0 ∙ sym q.0
 
-one_name : (text : List ℕ) → OnlyOne (IsOwnName text)
+one_name : (text : List ℕ) → OnlyOne (λ (t : List ℕ). (t ≡ text) × IsTrue (is_name text))
 one_name text b c p q = p.0 ∙ sym q.0
 
 one_set : (names : List (List ℕ)) → OnlyOne (AreAuths names)
@@ -95,7 +97,7 @@ one_query b p q f g = same_query p q (f.0 ∙ sym g.0) (f.1 ∙ sym g.1) (f.2 �
 
 one_box : (d : Data) → OnlyOne (HasBox d)
 one_box d b c p q =
-    let all : Some (numbers b) ≡ Some (numbers c) = sym p ∙ q in
+    let all : Some (six_numbers b) ≡ Some (six_numbers c) = sym p ∙ q in
     let make : ℕ → ℕ → ℕ → ℕ → ℕ → ℕ → Bounds = λ k l m n o r. record { x0 = k; x1 = l; y0 = m; y1 = n; t0 = o; t1 = r } in
     let e0 : b.x0 ≡ c.x0 = cc in let e1 : b.x1 ≡ c.x1 = cc in let e2 : b.y0 ≡ c.y0 = cc in
     let e3 : b.y1 ≡ c.y1 = cc in let e4 : b.t0 ≡ c.t0 = cc in let e5 : b.t1 ≡ c.t1 = cc in
@@ -105,7 +107,7 @@ one_box d b c p q =
 one_point : (d : Data) → OnlyOne (HasPoint d)
 one_point d p q f g = let all : Some (p.x ∷ p.y ∷ p.t ∷ []) ≡ Some (q.x ∷ q.y ∷ q.t ∷ []) = sym f ∙ g in same_point p q (cc) (cc) (cc)
 
-one_place_of : {A : Type 0} (d : Data) → OnlyOne (IsPlace {A = A} d)
+one_place_of : {A : Type 0} (d : Data) → OnlyOne (WritesPlace {A = A} d)
 one_place_of d p q f g =
     let point : p.point ≡ q.point = one_point d p.point q.point f.point g.point in
     let id : p.id ≡ q.id = one_some _ p.id q.id f.id g.id in
@@ -113,7 +115,7 @@ one_place_of d p q f g =
     same_place p q point id label
 
 -- what is left out is no place
-no_place_left : {A : Type 0} (d value : Data) (p : Place A) → IsLeftOut (codes "after") d → get (codes "after") d ≡ Some value → IsPlace value p → ⊥
+no_place_left : {A : Type 0} (d value : Data) (p : Place A) → (get (codes "after") d ≡ None) ⊎ (get (codes "after") d ≡ Some null) → get (codes "after") d ≡ Some value → WritesPlace value p → ⊥
 no_place_left d value p (inl absent) there is = let both : Some value ≡ None = sym there ∙ absent in cc
 no_place_left d value p (inr null_there) there is =
     let both : Some value ≡ Some null = sym there ∙ null_there in
@@ -128,7 +130,7 @@ one_after d (Some p) None f g = absurd (no_place_left d f.0 p g f.1 f.2)
 one_after d (Some p) (Some q) f g =
     let both : Some f.0 ≡ Some g.0 = sym f.1 ∙ g.1 in
     let same : f.0 ≡ g.0 = cc in
-    ap Some (one_place_of g.0 p q (subst (λ v. IsPlace v p) same f.2) g.2)
+    ap Some (one_place_of g.0 p q (subst (λ v. WritesPlace v p) same f.2) g.2)
 
 one_object : (body : List ℕ) → OnlyOne (IsObject body)
 one_object body d e f g = let s : Some d ≡ Some e = sym f.1 ∙ g.1 in cc

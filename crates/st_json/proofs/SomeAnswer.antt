@@ -1,5 +1,6 @@
 -- A body has an answer.
 use Rattle.std.proofs.Common.{◌≡◌, ◌≢◌, leb, inl, inr, ℕ, ◌<◌, ◌≤◌, ◌^◌, ◌⊎◌, Bool, true, false, List, [], ◌∷◌, codes, Option, Some, None, Result, Ok, Err, IsUtf8, refl, sym, ◌∙◌, subst, arith}
+use Rattle.std.specs.Prelude.{IsTrue}
 use Rattle.std.specs.Str.{is_utf8}
 use Rattle.std.proofs.lemmas.Bool.Decides.{leb_tells}
 use Rattle.std.proofs.lemmas.Str.{IsUtf8-from_is_utf8, is_utf8-from_IsUtf8}
@@ -22,8 +23,8 @@ use Rattle.st_policy.specs.declared.refusal.Refusal.{Refusal}
 use Rattle.st_policy.specs.declared.refusal.Refusal.TheVariants.{BadLabel}
 use Rattle.st_json.specs.declared.value.Bounds.{Bounds}
 use Rattle.st_json.specs.Needs.{Rule, Has, Needs, given, denied}
-use Rattle.st_json.specs.Fields.{HasBox, HasPoint, IsPlace, HasAfter, text_in, numbers, numbers_in}
-use Rattle.st_json.specs.Rules.{LabelOf, IsQuery, IsTable, IsOwnName, AreAuths, IsObject}
+use Rattle.st_json.specs.Fields.{HasBox, HasPoint, WritesPlace, HasAfter, text_in, six_numbers, numbers_in}
+use Rattle.st_json.specs.Rules.{LabelOf, IsQuery, AreAuths, IsObject}
 use Rattle.st_json.specs.Bodies.{ReadBody, has_body, Made, Decoded}
 
 order : (a b : ℕ) → (a < b) ⊎ (b ≤ a)
@@ -72,10 +73,10 @@ text_if : (text : List ℕ) (is : Bool) → SomeOrNone (λ (t : List ℕ). (t �
 text_if text true = inl (text, (refl, refl))
 text_if text false = inr (λ t p. let e : false ≡ true = p.1 in cc)
 
-table_or_not : (text : List ℕ) → SomeOrNone (IsTable text)
+table_or_not : (text : List ℕ) → SomeOrNone (λ (t : List ℕ). (t ≡ text) × IsTrue (is_table_name text))
 table_or_not text = text_if text (is_table_name text)
 
-name_or_not : (text : List ℕ) → SomeOrNone (IsOwnName text)
+name_or_not : (text : List ℕ) → SomeOrNone (λ (t : List ℕ). (t ≡ text) × IsTrue (is_name text))
 name_or_not text = text_if text (is_name text)
 
 texts_if : (texts : List (List ℕ)) (bad : Option ℕ) → SomeOrNone (λ (auths : List (List ℕ)). (auths ≡ texts) × (bad ≡ None))
@@ -85,7 +86,7 @@ texts_if texts (Some at) = inr (λ auths p. let e : Some at ≡ None = p.1 in cc
 auths_or_not : (texts : List (List ℕ)) → SomeOrNone (AreAuths texts)
 auths_or_not texts = texts_if texts (first_bad texts)
 
-six_or_not : (o : Option (List ℕ)) → SomeOrNone (λ (b : Bounds). o ≡ Some (numbers b))
+six_or_not : (o : Option (List ℕ)) → SomeOrNone (λ (b : Bounds). o ≡ Some (six_numbers b))
 six_or_not None = inr (λ b e. cc)
 six_or_not (Some []) = inr (λ b e. cc)
 six_or_not (Some (k ∷ [])) = inr (λ b e. cc)
@@ -135,11 +136,11 @@ query_or_not b = go (order b.x1 b.x0) (order b.y1 b.y0) (order b.t1 b.t0) (order
     go (inr x) (inr y) (inr t) (inl xf) (inr never) tf = inr (λ q m. omega (arith, never, m.3, q.y_in_range))
     go (inr x) (inr y) (inr t) (inl xf) (inl yf) (inr never) = inr (λ q m. omega (arith, never, m.5, q.t_in_range))
 
-place_or_not : {A : Type 0} (d : Data) → SomeOrNone (IsPlace {A = A} d)
+place_or_not : {A : Type 0} (d : Data) → SomeOrNone (WritesPlace {A = A} d)
 place_or_not {A} d = go (point_or_not d) (there_or_not (text_in (codes "id") d)) (there_or_not (text_in (codes "label") d))
   where
     go : SomeOrNone (HasPoint d) → SomeOrNone (λ (id : List ℕ). text_in (codes "id") d ≡ Some id) → SomeOrNone (λ (label : List ℕ). text_in (codes "label") d ≡ Some label)
-        → SomeOrNone (IsPlace {A = A} d)
+        → SomeOrNone (WritesPlace {A = A} d)
     go (inl (point, p)) (inl (id, i)) (inl (label, l)) = inl (record { point = point; id = id; label = label }, record { point = p; id = i; label = l })
     go (inr never) id label = inr (λ place is. never place.point is.point)
     go (inl point) (inr never) label = inr (λ place is. never place.id is.id)
@@ -153,17 +154,17 @@ null_or_not (string s) = inr (λ e. cc)
 null_or_not (array ds) = inr (λ e. cc)
 null_or_not (object ms) = inr (λ e. cc)
 
-no_other_after : {A : Type 0} (d value : Data) → get (codes "after") d ≡ Some value → (value ≡ null → ⊥) → ((p : Place A) → IsPlace value p → ⊥)
+no_other_after : {A : Type 0} (d value : Data) → get (codes "after") d ≡ Some value → (value ≡ null → ⊥) → ((p : Place A) → WritesPlace value p → ⊥)
     → (o : Option (Place A)) → HasAfter d o → ⊥
 no_other_after d value there some never None (inl absent) = let both : Some value ≡ None = sym there ∙ absent in cc
 no_other_after d value there some never None (inr is_null) = let both : Some value ≡ Some null = sym there ∙ is_null in some cc
 no_other_after d value there some never (Some p) (other, is, place) =
-    let both : Some other ≡ Some value = sym is ∙ there in let same : other ≡ value = cc in never p (subst (λ v. IsPlace v p) same place)
+    let both : Some other ≡ Some value = sym is ∙ there in let same : other ≡ value = cc in never p (subst (λ v. WritesPlace v p) same place)
 
 after_or_not : {A : Type 0} (d : Data) → SomeOrNone (HasAfter {A = A} d)
 after_or_not {A} d = go (get (codes "after") d) refl
   where
-    not_null : (value : Data) → get (codes "after") d ≡ Some value → (value ≡ null → ⊥) → SomeOrNone (IsPlace {A = A} value) → SomeOrNone (HasAfter {A = A} d)
+    not_null : (value : Data) → get (codes "after") d ≡ Some value → (value ≡ null → ⊥) → SomeOrNone (WritesPlace {A = A} value) → SomeOrNone (HasAfter {A = A} d)
     not_null value there some (inl (place, is)) = inl (Some place, (value, there, is))
     not_null value there some (inr never) = inr (no_other_after d value there some never)
 

@@ -1,24 +1,21 @@
 -- The fields of a body, an object of JSON (RFC 8259).
-use Rattle.std.specs.Prelude.{◌≡◌, ◌⊎◌, ℕ, Bool, List, [], ◌∷◌, codes, nat_le, ◌&&◌, if◌then◌else◌}
+use Rattle.std.specs.Prelude.{◌≡◌, ◌⊎◌, ℕ, List, [], ◌∷◌, codes, nat_le, ◌&&◌, if◌then◌else◌}
 use Rattle.std.specs.Prelude.{length, find, Option, Some, None, option_map, option_and_then}
 use Rattle.std.specs.Result.{result_ok}
 use Rattle.hex.specs.Hex.{decode_sized}
 use Rattle.serde_json.specs.Data.{Data, null, Items, no_items, item}
-use Rattle.serde_json.specs.Find.{get, as_number, as_u64, as_str, as_bool, as_array}
+use Rattle.serde_json.specs.Find.{get, as_number, as_u64, as_str, as_array}
 use Rattle.st_key.specs.declared.point.Point.{Point}
 use Rattle.st_key.specs.declared.period.Period.{Period}
 use Rattle.st_key.specs.declared.period.Period.TheVariants.{Day, Week}
 use Rattle.st_key.specs.declared.place.Place.{Place}
 use Rattle.st_text.specs.Texts.{Text, same}
-use Rattle.st_grant.specs.Permissions.{table_permission_named, system_permission_named}
-use Rattle.st_grant.specs.declared.system_permission.SystemPermission.{SystemPermission}
-use Rattle.st_grant.specs.declared.table_permission.TablePermission.{TablePermission}
 use Rattle.st_policy.specs.Periods.{period_name}
 use Rattle.st_json.specs.declared.value.Bounds.{Bounds}
 
 -- a number that is written in digits alone, and is at most 2^64 - 1
-abbrev pub number_of : Data → Option ℕ
-number_of d = option_and_then as_u64 (as_number d)
+abbrev pub as_natural : Data → Option ℕ
+as_natural d = option_and_then as_u64 (as_number d)
 
 abbrev pub text_in : Text → Data → Option Text
 text_in name d = option_and_then as_str (get name d)
@@ -34,7 +31,7 @@ texts_of (item d ds) = option_and_then (λ s. option_map (λ more. s ∷ more) (
 -- the numbers, if each item is one
 abbrev pub numbers_of : Items → Option (List ℕ)
 numbers_of no_items = Some []
-numbers_of (item d ds) = option_and_then (λ n. option_map (λ more. n ∷ more) (numbers_of ds)) (number_of d)
+numbers_of (item d ds) = option_and_then (λ n. option_map (λ more. n ∷ more) (numbers_of ds)) (as_natural d)
 
 abbrev pub texts_in : Text → Data → Option (List Text)
 texts_in name d = option_and_then texts_of (list_in name d)
@@ -52,86 +49,42 @@ ranged least most n = if nat_le least n && nat_le n most then Some n else None
 
 -- the number of this name, if it is in the range
 abbrev pub number_in : ℕ → ℕ → Text → Data → Option ℕ
-number_in least most name d = option_and_then (ranged least most) (option_and_then number_of (get name d))
+number_in least most name d = option_and_then (ranged least most) (option_and_then as_natural (get name d))
 
 -- ---- the fields by name
 
-abbrev pub numbers : Bounds → List ℕ
-numbers b = b.x0 ∷ b.x1 ∷ b.y0 ∷ b.y1 ∷ b.t0 ∷ b.t1 ∷ []
+abbrev pub six_numbers : Bounds → List ℕ
+six_numbers b = b.x0 ∷ b.x1 ∷ b.y0 ∷ b.y1 ∷ b.t0 ∷ b.t1 ∷ []
 
 -- a list of six numbers
 abbrev pub HasBox : Data → Bounds → Type 0
-HasBox d b = numbers_in (codes "box") d ≡ Some (numbers b)
+HasBox d b = numbers_in (codes "box") d ≡ Some (six_numbers b)
 
 -- a list of three numbers, those of a point
 abbrev pub HasPoint : Data → Point → Type 0
 HasPoint d p = numbers_in (codes "point") d ≡ Some (p.x ∷ p.y ∷ p.t ∷ [])
 
-abbrev pub auths_in : Data → Option (List Text)
-auths_in d = texts_in (codes "auths") d
-
--- 1 to 64 bytes
-abbrev pub id_in : Data → Option Text
-id_in d = option_and_then (sized 1 64) (text_in (codes "id") d)
-
--- at most 4,096 bytes
-abbrev pub note_in : Data → Option Text
-note_in d = option_and_then (sized 0 4096) (text_in (codes "note") d)
-
 -- the 32 bytes that 64 hexadecimal digits of either case write
-abbrev pub digest_in : Data → Option (List ℕ)
-digest_in d = option_and_then (λ s. result_ok (decode_sized s 32)) (text_in (codes "digest") d)
+abbrev pub digest_of : Text → Option (List ℕ)
+digest_of digits = result_ok (decode_sized digits 32)
 
--- true or false
-abbrev pub on_in : Data → Option Bool
-on_in d = option_and_then as_bool (get (codes "on") d)
-
--- the permission on tables of this name
-abbrev pub table_permission_in : Data → Option TablePermission
-table_permission_in d = option_and_then table_permission_named (text_in (codes "permission") d)
-
--- the permission on the system of this name
-abbrev pub system_permission_in : Data → Option SystemPermission
-system_permission_in d = option_and_then system_permission_named (text_in (codes "permission") d)
-
-abbrev pub period_of : Data → Option Period
-period_of d = option_and_then (λ s. find (λ p. same (period_name p) s) (Day ∷ Week ∷ [])) (as_str d)
-
-abbrev pub period_in : Data → Option Period
-period_in d = option_and_then period_of (get (codes "period") d)
+-- the period of this name
+abbrev pub as_period : Data → Option Period
+as_period d = option_and_then (λ s. find (λ p. same (period_name p) s) (Day ∷ Week ∷ [])) (as_str d)
 
 -- the week, if the value is absent or null
 abbrev pub period_or_week : Option Data → Option Period
 period_or_week None = Some Week
 period_or_week (Some null) = Some Week
-period_or_week (Some d) = period_of d
-
-abbrev pub new_period_in : Data → Option Period
-new_period_in d = period_or_week (get (codes "period") d)
-
--- 1 to 1,000
-abbrev pub limit_in : Data → Option ℕ
-limit_in d = number_in 1 1000 (codes "limit") d
-
--- a side of a grid, 1 to 32
-abbrev pub side_in : Text → Data → Option ℕ
-side_in name d = number_in 1 32 name d
-
--- 1 to 64
-abbrev pub budget_in : Data → Option ℕ
-budget_in d = number_in 1 64 (codes "budget") d
+period_or_week (Some d) = as_period d
 
 -- an object with a point, an id and a label, any two texts
-pub record IsPlace {A : Type 0} (d : Data) (place : Place A) : Type 0 where
+pub record WritesPlace {A : Type 0} (d : Data) (place : Place A) : Type 0 where
   pub point : HasPoint d place.point
   pub id : text_in (codes "id") d ≡ Some place.id
   pub label : text_in (codes "label") d ≡ Some place.label
 
--- the field is absent or null
-abbrev pub IsLeftOut : Text → Data → Type 0
-IsLeftOut name d = (get name d ≡ None) ⊎ (get name d ≡ Some null)
-
--- the place in the field, or none if it is left out
+-- the place in the field, or none if it is absent or null
 abbrev pub HasAfter : {A : Type 0} → Data → Option (Place A) → Type 0
-HasAfter d None = IsLeftOut (codes "after") d
-HasAfter d (Some place) = (value : Data) × (get (codes "after") d ≡ Some value) × IsPlace value place
+HasAfter d None = (get (codes "after") d ≡ None) ⊎ (get (codes "after") d ≡ Some null)
+HasAfter d (Some place) = (value : Data) × (get (codes "after") d ≡ Some value) × WritesPlace value place

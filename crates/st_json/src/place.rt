@@ -1,9 +1,10 @@
 //! The field `after`, which says where a page begins.
 ghost use Rattle.std.specs.Prelude.{IfOk};
 ghost use Rattle.serde_json.specs.View.{view};
-ghost use Rattle.st_json.specs.Fields.{IsPlace, HasAfter};
-ghost use Rattle.st_json.specs.Needs.{Obeys};
-ghost use Rattle.st_json.specs.Rules.{AfterField};
+ghost use Rattle.st_json.specs.Fields.{WritesPlace, HasAfter};
+ghost use Rattle.st_policy.specs.declared.field_name.FieldName.TheVariants as names;
+ghost use Rattle.st_policy.specs.declared.refusal.Refusal.TheVariants.{Field as OfField};
+ghost use Rattle.st_json.specs.Needs.{Has, Obeys};
 ghost use Rattle.st_json.specs.inner.Parts.{Picks};
 
 use crate::fault::DecodeFault::{self, Refused};
@@ -17,7 +18,7 @@ use std::alloc::{AllocError, Allocator};
 
 // The place that an object writes.
 fn place_of<A: Allocator + Copy>(alloc: A, value: &Value) -> Result<Option<Place<A>>, AllocError>
-    ensures { IfOk result (Picks (IsPlace (view value.now))) }
+    ensures { IfOk result (Picks (WritesPlace (view value.now))) }
 {
     let Some(point) = value::point(value) else {
         return Ok(None);
@@ -58,7 +59,7 @@ pub(crate) fn after<A: Allocator + Copy>(
     alloc: A,
     object: &Value,
 ) -> Result<Option<Place<A>>, DecodeFault>
-    ensures { Obeys (AfterField (view object.now)) result }
+    ensures { Obeys (Has (OfField names.After) (HasAfter (view object.now))) result }
 {
     match after_in(alloc, object)? {
         Some(after) => Ok(after),

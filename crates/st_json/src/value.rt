@@ -4,7 +4,7 @@ ghost use Rattle.std.specs.List.{list_all};
 ghost use Rattle.serde_json.specs.Find.{get, as_str};
 ghost use Rattle.serde_json.specs.View.{view, items_view};
 ghost use Rattle.st_key.specs.declared.point.Point.{Point};
-ghost use Rattle.st_json.specs.Fields.{text_in, number_of, list_in, texts_in, numbers_of, numbers, HasBox, HasPoint};
+ghost use Rattle.st_json.specs.Fields.{text_in, as_natural, list_in, texts_in, numbers_of, six_numbers, HasBox, HasPoint};
 ghost use Rattle.st_json.specs.declared.value.Bounds.{Bounds};
 ghost use Rattle.st_json.specs.inner.Parts.{Picks, texts_among};
 
@@ -32,7 +32,7 @@ pub(crate) fn text<'a>(object: &'a Value, name: &str) -> Option<&'a str>
 
 // The number of this name in an object.
 pub(crate) fn number(object: &Value, name: &str) -> Option<u64>
-    ensures { result ≡ option_and_then number_of (get name.now (view object.now)) }
+    ensures { result ≡ option_and_then as_natural (get name.now (view object.now)) }
 {
     object.get(name).and_then(Value::as_u64)
 }
@@ -77,8 +77,8 @@ pub(crate) fn texts_among<'a, A: Allocator + Copy>(
 
 // The six numbers of a list.
 fn six(items: &[Value]) -> Option<Bounds>
-    ensures some { IfSome result (λ b. numbers_of (items_view items.now) ≡ Some (numbers b)) }
-    ensures none { IfNone result ((b : Bounds) → numbers_of (items_view items.now) ≡ Some (numbers b) → ⊥) }
+    ensures some { IfSome result (λ b. numbers_of (items_view items.now) ≡ Some (six_numbers b)) }
+    ensures none { IfNone result ((b : Bounds) → numbers_of (items_view items.now) ≡ Some (six_numbers b) → ⊥) }
 {
     let [x0, x1, y0, y1, t0, t1] = items else {
         return None;

@@ -1,6 +1,7 @@
 -- The keys of a reply stand in byte order.
 use Rattle.std.proofs.Common.{◌≡◌, ℕ, ◌-◌, Bool, true, false, ◌&&◌, List, [], ◌∷◌, length, slice_get, codes, map, Option, Some, None, refl}
-use Rattle.serde_json.specs.Data.{Data, string}
+use Rattle.std.specs.Option.{option_map_or}
+use Rattle.serde_json.specs.Data.{Data, null, string}
 use Rattle.serde_json.specs.View.{items_of}
 use Rattle.st_index.specs.declared.row.Row.{Row}
 use Rattle.st_plan.specs.declared.part_plan.PartPlan.{PartPlan}
@@ -12,7 +13,7 @@ use Rattle.st_policy.specs.declared.refusal.Refusal.{Refusal}
 use Rattle.st_policy.specs.declared.reply.Reply.{Reply}
 use Rattle.st_json_reply.specs.Order.{keys_rise, items_keys_rise}
 use Rattle.st_json_reply.specs.Refusals.{nat, denial_data, refusal_data}
-use Rattle.st_json_reply.specs.Replies.{listing, texts_data, permission_data, permissions_data, account_data, table_data, grantee_data, entry_data, row_data, range_data, part_data, place_or_null, next_data, page_data, reply_data}
+use Rattle.st_json_reply.specs.Replies.{listing, texts_data, permission_data, permissions_data, account_data, table_data, grantee_data, entry_data, row_data, range_data, part_data, place_data, next_data, page_data, reply_data}
 
 denial_in_order : (d : Denial) → keys_rise (denial_data d) ≡ true
 denial_in_order Denial.Token = refl
@@ -62,7 +63,7 @@ grantee_in_order g = rw (permissions_in_order g.permissions) refl
 part_in_order : {A : Type 0} (p : PartPlan A) → keys_rise (part_data p) ≡ true
 part_in_order p = both _ _ (all_in_order range_data (λ r. refl) p.ranges) refl
 
-place_in_order : {A : Type 0} (o : Option (Row A)) → keys_rise (place_or_null o) ≡ true
+place_in_order : {A : Type 0} (o : Option (Row A)) → keys_rise (option_map_or place_data o null) ≡ true
 place_in_order None = refl
 place_in_order (Some r) = refl
 

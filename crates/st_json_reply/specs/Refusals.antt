@@ -9,25 +9,14 @@ use Rattle.st_policy.specs.Refusals.{field_text}
 
 -- ---- status codes (RFC 9110, "Client Error 4xx")
 
-abbrev pub denial_status : Denial → ℕ
-denial_status Denial.Token = 401
-denial_status (Denial.Permission name table) = 403
-denial_status (Denial.NamespacePermission name namespace) = 403
-denial_status (Denial.Authorization name) = 403
-denial_status (Denial.Constraint label) = 403
-denial_status Denial.OwnSelf = 403
-
 abbrev pub refusal_status : Refusal → ℕ
-refusal_status Refusal.Json = 400
-refusal_status (Refusal.Field name) = 400
-refusal_status Refusal.BadBox = 400
-refusal_status (Refusal.BadLabel at) = 400
-refusal_status (Refusal.BadName field) = 400
-refusal_status (Refusal.Denied denial) = denial_status denial
+refusal_status (Refusal.Denied Denial.Token) = 401
+refusal_status (Refusal.Denied denial) = 403
 refusal_status (Refusal.NoTable table) = 404
 refusal_status (Refusal.NoUser user) = 404
 refusal_status (Refusal.TableExists table) = 409
 refusal_status (Refusal.UserExists user) = 409
+refusal_status _ = 400
 
 -- ---- bodies
 

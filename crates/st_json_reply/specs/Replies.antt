@@ -1,5 +1,6 @@
 -- The body of a reply: compact JSON (RFC 8259), keys in byte order.
-use Rattle.std.specs.Prelude.{ℕ, ◌-◌, Bool, true, false, List, [], ◌∷◌, length, slice_get, codes, map, Option, Some, None}
+use Rattle.std.specs.Prelude.{ℕ, ◌-◌, Bool, true, false, List, [], ◌∷◌, length, slice_get, codes, map}
+use Rattle.std.specs.Option.{option_map_or}
 use Rattle.serde_json.specs.Data.{Data, null, boolean, string, array}
 use Rattle.serde_json.specs.View.{items_of}
 use Rattle.serde_json.specs.Written.{compact_text}
@@ -69,14 +70,10 @@ row_data r =
 abbrev pub place_data : {A : Type 0} → Row A → Data
 place_data r = object_of ((codes "id", string r.id) ∷ (codes "label", string r.label) ∷ (codes "point", point_data r.point) ∷ [])
 
-abbrev pub place_or_null : {A : Type 0} → Option (Row A) → Data
-place_or_null None = null
-place_or_null (Some r) = place_data r
-
 -- the place after which the next page begins: that of the last row, if more rows follow
 abbrev pub next_data : {A : Type 0} → List (Row A) → Bool → Data
 next_data rows false = null
-next_data rows true = place_or_null (slice_get rows (length rows - 1))
+next_data rows true = option_map_or place_data (slice_get rows (length rows - 1)) null
 
 abbrev pub page_data : {A : Type 0} → List (Row A) → Bool → Data
 page_data rows more = object_of ((codes "next", next_data rows more) ∷ (codes "rows", list (map row_data rows)) ∷ [])

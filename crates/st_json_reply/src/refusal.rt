@@ -1,8 +1,9 @@
 //! The status and the body of a refusal.
 ghost use Rattle.std.specs.Prelude.{◌≡◌, ◌∷◌, [], OnOk, codes};
 ghost use Rattle.serde_json.specs.Data.{string};
+ghost use Rattle.st_policy.specs.declared.refusal.Refusal.TheVariants.{Denied as OfDenial};
 ghost use Rattle.st_json_reply.specs.inner.Adds.{tokens_of, Adds};
-ghost use Rattle.st_json_reply.specs.Refusals.{refusal_status, denial_status, object_of, nat, refusal_data, denial_data};
+ghost use Rattle.st_json_reply.specs.Refusals.{refusal_status, object_of, nat, refusal_data, denial_data};
 
 use crate::member::{write_number, write_text};
 use http::StatusCode;
@@ -11,7 +12,7 @@ use st_policy::{Denial, Refusal};
 use std::alloc::{AllocError, Allocator};
 
 fn denial_status(denial: &Denial) -> StatusCode
-    ensures { result ≡ denial_status denial.now }
+    ensures { result ≡ refusal_status (OfDenial denial.now) }
 {
     match denial {
         Denial::Token => StatusCode::UNAUTHORIZED,

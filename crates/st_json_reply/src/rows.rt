@@ -1,8 +1,10 @@
 //! Rows, and pages of them, as JSON.
 ghost use Rattle.std.specs.Prelude.{◌∷◌, OnOk, codes, option_copied};
+ghost use Rattle.std.specs.Option.{option_map_or};
 ghost use Rattle.json.specs.Token as token;
+ghost use Rattle.serde_json.specs.Data.{null};
 ghost use Rattle.st_json_reply.specs.inner.Adds.{tokens_of, Adds};
-ghost use Rattle.st_json_reply.specs.Replies.{point_data, row_data, place_data, place_or_null, next_data, page_data};
+ghost use Rattle.st_json_reply.specs.Replies.{point_data, row_data, place_data, next_data, page_data};
 
 use crate::member::write_text;
 use crate::written::{WriteJson, write_list};
@@ -50,7 +52,7 @@ fn write_place_or_null<A: Allocator, B: Allocator>(
     out: &mut Writer<A>,
     row: Option<&Row<B>>,
 ) -> Result<(), AllocError>
-    ensures { OnOk result (Adds out.old out.new (tokens_of (place_or_null (option_copied row.entry)))) }
+    ensures { OnOk result (Adds out.old out.new (tokens_of (option_map_or place_data (option_copied row.entry) null))) }
 {
     match row {
         Some(row) => write_place(out, row),

@@ -35,12 +35,12 @@ three_bits b one two three k x y o p q r = (
       let px = p.is.0 (omega arith) in
       let py = q.is.0 (omega arith) in
       let po = r.is.0 (omega arith) in
-      record { x_from = px.0; x_to = px.1; y_from = py.0; y_to = py.1; offset_from = po.0; offset_to = po.1 },
+      (record { x_within = px.0; y_within = py.0; offset_within = po.0 }, record { x_within = px.1; y_within = py.1; offset_within = po.1 }),
   λ there. let h = bit_at_or (bit_or one two) three k in
       let g = bit_at_or one two k in
-      let px = p.is.1 (there.x_from, there.x_to) in
-      let py = q.is.1 (there.y_from, there.y_to) in
-      let po = r.is.1 (there.offset_from, there.offset_to) in
+      let px = p.is.1 (there.0.x_within, there.1.x_within) in
+      let py = q.is.1 (there.0.y_within, there.1.y_within) in
+      let po = r.is.1 (there.0.offset_within, there.1.offset_within) in
       omega arith,
 )
 

@@ -13,9 +13,6 @@ pub in_box_by_address : (b : ZBox) (x y offset : ℕ) → x < 2 ^ 21 → y < 2 ^
 in_box_by_address b x y offset fx fy fo =
     let s : Spot = record { x = x; y = y; offset = offset } in
     let same = spot-address s (record { x_fits = fx; y_fits = fy; offset_fits = fo }) in (
-      λ h. inside_at b s (record { x_within = h.x_from; y_within = h.y_from; offset_within = h.offset_from }) (record { x_within = h.x_to; y_within = h.y_to; offset_within = h.offset_to }),
-      λ h.
-          let from = subst (λ t. IsWithin (first_of b) t) same h.from_first in
-          let to = subst (λ t. IsWithin t (last_of b)) same h.to_last in
-          record { x_from = from.x_within; x_to = to.x_within; y_from = from.y_within; y_to = to.y_within; offset_from = from.offset_within; offset_to = to.offset_within },
+      λ h. inside_at b s h.0 h.1,
+      λ h. (subst (λ t. IsWithin (first_of b) t) same h.from_first, subst (λ t. IsWithin t (last_of b)) same h.to_last),
     )

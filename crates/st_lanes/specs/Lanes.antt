@@ -1,11 +1,9 @@
 -- A place in a box.
-use Rattle.std.specs.Prelude.{ℕ, ◌≤◌}
+use Rattle.std.specs.Prelude.{ℕ}
+use Rattle.st_key.specs.Order.{Spot}
+use Rattle.st_box.specs.Corner.{IsWithin}
 use Rattle.st_box.specs.declared.zbox.ZBox.{ZBox}
+use Rattle.st_box.specs.ZBox.{first_of, last_of}
 
-pub record IsInBox (b : ZBox) (x y offset : ℕ) : Type 0 where
-  pub x_from : b.x_first ≤ x
-  pub x_to : x ≤ b.x_last
-  pub y_from : b.y_first ≤ y
-  pub y_to : y ≤ b.y_last
-  pub offset_from : b.offset_first ≤ offset
-  pub offset_to : offset ≤ b.offset_last
+abbrev pub IsInBox : ZBox → (x y offset : ℕ) → Type 0
+IsInBox b x y offset = let s : Spot = record { x = x; y = y; offset = offset } in IsWithin (first_of b) s × IsWithin s (last_of b)

@@ -6,3 +6,4 @@ pub mod QueryPlans
 pub mod RangeLemmas
 pub mod RunLists
 pub mod Sets
+pub mod Whole

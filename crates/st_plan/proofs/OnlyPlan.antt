@@ -7,7 +7,8 @@ use Rattle.st_box.specs.ZBox.{IsInside}
 use Rattle.st_bigmin.specs.Run.{IsNextRun}
 use Rattle.st_plan.specs.declared.range.Range.{Range}
 use Rattle.st_plan.specs.Coarse.{InCoarse, Runs}
-use Rattle.st_plan.specs.Plan.{IsRangeOf, Ranges, IsPlanOf}
+use Rattle.st_plan.specs.Plan.{IsRangeOf, IsPlanOf}
+use Rattle.st_plan.specs.inner.Levels.{Ranges}
 
 at_most : (m n : ℕ) → (n < m → ⊥) → m ≤ n
 at_most m n not = elim (cases_lt n m) [ inl l ↦ absurd (not l) | inr g ↦ g ]

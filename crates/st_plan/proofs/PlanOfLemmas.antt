@@ -11,13 +11,15 @@ use Rattle.st_box.specs.Part.{Cut, cut_of, cuts_of}
 use Rattle.st_box.specs.declared.query.Query.{Query}
 use Rattle.st_key.specs.declared.period.Period.{Period}
 use Rattle.st_plan.specs.declared.part_plan.PartPlan.{PartPlan}
-use Rattle.st_plan.specs.QueryPlan.{PartPlans, IsQueryPlan}
+use Rattle.st_plan.specs.QueryPlan.{IsQueryPlan}
 use Rattle.st_box.specs.ZBox.{IsInside, last_of}
 use Rattle.st_box.proofs.Cells.{InCube, address-mono, address-spot, address-lt}
 use Rattle.st_bigmin.specs.declared.run.Run.{Run}
 use Rattle.st_plan.specs.Coarse.{InCoarse, Runs, coarse_spot, IsTooFine}
-use Rattle.st_plan.specs.Plan.{IsRangeOf, Ranges, IsPlanOf}
-use Rattle.st_plan.specs.PlanOf.{first_not, last_below, has_address, coarse_cut, end_of, coarse_runs, level_of, range_of, ranges_of, plan_of}
+use Rattle.st_plan.specs.Plan.{IsRangeOf, IsPlanOf}
+use Rattle.st_plan.specs.inner.Levels.{PartPlans, Ranges}
+use Rattle.st_plan.specs.PlanOf.{plan_of}
+use Rattle.st_plan.specs.inner.Computing.{first_not, last_below, has_address, coarse_cut, end_of, coarse_runs, level_of, range_of, ranges_of}
 use Rattle.st_plan.proofs.RangeLemmas.{base, base-back, under}
 use Rattle.st_plan.proofs.LevelLemmas.{same_length, few_at_top}
 use Rattle.st_plan.proofs.Sets.{Tests, runs_of-are, last_below-is, IsFound, find-is, first_not-low, first_not-before, first_not-stop}

@@ -1,6 +1,6 @@
 -- The plan of a query, part by part.
-use Rattle.std.proofs.Common.{◌≡◌, ℕ, ◌+◌, inl, inr, List, [], ◌∷◌, ◌++◌, length, map, take, get_or, add-one, ◌<◌, true, ◌&&◌, nat_le, refl, sym, ap, ◌∙◌, subst, arith}
-use Rattle.std.specs.List.{list_any}
+use Rattle.std.proofs.Common.{◌≡◌, ℕ, ◌+◌, inl, inr, List, [], ◌∷◌, ◌++◌, length, map, take, get_or, add-one, ◌<◌, ◌≤◌, true, ◌&&◌, nat_le, refl, sym, ap, ◌∙◌, subst, arith}
+use Rattle.std.specs.List.{AllByRecursion, list_any}
 use Rattle.std.proofs.Math.Bool.{true≢false}
 use Rattle.std.proofs.Math.Seq.{take-suc}
 use Rattle.std.proofs.lemmas.Bool.{and_parts, or_cases, leb-true}
@@ -12,9 +12,10 @@ use Rattle.st_box.specs.Part.{Cut, cut_of, HasPart}
 use Rattle.st_box.proofs.SameBoxes.{same_box}
 use Rattle.st_plan.specs.declared.part_plan.PartPlan.{PartPlan}
 use Rattle.st_plan.specs.declared.range.Range.{Range}
-use Rattle.st_plan.specs.Plan.{IsPlanOf, HoldExactly}
+use Rattle.st_plan.specs.Plan.{IsPlanOf, Rise}
+use Rattle.st_plan.specs.inner.Levels.{HoldExactly, PartPlans}
 use Rattle.st_plan.specs.Range.{is_exact_in}
-use Rattle.st_plan.specs.QueryPlan.{IsPartPlan, PartPlans, IsQueryPlan, HoldKey, is_exact, AreRising, AreInBudget}
+use Rattle.st_plan.specs.QueryPlan.{IsPartPlan, IsQueryPlan, HoldKey, is_exact}
 use Rattle.st_plan.proofs.OnlyPlan.{only_plan}
 use Rattle.st_plan.proofs.RangeLemmas as ranges
 
@@ -35,13 +36,13 @@ next_part budget ps i p xs x ys within e done here list =
 
 -- ---- what it says
 
-pub rising : {A : Type 0} (budget : ℕ) (ps : List Part) (xs : List (PartPlan A)) → PartPlans budget ps xs → AreRising xs
+pub rising : {A : Type 0} (budget : ℕ) (ps : List Part) (xs : List (PartPlan A)) → PartPlans budget ps xs → AllByRecursion (λ (x : PartPlan A). Rise 0 x.ranges) xs
 rising budget [] [] h = tt
 rising budget [] (x ∷ xs) h = absurd h
 rising budget (p ∷ ps) [] h = absurd h
 rising budget (p ∷ ps) (x ∷ xs) h = (ranges.rise p.zbox budget x.ranges h.0.ranges, rising budget ps xs h.1)
 
-pub in_budget : {A : Type 0} (budget : ℕ) (ps : List Part) (xs : List (PartPlan A)) → PartPlans budget ps xs → AreInBudget budget xs
+pub in_budget : {A : Type 0} (budget : ℕ) (ps : List Part) (xs : List (PartPlan A)) → PartPlans budget ps xs → AllByRecursion (λ (x : PartPlan A). length x.ranges ≤ budget) xs
 in_budget budget [] [] h = tt
 in_budget budget [] (x ∷ xs) h = absurd h
 in_budget budget (p ∷ ps) [] h = absurd h
@@ -54,7 +55,7 @@ whole budget (p ∷ ps) (x ∷ xs) k h (inl here) =
     inl (omega (arith, h.0.same_lo, here.from_bin), omega (arith, h.0.same_hi, here.to_bin), ranges.hold p.zbox budget x.ranges h.0.ranges k.address here.inside)
 whole budget (p ∷ ps) (x ∷ xs) k h (inr later) = inr (whole budget ps xs k h.1 later)
 
-exactly : (xs : List Range) (a : ℕ) → list_any (is_exact_in a) xs ≡ true → HoldExactly xs a
+pub exactly : (xs : List Range) (a : ℕ) → list_any (is_exact_in a) xs ≡ true → HoldExactly xs a
 exactly [] a h = absurd (true≢false (sym h))
 exactly (x ∷ xs) a h =
     elim (or_cases (is_exact_in a x) (list_any (is_exact_in a) xs) h) [

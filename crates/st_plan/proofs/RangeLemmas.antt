@@ -10,8 +10,8 @@ use Rattle.st_bigmin.specs.Run.{IsNextRun, IsRunTo, IsLeastInCell, IsGreatestInC
 use Rattle.st_box.proofs.Cells.{above_prefix}
 use Rattle.st_plan.specs.declared.range.Range.{Range}
 use Rattle.st_plan.specs.Coarse.{InCoarse, Runs}
-use Rattle.st_plan.specs.inner.Levels.{AreFirstRuns, HasFewRuns}
-use Rattle.st_plan.specs.Plan.{IsRangeOf, Ranges, IsPlanOf, Rise, Hold, HoldExactly}
+use Rattle.st_plan.specs.inner.Levels.{AreFirstRuns, HasFewRuns, HoldExactly, Ranges}
+use Rattle.st_plan.specs.Plan.{IsRangeOf, IsPlanOf, Rise, Hold}
 use Rattle.st_plan.specs.inner.Levels.{AreRangesAt}
 use Rattle.st_plan.proofs.CoarseLemmas.{up, down}
 use Rattle.st_plan.proofs.RunLists.{begins-append, begins-runs}

@@ -5,7 +5,7 @@ use Rattle.std.proofs.lemmas.Bool.{cases_lt, cases_Bool, ne_eqb, both_ways}
 use Rattle.st_bigmin.specs.declared.run.Run.{Run}
 use Rattle.st_bigmin.specs.Run.{IsNextRun}
 use Rattle.st_plan.specs.Coarse.{Runs}
-use Rattle.st_plan.specs.PlanOf.{numbers, first_not, last_below, is_start, run_at, runs_of}
+use Rattle.st_plan.specs.inner.Computing.{numbers, first_not, last_below, is_start, run_at, runs_of}
 
 -- ---- the first number that is not in a set
 

@@ -1,5 +1,6 @@
 -- The plan of a box.
 use Rattle.std.specs.Prelude.{ℕ, ◌<◌, ◌≤◌, ◌+◌, ◌*◌, ◌^◌, ◌↔◌, ◌⊎◌, List, [], ◌∷◌, length, IsTrue}
+use Rattle.std.specs.List.{AllZip}
 use Rattle.st_box.specs.declared.zbox.ZBox.{ZBox}
 use Rattle.st_bigmin.specs.declared.run.Run.{Run}
 use Rattle.st_box.specs.ZBox.{IsInside}
@@ -16,13 +17,6 @@ pub record IsRangeOf (b : ZBox) (level : ℕ) (run : Run) (range : Range) : Type
   pub hi_greatest : (a : ℕ) → IsInside b a → a < (run.last + 1) * 2 ^ (3 * level) → a ≤ range.hi
   pub exact : IsTrue range.exact ↔ ((a : ℕ) → range.lo ≤ a → a ≤ range.hi → IsInside b a)
 
--- each run has its range
-abbrev pub Ranges : ZBox → ℕ → List Run → List Range → Type 0
-Ranges b level [] [] = Unit {0}
-Ranges b level [] (x ∷ xs) = ⊥
-Ranges b level (r ∷ rs) [] = ⊥
-Ranges b level (r ∷ rs) (x ∷ xs) = IsRangeOf b level r x × Ranges b level rs xs
-
 -- the ranges of the least level whose runs are within the budget
 pub record IsPlanOf (b : ZBox) (budget : ℕ) (xs : List Range) : Type 0 where
   pub level : ℕ
@@ -30,7 +24,7 @@ pub record IsPlanOf (b : ZBox) (budget : ℕ) (xs : List Range) : Type 0 where
   pub all_runs : Runs (InCoarse b level) 0 runs
   pub in_budget : length runs ≤ budget
   pub least : (finer : ℕ) → finer < level → IsTooFine b budget finer
-  pub ranges : Ranges b level runs xs
+  pub ranges : AllZip (IsRangeOf b level) runs xs
 
 -- the ranges rise from a number on, and do not meet
 abbrev pub Rise : ℕ → List Range → Type 0
@@ -41,8 +35,3 @@ Rise from (x ∷ xs) = (from ≤ x.lo) × (x.lo ≤ x.hi) × Rise (x.hi + 1) xs
 abbrev pub Hold : List Range → ℕ → Type 0
 Hold [] a = ⊥
 Hold (x ∷ xs) a = ((x.lo ≤ a) × (a ≤ x.hi)) ⊎ Hold xs a
-
--- an exact one does
-abbrev pub HoldExactly : List Range → ℕ → Type 0
-HoldExactly [] a = ⊥
-HoldExactly (x ∷ xs) a = (IsTrue x.exact × (x.lo ≤ a) × (a ≤ x.hi)) ⊎ HoldExactly xs a

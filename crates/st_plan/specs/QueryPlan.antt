@@ -1,13 +1,13 @@
 -- The plan of a query.
-use Rattle.std.specs.Prelude.{ℕ, ◌≡◌, ◌≤◌, ◌⊎◌, List, [], ◌∷◌, map, length, Bool, ◌&&◌, nat_le}
-use Rattle.std.specs.List.{list_any}
+use Rattle.std.specs.Prelude.{ℕ, ◌≡◌, ◌≤◌, ◌⊎◌, List, [], ◌∷◌, map, Bool, ◌&&◌, nat_le}
+use Rattle.std.specs.List.{AllZip, list_any}
 use Rattle.st_key.specs.declared.key.Key.{Key}
 use Rattle.st_key.specs.declared.period.Period.{Period}
 use Rattle.st_box.specs.declared.part.Part.{Part}
 use Rattle.st_box.specs.declared.query.Query.{Query}
 use Rattle.st_box.specs.Part.{cut_of, cuts_of}
 use Rattle.st_plan.specs.declared.part_plan.PartPlan.{PartPlan}
-use Rattle.st_plan.specs.Plan.{IsPlanOf, Hold, Rise}
+use Rattle.st_plan.specs.Plan.{IsPlanOf, Hold}
 use Rattle.st_plan.specs.Range.{is_exact_in}
 
 -- the part's bins, and the plan of its box
@@ -16,18 +16,11 @@ pub record IsPartPlan {A : Type 0} (budget : ℕ) (p : Part) (x : PartPlan A) : 
   pub same_hi : x.bin_hi ≡ p.bin_hi
   pub ranges : IsPlanOf p.zbox budget x.ranges
 
--- each part has its plan
-abbrev pub PartPlans : {A : Type 0} → ℕ → List Part → List (PartPlan A) → Type 0
-PartPlans budget [] [] = Unit {0}
-PartPlans budget [] (x ∷ xs) = ⊥
-PartPlans budget (p ∷ ps) [] = ⊥
-PartPlans budget (p ∷ ps) (x ∷ xs) = IsPartPlan budget p x × PartPlans budget ps xs
-
 -- the plans of the parts of the query
 pub record IsQueryPlan {A : Type 0} (period : Period) (q : Query) (budget : ℕ) (xs : List (PartPlan A)) : Type 0 where
   pub parts : List Part
   pub cuts : map cut_of parts ≡ cuts_of period q
-  pub plans : PartPlans budget parts xs
+  pub plans : AllZip (IsPartPlan budget) parts xs
 
 -- the key is in a range of its bin
 abbrev pub HoldKey : {A : Type 0} → List (PartPlan A) → Key → Type 0
@@ -37,13 +30,3 @@ HoldKey (x ∷ xs) k = ((x.bin_lo ≤ k.bin) × (k.bin ≤ x.bin_hi) × Hold x.r
 -- whether the key is in an exact range of its bin
 abbrev pub is_exact : {A : Type 0} → List (PartPlan A) → Key → Bool
 is_exact xs k = list_any (λ x. nat_le x.bin_lo k.bin && nat_le k.bin x.bin_hi && list_any (is_exact_in k.address) x.ranges) xs
-
--- the ranges of each part rise, and do not meet
-abbrev pub AreRising : {A : Type 0} → List (PartPlan A) → Type 0
-AreRising [] = Unit {0}
-AreRising (x ∷ xs) = Rise 0 x.ranges × AreRising xs
-
--- no part has more ranges than the budget
-abbrev pub AreInBudget : {A : Type 0} → ℕ → List (PartPlan A) → Type 0
-AreInBudget budget [] = Unit {0}
-AreInBudget budget (x ∷ xs) = (length x.ranges ≤ budget) × AreInBudget budget xs

@@ -1,8 +1,10 @@
 //! The plan of one box.
-ghost use Rattle.std.specs.Prelude.{◌≡◌, ℕ, ◌<◌, ◌≤◌, IfOk, List, length};
+ghost use Rattle.std.specs.Prelude.{◌≡◌, ℕ, ◌<◌, ◌≤◌, IfOk, IsTrue, List, length};
+ghost use Rattle.std.specs.List.{list_any};
 ghost use Rattle.st_box.specs.ZBox.{IsInside};
 ghost use Rattle.st_plan.specs.Coarse.{InCoarse};
-ghost use Rattle.st_plan.specs.Plan.{IsRangeOf, IsPlanOf, Rise, Hold, HoldExactly};
+ghost use Rattle.st_plan.specs.Plan.{IsRangeOf, IsPlanOf, Rise, Hold};
+ghost use Rattle.st_plan.specs.Range.{is_exact_in};
 ghost use Rattle.st_plan.specs.inner.Levels.{AreRangesAt};
 ghost use Rattle.st_plan.specs.declared.range.Range.{Range};
 
@@ -56,7 +58,7 @@ pub fn plan_box<A: Allocator + Copy>(
     ensures rising { IfOk result (λ v. Rise 0 v.items) }
     ensures in_budget { IfOk result (λ v. length v.items ≤ budget) }
     ensures whole { IfOk result (λ v. (a : ℕ) → IsInside zbox.now a → Hold v.items a) }
-    ensures exact { IfOk result (λ v. (a : ℕ) → HoldExactly v.items a → IsInside zbox.now a) }
+    ensures exact { IfOk result (λ v. (a : ℕ) → IsTrue (list_any (is_exact_in a) v.items) → IsInside zbox.now a) }
 {
     let level = level_within(zbox, budget);
     let ranges = ranges_at(alloc, zbox, level)?;

@@ -3,6 +3,7 @@
 
 mod box_plan;
 mod fault;
+pub mod law;
 mod level;
 mod part_plan;
 mod query_plan;

@@ -1,11 +1,14 @@
 //! The plan of a query.
-ghost use Rattle.std.specs.Prelude.{◌≡◌, ◌↔◌, ◌⊎◌, ◌<◌, ◌≤◌, IsOk, IfOk, IfErr, IsTrue, List};
+ghost use Rattle.std.specs.Prelude.{◌≡◌, ◌↔◌, ◌⊎◌, ◌<◌, ◌≤◌, IsOk, IfOk, IfErr, IsTrue, List, length};
+ghost use Rattle.std.specs.List.{AllByRecursion};
 ghost use Rattle.st_key.specs.declared.key.Key.{Key};
 ghost use Rattle.st_box.specs.Query.{HasKey};
 ghost use Rattle.st_plan.specs.declared.fault.PlanFault.TheVariants.{BadBudget};
 ghost use Rattle.st_plan.specs.declared.part_plan.PartPlan.{PartPlan};
 ghost use Rattle.st_plan.specs.PlanOf.{plan_of};
-ghost use Rattle.st_plan.specs.QueryPlan.{AreInBudget, AreRising, IsPartPlan, IsQueryPlan, HoldKey, PartPlans, is_exact};
+ghost use Rattle.st_plan.specs.Plan.{Rise};
+ghost use Rattle.st_plan.specs.QueryPlan.{IsPartPlan, IsQueryPlan, HoldKey, is_exact};
+ghost use Rattle.st_plan.specs.inner.Levels.{PartPlans};
 
 use crate::box_plan::plan_box;
 use crate::fault::PlanFault;
@@ -61,8 +64,8 @@ pub fn plan<A: Allocator + Copy>(
     ensures value { IfOk result (λ p. p ≡ plan_of period query.now budget) }
     ensures plan { IfOk result (IsQueryPlan period query.now budget) }
     ensures only { IfOk result (λ p. (xs : List (PartPlan A)) → IsQueryPlan period query.now budget xs → xs ≡ p) }
-    ensures rising { IfOk result AreRising }
-    ensures in_budget { IfOk result (AreInBudget budget) }
+    ensures rising { IfOk result (AllByRecursion (λ part. Rise 0 part.ranges)) }
+    ensures in_budget { IfOk result (AllByRecursion (λ part. length part.ranges ≤ budget)) }
     ensures whole { IfOk result (λ p. (k : Key) → HasKey query.now period k → HoldKey p k) }
     ensures exact { IfOk result (λ p. (k : Key) → IsTrue (is_exact p k) → HasKey query.now period k) }
     ensures budget { IsOk result → (1 ≤ budget) × (budget ≤ 64) }

@@ -1,6 +1,6 @@
 -- Whether a request is allowed. The directory alone decides.
 use Rattle.std.specs.Prelude.{List, [], ◌∷◌, Bool, ◌||◌, not, if◌then◌else◌}
-use Rattle.std.specs.Prelude.{Option, Some, None, find, option_map, Result, Ok, Err}
+use Rattle.std.specs.Prelude.{Option, Some, None, find, option_and_then, option_map, Result, Ok, Err}
 use Rattle.st_text.specs.Texts.{Text, same}
 use Rattle.st_label.specs.Reading.{is_true}
 use Rattle.st_dir.specs.Directory.{Directory, is_table, is_user, is_granted, has_auth, has_system, has_table, is_constrained}
@@ -15,12 +15,7 @@ use Rattle.st_policy.specs.declared.request.Request.TheVariants.{Get, Scan, Coun
 use Rattle.st_policy.specs.declared.request.Request.TheVariants.{Constraint, Period, CreateUser, DropUser, Token, Auths, GrantSystem}
 use Rattle.st_policy.specs.declared.request.Request.TheVariants.{RevokeSystem}
 use Rattle.st_policy.specs.declared.request.Request.TheVariants.{GrantTable, RevokeTable, GrantNamespace, RevokeNamespace}
-use Rattle.st_policy.specs.Requests.{table_of, user_of, auths_of}
-
-abbrev pub first_of : List (Option Refusal) → Option Refusal
-first_of [] = None
-first_of (Some refusal ∷ others) = Some refusal
-first_of (None ∷ others) = first_of others
+use Rattle.st_policy.specs.Requests.{table_of, user_of, named_auths, first_some}
 
 abbrev pub unless : Bool → Refusal → Option Refusal
 unless holds refusal = if holds then None else Some refusal
@@ -28,12 +23,10 @@ unless holds refusal = if holds then None else Some refusal
 -- ---- existence
 
 abbrev pub table_exists : {A : Type 0} → Directory A → Option Text → Option Refusal
-table_exists d None = None
-table_exists d (Some table) = unless (is_table d table) (NoTable table)
+table_exists d table = option_and_then (λ name. unless (is_table d name) (NoTable name)) table
 
 abbrev pub user_exists : {A : Type 0} → Directory A → Option Text → Option Refusal
-user_exists d None = None
-user_exists d (Some user) = unless (is_user d user) (NoUser user)
+user_exists d user = option_and_then (λ name. unless (is_user d name) (NoUser name)) user
 
 -- a table or a user is made under a name that is free
 abbrev pub name_is_free : {A : Type 0} → Directory A → Request A → Option Refusal
@@ -121,12 +114,12 @@ is_not_oneself asker _ = None
 
 -- the first refusal that applies, or none
 abbrev pub refusal_of : {A : Type 0} → Directory A → Text → Request A → Option Refusal
-refusal_of d asker request = first_of (
+refusal_of d asker request = first_some (
     table_exists d (table_of request)
     ∷ user_exists d (user_of request)
     ∷ name_is_free d request
     ∷ meets d asker (need_of request)
-    ∷ auths_are_held d asker (auths_of request)
+    ∷ auths_are_held d asker (named_auths request)
     ∷ label_is_met d asker request
     ∷ is_not_oneself asker request
     ∷ [])

@@ -25,21 +25,18 @@ field_text FieldName.Point = codes "point"
 field_text FieldName.Table = codes "table"
 field_text FieldName.User = codes "user"
 
-abbrev pub number_of_denial : Denial → ℕ
-number_of_denial Denial.Token = 8
-number_of_denial (Denial.Permission name table) = 9
-number_of_denial (Denial.NamespacePermission name namespace) = 9
-number_of_denial (Denial.Authorization name) = 10
-number_of_denial (Denial.Constraint label) = 11
-number_of_denial Denial.OwnSelf = 12
-
 abbrev pub number_of : Refusal → ℕ
 number_of Refusal.Json = 3
 number_of (Refusal.Field name) = 4
 number_of Refusal.BadBox = 5
 number_of (Refusal.BadLabel at) = 6
 number_of (Refusal.BadName field) = 7
-number_of (Refusal.Denied denial) = number_of_denial denial
+number_of (Refusal.Denied Denial.Token) = 8
+number_of (Refusal.Denied (Denial.Permission name table)) = 9
+number_of (Refusal.Denied (Denial.NamespacePermission name namespace)) = 9
+number_of (Refusal.Denied (Denial.Authorization name)) = 10
+number_of (Refusal.Denied (Denial.Constraint label)) = 11
+number_of (Refusal.Denied Denial.OwnSelf) = 12
 number_of (Refusal.NoTable table) = 14
 number_of (Refusal.NoUser user) = 15
 number_of (Refusal.TableExists table) = 17

@@ -34,11 +34,12 @@ pub enum Denial {
 
 impl Denial {
     ghost use Rattle.std.specs.Prelude.{◌≡◌};
-    ghost use Rattle.st_policy.specs.Refusals.{number_of_denial};
+    ghost use Rattle.st_policy.specs.Refusals.{number_of};
+    ghost use Rattle.st_policy.specs.declared.refusal.Refusal.TheVariants.{Denied};
 
     /// The number of the refusal.
     pub fn number(&self) -> u8
-        ensures { result ≡ number_of_denial self.now }
+        ensures { result ≡ number_of (Denied self.now) }
     {
         match self {
             Denial::Token => 8,

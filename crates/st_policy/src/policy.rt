@@ -2,7 +2,7 @@
 ghost use Rattle.std.specs.Prelude.{◌≡◌};
 ghost use Rattle.st_policy.specs.Policy.{refusal_of, decision, need_of, meets, table_exists, user_exists, name_is_free};
 ghost use Rattle.st_policy.specs.Policy.{auths_are_held, label_is_met, is_not_oneself};
-ghost use Rattle.st_policy.specs.Requests.{table_of, user_of, auths_of};
+ghost use Rattle.st_policy.specs.Requests.{table_of, user_of, named_auths};
 
 use crate::asker_auths::{lacking, sees, text_of_label};
 use crate::denial::Denial;
@@ -131,7 +131,7 @@ fn holds_auths<A: Allocator>(
     asker: &Name,
     request: &Request<A>,
 ) -> Result<(), Refusal>
-    ensures { result ≡ decision (auths_are_held directory.now asker.now (auths_of request.now)) }
+    ensures { result ≡ decision (auths_are_held directory.now asker.now (named_auths request.now)) }
 {
     match request {
         Request::Get { auths, .. }

@@ -2,7 +2,7 @@
 ghost use Rattle.std.specs.Prelude.{◌≡◌, false, map, string_bytes};
 ghost use Rattle.sqlite_wal.specs.Files.{image_at};
 ghost use Rattle.st_command.specs.Running.{Ran};
-ghost use Rattle.st_command.specs.Streams.{streams};
+ghost use Rattle.st_connection.specs.Streams.{streams};
 ghost use Rattle.st_store_file.specs.Holding.{HoldStore};
 
 use sqlite_std_file::{FileFrom, Start};

@@ -17,7 +17,7 @@ use Rattle.st_index.specs.Fields.{CanAdd, Counts, count_in}
 use Rattle.st_index.specs.Index.{rows_between, rows_from}
 use Rattle.st_index.specs.Rows.{key_end, rank_of}
 use Rattle.st_index.proofs.Tallying.{zero_at}
-use Rattle.st_scan.specs.Rows.{has_row}
+use Rattle.st_scan.specs.inner.Rows.{has_row}
 use Rattle.st_scan.proofs.Filters.{filter_all, filter_none, filter_same}
 use Rattle.st_scan.proofs.Keys.{has_below, row_has, row_key}
 use Rattle.st_scan.proofs.Steps.{from_parts}

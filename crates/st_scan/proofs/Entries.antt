@@ -12,7 +12,7 @@ use Rattle.st_index.proofs.Putting.{missing}
 use Rattle.st_key.specs.declared.period.Period.{Period}
 use Rattle.st_box.specs.declared.query.Query.{Query}
 use Rattle.st_index.specs.Rows.{EntryValue, IsEntry, Rises, rank_of, rows_of}
-use Rattle.st_scan.specs.Rows.{has_row}
+use Rattle.st_scan.specs.inner.Rows.{has_row}
 use Rattle.st_scan.specs.inner.Steps.{SkipsTo}
 use Rattle.st_scan.proofs.Filters.{filter_none, no_items}
 

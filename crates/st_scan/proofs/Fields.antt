@@ -2,11 +2,10 @@
 use Rattle.std.proofs.Common.{◌≡◌, ℕ, suc, ◌+◌, ◌-◌, ◌*◌, ◌/◌, ◌^◌, ◌<◌, ◌≤◌, max, min, List, [], ◌∷◌, length, map, count_by, Bool, nat_eq, get_or, refl, ap, ◌∙◌, arith}
 use Rattle.std.proofs.Math.Nat.{div-lt_iff_lt-mul, div-mul-le_self, mul-le-mul_right, mul-lt-mul_of_pos_right}
 use Rattle.std.proofs.lemmas.Nat.{le-div, mul-lt}
-use Rattle.std.specs.List.{All}
+use Rattle.std.specs.List.{All, range_with_len}
 use Rattle.st_label.specs.Reading.{is_true}
 use Rattle.st_text.specs.Texts.{Text, is_among}
 use Rattle.st_box.specs.declared.query.Query.{Query}
-use Rattle.st_plan.specs.PlanOf.{numbers}
 use Rattle.st_index.specs.declared.row.Row.{Row}
 use Rattle.st_index.specs.Fields.{Counts}
 use Rattle.st_index.proofs.Tallying.{zero_at}
@@ -41,13 +40,12 @@ pub min_at_least : (a b n m : ℕ) → m ≡ min a b → n ≤ a → n ≤ b →
 min_at_least a b n m is le more = omega (arith, is, le, more)
 
 -- a list of the values of a function at the numbers from one on
-pub counted : (f : ℕ → ℕ) (counts : List ℕ) (from : ℕ) → ((k : ℕ) → k < length counts → get_or counts k 0 ≡ f (from + k)) → counts ≡ map f (numbers from (length counts))
-unfolding numbers
+pub counted : (f : ℕ → ℕ) (counts : List ℕ) (from : ℕ) → ((k : ℕ) → k < length counts → get_or counts k 0 ≡ f (from + k)) → counts ≡ map f (range_with_len from (length counts))
 counted f [] from h = refl
 counted f (x ∷ xs) from h =
     let z : from + 0 ≡ from = omega arith in
     let first : x ≡ f from = h 0 (omega arith) ∙ ap f z in
-    let rest : xs ≡ map f (numbers (from + 1) (length xs)) = counted f xs (from + 1) (λ k l. h (suc k) (omega (arith, l)) ∙ (let e : from + suc k ≡ from + 1 + k = omega arith in ap f e)) in
+    let rest : xs ≡ map f (range_with_len (from + 1) (length xs)) = counted f xs (from + 1) (λ k l. h (suc k) (omega (arith, l)) ∙ (let e : from + suc k ≡ from + 1 + k = omega arith in ap f e)) in
     ap (λ y. y ∷ xs) first ∙ ap (λ ys. f from ∷ ys) rest
 
 -- where as many were added to zeros as there are rows in each field, that is the grid of those that are seen
@@ -62,4 +60,4 @@ are_grid {A = A} q nx ny auths content old new zeros counts size =
     let c = counts k in
     let kept = count_kept (in_field k) (is_visible_inside q auths) content in
     omega (arith, z, c, kept)) in
-    counted f new 0 (λ k l. at k ∙ (let e : k ≡ 0 + k = omega arith in ap f e)) ∙ ap (λ n. map f (numbers 0 n)) size
+    counted f new 0 (λ k l. at k ∙ (let e : k ≡ 0 + k = omega arith in ap f e)) ∙ ap (λ n. map f (range_with_len 0 n)) size

@@ -17,7 +17,7 @@ use Rattle.st_box.specs.declared.query.Query.{Query}
 use Rattle.st_box.specs.Query.{HasKey, is_inside}
 use Rattle.st_index.specs.declared.row.Row.{Row}
 use Rattle.st_index.specs.Rows.{key_end, rank_of}
-use Rattle.st_scan.specs.Rows.{has_row}
+use Rattle.st_scan.specs.inner.Rows.{has_row}
 
 pub record RowKey {A : Type 0} (period : Period) (row : Row A) : Type 0 where
   pub key : Key

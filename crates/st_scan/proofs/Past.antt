@@ -23,7 +23,7 @@ use Rattle.st_index.specs.Rows.{rank_of}
 use Rattle.st_text.specs.Texts.{Text, comes_before}
 use Rattle.st_scan.specs.Pages.{is_past, place_key, visible_after}
 use Rattle.st_scan.specs.inner.Starts.{IsStart, is_shown}
-use Rattle.st_scan.specs.Rows.{has_row_from}
+use Rattle.st_scan.specs.inner.Rows.{has_row_from}
 use Rattle.st_scan.specs.Visible.{is_visible_inside, is_visible}
 use Rattle.st_scan.proofs.Filters.{filter_same, not_true}
 use Rattle.st_scan.proofs.Keys.{row_key}

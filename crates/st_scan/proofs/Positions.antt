@@ -11,7 +11,7 @@ use Rattle.st_index.specs.RowViews.{viewed}
 use Rattle.st_index.specs.Rows.{EntryValue, key_end, rank_of, rows_of}
 use Rattle.st_scan.specs.declared.position.Position.{Position}
 use Rattle.st_scan.specs.Regions.{Count}
-use Rattle.st_scan.specs.Rows.{has_row, has_row_from}
+use Rattle.st_scan.specs.inner.Rows.{has_row, has_row_from}
 use Rattle.st_scan.specs.Walks.{MeetsUpTo}
 use Rattle.st_scan.specs.inner.Steps.{IsAt, IsNextEntry, IsOver, IsPosition, Opens, left_at, left_of, rank_or_end}
 use Rattle.st_scan.proofs.Steps.{enter, enter_left, give, give_opened, over_left, over_count, opened_left, opened_at, opened_fits, opened_on}

@@ -13,7 +13,7 @@ use Rattle.st_index.specs.declared.row.Row.{Row}
 use Rattle.st_index.specs.Index.{Follow, Region}
 use Rattle.st_index.specs.Rows.{EntryValue, IsEntry, Rises, key_end, rank_of, rows_of}
 use Rattle.st_scan.specs.Regions.{Count, Meets}
-use Rattle.st_scan.specs.Rows.{has_row, has_row_from}
+use Rattle.st_scan.specs.inner.Rows.{has_row, has_row_from}
 use Rattle.st_scan.specs.Walks.{MeetsUpTo}
 use Rattle.st_scan.specs.inner.Steps.{IsAt, IsNextEntry, MeetsBefore, Opens, left_at}
 use Rattle.st_scan.proofs.Filters.{filter_all, filter_none, filter_same}

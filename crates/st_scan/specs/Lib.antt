@@ -1,7 +1,6 @@
 pub mod Grids
 pub mod Pages
 pub mod Regions
-pub mod Rows
 pub mod Visible
 pub mod Walks
 pub mod inner

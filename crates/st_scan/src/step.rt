@@ -8,7 +8,7 @@ ghost use Rattle.st_box.specs.Query.{HasKey};
 ghost use Rattle.st_index.specs.Index.{Follow};
 ghost use Rattle.st_index.specs.RowViews.{viewed};
 ghost use Rattle.st_index.specs.Rows.{IsEntry, Rises, key_end, rows_of};
-ghost use Rattle.st_scan.specs.Rows.{has_row};
+ghost use Rattle.st_scan.specs.inner.Rows.{has_row};
 ghost use Rattle.st_scan.specs.inner.Steps.{AreExact, IsNextEntry, IsOver, IsOwnExact, IsPosition, Opens, SkipsTo, Steps, left_of};
 ghost use Rattle.st_scan.specs.inner.Steps.{rank_or_end};
 

@@ -1,10 +1,11 @@
 //! Walks over the rows of a query.
 ghost use Rattle.std.specs.Prelude.{◌≡◌, ◌<◌, ◌≤◌, ◌^◌, ◌∷◌, [], filter, length, IfSome, IfNone};
 ghost use Rattle.st_key.specs.Key.{rank};
+ghost use Rattle.st_box.specs.Query.{is_inside};
 ghost use Rattle.st_index.specs.RowViews.{row_of_view};
 ghost use Rattle.st_index.specs.Rows.{key_end, rank_of};
 ghost use Rattle.st_scan.specs.Regions.{Count, Meets};
-ghost use Rattle.st_scan.specs.Rows.{has_row, has_row_from};
+ghost use Rattle.st_scan.specs.inner.Rows.{has_row_from};
 ghost use Rattle.st_scan.specs.Walks.{IsExactFor, MeetsUpTo};
 ghost use Rattle.st_scan.specs.inner.Steps.{AreExact, IsOwnExact};
 
@@ -56,7 +57,7 @@ impl<'a, 'p, I: RowIndex> Walk<'a, 'p, I> {
     /// ranges hold keys of the query alone.
     pub fn new<P: Allocator + Copy>(index: &'a I, query: &Query, plan: &'p Plan<P>) -> Self
         requires exact { IsExactFor (I.period_of index.now) query.now plan.now }
-        ensures left { result.left ≡ filter (has_row query.now) (I.content index.now) }
+        ensures left { result.left ≡ filter (λ row. is_inside query.now row.point) (I.content index.now) }
         ensures few { length result.left < 2 ^ 64 }
         ensures opened { result.opened ≡ 0 }
         ensures start { result.start ≡ 0 }

@@ -1,15 +1,15 @@
 //! The store in a SQLite file.
 ghost use Rattle.std.specs.Prelude.{map, string_bytes};
 ghost use Rattle.sqlite_wal.specs.Files.{image_at};
-ghost use Rattle.st_server.specs.Running.{Ran};
+ghost use Rattle.st_server.specs.Running.{RunsServer};
 ghost use Rattle.st_store_file.specs.Holding.{HoldStore};
 
 use sqlite_std_file::{FileFrom, Start};
 use st_core::Seed;
 use st_journal::Journal;
 use st_journal_file::FileJournal;
-use st_peer::{Client, Listener};
 use st_server::serve_words;
+use st_server_peer::{Client, Listener};
 use st_store_file::{SqliteCopier, SqliteKeeper};
 use std::fs::Files;
 use std::io::{Eprint, Write};
@@ -32,7 +32,7 @@ pub fn serve_files<
     O: Write,
     F: Write,
 >(rt: &R, files: &HostRuntime, start: S, words: &[String], output: &mut O, faults: &mut F) -> u8
-    ensures { Ran ⟦<TcpStream as Client>⟧.call (λ _. HoldStore (image_at S.Start)) ⟦<FileJournal<FileFrom<S>> as Journal>⟧.list
+    ensures { RunsServer ⟦<TcpStream as Client>⟧.call (λ _. HoldStore (image_at S.Start)) ⟦<FileJournal<FileFrom<S>> as Journal>⟧.list
         ⟦<FileJournal<FileFrom<S>> as Journal>⟧.misreads ⟦<FileJournal<FileFrom<S>> as Journal>⟧.faults
         ⟦<FileJournal<FileFrom<S>> as Journal>⟧.may_leave (map string_bytes words.now) (O.contents output.old) (O.contents output.new) result }
 {

@@ -3,18 +3,19 @@ use Rattle.std.proofs.Common.{◌≡◌, ◌≢◌, ℕ, Bool, true, false, List
 use Rattle.std.specs.Prelude.{◌<◌, ◌+◌, Result, Ok, Err, length, slice_index_or}
 use Rattle.std.specs.List.{All}
 use mathlib.Core.List.{IsPrefix}
+use Rattle.st_connection.specs.Streams.{Streams}
 use Rattle.st_connection.specs.declared.connection.Ended.{Ended}
 use Rattle.st_connection.specs.declared.connection.Ended.TheVariants.{Clean, Closed, Cut, TurnsSpent, Lost}
 use Rattle.st_connection.specs.declared.connection.IoFault.{IoFault}
-use Rattle.st_press.proofs.Fronts.{prefix_self, prefix_trans}
+use Rattle.st_hall_press.proofs.Fronts.{prefix_self, prefix_trans}
 use Rattle.st_hall.specs.Steps.{Ask, State}
 use Rattle.st_hall.specs.Views.{Post}
 use Rattle.st_hall.specs.Decisions.{Standing}
-use Rattle.st_peer.specs.Meeting.{Call, Meets, MeetsAll}
-use Rattle.st_station.specs.Standing.{ServesKept, ServesSound}
-use Rattle.st_station.proofs.Growing.{run_grows}
-use Rattle.st_workers.specs.Working.{WorkedEach}
-use Rattle.st_workers.specs.declared.working.Worked.{Worked}
+use Rattle.st_server_peer.specs.Meeting.{Call, MeetsClient, MeetsAll}
+use Rattle.st_hall_station.specs.Standing.{ServesKept, ServesSound}
+use Rattle.st_hall_station.proofs.Growing.{run_grows}
+use Rattle.st_server_workers.specs.Working.{WorkedEach}
+use Rattle.st_server_workers.specs.declared.working.Worked.{Worked}
 use Rattle.st_server.specs.Attending.{AreNew, new_station, settled_of}
 
 -- unless a sync failed, all that was seen was kept
@@ -28,9 +29,9 @@ Onward s t = IsSynced t × IsPrefix s.settled.seat.seen t.settled.seat.seen
 unmoved : (s t : Standing) → IsSynced s → t ≡ s → Onward s t
 unmoved s t synced is = subst (Onward s) (sym is) (synced, prefix_self s.settled.seat.seen)
 
-module _ (start : State) (keeps : List Ask → Type 0) (hold : ℕ) (s t : Standing) (left_old left_new held_old held_new : Option (List ℕ)) (failed : Bool) where
+module _ (start : State) (keeps : List Ask → Type 0) (hold : ℕ) (s t : Standing) (streams : Streams) where
   not_lost : (result : Result Ended IoFault) → result ≢ Ok Lost → s.settled ≡ s.post
-      → ServesSound start keeps hold s t left_old left_new held_old held_new failed result → Onward s t
+      → ServesSound start keeps hold s t streams result → Onward s t
   not_lost result alive same sound =
       let now = sound.unless_lost.settled alive in
       let grows = (run_grows start s.post t.post sound.within.items sound.within.answers sound.within.run).0 in (
@@ -39,17 +40,17 @@ module _ (start : State) (keeps : List Ask → Type 0) (hold : ℕ) (s t : Stand
             (subst (λ (p : Post). IsPrefix s.post.seat.seen p.seat.seen) (sym now) grows),
       )
 
-  is_lost : s.settled ≡ s.post → ServesSound start keeps hold s t left_old left_new held_old held_new failed (Ok Lost) → Onward s t
+  is_lost : s.settled ≡ s.post → ServesSound start keeps hold s t streams (Ok Lost) → Onward s t
   is_lost same sound =
       let past = sound.within.ending.1 in let fails = sound.unless_lost.lost refl in (
         λ here. absurd (let f : false ≡ true = sym here ∙ fails in cc),
         subst (λ (p : Post). IsPrefix p.seat.seen t.settled.seat.seen) (sym same) (prefix_trans s.post.seat.seen past.mid.seat.seen t.settled.seat.seen
-            (run_grows start s.post past.mid past.done past.out past.run).0
+            (run_grows start s.post past.mid past.front.done past.front.out past.front.run).0
             (run_grows start past.mid t.settled past.amid.first past.amid.told past.amid.before).0),
       )
 
   by_end : (result : Result Ended IoFault) → s.settled ≡ s.post
-      → ServesSound start keeps hold s t left_old left_new held_old held_new failed result → Onward s t
+      → ServesSound start keeps hold s t streams result → Onward s t
   by_end (Ok Lost) same sound = is_lost same sound
   by_end (Ok Clean) same sound = not_lost (Ok Clean) (λ e. absurd (cc e)) same sound
   by_end (Ok Closed) same sound = not_lost (Ok Closed) (λ e. absurd (cc e)) same sound
@@ -58,7 +59,7 @@ module _ (start : State) (keeps : List Ask → Type 0) (hold : ℕ) (s t : Stand
   by_end (Err broken) same sound = not_lost (Err broken) (λ e. absurd (cc e)) same sound
 
   served : (result : Result Ended IoFault) → IsSynced s
-      → ServesKept start keeps hold s t left_old left_new held_old held_new failed result → Onward s t
+      → ServesKept start keeps hold s t streams result → Onward s t
   served result synced serves = by_case s.has_failed refl
     where
       by_case : (b : Bool) → s.has_failed ≡ b → Onward s t
@@ -67,10 +68,10 @@ module _ (start : State) (keeps : List Ask → Type 0) (hold : ℕ) (s t : Stand
 
 module _ (start : State) (keeps : List Ask → Type 0) (hold : ℕ) (kept : List Ask) {P : Type 0} (call : P → Call) where
   met : (s t : Standing) (client : Call) (ended : Option (Result Ended IoFault)) → IsSynced s
-      → Meets (ServesKept start keeps hold) s client ended t → Onward s t
+      → MeetsClient (ServesKept start keeps hold) s client ended t → Onward s t
   met s t client None synced meets = unmoved s t synced meets.1
   met s t client (Some ended) synced meets =
-      served start keeps hold s t client.sends meets.left client.held meets.held meets.read_failed ended synced meets.served
+      served start keeps hold s t meets.streams ended synced meets.served
 
   met_all : (s : Standing) (clients : List P) (t : Standing) → IsSynced s → MeetsAll (ServesKept start keeps hold) call s clients t → IsSynced t
   met_all s [] t synced is = (unmoved s t synced is).0
@@ -78,21 +79,16 @@ module _ (start : State) (keeps : List Ask → Type 0) (hold : ℕ) (kept : List
 
   -- a client that was met is met so, where what was kept then is kept in the end
   met_so : (s t : Standing) (client : Call) (ended : Option (Result Ended IoFault)) → IsPrefix t.settled.seat.seen kept
-      → Meets (ServesKept start keeps hold) s client ended t → Meets (ServesKept start (λ seen. IsPrefix seen kept) hold) s client ended t
+      → MeetsClient (ServesKept start keeps hold) s client ended t → MeetsClient (ServesKept start (λ seen. IsPrefix seen kept) hold) s client ended t
   met_so s t client None has meets = meets
   met_so s t client (Some ended) has meets = record {
-    left = meets.left;
-    held = meets.held;
-    reads_old = meets.reads_old;
-    reads_new = meets.reads_new;
-    has_ended = meets.has_ended;
-    read_failed = meets.read_failed;
-    write_failed = meets.write_failed;
+    streams = meets.streams;
     served = (
       λ was. let sound = meets.served.0 was in record { within = sound.within; unless_lost = sound.unless_lost; kept = has },
       meets.served.1,
     );
     ends = meets.ends;
+    begun = meets.begun;
   }
 
   all_met_so : (s : Standing) (clients : List P) (t : Standing) → IsSynced s → IsPrefix t.settled.seat.seen kept

@@ -2,7 +2,7 @@
 use Rattle.std.proofs.Common.{◌≡◌, ℕ, List, [], Option, Err, inl, refl, arith}
 use Rattle.st_command_line.specs.declared.fault.Fault.{Fault}
 use Rattle.st_command_line.specs.declared.fault.Fault.TheVariants.{StoreLost}
-use Rattle.st_peer.specs.Meeting.{Call, Serving}
+use Rattle.st_server_peer.specs.Meeting.{Call, Serving}
 use Rattle.st_hall.specs.Steps.{State}
 use Rattle.st_hall.specs.Decisions.{Standing}
 use Rattle.st_server.specs.Attending.{Attends, AttendsFrom, Keeps}

@@ -3,13 +3,13 @@ use Rattle.std.proofs.Common.{◌≡◌, ℕ, ◌+◌, ◌<◌, List, [], ◌∷
 use Rattle.std.proofs.lemmas.List.{get_or-map, length-map}
 use Rattle.std.specs.List.{All, fold, sum_by}
 use mathlib.Core.List.{IsPrefix}
-use Rattle.st_press.proofs.Fronts.{prefix_whole}
+use Rattle.st_hall_press.proofs.Fronts.{prefix_whole}
 use Rattle.st_hall.specs.Steps.{Ask}
 use Rattle.st_hall.specs.Views.{Seat, receipts}
 use Rattle.st_hall.specs.Decisions.{Standing}
-use Rattle.st_workers.specs.declared.working.Worked.{Worked}
-use Rattle.st_peer.specs.Meeting.{Call, Serving}
-use Rattle.st_workers.specs.Working.{WorkedEach}
+use Rattle.st_server_workers.specs.declared.working.Worked.{Worked}
+use Rattle.st_server_peer.specs.Meeting.{Call, Serving}
+use Rattle.st_server_workers.specs.Working.{WorkedEach}
 use Rattle.st_server.specs.Attending.{HaveOneList, WorkedAsOne, desk_of, settled_of}
 
 fold_of_map : {X Y : Type 0} (f : Y → ℕ) (g : X → Y) (a : ℕ) (xs : List X)

@@ -4,7 +4,7 @@ use Rattle.st_text.specs.Texts.{Text}
 use Rattle.st_command_line.specs.declared.fault.Fault.{Fault}
 use Rattle.st_command_line.specs.declared.fault.Fault.TheVariants.{StoreLost}
 use Rattle.st_server.specs.Keeping.{TellsKept}
-use Rattle.st_workers.specs.Telling.{Tells}
+use Rattle.st_server_workers.specs.Telling.{Tells}
 
 -- they differ where the store is lost
 both : (place : Text) (connections : Option ℕ) (old new : Option (List ℕ)) (result : Result Unit Fault)

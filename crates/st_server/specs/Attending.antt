@@ -1,15 +1,15 @@
 -- What the workers of a server did.
 use Rattle.std.specs.Prelude.{◌≡◌, ◌⊎◌, ◌<◌, ◌+◌, ℕ, false, Option, Some, Result, Err, List, [], All, OnOk, length, slice_index_or, sum_by}
 use mathlib.Core.List.{IsPrefix}
-use Rattle.st_peer.specs.Meeting.{Call, Serving}
-use Rattle.st_workers.specs.Working.{WorkedEach}
-use Rattle.st_workers.specs.declared.working.Worked.{Worked}
+use Rattle.st_server_peer.specs.Meeting.{Call, Serving}
+use Rattle.st_server_workers.specs.Working.{WorkedEach}
+use Rattle.st_server_workers.specs.declared.working.Worked.{Worked}
 use Rattle.st_command_line.specs.declared.fault.Fault.{Fault}
 use Rattle.st_command_line.specs.declared.fault.Fault.TheVariants.{NoMemory, StoreLost}
 use Rattle.st_hall.specs.Steps.{Ask, State}
 use Rattle.st_hall.specs.Views.{Post, Seat, opening_seat}
 use Rattle.st_hall.specs.Decisions.{Standing}
-use Rattle.st_station.specs.Standing.{ServesKept}
+use Rattle.st_hall_station.specs.Standing.{ServesKept}
 
 -- the post of a worker of this number at a desk of a hall that was just opened
 abbrev pub new_post : ℕ → Post

@@ -1,22 +1,22 @@
 -- What a server whose store a journal keeps does and tells, by the status that it gives.
-use Rattle.std.specs.Prelude.{◌≡◌, ◌⊎◌, ℕ, Option, Some, Result, Ok, Err, List, codes, map}
+use Rattle.std.specs.Prelude.{◌≡◌, ◌⊎◌, ℕ, Option, Some, Result, Err, List, codes, map}
 use Rattle.std.specs.declared.alloc.Global.{Global}
 use Rattle.std.specs.Io.KnownBytes.{Appends}
 use Rattle.st_text.specs.Texts.{Text}
 use Rattle.st_core.specs.State.{State}
 use Rattle.st_journal.specs.declared.record.Record.{Record}
 use Rattle.st_journal.specs.Replays.{Replays}
-use Rattle.st_durable.specs.Applying.{Applies}
+use Rattle.st_journal_store.specs.Applying.{Applies}
 use Rattle.st_command_line.specs.declared.fault.Fault.{Fault}
 use Rattle.st_command_line.specs.declared.fault.Fault.TheVariants.{StoreLost}
 use Rattle.st_command_line.specs.declared.served_arguments.ServedArguments.{ServedArguments}
 use Rattle.st_command_line.specs.ServedArguments.{SaysServed, place_text, store_of}
-use Rattle.st_command_line.specs.Status.{exit_status_of, exit_status_after}
-use Rattle.st_command.specs.Opening.{IsOfStore, OpensWith}
-use Rattle.st_publisher.specs.Rolls.{HasFailed, Leaves, WasKept}
-use Rattle.st_peer.specs.Meeting.{Call}
+use Rattle.st_command_line.specs.Status.{exit_status_after}
+use Rattle.st_command.specs.Opening.{Fails, IsOfStore, OpensWith}
+use Rattle.st_hall_group_commit.specs.Rolls.{HasFailed, Leaves, WasKept}
+use Rattle.st_server_peer.specs.Meeting.{Call}
 use Rattle.st_server.specs.Attending.{Attends, Keeps, held_back}
-use Rattle.st_workers.specs.Telling.{Tells, line}
+use Rattle.st_server_workers.specs.Telling.{Tells, line}
 
 -- What is told of it: as of any server, and it may end since its store is lost, which is said on standard error.
 abbrev pub TellsKept : Text → Option ℕ → Option (List ℕ) → Option (List ℕ) → Result Unit Fault → Type 0
@@ -31,7 +31,7 @@ kept_by list misreads may_leave first start =
 
 -- A journal was opened. Stations of a hall that begins with the state after its changes served the connections; what they answered was
 -- kept, and is left in the end. The store is lost only where a journal failed.
-pub record IsOpened {P J : Type 0} (call : P → Call) (holds : List ℕ → List Record → Type 0) (list : J → List Record)
+pub record RunsOpened {P J : Type 0} (call : P → Call) (holds : List ℕ → List Record → Type 0) (list : J → List Record)
     (misreads faults : J → ℕ) (may_leave : J → List Record → Type 0) (opening : List ℕ) (first : State Global) (said : ServedArguments) (old new : Option (List ℕ)) (status : ℕ) : Type 0 where
   pub journal : J
   pub before : State Global
@@ -43,20 +43,9 @@ pub record IsOpened {P J : Type 0} (call : P → Call) (holds : List ℕ → Lis
   pub tells : TellsKept (place_text said.place) said.connections old new ended
   pub status_is : status ≡ exit_status_after ended
 
--- no journal was opened, and nothing was told
-pub record IsUnopened (old new : Option (List ℕ)) (status : ℕ) : Type 0 where
-  pub fault : Fault
-  pub why : IsOfStore fault
-  pub status_is : status ≡ exit_status_of fault
-  pub untold : new ≡ old
-
-abbrev pub EndsKept : {P J : Type 0} → (P → Call) → (List ℕ → List Record → Type 0) → (J → List Record) → (J → ℕ) → (J → ℕ)
-    → (J → List Record → Type 0) → List ℕ → State Global → ServedArguments → Option (List ℕ) → Option (List ℕ) → ℕ → Type 0
-EndsKept call holds list misreads faults may_leave opening first said old new status =
-    IsOpened call holds list misreads faults may_leave opening first said old new status ⊎ IsUnopened old new status
-
--- the words name a store at a path, and open the state that its changes lead on from
-pub record IsKept {P J : Type 0} (call : P → Call) (holds : (path opening : List ℕ) → List Record → Type 0) (list : J → List Record)
+-- The words name a store at a path, and open the state that its changes lead on from. Its journal was opened, or it was not, and nothing
+-- was told.
+pub record RunsKept {P J : Type 0} (call : P → Call) (holds : (path opening : List ℕ) → List Record → Type 0) (list : J → List Record)
     (misreads faults : J → ℕ) (may_leave : J → List Record → Type 0) (words : List Text) (old new : Option (List ℕ)) (status : ℕ) : Type 0 where
   pub said : ServedArguments
   pub says : SaysServed words said
@@ -65,4 +54,4 @@ pub record IsKept {P J : Type 0} (call : P → Call) (holds : (path opening : Li
   pub first : State Global
   pub opening : Text
   pub opens : OpensWith said.digest.now (map (λ name. name.now) said.names.items) first opening
-  pub ends : EndsKept call (holds path) list misreads faults may_leave opening first said old new status
+  pub ends : RunsOpened call (holds path) list misreads faults may_leave opening first said old new status ⊎ Fails IsOfStore (new ≡ old) status

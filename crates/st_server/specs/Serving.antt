@@ -1,15 +1,15 @@
--- What a run does and tells, by the status that it gives.
+-- What a server whose store is in memory does and tells, by the status that it gives.
 use Rattle.std.specs.Prelude.{◌≡◌, ⊤, ℕ, Option, None, Result, List, map}
 use Rattle.std.specs.declared.alloc.Global.{Global}
 use Rattle.st_text.specs.Texts.{Text}
 use Rattle.st_core.specs.State.{State}
 use Rattle.st_command_line.specs.declared.fault.Fault.{Fault}
-use Rattle.st_command.specs.Opening.{Opens}
+use Rattle.st_command.specs.Opening.{OpensState}
 use Rattle.st_command_line.specs.declared.served_arguments.ServedArguments.{ServedArguments}
-use Rattle.st_command_line.specs.ServedArguments.{SaysServed, RefusesServedWords, place_text, store_of}
-use Rattle.st_command_line.specs.Status.{exit_status_of, exit_status_after}
-use Rattle.st_peer.specs.Meeting.{Call}
-use Rattle.st_workers.specs.Telling.{Tells}
+use Rattle.st_command_line.specs.ServedArguments.{SaysServed, place_text, store_of}
+use Rattle.st_command_line.specs.Status.{exit_status_after}
+use Rattle.st_server_peer.specs.Meeting.{Call}
+use Rattle.st_server_workers.specs.Telling.{Tells}
 use Rattle.st_server.specs.Attending.{Attends, Keeps}
 
 -- a hall in memory: each list is kept, and nothing is left
@@ -17,20 +17,13 @@ abbrev pub in_memory : Keeps
 in_memory = record { keeps = λ list. ⊤; leaves = λ kept list. ⊤ }
 
 -- The words name no store and open a state. Stations of a hall that begins with it served the connections.
-pub record IsServed {P : Type 0} (call : P → Call) (words : List Text) (old new : Option (List ℕ)) (status : ℕ) : Type 0 where
+pub record RunsInMemory {P : Type 0} (call : P → Call) (words : List Text) (old new : Option (List ℕ)) (status : ℕ) : Type 0 where
   pub said : ServedArguments
   pub says : SaysServed words said
   pub unnamed : store_of said ≡ None
   pub state : State Global
-  pub opens : Opens said.digest.now (map (λ name. name.now) said.names.items) state
+  pub opens : OpensState said.digest.now (map (λ name. name.now) said.names.items) state
   pub ended : Result Unit Fault
   pub attends : Attends call state in_memory 0 said.connections ended
   pub tells : Tells (place_text said.place) said.connections old new ended
   pub status_is : status ≡ exit_status_after ended
-
--- the words are refused, and nothing was told
-pub record IsRefused (words : List Text) (old new : Option (List ℕ)) (status : ℕ) : Type 0 where
-  pub fault : Fault
-  pub why : RefusesServedWords words fault
-  pub status_is : status ≡ exit_status_of fault
-  pub untold : new ≡ old

@@ -1,16 +1,16 @@
 //! A copy that follows the store of a server while that serves.
 ghost use Rattle.std.specs.Thread.{IsSend, IsSync};
-ghost use Rattle.st_workers.specs.Working.{Attending};
+ghost use Rattle.st_server_workers.specs.Working.{Attending};
 
 use st_command_line::ServedArguments;
 use st_connection::Attend;
-use st_copy::{Copier, CopyFault, Source};
-use st_durable::Beginning;
-use st_durable_hall::{DurableHall, Reading};
 use st_hall::{Front, HallName};
+use st_hall_group_commit::{DurableHall, Reading};
 use st_journal::{ReadBack, ReadError, Record};
-use st_peer::{Client, Listens};
-use st_workers::{Attended, Binds, PROGRAM, attend};
+use st_journal_copy::{Copier, CopyFault, Source};
+use st_journal_store::Beginning;
+use st_server_peer::{Client, Listens};
+use st_server_workers::{Attended, Binds, PROGRAM, attend};
 use std::alloc::Global;
 use std::fs::Files;
 use std::io::Eprint;

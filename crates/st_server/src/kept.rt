@@ -2,27 +2,27 @@
 ghost use Rattle.std.specs.Prelude.{◌≡◌, ◌<◌, ◌⊎◌, Err, Some, List, string_bytes};
 ghost use Rattle.st_text.specs.Texts.{Text};
 ghost use Rattle.st_journal.specs.Replays.{Replays};
-ghost use Rattle.st_durable.specs.Applying.{Applies};
-ghost use Rattle.st_publisher.specs.Rolls.{HasFailed};
+ghost use Rattle.st_journal_store.specs.Applying.{Applies};
+ghost use Rattle.st_hall_group_commit.specs.Rolls.{HasFailed};
 ghost use Rattle.st_server.specs.Attending.{Attends, held_back};
-ghost use Rattle.st_server.specs.Keeping.{EndsKept, IsKept, TellsKept, kept_by};
-ghost use Rattle.st_server.specs.Serving.{IsRefused};
-ghost use Rattle.st_command_line.specs.ServedArguments.{SaysServed, place_text, store_of};
+ghost use Rattle.st_server.specs.Keeping.{RunsKept, RunsOpened, TellsKept, kept_by};
+ghost use Rattle.st_command.specs.Opening.{Fails, IsOfStore};
+ghost use Rattle.st_command_line.specs.ServedArguments.{RefusesServedWords, SaysServed, place_text, store_of};
 ghost use Rattle.st_command_line.specs.Status.{exit_status_after};
 ghost use Rattle.st_command_line.specs.declared.fault.Fault.TheVariants.{StoreLost};
 
 use crate::copying::{Copying, KeptList};
 use crate::serving::serve_at;
-use st_command::{Keeper, stores_and_opening_for};
+use st_command::{Keeper, store_and_opening_for};
 use st_command_line::{Fault, ServedArguments};
-use st_copy::Copier;
 use st_core::{Seed, Store};
-use st_durable::{Beginning, ReplayedCopies};
-use st_durable_hall::DurableHall;
 use st_hall::{Hall, HallFault, HallName, UnnamedFor};
+use st_hall_group_commit::DurableHall;
 use st_journal::ReadBack;
-use st_peer::{Client, Listens};
-use st_workers::Binds;
+use st_journal_copy::Copier;
+use st_journal_store::{Beginning, ReplayedStore};
+use st_server_peer::{Client, Listens};
+use st_server_workers::Binds;
 use std::alloc::Global;
 use std::fs::Files;
 use std::io::{Eprint, Write};
@@ -111,7 +111,7 @@ fn copying_for<'a, K: Copier + Drop>(
     }
 }
 
-// Opens the journal over two copies of the state that its changes lead on from, and serves.
+// Opens the journal over the state that its changes lead on from, and serves from two copies of what they lead to.
 fn serve_kept<
     B: Beginning + Send + Sync,
     J: ReadBack + Drop + Send,
@@ -133,17 +133,18 @@ fn serve_kept<
     keeper: K,
     copier: L,
     place: &Place<'_>,
-    mut copies: ReplayedCopies,
+    mut state: ReplayedStore,
     said: &ServedArguments<'_>,
     output: &mut O,
 ) -> Result<(), Fault>
-    requires first { copies ≡ B.first }
-    ensures { EndsKept C.call (K.holds keeper place.now.path.now) J.Journal.list J.Journal.misreads J.Journal.faults
+    requires first { state ≡ B.first }
+    ensures { RunsOpened C.call (K.holds keeper place.now.path.now) J.Journal.list J.Journal.misreads J.Journal.faults
         J.Journal.may_leave (string_bytes place.now.opening) B.first said.now
-        (O.contents output.old) (O.contents output.new) (exit_status_after result) }
+        (O.contents output.old) (O.contents output.new) (exit_status_after result)
+        ⊎ Fails IsOfStore (O.contents output.new ≡ O.contents output.old) (exit_status_after result) }
 {
-    let journal = keeper.open(place.path, place.opening.as_str(), &mut copies)?;
-    let both = copies.into_stores()?;
+    let journal = keeper.open(place.path, place.opening.as_str(), &mut state)?;
+    let both = state.into_stores()?;
     let workers = said.worker_count();
     let name = UnnamedFor::of(workers);
     let copying = copying_for(said, copier, place);
@@ -179,14 +180,12 @@ pub(crate) fn run_kept<
 ) -> Result<(), Fault>
     requires named { store_of said.now ≡ Some path.now }
     ensures { (words : List Text) → SaysServed words said.now
-        → IsRefused words (O.contents output.old) (O.contents output.new) (exit_status_after result)
-        ⊎ IsKept C.call (K.holds keeper) J.Journal.list J.Journal.misreads J.Journal.faults J.Journal.may_leave
+        → Fails (RefusesServedWords words) (O.contents output.new ≡ O.contents output.old) (exit_status_after result)
+        ⊎ RunsKept C.call (K.holds keeper) J.Journal.list J.Journal.misreads J.Journal.faults J.Journal.may_leave
         words (O.contents output.old) (O.contents output.new) (exit_status_after result) }
 {
-    let (first, second, opening) = stores_and_opening_for(alloc, seed, said.digest, &said.names)?;
+    let (first, opening) = store_and_opening_for(alloc, seed, said.digest, &said.names)?;
     let place = Place { path, opening };
-    let copies = ReplayedCopies::new(alloc, first, second);
-    serve_kept::<Brand, J, K, L, C, N, R, O>(
-        rt, alloc, keeper, copier, &place, copies, said, output,
-    )
+    let state = ReplayedStore::new(alloc, first);
+    serve_kept::<Brand, J, K, L, C, N, R, O>(rt, alloc, keeper, copier, &place, state, said, output)
 }

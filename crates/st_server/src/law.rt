@@ -4,20 +4,20 @@ ghost use mathlib.Core.List.{IsPrefix};
 ghost use Rattle.st_http.specs.First.{First};
 ghost use Rattle.st_journal.specs.declared.record.Record.{Record};
 ghost use Rattle.st_journal.specs.Replays.{Replays};
-ghost use Rattle.st_durable.specs.Applying.{Applies};
+ghost use Rattle.st_journal_store.specs.Applying.{Applies};
 ghost use Rattle.st_connection.specs.Connection.{KeptPast, Run, Told};
 ghost use Rattle.st_hall.specs.Steps.{Ask, State, state_after};
 ghost use Rattle.st_hall.specs.Views.{Post};
 ghost use Rattle.st_hall.specs.Decisions.{Standing};
-ghost use Rattle.st_publisher.specs.Rolls.{LeadPast};
-ghost use Rattle.st_station.specs.Posts.{Answers};
-ghost use Rattle.st_station.specs.Standing.{KeptAnswers, OutKept, ServesKept};
-ghost use Rattle.st_workers.specs.Working.{WorkedEach};
-ghost use Rattle.st_workers.specs.declared.working.Worked.{Worked};
+ghost use Rattle.st_hall_group_commit.specs.Rolls.{LeadPast};
+ghost use Rattle.st_hall_station.specs.Posts.{StationAnswers};
+ghost use Rattle.st_hall_station.specs.Standing.{KeptAnswers, OutKept, ServesKept};
+ghost use Rattle.st_server_workers.specs.Working.{WorkedEach};
+ghost use Rattle.st_server_workers.specs.declared.working.Worked.{Worked};
 ghost use Rattle.st_server.specs.Attending.{AreNew, settled_of};
 
 use st_hall::{Commits, HallName};
-use st_peer::Client;
+use st_server_peer::Client;
 
 /// No answer of any worker is taken back. `each`: what is kept in the end has all that was kept when a connection ended. `out`: so
 /// it has all that was seen for each answer of a connection, and `lost`: for each answer that is out of one that ended as lost.
@@ -28,10 +28,10 @@ pub fn nothing_is_taken_back<H: HallName, M: Commits<H>, C: Client>()
         → WorkedEach (ServesKept H.start M.keeps hold) C.call stations workers
         → WorkedEach (ServesKept H.start (λ seen. IsPrefix seen kept) hold) C.call stations workers }
     ensures out { (start : State) (kept : List Ask) (s t : Post) (items : List First) (answers : List (List ℕ))
-        → IsPrefix t.seat.seen kept → Run (Told (Answers start)) s items answers t
+        → IsPrefix t.seat.seen kept → Run (Told (StationAnswers start)) s items answers t
         → Run (Told (KeptAnswers start (λ seen. IsPrefix seen kept))) s items answers t }
     ensures lost { (start : State) (kept : List Ask) (s synced t : Post) (items : List First) (answers : List (List ℕ)) (sent : List ℕ)
-        → IsPrefix synced.seat.seen kept → KeptPast (Told (Answers start)) s synced t items answers sent
+        → IsPrefix synced.seat.seen kept → KeptPast (Told (StationAnswers start)) s synced t items answers sent
         → OutKept start (λ seen. IsPrefix seen kept) s items answers sent }
     ensures found { (first start found : State) (kept list : List Ask) (left : List Record) → LeadPast first start kept list left
         → Replays Applies first left found

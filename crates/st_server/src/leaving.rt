@@ -5,7 +5,7 @@ ghost use Rattle.st_server.specs.Attending.{HaveOneList, desk_of, settled_of};
 
 use st_hall::law::one_list;
 use st_hall::{Commits, Desk, Front, HallName};
-use st_workers::Worked;
+use st_server_workers::Worked;
 use std::alloc::{AllocError, Global};
 use std::sync::Wait;
 

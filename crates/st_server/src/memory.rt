@@ -1,22 +1,22 @@
 //! A server whose store is in memory.
 ghost use Rattle.std.specs.Prelude.{◌≡◌, ◌<◌, ◌⊎◌, None, List, map};
 ghost use Rattle.st_text.specs.Texts.{Text};
-ghost use Rattle.st_command.specs.Opening.{Opens};
+ghost use Rattle.st_command.specs.Opening.{Fails, OpensState};
 ghost use Rattle.st_server.specs.Attending.{Attends};
-ghost use Rattle.st_server.specs.Serving.{IsRefused, IsServed, in_memory};
-ghost use Rattle.st_workers.specs.Telling.{Tells};
-ghost use Rattle.st_command_line.specs.ServedArguments.{SaysServed, place_text, store_of};
+ghost use Rattle.st_server.specs.Serving.{RunsInMemory, in_memory};
+ghost use Rattle.st_server_workers.specs.Telling.{Tells};
+ghost use Rattle.st_command_line.specs.ServedArguments.{RefusesServedWords, SaysServed, place_text, store_of};
 ghost use Rattle.st_command_line.specs.Status.{exit_status_after};
 
 use crate::copying::{Copying, NoList};
 use crate::serving::serve_at;
 use st_command::stores_for;
 use st_command_line::{Fault, ServedArguments};
-use st_copy::Copier;
 use st_core::{Seed, Store};
 use st_hall::{Hall, HallFault, HallName, UnnamedFor};
-use st_peer::{Client, Listens};
-use st_workers::Binds;
+use st_journal_copy::Copier;
+use st_server_peer::{Client, Listens};
+use st_server_workers::Binds;
 use std::alloc::Global;
 use std::fs::Files;
 use std::io::{Eprint, Write};
@@ -52,7 +52,7 @@ fn open_hall<
     requires named { (name.seen.book ≡ H.book) × (name.blank.name ≡ H.name) }
     requires workers { (name.blank.parts ≡ workers) × (H.parts ≡ workers) × (0 < workers) }
     requires alike { (both.0 ≡ H.start) × (both.1 ≡ H.start) }
-    requires opens { Opens said.now.digest.now (map (λ name. name.now) said.now.names.items) both.0 }
+    requires opens { OpensState said.now.digest.now (map (λ name. name.now) said.now.names.items) both.0 }
     ensures told { Tells (place_text said.now.place) said.now.connections (O.contents output.old) (O.contents output.new) result }
     ensures attended { Attends C.call H.start in_memory 0 said.now.connections result }
 {
@@ -91,8 +91,8 @@ pub(crate) fn run_in_memory<
 ) -> Result<(), Fault>
     requires in_memory { store_of said.now ≡ None }
     ensures { (words : List Text) → SaysServed words said.now
-        → IsServed C.call words (O.contents output.old) (O.contents output.new) (exit_status_after result)
-        ⊎ IsRefused words (O.contents output.old) (O.contents output.new) (exit_status_after result) }
+        → RunsInMemory C.call words (O.contents output.old) (O.contents output.new) (exit_status_after result)
+        ⊎ Fails (RefusesServedWords words) (O.contents output.new ≡ O.contents output.old) (exit_status_after result) }
 {
     let both = stores_for(alloc, seed, said.digest, &said.names)?;
     let workers = said.worker_count();

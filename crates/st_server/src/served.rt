@@ -1,17 +1,17 @@
 //! A server at a port or a socket, by the words of a command line.
 ghost use Rattle.std.specs.Prelude.{map, string_bytes};
-ghost use Rattle.st_server.specs.Running.{Ran};
+ghost use Rattle.st_server.specs.Running.{RunsServer};
 ghost use Rattle.st_command_line.specs.Status.{exit_status_after};
 
 use crate::kept::run_kept;
 use crate::memory::run_in_memory;
 use st_command::Keeper;
 use st_command_line::{Fault, ServedArguments, give_up};
-use st_copy::Copier;
 use st_core::Seed;
 use st_journal::ReadBack;
-use st_peer::{Client, Listens};
-use st_workers::Binds;
+use st_journal_copy::Copier;
+use st_server_peer::{Client, Listens};
+use st_server_workers::Binds;
 use std::alloc::Global;
 use std::fs::Files;
 use std::io::{Eprint, Write};
@@ -44,7 +44,7 @@ fn run<
     words: &[String],
     output: &mut O,
 ) -> Result<(), Fault>
-    ensures { Ran C.call (K.holds keeper) J.Journal.list J.Journal.misreads J.Journal.faults J.Journal.may_leave
+    ensures { RunsServer C.call (K.holds keeper) J.Journal.list J.Journal.misreads J.Journal.faults J.Journal.may_leave
         (map string_bytes words.now) (O.contents output.old) (O.contents output.new)
         (exit_status_after result) }
 {
@@ -96,7 +96,7 @@ pub fn serve_words<
     output: &mut O,
     faults: &mut F,
 ) -> u8
-    ensures { Ran C.call (K.holds keeper) J.Journal.list J.Journal.misreads J.Journal.faults J.Journal.may_leave
+    ensures { RunsServer C.call (K.holds keeper) J.Journal.list J.Journal.misreads J.Journal.faults J.Journal.may_leave
         (map string_bytes words.now) (O.contents output.old) (O.contents output.new) result }
 {
     match run::<J, K, L, C, N, R, O>(rt, alloc, seed, keeper, copier, words, output) {

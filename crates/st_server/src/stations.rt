@@ -5,7 +5,7 @@ ghost use Rattle.st_server.specs.Attending.{AreNew, new_station};
 
 use crate::leaving::AtDesk;
 use st_hall::{Commits, Desk, Front, Gate, HallName};
-use st_station::Station;
+use st_hall_station::Station;
 use std::alloc::{AllocError, Global};
 use std::sync::Wait;
 

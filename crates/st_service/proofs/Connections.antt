@@ -1,14 +1,14 @@
 -- Runs without a 503, and the histories of their items.
-use Rattle.std.proofs.Common.{◌≡◌, ℕ, List, [], ◌∷◌, ◌++◌, Option, Some, None, option_map, refl, sym, ◌∙◌, ap, subst}
+use Rattle.std.proofs.Common.{◌≡◌, ℕ, Bool, List, [], ◌∷◌, ◌++◌, Option, Some, None, option_map, refl, sym, ◌∙◌, ap, subst}
 use Rattle.std.specs.List.{All}
 use Rattle.std.proofs.lemmas.List.Elements.{All-head, All-tail}
-use Rattle.st_http.specs.First.{First, message, fault, expects}
+use Rattle.httparse.specs.Grammar.{RequestHead}
+use Rattle.st_http.specs.First.{First, message, fault, more, expects}
 use Rattle.st_core.specs.declared.asked.Asked.{Asked}
 use Rattle.st_core.specs.State.{State}
 use Rattle.st_core.specs.Step.{step, after}
-use Rattle.st_service.specs.Answers.{Answers, told, busy, untold, unrouted, mismatched, faulty, close_of}
-use Rattle.st_service.specs.Runs.{IsBusy}
-use Rattle.st_service.specs.Worlds.{Event, IsUnrouted, ItemAsks, IsHistory, requests, next_state, unrouted_text, item_text}
+use Rattle.st_service.specs.Answers.{Answers, IsBusy, StateAnswers, told, busy, untold, unrouted, close_of, parsed}
+use Rattle.st_service.specs.Worlds.{Event, ItemAsks, IsHistory, requests, next_state, item_text}
 use Rattle.st_service.specs.Worlds as worlds
 use Rattle.st_service.proofs.Histories.{asks_one}
 use Rattle.st_connection.specs.Connection.{Run, Told}
@@ -29,34 +29,29 @@ module _ {A : Type 0} where
     pub answered : Answered s mid item answer asked
 
   -- where it is not a 503, behind whatever was said before it
-  raw_so : {s mid : State A} {item : First} {answer : List ℕ} → Answers s item answer mid → (text : List ℕ) → text ≡ interim (expects item) ++ answer → (IsBusy text → ⊥)
-      → AnsweredSo s mid item text
-  raw_so (told {endpoint = endpoint} {name = name} {asked = asked} at asks) text is some = record {
+  said_so : (s mid : State A) (h : RequestHead) (body : List ℕ) (bare : Bool) (answer text : List ℕ) → StateAnswers s (parsed h body bare) answer mid
+      → text ≡ interim (expects (message h body bare)) ++ answer → (IsBusy text → ⊥) → AnsweredSo s mid (message h body bare) text
+  said_so s mid h body bare answer text (told {asked = asked} asks after said) is some = record {
     asked = Some asked;
-    answered = record { asks = (endpoint, name, at, asks); text = is; state = refl };
+    answered = record { asks = asks; text = is ∙ ap (λ t. interim (expects (message h body bare)) ++ t) said; state = after };
   }
-  raw_so (busy {h = h} {body = body} {bare = bare}) text is some = absurd (some (expects (message h body bare), close_of h, bare, is))
-  raw_so (untold {h = h} {body = body} {bare = bare} at asks refused) text is some = absurd (some (expects (message h body bare), close_of h, bare, is))
-  raw_so (unrouted {h = h} {body = body} {bare = bare} at) text is some = record {
+  said_so s mid h body bare answer text (busy same said) is some =
+      absurd (some (expects (message h body bare), close_of h, bare, is ∙ ap (λ t. interim (expects (message h body bare)) ++ t) said))
+  said_so s mid h body bare answer text (untold asks after refused said) is some =
+      absurd (some (expects (message h body bare), close_of h, bare, is ∙ ap (λ t. interim (expects (message h body bare)) ++ t) said))
+  said_so s mid h body bare answer text (unrouted none same said) is some = record {
     asked = None;
-    answered = record {
-      asks = subst IsUnrouted (sym at) tt;
-      text = is ∙ ap (λ r. interim (expects (message h body bare)) ++ unrouted_text r (close_of h) bare) (sym at);
-      state = refl;
-    };
+    answered = record { asks = none; text = is ∙ ap (λ t. interim (expects (message h body bare)) ++ t) said; state = same };
   }
-  raw_so (mismatched {h = h} {body = body} {bare = bare} at) text is some = record {
-    asked = None;
-    answered = record {
-      asks = subst IsUnrouted (sym at) tt;
-      text = is ∙ ap (λ r. interim (expects (message h body bare)) ++ unrouted_text r (close_of h) bare) (sym at);
-      state = refl;
-    };
-  }
-  raw_so faulty text is some = record { asked = None; answered = record { asks = tt; text = is; state = refl } }
 
-  answered_so : {s mid : State A} {item : First} {text : List ℕ} → Told Answers s item text mid → (IsBusy text → ⊥) → AnsweredSo s mid item text
-  answered_so {text = text} (answer, is, one) some = raw_so one text is some
+  raw_so : (s mid : State A) (item : First) (answer text : List ℕ) → Answers s item answer mid → text ≡ interim (expects item) ++ answer → (IsBusy text → ⊥)
+      → AnsweredSo s mid item text
+  raw_so s mid (message h body bare) answer text one is some = said_so s mid h body bare answer text one is some
+  raw_so s mid (fault reason bare) answer text (said, same) is some = record { asked = None; answered = record { asks = tt; text = is ∙ said; state = same } }
+  raw_so s mid (more waits) answer text one is some = absurd one
+
+  answered_so : (s mid : State A) (item : First) (text : List ℕ) → Told Answers s item text mid → (IsBusy text → ⊥) → AnsweredSo s mid item text
+  answered_so s mid item text (answer, is, one) some = raw_so s mid item answer text one is some
 
   -- the items of such a run are a history
   pub record Heard (s t : State A) (items : List First) (texts : List (List ℕ)) : Type 0 where
@@ -68,7 +63,7 @@ module _ {A : Type 0} where
   heard s t [] (text ∷ texts) run some = absurd run
   heard s t (item ∷ items) [] run some = absurd run
   heard s t (item ∷ items) (text ∷ texts) (mid, one, rest) some =
-      let first = answered_so one (All-head (λ a. IsBusy a → ⊥) text texts some) in
+      let first = answered_so s mid item text one (All-head (λ a. IsBusy a → ⊥) text texts some) in
       let more = heard mid t items texts rest (All-tail (λ a. IsBusy a → ⊥) text texts some) in
       record {
         history = record { item = item; asked = first.asked } ∷ more.history;
@@ -88,7 +83,7 @@ module _ {A : Type 0} where
   defined s t (item ∷ items) [] history run some h = absurd run
   defined s t (item ∷ items) (text ∷ texts) [] run some h = absurd h
   defined s t (item ∷ items) (text ∷ texts) (event ∷ events) (mid, one, rest) some (is, asks, h) =
-      let first = answered_so one (All-head (λ a. IsBusy a → ⊥) text texts some) in
+      let first = answered_so s mid item text one (All-head (λ a. IsBusy a → ⊥) text texts some) in
       let same = asks_one item first.asked event.asked first.answered.asks asks in
       let here : text ≡ item_text event.item (option_map (λ a. (step s a).reply) event.asked) =
       first.answered.text ∙ ap (λ o. item_text item (option_map (λ a. (step s a).reply) o)) same ∙ ap (λ x. item_text x (option_map (λ a. (step s a).reply) event.asked)) (sym is) in
@@ -104,9 +99,9 @@ module _ {A : Type 0} where
       last (Some asked) e = simp e
 
   -- a run and another after it are one
-  pub joined : (s m t : State A) (items others : List First) (texts more : List (List ℕ)) → Run (Told Answers) s items texts m → Run (Told Answers) m others more t
-      → Run (Told Answers) s (items ++ others) (texts ++ more) t
-  joined s m t [] others [] more run rest = subst (λ x. Run (Told Answers) x others more t) run rest
-  joined s m t [] others (text ∷ texts) more run rest = absurd run
-  joined s m t (item ∷ items) others [] more run rest = absurd run
-  joined s m t (item ∷ items) others (text ∷ texts) more (mid, one, run) rest = (mid, one, joined mid m t items others texts more run rest)
+  pub joined : (s m t : State A) (items others : List First) (texts later : List (List ℕ)) → Run (Told Answers) s items texts m → Run (Told Answers) m others later t
+      → Run (Told Answers) s (items ++ others) (texts ++ later) t
+  joined s m t [] others [] later run rest = subst (λ x. Run (Told Answers) x others later t) run rest
+  joined s m t [] others (text ∷ texts) later run rest = absurd run
+  joined s m t (item ∷ items) others [] later run rest = absurd run
+  joined s m t (item ∷ items) others (text ∷ texts) later (mid, one, run) rest = (mid, one, joined mid m t items others texts later run rest)

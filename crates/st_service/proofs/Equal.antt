@@ -2,8 +2,7 @@
 use Rattle.std.proofs.Common.{◌≡◌, ℕ, List, [], ◌∷◌, ◌++◌, map, filter, Bool, true, false, Option, Some, None, refl, sym, ◌∙◌, ap, subst}
 use Rattle.std.specs.Prelude.{filter_map}
 use Rattle.st_text.specs.Texts.{Text}
-use Rattle.st_http.specs.First.{First, message, fault, more, expects}
-use Rattle.st_http.specs.Routes.{Routed, found, no_route, bad_method, routed}
+use Rattle.st_http.specs.First.{First, message, fault, more}
 use Rattle.st_connection.specs.Render.{interim}
 use Rattle.st_core.specs.declared.asked.Asked.{Asked}
 use Rattle.st_policy.specs.declared.reply.Reply.{Reply}
@@ -11,31 +10,20 @@ use Rattle.st_core.specs.State.{State}
 use Rattle.st_core.specs.Step.{step}
 use Rattle.st_core.specs.Worlds.{ever, NeverSystem, names, keep, replies_to}
 use Rattle.st_core.proofs.Kept.{told_the_same}
-use Rattle.st_service.specs.Answers.{close_of, reply_text, no_route_text, bad_method_text}
-use Rattle.st_service.specs.Worlds.{Form, route_fault, form_of, unrouted_text, Event, ItemAsks, IsHistory, requests, is_of, kept_events, Trace, trace_of, keep_history, keep_items, item_text, answers, answers_to}
+use Rattle.st_service.specs.Answers.{reply_text}
+use Rattle.st_service.specs.Worlds.{Form, form_of, Event, ItemAsks, IsHistory, requests, is_of, kept_events, Trace, trace_of, keep_history, keep_items, item_text, answers, answers_to}
 use Rattle.st_service.proofs.Histories.{each_asks, each_kept, same_events, whose, requests_kept, own_events, own_kept}
 
 -- the text of an answer by its form
-abbrev fault_text_of : Option (Option (List ℕ)) → Bool → Bool → List ℕ
-fault_text_of None close bare = []
-fault_text_of (Some None) close bare = no_route_text close bare
-fault_text_of (Some (Some allow)) close bare = bad_method_text allow close bare
-
 abbrev form_text : {A : Type 0} → Option Form → Option (Reply A) → List ℕ
 form_text None reply = []
-form_text (Some form) None = interim form.expects ++ fault_text_of form.unrouted form.close form.bare
+form_text (Some form) None = interim form.expects ++ form.unrouted
 form_text (Some form) (Some reply) = interim form.expects ++ reply_text reply form.close form.bare
-
-route_text : (r : Routed) (close bare : Bool) → fault_text_of (route_fault r) close bare ≡ unrouted_text r close bare
-route_text (found endpoint name) close bare = refl
-route_text no_route close bare = refl
-route_text (bad_method allow) close bare = refl
 
 -- a user's own item is a message, and its answer hangs on its form
 text_is : {A : Type 0} (user : Text) (item : First) (reply : Option (Reply A)) → is_of user item ≡ true
     → form_text (form_of item) reply ≡ item_text item reply
-text_is user (message h body bare) None e =
-    ap (λ t. interim (expects (message h body bare)) ++ t) (route_text (routed h.method h.target) (close_of h) bare)
+text_is user (message h body bare) None e = refl
 text_is user (message h body bare) (Some reply) e = refl
 text_is user (fault reason bare) reply e = absurd (let k : false ≡ true = e in cc)
 text_is user (more waits) reply e = absurd (let k : false ≡ true = e in cc)

@@ -11,8 +11,8 @@ use Rattle.st_core.specs.State.{State}
 use Rattle.st_core.specs.Step.{judge, step}
 use Rattle.st_core.specs.Worlds.{Sight, names, matters, kept}
 use Rattle.st_json.proofs.OneAnswer.{one_answer}
-use Rattle.st_service.specs.Answers.{Asks, call_from}
-use Rattle.st_service.specs.Worlds.{Event, IsUnrouted, ItemAsks, IsHistory, requests, is_of, item_stays, asks_what_matters, next_state, kept_events}
+use Rattle.st_service.specs.Answers.{Asks, IsUnrouted, call_from}
+use Rattle.st_service.specs.Worlds.{Event, ItemAsks, IsHistory, requests, is_of, item_stays, asks_what_matters, next_state, kept_events}
 
 -- ---- an item asks one thing
 
@@ -48,14 +48,14 @@ module _ {A : Type 0} where
       λ i. record { token = tokens i; call = calls i }
 
   pub asks_one : (item : First) (a b : Option (Asked A)) → ItemAsks item a → ItemAsks item b → a ≡ b
-  asks_one (message h body bare) (Some a) (Some b) (endpoint, name, at, asks) (own, called, there, also) =
-      let route : found endpoint name ≡ found own called = sym at ∙ there in
-      let of_endpoint : endpoint ≡ own = ap (endpoint_or endpoint) route in
-      let of_name : name ≡ called = ap (name_or name) route in
-      let moved = subst (λ l. Asks l called (token_of (fields_of h)) body a) of_endpoint (subst (λ n. Asks endpoint n (token_of (fields_of h)) body a) of_name asks) in
-      ap Some (one_asks own called body (token_of (fields_of h)) a b moved also)
-  asks_one (message h body bare) (Some a) None (endpoint, name, at, asks) q = absurd (not_unrouted (routed h.method h.target) endpoint name at q)
-  asks_one (message h body bare) None (Some b) p (endpoint, name, at, asks) = absurd (not_unrouted (routed h.method h.target) endpoint name at p)
+  asks_one (message h body bare) (Some a) (Some b) p q =
+      let route : found p.endpoint p.name ≡ found q.endpoint q.name = sym p.route ∙ q.route in
+      let of_endpoint : p.endpoint ≡ q.endpoint = ap (endpoint_or p.endpoint) route in
+      let of_name : p.name ≡ q.name = ap (name_or p.name) route in
+      let moved = subst (λ l. Asks l q.name (token_of (fields_of h)) body a) of_endpoint (subst (λ n. Asks p.endpoint n (token_of (fields_of h)) body a) of_name p.asks) in
+      ap Some (one_asks q.endpoint q.name body (token_of (fields_of h)) a b moved q.asks)
+  asks_one (message h body bare) (Some a) None p q = absurd (not_unrouted (routed h.method h.target) p.endpoint p.name p.route q)
+  asks_one (message h body bare) None (Some b) p q = absurd (not_unrouted (routed h.method h.target) q.endpoint q.name q.route p)
   asks_one (message h body bare) None None p q = refl
   asks_one (fault reason bare) (Some a) b p q = absurd p
   asks_one (fault reason bare) None (Some b) p q = absurd q
@@ -105,7 +105,7 @@ module _ {A : Type 0} where
   -- ---- the requests that are kept are those of the items that are kept
 
   pub whose : (user : Text) (item : First) (asked : Asked A) → ItemAsks item (Some asked) → is_of user item ≡ names asked.token user
-  whose user (message h body bare) asked (endpoint, name, at, asks) = ap (λ token. names token user) (sym asks.token_is)
+  whose user (message h body bare) asked p = ap (λ token. names token user) (sym p.asks.token_is)
   whose user (fault reason bare) asked p = absurd p
   whose user (more waits) asked p = absurd p
 

@@ -1,5 +1,4 @@
 pub mod Told
-pub mod Ample
 pub mod Histories
 pub mod Equal
 pub mod Connections

@@ -5,8 +5,7 @@ use Rattle.st_text.specs.Texts.{Text}
 use Rattle.st_http.specs.First.{First}
 use Rattle.st_core.specs.State.{State}
 use Rattle.st_core.specs.Worlds.{NeverSystem}
-use Rattle.st_service.specs.Answers.{Answers}
-use Rattle.st_service.specs.Runs.{IsBusy}
+use Rattle.st_service.specs.Answers.{Answers, IsBusy}
 use Rattle.st_service.specs.Worlds.{Event, IsHistory, requests, keep_history, answers_to}
 use Rattle.st_service.proofs.Connections.{defined}
 use Rattle.st_service.proofs.Equal.{equal}

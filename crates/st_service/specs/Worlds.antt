@@ -3,9 +3,8 @@
 use Rattle.std.specs.Prelude.{◌≡◌, ℕ, Bool, false, ◌||◌, List, [], ◌∷◌, ◌++◌, map, filter_map, if◌then◌else◌, Option, Some, None, option_map, ⊤}
 use Rattle.st_text.specs.Texts.{Text}
 use Rattle.st_dir.specs.Directory.{Directory}
-use Rattle.st_http.specs.declared.routes.Endpoint.{Endpoint}
 use Rattle.st_http.specs.First.{First, message, fault, more, expects, fields_of}
-use Rattle.st_http.specs.Routes.{Routed, found, no_route, bad_method, routed}
+use Rattle.st_http.specs.Routes.{routed}
 use Rattle.st_http.specs.Token.{token_of}
 use Rattle.st_core.specs.declared.asked.Asked.{Asked}
 use Rattle.st_policy.specs.declared.reply.Reply.{Reply}
@@ -13,7 +12,7 @@ use Rattle.st_core.specs.State.{State}
 use Rattle.st_core.specs.Step.{judge, step}
 use Rattle.st_core.specs.Worlds.{Sight, ever, names, matters}
 use Rattle.st_connection.specs.Render.{fault_text, interim}
-use Rattle.st_service.specs.Answers.{Asks, token_from, close_of, reply_text, no_route_text, bad_method_text}
+use Rattle.st_service.specs.Answers.{AsksIn, IsUnrouted, token_from, close_of, parsed, reply_text, unrouted_text}
 
 -- ---- what the items ask
 
@@ -22,17 +21,9 @@ pub record Event (A : Type 0) : Type 0 where
   pub item : First
   pub asked : Option (Asked A)
 
--- no endpoint has the path and the method
-abbrev pub IsUnrouted : Routed → Type 0
-IsUnrouted (found endpoint name) = ⊥
-IsUnrouted no_route = ⊤
-IsUnrouted (bad_method allow) = ⊤
-
--- The item asks what its endpoint, the name in its path, its token and its body make. No item asks two things.
+-- The item asks what its message does. No item asks two things.
 abbrev pub ItemAsks : {A : Type 0} → First → Option (Asked A) → Type 0
-ItemAsks (message h body bare) (Some asked) =
-    (endpoint : Endpoint) × (name : List ℕ) × (routed h.method h.target ≡ found endpoint name)
-    × Asks endpoint name (token_of (fields_of h)) body asked
+ItemAsks (message h body bare) (Some asked) = AsksIn (parsed h body bare) asked
 ItemAsks (message h body bare) None = IsUnrouted (routed h.method h.target)
 ItemAsks (fault reason bare) (Some asked) = ⊥
 ItemAsks (fault reason bare) None = ⊤
@@ -55,8 +46,7 @@ requests history = filter_map (λ event. event.asked) history
 -- has no token, and is nobody's.
 abbrev pub is_of : Text → First → Bool
 is_of user (message h body bare) = names (option_map token_from (token_of (fields_of h))) user
-is_of user (fault reason bare) = false
-is_of user (more waits) = false
+is_of user _ = false
 
 -- what has no endpoint counts as refused, as a fault does
 abbrev pub asks_what_matters : {A : Type 0} → Sight → Directory A → Option (Asked A) → Bool
@@ -79,30 +69,23 @@ kept_events user sight s (event ∷ rest) =
     then event ∷ kept_events user sight (next_state s event.asked) rest
     else kept_events user sight (next_state s event.asked) rest
 
--- What the answer to a message hangs on beside what it asks: whether its route is an endpoint (`None`), or else which methods its path
--- has, if any; whether the connection is closed after it; whether it is a HEAD request; and whether the client may wait for the interim
--- response.
+-- What the answer to a message hangs on beside what it asks: the answer where its route is no endpoint, and nothing where it is one;
+-- whether the connection is closed after it; whether it is a HEAD request; and whether the client may wait for the interim response.
 pub record Form : Type 0 where
-  pub unrouted : Option (Option (List ℕ))
+  pub unrouted : List ℕ
   pub close : Bool
   pub bare : Bool
   pub expects : Bool
 
-abbrev pub route_fault : Routed → Option (Option (List ℕ))
-route_fault (found endpoint name) = None
-route_fault no_route = Some None
-route_fault (bad_method allow) = Some (Some allow)
-
 -- the form of a message; no other item is a user's
 abbrev pub form_of : First → Option Form
 form_of (message h body bare) = Some (record {
-  unrouted = route_fault (routed h.method h.target);
+  unrouted = unrouted_text (routed h.method h.target) (close_of h) bare;
   close = close_of h;
   bare = bare;
   expects = expects (message h body bare);
 })
-form_of (fault reason bare) = None
-form_of (more waits) = None
+form_of _ = None
 
 -- What an item leaves to notice: what it asks, and of the user's own the form. How it is written otherwise does not matter.
 pub record Trace (A : Type 0) : Type 0 where
@@ -121,12 +104,6 @@ abbrev pub keep_items : {A : Type 0} → Text → State A → List (Event A) →
 keep_items user s history = map (λ event. event.item) (kept_events user (ever user s (requests history)) s history)
 
 -- ---- the answers
-
--- the answer where no endpoint has the path and the method
-abbrev pub unrouted_text : Routed → Bool → Bool → List ℕ
-unrouted_text (found endpoint name) close bare = []
-unrouted_text no_route close bare = no_route_text close bare
-unrouted_text (bad_method allow) close bare = bad_method_text allow close bare
 
 -- the answer to an item that gets this reply, or none, behind the interim response that the item expects
 abbrev pub item_text : {A : Type 0} → First → Option (Reply A) → List ℕ

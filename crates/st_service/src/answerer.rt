@@ -1,7 +1,7 @@
 //! What answers messages by a store.
-ghost use Rattle.std.specs.Prelude.{◌≡◌, false, option_map};
+ghost use Rattle.std.specs.Prelude.{◌≡◌, false, option_map, refl};
 ghost use Rattle.st_core.specs.State.{State};
-ghost use Rattle.st_service.specs.Answers.{Answers, AsksBy, IsFound, RepliesTo, faulty, token_from, token_in};
+ghost use Rattle.st_service.specs.Answers.{Answers, AsksBy, IsFound, RepliesTo, StateAnswers, token_from, token_in};
 ghost use Rattle.st_service.specs.Bytes.{bytes_of};
 ghost use Rattle.st_service.specs.inner.Shown.{shown};
 
@@ -100,9 +100,9 @@ impl<A: Allocator + Copy> Replies for Answerer<A> {
 
     ghost replies = { RepliesTo };
 
-    ghost shown = { shown };
+    ghost shown = { shown (StateAnswers {A = A}) };
 
-    ghost faults = { λ s reason bare. faulty };
+    ghost faults = { λ s reason bare. (refl, refl) };
 
     fn reply(&mut self, message: &Message<'_>) -> Answer<A> {
         match Answer::of_unrouted(self.alloc, message) {

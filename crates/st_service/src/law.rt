@@ -1,31 +1,22 @@
 //! What the definitions say of each text, whatever the program does.
-ghost use Rattle.std.specs.Prelude.{◌≡◌, ◌++◌, List, ℕ, Bool, Option, None, Result, All, option_map};
+ghost use Rattle.std.specs.Prelude.{◌≡◌, ◌++◌, List, ℕ, None, Result, All, option_map};
 ghost use Rattle.st_policy.specs.declared.denial.Denial.TheVariants.{Token as BadToken};
 ghost use Rattle.st_policy.specs.declared.refusal.Refusal.TheVariants.{Denied};
 ghost use Rattle.st_policy.specs.declared.reply.Reply.TheVariants.{Refused};
-ghost use Rattle.st_core.specs.declared.asked.Asked.{Asked};
 ghost use Rattle.st_core.specs.State.{State};
-ghost use Rattle.st_core.specs.Step.{asker_of, replies, after};
+ghost use Rattle.st_core.specs.Step.{asker_of, after};
 ghost use Rattle.st_core.specs.Worlds.{NeverSystem};
-ghost use Rattle.st_service.specs.Answers.{Answers, IsFound, RepliesTo, reply_text, token_from, token_in};
+ghost use Rattle.st_service.specs.Answers.{Answers, IsBusy, IsFound, RepliesTo, reply_text, token_from, token_in};
 ghost use Rattle.st_connection.specs.Connection.{Run, Served, Told};
+ghost use Rattle.st_connection.specs.Streams.{Streams};
 ghost use Rattle.st_connection.specs.declared.connection.Ended.{Ended};
 ghost use Rattle.st_connection.specs.declared.connection.IoFault.{IoFault};
-ghost use Rattle.st_service.specs.Runs.{IsBusy, Tells};
 ghost use Rattle.st_service.specs.Worlds.{Event, IsHistory, requests, keep_history, keep_items, answers, answers_to};
 ghost use Rattle.st_http.specs.First.{First};
 ghost use Rattle.st_http.specs.declared.message.Message.{Message};
 ghost use Rattle.st_text.specs.Texts.{Text};
 
 use std::alloc::Allocator;
-
-/// Where no answer is a 503, the answers are those of a run of the requests that the items ask, each behind the interim response that its
-/// item expects, and the state is that after it.
-pub fn ample_run<A: Allocator>()
-    ensures { (s t : State A) (items : List First) (answers : List (List ℕ)) → Run (Told Answers) s items answers t
-        → All (λ answer. IsBusy answer → ⊥) answers
-        → (asked : List (Asked A)) × Tells items asked (replies s asked) answers × (t ≡ after s asked) }
-{}
 
 /// Where no answer is a 503, the items have one history: what each of them asks. The answers are those of the
 /// history, and the state is that after its requests.
@@ -71,14 +62,13 @@ pub fn equal_service<A: Allocator>()
         → NeverSystem user s (requests history) → NeverSystem user s (requests other)
         → keep_history user s history ≡ keep_history user s other
         → answers_to user items texts ≡ answers_to user others more }
-    ensures served { (s t u : State A) (user : Text) (left_a left_b left_c left_d held_a held_b held_c held_d : Option (List ℕ))
-        (failed broke : Bool) (end stop : Result Ended IoFault) (first : Served Answers s t left_a left_b held_a held_b failed end)
-        (second : Served Answers s u left_c left_d held_c held_d broke stop) (history other : List (Event A))
-        → All (λ answer. IsBusy answer → ⊥) first.answers → All (λ answer. IsBusy answer → ⊥) second.answers
-        → IsHistory first.items history → IsHistory second.items other
+    ensures served { (s t u : State A) (user : Text) (one two : Streams) (end stop : Result Ended IoFault)
+        (first : Served Answers s t one end) (second : Served Answers s u two stop) (history other : List (Event A))
+        → All (λ answer. IsBusy answer → ⊥) first.within.answers → All (λ answer. IsBusy answer → ⊥) second.within.answers
+        → IsHistory first.within.items history → IsHistory second.within.items other
         → NeverSystem user s (requests history) → NeverSystem user s (requests other)
         → keep_history user s history ≡ keep_history user s other
-        → answers_to user first.items first.answers ≡ answers_to user second.items second.answers }
+        → answers_to user first.within.items first.within.answers ≡ answers_to user second.within.items second.within.answers }
 {}
 
 /// A message whose token does not hold is refused so, whatever its body is, and changes nothing.

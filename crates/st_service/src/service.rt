@@ -3,6 +3,7 @@ ghost use Rattle.std.specs.Prelude.{◌≡◌, false, IfOk};
 ghost use Rattle.st_service.specs.Answers.{Answers, RepliesTo};
 ghost use Rattle.st_service.specs.Bytes.{bytes_of};
 ghost use Rattle.st_connection.specs.Connection.{EndsOn, Served};
+ghost use Rattle.st_connection.specs.Streams.{streams};
 
 use crate::answer::Answer;
 use crate::answerer::Answerer;
@@ -60,10 +61,10 @@ impl<A: Allocator + Copy> Service<A> {
     ) -> Result<Ended, IoFault>
         requires reader_sound { R.has_failed reader.old ≡ false }
         requires writer_sound { W.has_failed writer.old ≡ false }
-        ensures served { Served Answers self.old self.new (R.left reader.old) (R.left reader.new)
-            (W.held writer.old) (W.held writer.new) (R.has_failed reader.new) result }
-        ensures ends { EndsOn MAX_READS (R.left reader.new) (R.reads reader.old) (R.reads reader.new)
-            (R.has_ended reader.new) (R.has_failed reader.new) (W.has_failed writer.new) result }
+        ensures served { Served Answers self.old self.new
+            (streams R.left R.reads R.has_ended R.has_failed W.held W.has_failed reader.old reader.new writer.old writer.new) result }
+        ensures ends { EndsOn MAX_READS
+            (streams R.left R.reads R.has_ended R.has_failed W.held W.has_failed reader.old reader.new writer.old writer.new) result }
     {
         self.server.serve(reader, writer)
     }

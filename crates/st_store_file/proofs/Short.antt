@@ -5,13 +5,13 @@ use Rattle.st_dir.specs.Directory.{Directory}
 use Rattle.st_core.specs.State.{State}
 use Rattle.st_journal.specs.declared.record.Record.{Record}
 use Rattle.st_journal.specs.Replays.{Replays}
-use Rattle.st_compact.specs.declared.judged_record.JudgedRecord.{JudgedRecord}
-use Rattle.st_compact.specs.Judging.{AreShortOf}
-use Rattle.st_compact.specs.Shortening.{Noted, IsShortList, is_left_out, records_of, shortened}
-use Rattle.st_compact.specs.Watching.{Watched, Watches}
-use Rattle.st_durable.specs.Applying.{Applies}
-use Rattle.st_compact.proofs.Seeing.{is_short_list}
-use Rattle.st_compact.proofs.Shorter.{one_state}
+use Rattle.st_journal_compact.specs.declared.judged_record.JudgedRecord.{JudgedRecord}
+use Rattle.st_journal_compact.specs.Judging.{AreShortOf}
+use Rattle.st_journal_compact.specs.Shortening.{Noted, IsShortList, is_left_out, records_of, shortened}
+use Rattle.st_journal_compact.specs.Watching.{Watched, Watches}
+use Rattle.st_journal_store.specs.Applying.{Applies}
+use Rattle.st_journal_compact.proofs.Seeing.{is_short_list}
+use Rattle.st_journal_compact.proofs.Shorter.{one_state}
 use Rattle.st_store_file.specs.declared.counts.Counts.{Counts}
 use Rattle.st_store_file.specs.Shortened.{AreCounted, IsShortened}
 

@@ -17,7 +17,7 @@ pub record AsksNone (app : App) (words : List Text) : Type 0 where
   pub unasked : has_flag (codes "compact") app words ≡ false
 
 -- the words ask for a short list of the store that they name, and open this state with this opening
-pub record Asks (app : App) (words : List Text) (first : State Global) (opening : Text) : Type 0 where
+pub record AsksShort (app : App) (words : List Text) (first : State Global) (opening : Text) : Type 0 where
   pub digits : Text
   pub names : List Text
   pub says : SaysRoot app words digits names
@@ -31,7 +31,7 @@ pub record IsDone {J : Type 0} (holds : List ℕ → List Record → Type 0) (li
     (may_leave : J → List Record → Type 0) (app : App) (words : List Text) (journal : J) : Type 0 where
   pub first : State Global
   pub opening : Text
-  pub asks : Asks app words first opening
+  pub asks : AsksShort app words first opening
   pub counts : Counts
   pub shortened : misreads journal ≡ 0 → IsShortened holds opening first (list journal) counts
   pub leaves : misreads journal ≡ 0 → (left : List Record) → may_leave journal left → left ≡ list journal
@@ -45,5 +45,5 @@ Shortens holds list misreads may_leave app words (Some journal) = IsDone holds l
 pub record IsNotDone (app : App) (words : List Text) (fault : Fault) : Type 0 where
   pub first : State Global
   pub opening : Text
-  pub asks : Asks app words first opening
+  pub asks : AsksShort app words first opening
   pub why : IsOfStore fault

@@ -1,13 +1,7 @@
 -- What a turn of copying leaves in a file.
-use Rattle.std.specs.Prelude.{◌≡◌, ◌≢◌, ◌⊎◌, ℕ, List, [], Option, Some, length}
-use Rattle.sqlite_wal.specs.Recovery.{Image}
+use Rattle.std.specs.Prelude.{◌≡◌, ◌≢◌, ℕ, List, Option, Some, length}
 use Rattle.st_journal.specs.declared.record.Record.{Record}
-use Rattle.st_journal_file.specs.Opening.{HoldJournal, HoldNoJournal}
-use Rattle.st_copy.specs.Following.{GoesOn, IsAtEnd, IsGiven}
-
--- the files held a copy with these changes, of a store that was opened so; or none, and there are no changes
-abbrev pub HoldCopy : Image → List ℕ → List Record → Type 0
-HoldCopy image opening changes = HoldJournal image opening changes ⊎ (HoldNoJournal image × (changes ≡ []))
+use Rattle.st_journal_copy.specs.Following.{GoesOn, IsAtEnd, IsGiven}
 
 -- The copy, as it was before it was closed, has what its files held and, behind that, what was read behind as many records, to an end of
 -- the list: so many by now. Unless it had as many as the last turn had left in it, all that it has was compared or appended.

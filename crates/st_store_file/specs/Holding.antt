@@ -1,4 +1,4 @@
--- What the two files of a store hold.
+-- What the two files of a store or of a copy hold.
 use Rattle.std.specs.Prelude.{◌≡◌, ◌⊎◌, ℕ, List, []}
 use Rattle.sqlite_wal.specs.Recovery.{Image}
 use Rattle.st_journal.specs.declared.record.Record.{Record}

@@ -5,8 +5,8 @@ use Rattle.st_dir.specs.Directory.{Directory}
 use Rattle.st_core.specs.State.{State}
 use Rattle.st_journal.specs.declared.record.Record.{Record}
 use Rattle.st_journal.specs.Replays.{Replays}
-use Rattle.st_durable.specs.Applying.{Applies}
-use Rattle.st_compact.specs.Shortening.{IsShortList}
+use Rattle.st_journal_store.specs.Applying.{Applies}
+use Rattle.st_journal_compact.specs.Shortening.{IsShortList}
 use Rattle.st_store_file.specs.declared.counts.Counts.{Counts}
 
 -- a list of so many records has a short list of so many, by this directory

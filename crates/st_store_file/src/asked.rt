@@ -11,7 +11,7 @@ ghost use Rattle.st_store_file.specs.inner.Stages.{Says};
 use crate::counts::Counts;
 use crate::file::shorten_file;
 use sqlite_std_file::{FileFrom, Start};
-use st_command::stores_and_opening_for;
+use st_command::store_and_opening_for;
 use st_command_line::Fault;
 use st_core::Seed;
 use st_journal::Journal;
@@ -56,13 +56,12 @@ pub(crate) fn shorten_asked<S: Start, F: Write>(
     if !asked.compacts {
         return Ok(None);
     }
-    let (store, copy, opening) = stores_and_opening_for(
+    let (store, opening) = store_and_opening_for(
         rt.alloc(),
         Seed::random(rt),
         asked.digits,
         asked.names,
     )?;
-    drop(copy);
     let (journal, counts) = shorten_file(rt, asked.program, start, path, opening.as_str(), store)?;
     tell(asked.program, &counts, faults);
     Ok(Some(journal))

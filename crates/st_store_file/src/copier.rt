@@ -1,13 +1,14 @@
 //! A copy in a SQLite file.
 ghost use Rattle.std.specs.Prelude.{◌≡◌, Some, true, IfOk};
 ghost use Rattle.sqlite_wal.specs.Files.{image_at};
-ghost use Rattle.st_store_file.specs.Copying.{Copied, HoldCopy};
+ghost use Rattle.st_store_file.specs.Copying.{Copied};
+ghost use Rattle.st_store_file.specs.Holding.{HoldStore};
 
 use crate::private::make_private;
 use crate::time::milliseconds;
 use sqlite_std_file::{FileFrom, Start, Unknown};
-use st_copy::{Copier, CopyFault, Counting, Source, bring_up, has_more};
 use st_journal::Journal;
+use st_journal_copy::{Copier, CopyFault, Counting, Source, bring_up, has_more};
 use st_journal_file::{FileJournal, OpenError, Silent};
 
 // Why a list was not copied into a file that was not opened.
@@ -48,7 +49,7 @@ pub fn copy_into<S: Start, L: Source>(
     source: &mut L,
     left: Option<u64>,
 ) -> Result<u64, CopyFault>
-    ensures { IfOk result (Copied (HoldCopy (image_at S.Start) opening.now) ⟦<FileJournal<FileFrom<S>> as Journal>⟧.list
+    ensures { IfOk result (Copied (HoldStore (image_at S.Start) opening.now) ⟦<FileJournal<FileFrom<S>> as Journal>⟧.list
         ⟦<FileJournal<FileFrom<S>> as Journal>⟧.misreads (L.gives source.new) left) }
 {
     if make_private(rt, path).is_err() {

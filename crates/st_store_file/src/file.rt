@@ -12,9 +12,9 @@ use crate::keeper::SqliteKeeper;
 use sqlite_std_file::{FileFrom, Start};
 use st_command::Keeper;
 use st_command_line::Fault;
-use st_compact::WatchedStore;
 use st_core::Store;
 use st_journal::Journal;
+use st_journal_compact::WatchedStore;
 use st_journal_file::FileJournal;
 
 /// Opens the journal at a path, of a store that was this one before its first change, and makes its list short. A store that is

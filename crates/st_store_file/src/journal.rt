@@ -4,16 +4,16 @@ ghost use Rattle.st_journal.specs.declared.record.Record.{Record};
 ghost use Rattle.st_journal.specs.Replays.{Replays};
 ghost use Rattle.st_command.specs.Opening.{IsOfStore};
 ghost use Rattle.st_command_line.specs.declared.fault.Fault.TheVariants.{StoreIo};
-ghost use Rattle.st_compact.specs.Judging.{AreShortOf};
-ghost use Rattle.st_compact.specs.Shortening.{IsShortList};
-ghost use Rattle.st_compact.specs.Watching.{Watched, Watches};
+ghost use Rattle.st_journal_compact.specs.Judging.{AreShortOf};
+ghost use Rattle.st_journal_compact.specs.Shortening.{IsShortList};
+ghost use Rattle.st_journal_compact.specs.Watching.{Watched, Watches};
 ghost use Rattle.st_store_file.specs.Shortened.{AreCounted};
 
 use crate::counts::Counts;
 use sqlite_disk::Disk;
 use st_command_line::Fault;
-use st_compact::{JudgedRecord, WatchedStore, shorten};
 use st_journal::{Journal, Record, ReplayError};
+use st_journal_compact::{JudgedRecord, WatchedStore, shorten};
 use st_journal_file::FileJournal;
 use std::alloc::Global;
 

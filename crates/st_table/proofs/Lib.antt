@@ -12,3 +12,4 @@ mod Sorting
 mod Ascending
 mod Tying
 mod Keys
+pub mod Copying

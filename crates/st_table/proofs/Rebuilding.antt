@@ -19,7 +19,6 @@ use Rattle.st_text.proofs.Same.{same-refl}
 use Rattle.st_index.specs.declared.row.Row.{Row}
 use Rattle.st_index.specs.Order.{scan_key}
 use Rattle.st_index.specs.Rows.{name_of}
-use Rattle.st_scan.specs.Rows.{has_row}
 use Rattle.st_table.specs.Table.{HasEachOnce, is_named, rows_with_name, with_row, without_named}
 use Rattle.st_table.proofs.Naming.{none_fails}
 use Rattle.st_table.proofs.Replacing.{bears}
@@ -42,7 +41,7 @@ inside_all q p m =
     all a b c d e f ha hb hc hd he hf = simp (ha, hb, hc, hd, he, hf)
 
 module _ {A : Type 0} where
-  pub filter_inside : (q : Query) (rows : List (Row A)) → ((p : Point) → is_inside q p ≡ true) → filter (has_row q) rows ≡ rows
+  pub filter_inside : (q : Query) (rows : List (Row A)) → ((p : Point) → is_inside q p ≡ true) → filter (λ row. is_inside q row.point) rows ≡ rows
   filter_inside q [] inside = refl
   filter_inside q (r ∷ rs) inside = let e = inside r.point in let ih = filter_inside q rs inside in simp (e, ih)
 

@@ -64,6 +64,17 @@ impl<A: Allocator + Copy> Places<A> {
         }
     }
 
+    /// Equal numbers at equal places. An error if memory runs out.
+    pub fn copy(&self) -> Result<Places<A>, AllocError>
+        ensures { IfOk result (λ places. places ≡ self.now) }
+    {
+        Ok(Places {
+            alloc: self.alloc,
+            seed: self.seed,
+            numbers: self.numbers.clone()?,
+        })
+    }
+
     /// The allocator.
     pub fn alloc(&self) -> A {
         self.alloc

@@ -112,6 +112,15 @@ impl<I: RowIndex + Drop> Table<I> {
         })
     }
 
+    /// An equal table, or an error if memory runs out.
+    pub fn copy(&self) -> Result<Table<I>, AllocError>
+        ensures { IfOk result (λ table. table ≡ self.now) }
+    {
+        let index = self.index.copy()?;
+        let places = self.places.copy()?;
+        Ok(Table { index, places })
+    }
+
     /// Moves the rows into an index of no rows, whose period becomes the table's. If memory runs out, nothing is changed.
     pub fn rebuild(&mut self, index: I) -> Result<(), AllocError>
         requires { I.content index ≡ [] }

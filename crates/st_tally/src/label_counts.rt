@@ -134,8 +134,8 @@ fn found<A: Allocator + Copy, J: Judge<A>>(count: &LabelCount<A>, judge: &mut J)
 /// Labels with the numbers of rows under them, as long as they are all that there are.
 #[derive(Drop)]
 pub struct LabelCounts<A: Allocator = Global> {
-    counts: Vec<LabelCount<A>, A>,
-    are_all: bool,
+    pub(crate) counts: Vec<LabelCount<A>, A>,
+    pub(crate) are_all: bool,
 }
 
 impl<A: Allocator + Copy> LabelCounts<A> {

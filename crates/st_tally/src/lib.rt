@@ -3,6 +3,7 @@
 #![tactic(auto)]
 
 pub mod bounds;
+mod copies;
 pub mod field_marked;
 pub mod label_counts;
 mod label_places;

@@ -25,9 +25,9 @@ const MORE_PAGES: usize = 1;
 /// may be without marks.
 #[derive(Drop)]
 pub struct Marks<A: Allocator = Global> {
-    labels: Vec<Label<A>, A>,
-    slots: Vec<u16, A>,
-    pages: Vec<PageMarks, A>,
+    pub(crate) labels: Vec<Label<A>, A>,
+    pub(crate) slots: Vec<u16, A>,
+    pub(crate) pages: Vec<PageMarks, A>,
 }
 
 /// A longer list: for labels, with slots for their numbers, or for the marks of pages.

@@ -27,9 +27,9 @@ const PATIENCE: u64 = 256;
 /// too many or too long.
 #[derive(Drop)]
 pub struct Summary<A: Allocator = Global> {
-    bounds: Bounds,
-    labels: LabelCounts<A>,
-    removals: u64,
+    pub(crate) bounds: Bounds,
+    pub(crate) labels: LabelCounts<A>,
+    pub(crate) removals: u64,
 }
 
 impl<A: Allocator + Copy> Summary<A> {

@@ -16,3 +16,4 @@ pub mod Lawful
 pub mod Walking
 pub mod Keeping
 pub mod Firsts
+pub mod Copying

@@ -12,6 +12,7 @@ ghost use Rattle.st_ubtree.specs.inner.Splits.{splits};
 
 mod aside;
 mod blank;
+mod copies;
 mod count;
 mod even;
 mod fields;

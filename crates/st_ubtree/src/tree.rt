@@ -172,6 +172,14 @@ impl<A: Allocator + Copy> RowIndex for UbTree<A> {
         self.period
     }
 
+    fn copy(&self) -> Result<UbTree<A>, AllocError> {
+        Ok(UbTree {
+            period: self.period,
+            root: self.root.copy()?,
+            len: self.len,
+        })
+    }
+
     fn leaf_at(&self, key: Key) -> Leaf<'_, A> {
         self.root.leaf_at(key, Key::last(self.period))
     }

@@ -3,7 +3,7 @@ ghost use Rattle.std.specs.Prelude.{◌≡◌, None, false};
 
 use st_connection::{Attend, Ended, Failed, FromWrite, Source};
 use st_hall::{Commits, Desk, Gate, HallName};
-use st_station::Station;
+use st_hall_station::Station;
 use std::alloc::Global;
 use std::sync::Wait;
 

@@ -36,6 +36,13 @@ impl<I: RowIndex> RowIndex for Counted<I> {
         self.index.period()
     }
 
+    fn copy(&self) -> Result<Counted<I>, AllocError> {
+        Ok(Counted {
+            index: self.index.copy()?,
+            calls: Cell::new(self.calls.get()),
+        })
+    }
+
     fn leaf_at(&self, key: Key) -> Leaf<'_, I::Alloc> {
         self.calls.set(self.calls.get().saturating_add(1));
         self.index.leaf_at(key)

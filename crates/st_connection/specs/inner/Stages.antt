@@ -4,7 +4,7 @@ use Rattle.std.specs.Prelude.{List, [], ◌++◌, length, drop}
 use Rattle.std.specs.List.{concat}
 use Rattle.std.specs.Io.KnownBytes.{Appends}
 use Rattle.st_http.specs.First.{First, IsItem, more, IsFirst, expects}
-use Rattle.st_connection.specs.Items.{Begins, is_closed, closes, after_item}
+use Rattle.st_connection.specs.Items.{BeginsWith, is_closed, closes, after_item}
 use Rattle.st_connection.specs.Connection.{Answering, Run, Ahead, ReachesWithin, KeptPast}
 use Rattle.st_connection.specs.Render.{interim}
 use Rattle.st_connection.specs.declared.connection.Stop.{Stop}
@@ -19,7 +19,7 @@ pub record Whole {S : Type 0} (step : Answering S) (closed : Bool) (old new : S)
     (written_old written_new : ℕ) : Type 0 where
   pub items : List First
   pub answers : List (List ℕ)
-  pub begins : Begins text items rest
+  pub begins : BeginsWith text items rest
   pub ends : is_closed items ≡ closed
   pub run : Run step old items answers new
   pub wrote : Appends held_old held_new (concat answers)
@@ -42,7 +42,7 @@ pub record Broken {S : Type 0} (step : Answering S) (hold : ℕ) (old new : S) (
   pub rest : List ℕ
   pub answers : List (List ℕ)
   pub sent : List ℕ
-  pub begins : Begins text items rest
+  pub begins : BeginsWith text items rest
   pub run : Run step old items answers new
   pub said : List ℕ
   pub may : (said ≡ []) ⊎ Ahead rest said
@@ -56,7 +56,7 @@ pub record Loses {S : Type 0} (step : Answering S) (old new kept : S) (text : Li
   pub rest : List ℕ
   pub answers : List (List ℕ)
   pub sent : List ℕ
-  pub begins : Begins text items rest
+  pub begins : BeginsWith text items rest
   pub run : Run step old items answers new
   pub past : KeptPast step old kept new items answers sent
   pub wrote : Appends held_old held_new sent

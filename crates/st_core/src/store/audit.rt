@@ -22,3 +22,19 @@ pub(crate) fn listing<A: Allocator + Copy>(
     }
     Ok(listed)
 }
+
+// An equal listing. An error when out of memory.
+pub(crate) fn copy_listing<A: Allocator + Copy>(
+    alloc: A,
+    entries: &HeapCircularBuffer<Entry, A>,
+) -> Result<HeapCircularBuffer<Entry, A>, AllocError>
+    ensures { IfOk result (λ copies. copies ≡ entries.now) }
+{
+    let mut copies = HeapCircularBuffer::with_capacity(alloc, entries.capacity())?;
+    for entry in entries.iter() {
+        let Ok(()) = copies.try_push_back(entry.copy()) else {
+            unreachable!()
+        };
+    }
+    Ok(copies)
+}

@@ -90,6 +90,16 @@ impl<A: Allocator + Copy> Shelf<A> {
         })
     }
 
+    // An equal table of the same name. An error when out of memory.
+    fn copy(&self) -> Result<Shelf<A>, AllocError>
+        ensures { IfOk result (λ shelf. shelf ≡ self.now) }
+    {
+        Ok(Shelf {
+            name: self.name.copy(),
+            table: self.table.copy()?,
+        })
+    }
+
     // The table: its rows stand in scan order, and no two of them have one name.
     fn table(&self) -> &Table<UbTree<A>>
         ensures value { result.now ≡ self.now.table }
@@ -135,6 +145,20 @@ impl<A: Allocator + Copy> Shelf<A> {
     }
 }
 
+// Equal tables, in order. An error when out of memory.
+fn copies<A: Allocator + Copy>(
+    alloc: A,
+    shelves: &[Shelf<A>],
+) -> Result<Vec<Shelf<A>, A>, AllocError>
+    ensures { IfOk result (λ copies. copies.items ≡ shelves.now) }
+{
+    let mut copies = Vec::new(alloc);
+    for shelf in shelves {
+        copies.push(shelf.copy()?)?;
+    }
+    Ok(copies)
+}
+
 impl<A: Allocator + Copy> Tables<A> {
     // No tables.
     pub(crate) fn new(alloc: A, seed: Seed) -> Tables<A>
@@ -144,6 +168,16 @@ impl<A: Allocator + Copy> Tables<A> {
             seed,
             shelves: Vec::new(alloc),
         }
+    }
+
+    // Equal tables. An error when out of memory.
+    pub(crate) fn copy(&self, alloc: A) -> Result<Tables<A>, AllocError>
+        ensures { IfOk result (λ tables. tables ≡ self.now) }
+    {
+        Ok(Tables {
+            seed: self.seed,
+            shelves: copies(alloc, &self.shelves)?,
+        })
     }
 
     // Adds a table of no rows, whose name is new. When out of memory all stays as it was.

@@ -6,15 +6,15 @@ use Rattle.httparse.specs.declared.spans.HeaderSpan.{HeaderSpan}
 use Rattle.httparse.specs.Spans.{IsRequestWithin, IsRequestAt}
 use Rattle.st_http.specs.declared.head.HeadRead.{HeadRead}
 use Rattle.st_http.specs.declared.head.HeadRead.TheVariants.{Whole, Crowded, Begun, Hopeless}
-use Rattle.st_http.specs.Head.{begun, hopeless, Reads}
+use Rattle.st_http.specs.Head.{begun, hopeless, HasReading}
 
 -- what the reader of a window answers
 abbrev pub Answers : List ℕ → List HeaderSpan → HeadRead → Type 0
 Answers p headers (Whole spans) =
     IsRequestWithin p headers spans × (h : RequestHead) × IsRequestAt p headers spans h × (length h.fields ≤ 64)
 Answers p headers Crowded = (h : RequestHead) × (rest : List ℕ) × ReadsRequest p h rest × (64 < length h.fields)
-Answers p headers Begun = Reads p begun
-Answers p headers Hopeless = Reads p hopeless
+Answers p headers Begun = HasReading p begun
+Answers p headers Hopeless = HasReading p hopeless
 
 -- the text does not begin with a line end
 abbrev pub StartsInLine : List ℕ → Type 0

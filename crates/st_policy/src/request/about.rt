@@ -5,7 +5,7 @@ use std::alloc::Allocator;
 
 impl<A: Allocator> Request<A> {
     ghost use Rattle.std.specs.Prelude.{◌≡◌, ◌≤◌, length, option_map};
-    ghost use Rattle.st_policy.specs.Requests.{is_change, request_name, namespace_of, table_of, target_of, user_of};
+    ghost use Rattle.st_policy.specs.Requests.{is_change, request_name, namespace_named, table_of, target_of, user_of};
 
     /// Whether it changes anything, where it is allowed.
     pub fn is_change(&self) -> bool
@@ -110,7 +110,7 @@ impl<A: Allocator> Request<A> {
 
     /// The namespace that it is about, if it is about one.
     pub fn namespace(&self) -> Option<&Name>
-        ensures { option_map (λ namespace. namespace.now) result ≡ namespace_of self.now }
+        ensures { option_map (λ namespace. namespace.now) result ≡ namespace_named self.now }
     {
         match self {
             Request::NamespaceGrants { namespace }

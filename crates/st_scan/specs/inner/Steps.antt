@@ -17,7 +17,7 @@ use Rattle.st_index.specs.RowViews.{viewed}
 use Rattle.st_index.specs.Rows.{EntryValue, IsEntry, key_end, rank_of, rows_of}
 use Rattle.st_scan.specs.declared.position.Position.{Position}
 use Rattle.st_scan.specs.Regions.{Count, Meets}
-use Rattle.st_scan.specs.Rows.{has_row, has_row_from}
+use Rattle.st_scan.specs.inner.Rows.{has_row, has_row_from}
 use Rattle.st_scan.specs.Walks.{IsExactFor}
 
 abbrev pub IsIn : {X : Type 0} → X → List X → Type 0

@@ -3,7 +3,7 @@ use Rattle.std.specs.Prelude.{ℕ, List}
 use mathlib.Core.List.{IsPrefix}
 use Rattle.st_journal.specs.declared.record.Record.{Record}
 use Rattle.st_hall.specs.Steps.{Ask, State}
-use Rattle.st_publisher.specs.Rolls.{WasRead}
+use Rattle.st_hall_group_commit.specs.Rolls.{WasRead}
 
 -- the records were read when a beginning of this list was kept
 pub record GivesOf {J : Type 0} (list_of : J → List Record) (misreads : J → ℕ) (first start : State) (list : List Ask) (from most : ℕ)

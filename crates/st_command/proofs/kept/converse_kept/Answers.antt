@@ -1,5 +1,5 @@
 use Rattle.std.proofs.Common.{ap, ◌∙◌}
-use Rattle.st_command.specs.Kept.{kept_status_after}
+use Rattle.st_command.specs.Kept.{status_after}
 use Rattle.st_command.proofs.kept.converse_kept.Goals as goal
 
 pub returns : goal.returns
@@ -14,5 +14,5 @@ returns g c =
       stands = served.stands;
       leaves = served.leaves;
       disk = served.disk;
-      status_is = c.end_after.ensures ∙ ap (kept_status_after c.serve-ended.result) c.loss.ensures;
+      status_is = c.end_after.ensures ∙ ap (status_after c.serve-ended.result) c.loss.ensures;
     }

@@ -2,19 +2,19 @@ use Rattle.std.proofs.Common.{◌≡◌, ◌++◌, ◌∷◌, ◌<◌, ℕ, suc,
 use Rattle.std.specs.Borrow.{Bor}
 use Rattle.std.proofs.lemmas.List.{drop_all}
 use Rattle.st_text.specs.Texts.{Text}
-use Rattle.st_command.specs.Opening.{name_text, names_text}
+use Rattle.st_command.specs.Opening.{sized_name, names_text}
 use Rattle.st_command.proofs.opening.push_names.Goals as goal
 
 abbrev texts : List (Bor Text) → List Text
 texts names = map (λ name. name.now) names
 
-pushed : (before after all name : Text) (names : List Text) → before ++ names_text (name ∷ names) ≡ all → after ≡ before ++ name_text name
+pushed : (before after all name : Text) (names : List Text) → before ++ names_text (name ∷ names) ≡ all → after ≡ before ++ sized_name name
     → after ++ names_text names ≡ all
 unfolding names_text
-pushed before after all name names whole is = rw is (append_assoc before (name_text name) (names_text names) ∙ whole)
+pushed before after all name names whole is = rw is (append_assoc before (sized_name name) (names_text names) ∙ whole)
 
 step : (before after all : Text) (names : List (Bor Text)) (i j : ℕ) (d : Bor Text) → i < length names
-    → j ≡ suc i → before ++ names_text (texts (drop i names)) ≡ all → after ≡ before ++ name_text (get_or names i d).now
+    → j ≡ suc i → before ++ names_text (texts (drop i names)) ≡ all → after ≡ before ++ sized_name (get_or names i d).now
     → after ++ names_text (texts (drop j names)) ≡ all
 step before after all names i j d within next whole is =
     rw next (pushed before after all (get_or names i d).now (texts (drop (suc i) names)) (rw (drop-cons names i d within) at whole) is)

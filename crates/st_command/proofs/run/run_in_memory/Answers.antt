@@ -4,7 +4,7 @@ use Rattle.std.proofs.lemmas.Result.{err_from_is_err_and}
 use Rattle.st_text.specs.Texts.{Text}
 use Rattle.st_command_line.specs.Common.{RefusesWords, SaysRoot}
 use Rattle.st_command_line.specs.RunArguments.{run_command}
-use Rattle.st_command.specs.Opening.{Opens}
+use Rattle.st_command.specs.Opening.{OpensState}
 use Rattle.st_command.proofs.run.run_in_memory.Goals as goal
 
 pub returns-in_err-service : goal.returns-in_err-service
@@ -17,7 +17,7 @@ returns-in_err-service g c = λ words says.
       fault = p.0;
       why = subst (RefusesWords run_command words) (sym p.2) why;
       status_is = refl;
-      untouched = record {
+      idle = record {
         unread = refl;
         no_reads = refl;
         reads_well = c.requires.reader_sound;
@@ -30,7 +30,7 @@ pub returns : goal.returns
 returns g c = λ words says.
     let said = c.args.said.now in
     let before = c.in_ok-service.service in
-    let opens = subst (λ (names : List (Bor Text)). Opens said.digest.now (map (λ name. name.now) names) before) c.deref.ensures.value
+    let opens = subst (λ (names : List (Bor Text)). OpensState said.digest.now (map (λ name. name.now) names) before) c.deref.ensures.value
     c.in_ok-service.ensures.ok in
     inl (record {
       said = said;

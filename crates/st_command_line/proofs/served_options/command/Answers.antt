@@ -4,8 +4,8 @@ use Rattle.std.proofs.lemmas.List.Elements.{All-cons, All-nil}
 use Rattle.clap.specs.Built.{AddsArg, AddsInTurn, FitsChain}
 use Rattle.clap.specs.Words.{first_value, found_of, new_app}
 use Rattle.clap.proofs.CallerLemmas.{required_in_chain}
-use Rattle.st_command_line.specs.Common.{with_rules, with_version}
-use Rattle.st_command_line.proofs.Refusing.{are_distinct, chained, distinct, ids_of}
+use Rattle.st_command_line.specs.Common.{with_version}
+use Rattle.st_command_line.proofs.Refusing.{are_distinct, chained, distinct, ids_of, with_rules}
 use Rattle.st_command_line.proofs.served_options.command.Goals as goal
 
 pub returns : goal.returns

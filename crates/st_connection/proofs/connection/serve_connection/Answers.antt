@@ -127,31 +127,31 @@ pub returns-clause-kept : goal.returns-clause-kept
 returns-clause-kept g c = kept_turns _ _ _ c.reads.invariant.settled c.reads.invariant.answerer_sound
 
 pub returns-in_default-clause-ends : goal.returns-in_default-clause-ends
-returns-in_default-clause-ends g c = on_fault _ _ _ _ _ _ _ _ (inl c.in_default.ensures.err)
+returns-in_default-clause-ends g c = on_fault _ _ _ (inl c.in_default.ensures.err)
 
 pub returns-then-filled-eq0-clause-ends : goal.returns-then-filled-eq0-clause-ends
-returns-then-filled-eq0-clause-ends g c = on_clean _ _ _ _ _ _ _ (c.in-Ok.ensures.ok ∙ c.reads.invariant.reader_sound, c.reads.invariant.writer_sound) (search rules)
+returns-then-filled-eq0-clause-ends g c = on_clean _ _ (c.in-Ok.ensures.ok ∙ c.reads.invariant.reader_sound, c.reads.invariant.writer_sound) (search rules)
 
 pub returns-else-filled-eq0-clause-ends : goal.returns-else-filled-eq0-clause-ends
-returns-else-filled-eq0-clause-ends g c = on_cut _ _ _ _ _ _ _ (c.in-Ok.ensures.ok ∙ c.reads.invariant.reader_sound, c.reads.invariant.writer_sound) (search rules)
+returns-else-filled-eq0-clause-ends g c = on_cut _ _ (c.in-Ok.ensures.ok ∙ c.reads.invariant.reader_sound, c.reads.invariant.writer_sound) (search rules)
 
 pub returns-in-Err-Unwritten-clause-ends : goal.returns-in-Err-Unwritten-clause-ends
-returns-in-Err-Unwritten-clause-ends g c = on_fault _ _ _ _ _ _ _ _ (inr (c.in-Err-Unwritten.ensures.unwritten (ap Err c.in-Err-Unwritten.field-0-is)))
+returns-in-Err-Unwritten-clause-ends g c = on_fault _ _ _ (inr (c.in-Err-Unwritten.ensures.unwritten (ap Err c.in-Err-Unwritten.field-0-is)))
 
 pub returns-in-Err-Lost-clause-ends : goal.returns-in-Err-Lost-clause-ends
-returns-in-Err-Lost-clause-ends g c = on_lost _ _ _ _ _ _ _ (
+returns-in-Err-Lost-clause-ends g c = on_lost _ _ (
   c.in-Ok.ensures.ok ∙ c.reads.invariant.reader_sound,
   c.in-Err-Lost.ensures.ok (lost_not_unwritten _ c.in-Err-Lost.field-0-is) ∙ c.reads.invariant.writer_sound,
 )
 
 pub returns-in-Ok-Closed-clause-ends : goal.returns-in-Ok-Closed-clause-ends
-returns-in-Ok-Closed-clause-ends g c = on_closed _ _ _ _ _ _ _ (
+returns-in-Ok-Closed-clause-ends g c = on_closed _ _ (
   c.in-Ok.ensures.ok ∙ c.reads.invariant.reader_sound,
   c.in-Ok-Closed.ensures.ok (not_err _ _) ∙ c.reads.invariant.writer_sound,
 )
 
 pub returns-clause-ends : goal.returns-clause-ends
-returns-clause-ends g c = on_turns _ _ _ _ _ _ _ (c.reads.invariant.reader_sound, c.reads.invariant.writer_sound) (search rules)
+returns-clause-ends g c = on_turns _ _ (c.reads.invariant.reader_sound, c.reads.invariant.writer_sound) (search rules)
 
 pub overflow_add-filled-in-reads : goal.overflow_add-filled-in-reads
 overflow_add-filled-in-reads g c =

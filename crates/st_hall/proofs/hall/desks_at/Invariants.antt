@@ -1,5 +1,5 @@
 use Rattle.std.specs.Prelude.{◌≡◌, ◌+◌, replicate}
-use Rattle.st_press.specs.Views.{opening_seat}
+use Rattle.st_hall_press.specs.Views.{opening_seat}
 use Rattle.st_hall.proofs.hall.desks_at.Given as goal
 
 abbrev pub invariant-loop : goal.invariant-loop

@@ -2,8 +2,8 @@ use Rattle.std.proofs.Common.{List, subst}
 use Rattle.std.proofs.lemmas.List.{take_all}
 use Rattle.std.specs.List.{All}
 use mathlib.Core.List.{IsPrefix}
-use Rattle.st_press.specs.Steps.{Ask}
-use Rattle.st_press.proofs.Fronts.{prefix_trans}
+use Rattle.st_hall_press.specs.Steps.{Ask}
+use Rattle.st_hall_press.proofs.Fronts.{prefix_trans}
 use Rattle.st_hall.proofs.Deciding.{all_begin}
 use Rattle.st_hall.proofs.law.one_list.Goals as goal
 

@@ -1,15 +1,15 @@
 use Rattle.std.proofs.Common.{rules, map, arith}
 use Rattle.std.proofs.lemmas.List.{length-map}
 use Rattle.serde_json.specs.View.{view}
-use Rattle.st_json.specs.Fields.{numbers}
+use Rattle.st_json.specs.Fields.{six_numbers}
 use Rattle.st_json.proofs.Listed.{same_length, one_more, no_more, not_six}
 use Rattle.st_json.proofs.value.six.Goals as goal
 
 pub returns-in_default-clause-none : goal.returns-in_default-clause-none
-returns-in_default-clause-none c = λ b e. let l = same_length (map view c.args.items.now) (numbers b) e in let l2 = simp length-map at l in omega (arith, l2, c.in_default.len_below)
+returns-in_default-clause-none c = λ b e. let l = same_length (map view c.args.items.now) (six_numbers b) e in let l2 = simp length-map at l in omega (arith, l2, c.in_default.len_below)
 
 pub returns-in_default-2-clause-none : goal.returns-in_default-2-clause-none
-returns-in_default-2-clause-none c = λ b e. let l = same_length (map view c.args.items.now) (numbers b) e in let l2 = simp length-map at l in omega (arith, l2, c.in_default.len_at_least)
+returns-in_default-2-clause-none c = λ b e. let l = same_length (map view c.args.items.now) (six_numbers b) e in let l2 = simp length-map at l in omega (arith, l2, c.in_default.len_at_least)
 
 pub returns-clause-some : goal.returns-clause-some
 returns-clause-some c =

@@ -1,5 +1,6 @@
 use Rattle.std.proofs.Common.{rules, subst, arith}
-use Rattle.st_plan.specs.QueryPlan.{IsQueryPlan, PartPlans}
+use Rattle.st_plan.specs.QueryPlan.{IsQueryPlan}
+use Rattle.st_plan.specs.inner.Levels.{PartPlans}
 use Rattle.st_plan.proofs.QueryPlans.{rising, in_budget, whole, exact, only_query_plan}
 use Rattle.st_plan.proofs.PlanOfLemmas.{is_query_plan_of}
 use Rattle.st_plan.proofs.query_plan.plan.Given.{Over}

@@ -1,5 +1,5 @@
 use Rattle.std.proofs.Common.{take}
-use Rattle.st_plan.specs.QueryPlan.{PartPlans}
+use Rattle.st_plan.specs.inner.Levels.{PartPlans}
 use Rattle.st_plan.proofs.query_plan.plan_parts.Given as goal
 
 -- the parts that have come have their plans

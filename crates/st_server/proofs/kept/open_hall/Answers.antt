@@ -1,11 +1,11 @@
 use denote.RattleType.{RattleType}
 use denote.Param.Send.{IsSend, IsSync, sendable, given_sync}
 use Rattle.std.proofs.Crossing.{crosses}
-use Rattle.st_press.specs.contracts.front.Front as Front
-use Rattle.st_press.proofs.front.Front.TheSendSync as FrontCross
-use Rattle.st_publisher.proofs.Crossing.{held_draft, held_publisher}
-use Rattle.st_durable_hall.proofs.Crossing.{durable_hall, held_board}
-use Rattle.st_durable_hall.specs.contracts.hall.DurableHall as DurableHall
+use Rattle.st_hall_press.specs.contracts.front.Front as Front
+use Rattle.st_hall_press.proofs.front.Front.TheSendSync as FrontCross
+use Rattle.st_hall_group_commit.proofs.Crossing.{held_draft, held_publisher}
+use Rattle.st_hall_group_commit.proofs.Crossing.{durable_hall, held_board}
+use Rattle.st_hall_group_commit.specs.contracts.hall.DurableHall as DurableHall
 use Rattle.st_command_line.specs.declared.fault.Fault.TheVariants.{NoMemory, NoPlace}
 use Rattle.st_server.proofs.Idle.{nobody}
 use Rattle.st_server.proofs.kept.open_hall.Goals as goal

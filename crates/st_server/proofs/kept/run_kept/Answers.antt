@@ -16,7 +16,7 @@ returns-in_err-first g c = λ words says.
     let said = c.args.said.now in
     let root = subst (λ (names : List (Bor Text)). SaysRoot served_command words said.digest.now (map (λ name. name.now) names)) (sym c.deref.ensures.value) says.root in
     let why = widens words _ (c.in_err-first.ensures.err served_command words root) in
-    rw p.1 (inl (record { fault = p.0; why = subst (RefusesServedWords words) (sym p.2) why; status_is = refl; untold = refl }))
+    rw p.1 (inl (record { fault = p.0; why = subst (RefusesServedWords words) (sym p.2) why; status_is = refl; idle = refl }))
 
 pub returns : goal.returns
 returns g c = λ words says.
@@ -30,8 +30,8 @@ returns g c = λ words says.
       says = says;
       path = c.args.path.now;
       named = c.requires.named;
-      first = c.new-copies.result;
+      first = c.new-state.result;
       opening = opening;
-      opens = subst (λ (s : State Global). OpensWith said.digest.now (map (λ name. name.now) said.names.items) s opening) (sym c.new-copies.ensures) opens;
+      opens = subst (λ (s : State Global). OpensWith said.digest.now (map (λ name. name.now) said.names.items) s opening) (sym c.new-state.ensures) opens;
       ends = c.serve_kept.ensures;
     })

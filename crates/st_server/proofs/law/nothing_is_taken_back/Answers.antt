@@ -1,7 +1,7 @@
 use mathlib.Core.List.{IsPrefix}
-use Rattle.st_press.proofs.Fronts.{prefix_trans}
-use Rattle.st_publisher.proofs.Batches.{again}
-use Rattle.st_station.proofs.Growing.{out_kept, run_kept}
+use Rattle.st_hall_press.proofs.Fronts.{prefix_trans}
+use Rattle.st_hall_group_commit.proofs.Batches.{again}
+use Rattle.st_hall_station.proofs.Growing.{out_kept, run_kept}
 use Rattle.st_server.proofs.Chained.{each_so}
 use Rattle.st_server.proofs.law.nothing_is_taken_back.Goals as goal
 

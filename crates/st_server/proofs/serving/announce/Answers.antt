@@ -1,8 +1,8 @@
 use Rattle.std.proofs.Common.{◌≡◌, Err, Ok, Result, Some, OnOk, ap, inr, refl, rules}
 use Rattle.std.proofs.lemmas.Result.{err_from_is_err_and}
 use Rattle.st_command_line.specs.ServedArguments.{place_text}
-use Rattle.st_workers.proofs.Telling.{all_told}
-use Rattle.st_workers.specs.Working.{WorkedEach}
+use Rattle.st_server_workers.proofs.Telling.{all_told}
+use Rattle.st_server_workers.specs.Working.{WorkedEach}
 use Rattle.st_server.specs.Attending.{Keeps, KeptWhole}
 use Rattle.st_server.proofs.Idle.{idle}
 use Rattle.st_server.proofs.Joining.{as_one}

@@ -1,6 +1,6 @@
 use denote.Param.Send.{sendable, given_sync}
 use Rattle.std.proofs.Crossing.{crosses}
-use Rattle.st_station.proofs.Crossing.{station}
+use Rattle.st_hall_station.proofs.Crossing.{station}
 use Rattle.st_server.proofs.stations.Open.TheSendSync as OpenCross
 use Rattle.st_command_line.specs.declared.fault.Fault.TheVariants.{NoMemory}
 use Rattle.st_server.proofs.Idle.{nobody}

@@ -2,7 +2,7 @@ use Rattle.std.proofs.Common.{◌≡◌, length, arith}
 use Rattle.sqlite_trees.specs.View.{IsClean}
 use Rattle.sqlite_store.specs.FileStore.{view}
 use Rattle.st_journal_rows.specs.Table.{changes_in}
-use Rattle.st_copy.proofs.Pieces.{counted}
+use Rattle.st_journal_copy.proofs.Pieces.{counted}
 use Rattle.st_store_file.proofs.Turns.{unknown}
 use Rattle.st_store_file.proofs.copier.copy_into.Goals as goal
 

@@ -1,6 +1,6 @@
 use denote.Param.Send.{sendable, given_sync}
 use Rattle.std.proofs.Crossing.{crosses}
-use Rattle.st_durable_hall.proofs.Crossing.{durable_hall}
+use Rattle.st_hall_group_commit.proofs.Crossing.{durable_hall}
 use Rattle.tests_hall.proofs.kept.found_by.Goals as goal
 
 pub told_by_all-told-requires-sync-M : goal.told_by_all-told-requires-sync-M

@@ -1,6 +1,6 @@
 use denote.Param.Send.{sendable, given_sync}
 use Rattle.std.proofs.Crossing.{crosses}
-use Rattle.st_desk.proofs.Crossing.{desk}
+use Rattle.st_hall_desk.proofs.Crossing.{desk}
 use Rattle.tests_hall.proofs.puts.told_by_all.Goals as goal
 
 pub map_vec-requires-send-J : goal.map_vec-requires-send-J

@@ -1,11 +1,12 @@
 use Rattle.std.proofs.Common.{◌≡◌, sym, subst}
 use Rattle.st_connection.specs.Connection.{ServedWithin}
+use Rattle.st_connection.specs.Streams.{streams}
 use Rattle.st_connection.proofs.server.Server.serve.Goals as goal
 
 pub returns-clause-served : goal.returns-clause-served
 returns-clause-served g c =
     let served = c.serve_connection in
-    subst (λ (x : g.row.X.Denot). ServedWithin g.X.Replies.answers 0 (g.X.Replies.now x) (g.X.Replies.now served.new.answerer) (g.X.Replies.kept served.new.answerer) (g.R.Source.left c.args.reader.now) (g.R.Source.left served.new.reader) (g.W.Sink.held c.args.writer.now) (g.W.Sink.held served.new.writer) (g.R.Source.has_failed served.new.reader) served.result)
+    subst (λ (x : g.row.X.Denot). ServedWithin g.X.Replies.answers 0 (g.X.Replies.now x) (g.X.Replies.now served.new.answerer) (g.X.Replies.kept served.new.answerer) (streams g.R.Source.left g.R.Source.reads g.R.Source.has_ended g.R.Source.has_failed g.W.Sink.held g.W.Sink.has_failed c.args.reader.now served.new.reader c.args.writer.now served.new.writer) served.result)
     c.self.view_is served.ensures.served
 
 pub serve_connection-requires-clause-answerer_settled : goal.serve_connection-requires-clause-answerer_settled

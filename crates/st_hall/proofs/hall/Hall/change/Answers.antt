@@ -1,4 +1,4 @@
-use Rattle.st_press.proofs.Unheard.{heard_after}
+use Rattle.st_hall_press.proofs.Unheard.{heard_after}
 use Rattle.st_hall.proofs.Deciding.{end_ends, front_is_end}
 use Rattle.st_hall.proofs.hall.Hall.change.Goals as goal
 

@@ -1,6 +1,6 @@
 use Rattle.std.proofs.Common.{List, subst, sym}
 use mathlib.Core.List.{IsPrefix}
-use Rattle.st_press.specs.Steps.{Ask}
+use Rattle.st_hall_press.specs.Steps.{Ask}
 use Rattle.st_hall.proofs.Deciding.{decides_on, learns_seen}
 use Rattle.st_hall.proofs.worker.Worker.change.Goals as goal
 

@@ -1,4 +1,4 @@
-use Rattle.st_press.proofs.Fronts.{prefix_trans}
+use Rattle.st_hall_press.proofs.Fronts.{prefix_trans}
 use Rattle.st_hall.proofs.worker.Worker.read.Goals as goal
 
 pub invariant_of-self : goal.invariant_of-self

@@ -2,7 +2,7 @@ use Rattle.std.proofs.Common.{◌≤◌, ◌∙◌, sym, subst, arith}
 use Rattle.st_key.specs.Key.{rank}
 use Rattle.st_index.specs.Index.{Follow}
 use Rattle.st_index.specs.Rows.{key_end}
-use Rattle.st_scan.specs.Rows.{has_row_from}
+use Rattle.st_scan.specs.inner.Rows.{has_row_from}
 use Rattle.st_scan.specs.inner.Steps.{AreExact, IsOwnExact}
 use Rattle.st_scan.proofs.Steps.{begin}
 use Rattle.st_scan.proofs.Visible.{filter_le}

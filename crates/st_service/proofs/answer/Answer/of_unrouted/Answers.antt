@@ -9,10 +9,10 @@ pub returns-in-NoRoute-clause-unrouted : goal.returns-in-NoRoute-clause-unrouted
 returns-in-NoRoute-clause-unrouted g c = not_found c.args.message.now (inl c.in-NoRoute.is)
 
 pub returns-in-NoRoute-clause-told : goal.returns-in-NoRoute-clause-told
-returns-in-NoRoute-clause-told g c s = replies_unrouted s _ _ c.in-NoRoute.is c.with.ensures
+returns-in-NoRoute-clause-told g c s = replies_unrouted s c.args.message.now _ c.in-NoRoute.is c.with.ensures
 
 pub returns-in-BadMethod-clause-unrouted : goal.returns-in-BadMethod-clause-unrouted
 returns-in-BadMethod-clause-unrouted g c = not_found c.args.message.now (inr (_, c.in-BadMethod.is))
 
 pub returns-in-BadMethod-clause-told : goal.returns-in-BadMethod-clause-told
-returns-in-BadMethod-clause-told g c s = replies_mismatched s _ _ _ c.in-BadMethod.is c.with-in-BadMethod.ensures
+returns-in-BadMethod-clause-told g c s = replies_mismatched s c.args.message.now _ _ c.in-BadMethod.is c.with-in-BadMethod.ensures

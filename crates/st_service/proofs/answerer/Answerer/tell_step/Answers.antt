@@ -7,4 +7,4 @@ returns g c =
     let same : c.args.self.now ≡ c.self.inside.store = cc (c.self.view_is) in
     let step = c.step-told.ensures in
     let told = c.of-answer.ensures in
-    rw same (replies_told _ _ _ _ c.args.asked.now c.requires.found c.requires.asks c.step-told.result step.reply step.state step.unchanged told.ok told.err)
+    rw same (replies_told _ _ c.args.message.now _ c.args.asked.now c.requires.found c.requires.asks c.step-told.result step.reply step.state step.unchanged told.ok told.err)

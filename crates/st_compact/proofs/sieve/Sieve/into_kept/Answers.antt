@@ -1,5 +1,0 @@
-use Rattle.std.proofs.Common.{rules}
-use Rattle.st_compact.proofs.sieve.Sieve.into_kept.Goals as goal
-
-pub returns : goal.returns
-returns c = search rules

@@ -1,8 +1,0 @@
-use Rattle.std.proofs.Common.{rules}
-use Rattle.st_durable_hall.proofs.board.Board.end.Goals as goal
-
-pub returns : goal.returns
-returns g c = search rules
-
-pub invariant_of-self : goal.invariant_of-self
-invariant_of-self g c = search rules

@@ -1,5 +1,0 @@
-use Rattle.st_publisher.proofs.Batches.{again}
-use Rattle.st_durable_hall.proofs.law.opens_again.Goals as goal
-
-pub returns : goal.returns
-returns c first start t kept list left lead made = again first start t kept list left lead made

@@ -1,3 +1,0 @@
-pub use Rattle.st_publisher.specs.Drafts
-pub use Rattle.st_publisher.specs.Rolls
-pub mod inner

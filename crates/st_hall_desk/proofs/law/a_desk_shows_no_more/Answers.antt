@@ -1,0 +1,5 @@
+use Rattle.st_hall_desk.proofs.Worlds.{shows_no_more}
+use Rattle.st_hall_desk.proofs.law.a_desk_shows_no_more.Goals as goal
+
+pub returns : goal.returns
+returns c = shows_no_more

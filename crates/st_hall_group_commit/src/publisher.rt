@@ -1,0 +1,291 @@
+//! What keeps the changes that are decided, and publishes them.
+ghost use Rattle.std.specs.Prelude.{◌≡◌, ◌≢◌, ◌<◌, [], length, true, false, List, Err, IfOk, IfSome, OnOk, MatchResult};
+ghost use mathlib.Core.List.{IsPrefix};
+ghost use Rattle.st_journal.specs.declared.record.Record.{Record};
+ghost use Rattle.st_journal.specs.declared.read_back.ReadError.TheVariants as ends;
+ghost use Rattle.st_journal.specs.Replays.{Replays};
+ghost use Rattle.st_journal_store.specs.Applying.{Applies};
+ghost use Rattle.st_hall_press.specs.Steps.{state_after};
+ghost use Rattle.st_hall_group_commit.specs.Rolls.{HasFailed, LeadPast, LeadToOne, Leaves, WasKept, WasRead};
+
+use crate::draft::{Batch, Draft};
+use crate::keeping::{Failure, append_all, read_from};
+use st_hall::Lost;
+use st_hall_press::{Front, HallName, Press};
+use st_journal::{Journal, ReadBack, ReadError, Record};
+use st_journal_store::Beginning;
+use std::marker::{Model, PhantomData};
+use std::sync::{Mutex, Wait};
+
+/// A journal and a press. Changes are kept by one append for all that were decided since the last one, and then published. A thread
+/// holds its lock while they are. Contracts see the list as far as an append was given it, the part of it that is kept, the part
+/// that is published, the journal, and whether an append failed.
+pub struct Publisher<B: Beginning, H: HallName, R: Wait + Drop, J: Journal + Drop> {
+    press: Press<H, R>,
+    journal: J,
+    // As far as an append was given the list.
+    tried: Front<H>,
+    kept: Front<H>,
+    is_lost: bool,
+    failure: Option<Failure<J>>,
+    beginning: PhantomData<B>,
+}
+
+// Written out, and not derived: a derived drop is proved anew in each crate that owns a publisher.
+impl<B: Beginning, H: HallName, R: Wait + Drop, J: Journal + Drop> Drop for Publisher<B, H, R, J> {
+    fn drop(self) {
+        let Self {
+            press: _press,
+            journal: _journal,
+            tried: _tried,
+            kept: _kept,
+            is_lost: _is_lost,
+            failure: _failure,
+            beginning: _beginning,
+        } = self;
+    }
+}
+
+impl<B: Beginning, H: HallName, R: Wait + Drop, J: Journal + Drop> Model for Publisher<B, H, R, J> {
+    ghost use Rattle.std.specs.Prelude.{[]};
+    ghost use mathlib.Core.List.{IsPrefix};
+    ghost use Rattle.st_hall_group_commit.specs.Rolls.{KeptRoll, WasKept};
+    ghost use Rattle.st_hall_group_commit.specs.inner.Sound.{IsSound};
+
+    ghost Value = { KeptRoll J };
+
+    ghost view = { λ k. record {
+      list = k.tried;
+      kept = k.kept;
+      published = k.press.published;
+      journal = k.journal;
+      is_lost = k.is_lost;
+    } };
+
+    ghost invariant = { λ k. IsPrefix k.press.pushed k.kept × WasKept J.list J.misreads B.first H.start k.kept
+        × IsSound J.list J.misreads J.is_ready J.may_leave B.first H.start [] (record {
+          list = k.tried;
+          kept = k.kept;
+          published = k.press.published;
+          journal = k.journal;
+          is_lost = k.is_lost;
+        }) };
+}
+
+// Whether two fronts are equal.
+fn are_equal<H: HallName>(one: &Front<H>, other: &Front<H>) -> bool
+    ensures { result ≡ true → one.now ≡ other.now }
+{
+    let _both = one.longer(other);
+    one.len() == other.len()
+}
+
+impl<B: Beginning, H: HallName, R: Wait + Drop, J: Journal + Drop> Publisher<B, H, R, J> {
+    /// The publisher of a hall that was just opened over two stores of the state to which the journal's list leads.
+    pub fn new(press: Press<H, R>, journal: J) -> Publisher<B, H, R, J>
+        requires empty { (press.pushed ≡ []) × (press.published ≡ []) }
+        requires ready { J.is_ready journal }
+        requires stands { J.misreads journal ≡ 0 → Replays Applies B.first (J.list journal) H.start }
+        ensures { result ≡ record { list = []; kept = []; published = []; journal = journal; is_lost = false } }
+    {
+        let tried = press.front();
+        let kept = press.front();
+        Publisher {
+            press,
+            journal,
+            tried,
+            kept,
+            is_lost: false,
+            failure: None,
+            beginning: PhantomData,
+        }
+    }
+
+    /// What is published begins what is kept, and that begins the list. Unless an append failed, the journal's list leads to the
+    /// state after what is kept. Whatever the journal may leave if the process ends now leads to the state after a beginning of the
+    /// list, with at least all that is kept. It does nothing.
+    pub fn show(&self)
+        ensures shown { IsPrefix self.now.published self.now.kept }
+        ensures begins { IsPrefix self.now.kept self.now.list }
+        ensures stands { self.now.is_lost ≡ false → J.misreads self.now.journal ≡ 0
+            → Replays Applies B.first (J.list self.now.journal) (state_after H.start self.now.kept) }
+        ensures leaves { J.misreads self.now.journal ≡ 0 → (left : List Record) → J.may_leave self.now.journal left
+            → LeadPast B.first H.start self.now.kept self.now.list left }
+    {
+        let _lost = self.is_lost;
+    }
+
+    /// Whether a front is kept.
+    pub fn keeps(&self, front: &Front<H>) -> bool
+        ensures yes { result ≡ true → IsPrefix front.now self.now.kept }
+        ensures no { result ≡ false → length self.now.kept < length front.now }
+        ensures was { result ≡ true → WasKept J.list J.misreads B.first H.start front.now }
+    {
+        let _both = self.kept.longer(front);
+        front.len() <= self.kept.len()
+    }
+
+    /// What is kept.
+    pub fn kept(&self) -> Front<H>
+        ensures is { result ≡ self.now.kept }
+        ensures was { WasKept J.list J.misreads B.first H.start result }
+    {
+        self.kept.again()
+    }
+
+    /// What is published.
+    pub fn published(&self) -> Front<H>
+        ensures { result ≡ self.now.published }
+    {
+        self.press.shown()
+    }
+
+    /// What is kept: also what is left, if the process ends now, has that, and nothing beyond a list. There is none where an append was
+    /// given more than the list.
+    pub fn left(&self, list: &Front<H>) -> Option<Front<H>>
+        ensures { IfSome result (λ kept. Leaves J.misreads J.may_leave B.first H.start kept list.now) }
+    {
+        self.show();
+        list.compare(&self.tried);
+        if self.tried.len() <= list.len() {
+            Some(self.kept())
+        } else {
+            None
+        }
+    }
+
+    /// The journal.
+    pub fn journal(&self) -> &J
+        ensures { result.now ≡ self.now.journal }
+    {
+        &self.journal
+    }
+
+    /// Whether an append or a reading was lost since the journal failed.
+    pub fn has_failed(&self) -> bool
+        ensures { result ≡ true → HasFailed J.misreads J.faults }
+    {
+        match &self.failure {
+            Some(failure) => failure.is_shown(),
+            None => false,
+        }
+    }
+
+    // Whether a front is published.
+    fn shows(&self, front: &Front<H>) -> bool
+        ensures { result ≡ true → IsPrefix front.now self.now.published }
+    {
+        let shown = self.press.shown();
+        let _both = shown.longer(front);
+        front.len() <= shown.len()
+    }
+
+    /// Keeps a batch by one append. At an error the journal takes no more: it has all of these records or none of them, and only the
+    /// next opening can tell.
+    pub fn keep(&mut self, batch: Batch<H>) -> Result<(), Lost>
+        requires goes_on { IsPrefix batch.from batch.to }
+        requires leads { Replays Applies (state_after H.start batch.from) batch.records.items (state_after H.start batch.to) }
+        ensures published { self.new.published ≡ self.old.published }
+        ensures kept { MatchResult result (λ _. self.new.kept ≡ batch.to) (λ _. self.new.kept ≡ self.old.kept) }
+        ensures grows { IsPrefix self.old.kept self.new.kept }
+        ensures lost { OnOk result (self.new.is_lost ≡ false) }
+        ensures stays { self.old.is_lost ≡ true → (self.new ≡ self.old) }
+        ensures whole { self.old.is_lost ≡ false → J.misreads self.new.journal ≡ 0
+            → (left : List Record) → J.may_leave self.new.journal left
+            → LeadToOne B.first H.start self.old.kept self.new.list left }
+    {
+        let Batch { from, records, to } = batch;
+        // A batch that goes on another list than the kept one never comes.
+        if self.is_lost || !are_equal(&from, &self.kept) {
+            return Err(Lost);
+        }
+        match append_all(&mut self.journal, records.as_slice()) {
+            Ok(()) => {
+                self.tried = to.again();
+                self.kept = to;
+                Ok(())
+            }
+            Err(failure) => {
+                self.tried = to;
+                self.is_lost = true;
+                self.failure = failure;
+                Err(Lost)
+            }
+        }
+    }
+
+    // Keeps all that is decided by now. Nothing more is decided where it is not kept.
+    fn keep_draft<W: Wait>(&mut self, rt: &W, draft: &Mutex<Draft<H>>) -> Result<(), Lost>
+        ensures grows { IsPrefix self.old.kept self.new.kept }
+        ensures published { self.new.published ≡ self.old.published }
+        ensures stays { self.old.is_lost ≡ true → (self.new ≡ self.old) }
+    {
+        let batch = draft.lock(rt).take();
+        let kept = self.keep(batch);
+        if kept.is_err() {
+            draft.lock(rt).close();
+        }
+        kept
+    }
+
+    /// Keeps a front, with all that is decided by now, unless another thread has kept it already. Whether it is kept, which it may not
+    /// be once an append failed.
+    pub fn keep_front<W: Wait>(&mut self, rt: &W, draft: &Mutex<Draft<H>>, front: &Front<H>) -> bool
+        ensures kept { result ≡ true → IsPrefix front.now self.new.kept }
+        ensures was { result ≡ true → WasKept J.list J.misreads B.first H.start front.now }
+        ensures grows { IsPrefix self.old.kept self.new.kept }
+        ensures published { self.new.published ≡ self.old.published }
+    {
+        if !self.keeps(front) {
+            let _kept = self.keep_draft(rt, draft);
+        }
+        self.keeps(front)
+    }
+
+    /// Publishes a front with all that is kept, unless it is published already. Whether it is published, for which there may be no
+    /// memory.
+    pub fn show_front<W: Wait>(&mut self, rt: &W, draft: &Mutex<Draft<H>>, front: &Front<H>) -> bool
+        ensures same { self.new.kept ≡ self.old.kept }
+        ensures shown { result ≡ true → IsPrefix front.now self.new.published }
+        ensures grows { IsPrefix self.old.published self.new.published }
+    {
+        if !self.shows(front) {
+            self.publish(rt, draft);
+        }
+        self.shows(front)
+    }
+
+    // Publishes what is kept, as far as there is memory.
+    fn publish<W: Wait>(&mut self, rt: &W, draft: &Mutex<Draft<H>>)
+        ensures same { (self.new.list ≡ self.old.list) × (self.new.kept ≡ self.old.kept) }
+        ensures journal { (self.new.journal ≡ self.old.journal) × (self.new.is_lost ≡ self.old.is_lost) }
+        ensures grows { IsPrefix self.old.published self.new.published }
+    {
+        draft.lock(rt).hand_over(&mut self.press, &self.kept);
+        drop(self.press.publish(rt));
+    }
+}
+
+// Whether a reading says that the journal takes no more.
+fn says_lost(read: &Result<Vec<Record>, ReadError>) -> bool
+    ensures { result ≡ false → read.now ≢ Err ends.Lost }
+{
+    matches!(read, Err(ReadError::Lost))
+}
+
+impl<B: Beginning, H: HallName, R: Wait + Drop, J: ReadBack + Drop> Publisher<B, H, R, J> {
+    /// The kept records behind the first `from`, in order, at most so many. At `Lost` the journal takes no more.
+    pub fn read(&mut self, from: u64, most: usize) -> Result<Vec<Record>, ReadError>
+        ensures read { IfOk result (λ records. WasRead J.Journal.list J.Journal.misreads B.first H.start self.old.kept
+            from most records.items) }
+        ensures same { (self.new.list ≡ self.old.list) × (self.new.kept ≡ self.old.kept) × (self.new.published ≡ self.old.published) }
+    {
+        if self.is_lost {
+            return Err(ReadError::Lost);
+        }
+        let (read, failure) = read_from(&mut self.journal, from, most);
+        self.is_lost = says_lost(&read);
+        self.failure = failure;
+        read
+    }
+}

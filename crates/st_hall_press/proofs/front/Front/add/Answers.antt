@@ -1,0 +1,16 @@
+use Rattle.std.proofs.Common.{sym, ◌∙◌, ap}
+use Rattle.st_hall_press.proofs.Adding.{adds_moves}
+use Rattle.st_hall_press.proofs.front.Front.add.Goals as goal
+
+pub compare_exchange-found-requires : goal.compare_exchange-found-requires
+compare_exchange-found-requires g c =
+    let h = c.args.head.now.head_is in
+    let mine = c.self.invariant.1 in
+    let offer = c.plain-offer.ensures in
+    let pen = c.no_pen-pen.ensures in (
+      ap (λ w. w.tracked) h,
+      mine ∙ sym (ap (λ w. w.book) h),
+      pen.0 ∙ (mine ∙ sym (ap (λ w. w.book) h)),
+      offer.0,
+      rw (ap (λ w. w.key) h, pen.1, offer.1, offer.3) (adds_moves c.self.inside.seen.log c.args.asked.now c.self.inside.changes (sym c.self.invariant.0)),
+    )

@@ -1,0 +1,5 @@
+pub mod Seats
+pub mod Posts
+pub mod Standing
+pub mod Sights
+pub mod inner

@@ -1,0 +1,2 @@
+-- Lemmas of the contracts, which no reader has to believe.
+pub mod Growing

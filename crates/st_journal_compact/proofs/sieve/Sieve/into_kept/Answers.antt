@@ -1,0 +1,5 @@
+use Rattle.std.proofs.Common.{rules}
+use Rattle.st_journal_compact.proofs.sieve.Sieve.into_kept.Goals as goal
+
+pub returns : goal.returns
+returns c = search rules

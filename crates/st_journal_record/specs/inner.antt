@@ -1,0 +1,2 @@
+-- Stages of the code, which no reader has to believe: no clause of a public function cites them.
+pub mod Finding

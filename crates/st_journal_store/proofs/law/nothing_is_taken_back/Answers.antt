@@ -1,0 +1,6 @@
+use Rattle.st_service.specs.Answers.{Answers}
+use Rattle.st_journal_store.proofs.Lives.{found_after}
+use Rattle.st_journal_store.proofs.law.nothing_is_taken_back.Goals as goal
+
+pub returns : goal.returns
+returns c = found_after Answers

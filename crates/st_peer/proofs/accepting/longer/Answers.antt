@@ -1,5 +1,0 @@
-use Rattle.std.proofs.Common.{rules}
-use Rattle.st_peer.proofs.accepting.longer.Goals as goal
-
-pub returns : goal.returns
-returns c = search rules

@@ -1,5 +1,0 @@
-use Rattle.std.proofs.Common.{rules}
-use Rattle.st_peer.proofs.incoming.has_just_begun.Goals as goal
-
-pub returns-then-rest-gt0 : goal.returns-then-rest-gt0
-returns-then-rest-gt0 c = search rules

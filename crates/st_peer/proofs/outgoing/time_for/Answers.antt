@@ -1,5 +1,0 @@
-use Rattle.std.proofs.Common.{rules}
-use Rattle.st_peer.proofs.outgoing.time_for.Goals as goal
-
-pub returns : goal.returns
-returns c = search rules

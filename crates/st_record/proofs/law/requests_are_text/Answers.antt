@@ -1,5 +1,0 @@
-use Rattle.st_record.proofs.ReadBack.{text}
-use Rattle.st_record.proofs.law.requests_are_text.Goals as goal
-
-pub returns : goal.returns
-returns g c = text

@@ -1,0 +1,5 @@
+use Rattle.std.proofs.Common.{rules}
+use Rattle.st_server_peer.proofs.accepting.longer.Goals as goal
+
+pub returns : goal.returns
+returns c = search rules

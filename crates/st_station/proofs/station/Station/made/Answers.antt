@@ -1,5 +1,0 @@
-use Rattle.std.proofs.Common.{rules}
-use Rattle.st_station.proofs.station.Station.made.Goals as goal
-
-pub returns : goal.returns
-returns g c = search rules

@@ -1,3 +1,0 @@
--- Lemmas of the contracts, which no reader has to believe.
-pub mod Shown
-pub mod Growing

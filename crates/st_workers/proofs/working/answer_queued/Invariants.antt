@@ -1,5 +1,0 @@
-use Rattle.st_peer.specs.Meeting.{Met}
-use Rattle.st_workers.proofs.working.answer_queued.Given as goal
-
-abbrev pub invariant-loop-client : goal.invariant-loop-client
-invariant-loop-client g l = Met g.T.Attend.serves g.C.Client.call l.initial.attendant l.count l.attendant
