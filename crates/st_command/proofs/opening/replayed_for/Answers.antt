@@ -1,13 +1,8 @@
-use Rattle.std.proofs.Common.{◌∙◌}
+use Rattle.std.specs.declared.alloc.Global.{Global}
+use Rattle.std.proofs.Common.{subst, sym}
+use Rattle.st_core.specs.State.{State}
+use Rattle.st_command.specs.Opening.{OpensWith}
 use Rattle.st_command.proofs.opening.replayed_for.Goals as goal
 
 pub returns-clause-ok : goal.returns-clause-ok
-returns-clause-ok c = record {
-  opens = record {
-    digest = c.in_ok-digest.digest;
-    written = c.in_ok-digest.ensures.ok;
-    good = c.in_ok-opened.ensures.good;
-    is = c.new.ensures ∙ c.in_ok-opened.ensures.ok;
-  };
-  opening_is = c.in_ok-opening.ensures;
-}
+returns-clause-ok c = subst (λ (s : State Global). OpensWith _ _ s _) (sym c.new.ensures) c.in_ok-opened.ensures.ok
