@@ -94,7 +94,7 @@ def events_in(trace: bytes, folder: Path) -> Iterator[Event]:
         at = end + 1 + int(count)
         text = trace[end + 1:at]
         if path == str(folder):
-            yield Event("settle")
+            yield Event("sync_folder")
         elif kind != "answer":
             yield Event(kind, Path(path).name, int(offset), text)
         elif not text.startswith((b"listening", b"served")):

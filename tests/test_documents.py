@@ -73,6 +73,28 @@ def test_a_figure_over_two_lines(tmp_path: Path) -> None:
     assert told(tmp_path, **{"README.md": "First.\n\nWith 2\nedits.\n"}) == (1, ["README.md:3: says 2 edits, and there are 1"])
 
 
+def test_clauses(tmp_path: Path) -> None:
+    kept = "trait Kept {\n  ghost stays: {}\n  fn put(&self)\n    ensures ok {}\n}\n"
+    store = "impl Store { pub fn get(&self)\n    requires here {}\n{ } }\n"
+    row = "| P | `upper::{put, get}`: `ok`, `here`; `Store::get`: `ok`; `base::put`: `ok`; by `Kept`: `stays`, `goes` | D |\n"
+    expected = [f"docs/GUARANTEES.md:1: {fault}" for fault in (
+        "`Store::get` has no clause `ok`", "`base::put` has no clause `ok`", "`Kept` has no clause `goes`")]
+    files = {"crates/upper/src/kept.rt": kept + store, "docs/GUARANTEES.md": row}
+    assert [it for it in told(tmp_path, **files)[1] if "clause" in it] == expected
+
+
+def test_places(tmp_path: Path) -> None:
+    row = "\n| Wanted | File | Function |\n|---|---|---|\n| it | `base/src/lib.rt`, `src/more.rt` | `first`, `more::second`, `open` |\n"
+    files = {"crates/base/src/more.rt": "fn second() {}\n", "docs/ARCHITECTURE.md": FILES["docs/ARCHITECTURE.md"] + row}
+    fault = "docs/ARCHITECTURE.md:8: none of the files beside it has the function `open`"
+    assert told(tmp_path, **{"README.md": "# A store\n"}, **files) == (1, [fault])
+
+
+def test_names_of_patches(tmp_path: Path) -> None:
+    files = {"wip/next.patch": "+pub fn coming() {}\n", "wip/README.md": "`coming`\n", "README.md": "`coming`\n"}
+    assert told(tmp_path, **files) == (1, ["README.md:1: no file has the name `coming`"])
+
+
 @pytest.mark.parametrize("name, text, fault", [
     ("crates/third/src/lib.rt", "", "docs/ARCHITECTURE.md:1: 0 rows begin with the crate `third`"),
     ("crates/upper/specs/Disk.antt", "", "docs/DEFINITIONS.md:1: crates/upper/specs/Disk.antt has no place in the row of its crate"),

@@ -1,13 +1,14 @@
 """Who may read the files of the built programs with `--store` and `--copy`: their owner alone, whatever the umask."""
 import http.client
 import json
+import os
 import stat
 import subprocess
 from pathlib import Path
 
 import pytest
 
-from served import PROGRAM, digest, free_port, token
+from served import PROGRAM, digest, free_port, listening, token
 from stored import PATIENCE, RUN
 
 
@@ -29,8 +30,7 @@ def test_st_served_makes_a_store_and_its_copy_for_their_owner_alone(tmp_path: Pa
     store, copy = tmp_path / "points.db", tmp_path / "copy.db"
     words = [str(PROGRAM), "--root", digest("root"), "--port", str(port), "--connections", "1", "--workers", "1"]
     words += ["--store", str(store), "--copy", str(copy)]
-    with subprocess.Popen(words, stdout=subprocess.PIPE, umask=umask) as server:
-        assert server.stdout is not None and server.stdout.readline() == b"listening %d\n" % port
+    with listening(words, port, preexec_fn=lambda: os.umask(umask)) as server:
         connection = http.client.HTTPConnection("127.0.0.1", port, timeout=PATIENCE)
         body = json.dumps({"id": "p", "label": "", "note": "", "point": [1, 2, 3]})
         connection.request("POST", "/tables/points/put", body, {"Authorization": f"Bearer {token('root')}"})

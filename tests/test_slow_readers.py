@@ -5,7 +5,6 @@ import http.client
 import json
 import select
 import socket
-import subprocess
 import time
 from collections.abc import Iterator
 from contextlib import contextmanager, suppress
@@ -13,7 +12,7 @@ from pathlib import Path
 
 import pytest
 
-from served import PROGRAM, SocketConnection, digest, free_port, token
+from served import PROGRAM, SocketConnection, digest, free_port, listening, token
 
 ROWS = 600
 NOTE = "n" * 4000
@@ -23,7 +22,7 @@ BODY = json.dumps({"auths": [], "box": [0, 2097151, 0, 2097151, 0, 19818086399],
 SCAN = f"POST /tables/points/scan HTTP/1.1\r\n{HEAD}Content-Length: {len(BODY)}\r\nConnection: close\r\n\r\n{BODY}".encode()
 
 # Seconds after which a client that takes nothing, or next to nothing, has lost its worker: 5, what the kernel takes for it at 256 bytes
-# a millisecond, 2 in which the server parts from it, and some for a busy machine.
+# a millisecond, 2 in which the server ends the connection, and some for a busy machine.
 LIMIT = 15
 
 
@@ -41,14 +40,9 @@ def running(place: int | Path) -> Iterator[None]:
     """A server with rows, at a port or at a socket, with four workers and a time limit that is no help."""
     named = ["--port", str(place)] if isinstance(place, int) else ["--socket", str(place)]
     line = [str(PROGRAM), "--root", digest("root"), *named, "--workers", "4", "--timeout", "600"]
-    with subprocess.Popen(line, stdout=subprocess.PIPE) as server:
-        assert server.stdout is not None
-        try:
-            assert server.stdout.readline() == b"listening %s\n" % str(place).encode()
-            fill(http.client.HTTPConnection("127.0.0.1", place, timeout=10) if isinstance(place, int) else SocketConnection(place))
-            yield
-        finally:
-            server.terminate()
+    with listening(line, place):
+        fill(http.client.HTTPConnection("127.0.0.1", place, timeout=10) if isinstance(place, int) else SocketConnection(place))
+        yield
 
 
 def connected(place: int | Path, *, is_far: bool = False) -> socket.socket:

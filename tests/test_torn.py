@@ -64,5 +64,5 @@ def test_a_file_that_was_made_is_there_once_its_folder_is_synced() -> None:
         disk.take(event)
     outcomes = list(disk.outcomes(random.Random(1), 1))
     assert {} in outcomes and {"f": b"a"} in outcomes
-    disk.take(Event("settle"))
+    disk.take(Event("sync_folder"))
     assert list(disk.outcomes(random.Random(1), 1)) == [{"f": b"a"}]

@@ -12,7 +12,7 @@ from dataclasses import dataclass, field
 
 @dataclass(frozen=True)
 class Event:
-    """What a run did: `make`, `write`, `cut` and `sync` are of a file, `settle` syncs the folder, `answer` is of a connection, or of
+    """What a run did: `make`, `write`, `cut` and `sync` are of a file, `sync_folder` syncs the folder, `answer` is of a connection, or of
     standard output. `at` is an offset or a length."""
 
     kind: str
@@ -39,7 +39,7 @@ class Disk:
     def take(self, event: Event) -> None:
         if event.kind == "make":
             self.files.setdefault(event.file, File(b"", is_named=False))
-        elif event.kind == "settle":
+        elif event.kind == "sync_folder":
             for file in self.files.values():
                 file.is_named = True
         elif event.kind == "sync":
@@ -52,7 +52,7 @@ class Disk:
         """The files as they are read."""
         return {name: torn(file, NEW, random.Random()) for name, file in self.files.items()}
 
-    def is_settled(self) -> bool:
+    def is_lasting(self) -> bool:
         """Whether a crash leaves but one outcome."""
         return not any(file.steps or not file.is_named for file in self.files.values())
 
@@ -65,7 +65,7 @@ class Disk:
         """Outcomes of a crash at this moment: one file as it was and the other as it is, in each manner, one write alone, all writes but
         one, tails that are lost, zeros or noise, and so many mixes."""
         names = list(self.files)
-        if self.is_settled():
+        if self.is_lasting():
             yield self.now()
             return
         for ways in itertools.product([OLD, NEW], repeat=len(names)):

@@ -5,19 +5,24 @@ from __future__ import annotations
 import csv
 import io
 import pytest
-from collections.abc import Sequence
+from collections.abc import Iterator, Sequence
 from datetime import UTC, datetime
-from hypothesis import given
+from hypothesis import example, given
 from hypothesis import strategies as st
+from itertools import zip_longest
+from unittest.mock import patch
 
 from fashkiin.errors import InputError, RowError
 from fashkiin.formats import Names, Prepared, Source, delimited
 from fashkiin.formats.columns import Bodies
 from fashkiin.formats.fields import prepared
 from fashkiin.formats.header import find_columns
-from fashkiin.formats.numbers import are_numbers, number
+from fashkiin.formats.numbers import are_numbers, number, throughout
+from fashkiin.shares import shares_of
 
 HEADER = ["id", "lon", "lat", "time", "label", "speed", 'a "name"']
+LINES = ["r", "1", "2", "2024-05-01", "A", "7", "a\nb"]
+BLANKS = [["r", "1", "2", "2024-05-01", "A", "7", "x"] if at not in (1, 4) else [] for at in range(9)]
 NOON = datetime(2024, 5, 1, 12, tzinfo=UTC)
 NAMES = Names(numbers=frozenset(["speed"]), unlabelled="A", number="file")
 NAMINGS = [
@@ -78,6 +83,48 @@ def test_whole_columns_make_the_rows_of_records_one_after_another(
     good = [row[1:3] for row in wanted if not isinstance(row[3], RowError)]
     assert [row[1:3] for row in found if not isinstance(row[3], RowError)] == good
     assert all(len(batch) <= size for batch in batches)
+
+
+@pytest.mark.parametrize("names", NAMINGS)
+@given(
+    given_records=st.lists(plain | st.just([]) | st.just(LINES) | wild, max_size=24),
+    is_numbered=st.booleans(),
+    size=st.integers(1, 3),
+    turns=st.integers(2, 3),
+    end=st.sampled_from([b"\n", b"\r\n", b"\r"]),
+    tail=st.sampled_from([b"", b"r", b'"', b"\n\n", b'"1"2,\nr,1,2\n']),
+)
+@example(BLANKS, True, 2, 2, b"\n", b"")
+@example(BLANKS, True, 2, 2, b"\r\n", b"")
+@example(BLANKS, True, 2, 2, b"\r", b"")
+def test_processes_that_leave_the_records_of_others_out_find_what_one_finds(
+    names: Names, given_records: list[Sequence[str]], is_numbered: bool, size: int, turns: int, end: bytes, tail: bytes
+) -> None:
+    data = file_of(given_records).replace(b"\n", end) + tail
+    if is_numbered and names.number is not None:
+        data = data.replace(b"id", b"key", 1)
+    wanted = [shown(batch) for batch in delimited.prepare(source_of(data), names, size)]
+    kinds = throughout(delimited.numbers(source_of(data), names))
+    with patch("fashkiin.shares.RUN", 1), patch.object(delimited, "NUMBERS_AT_A_TIME", size):
+        parts = [list(delimited.prepare(source_of(data), names, size, share)) for share in shares_of(turns, True)]
+        told = [kind for share in shares_of(turns, True) for kind in delimited.numbers(source_of(data), names, share)]
+    assert [shown(batch) for turn in zip_longest(*parts) for batch in turn if batch is not None] == wanted
+    assert throughout(told) == kinds
+
+
+def test_records_of_others_are_not_parsed(monkeypatch: pytest.MonkeyPatch) -> None:
+    parsed: list[object] = []
+    records_of = delimited._records
+
+    def counted(text: delimited._Text, records: object) -> Iterator[delimited._Record]:
+        for record in records_of(text, records):
+            parsed.append(record)
+            yield record
+
+    monkeypatch.setattr(delimited, "_records", counted)
+    data = file_of([["r", "1", "2", "2024-05-01", "A", "7", "x"]] * 600)
+    rows = [row for batch in delimited.prepare(source_of(data), NAMES, 5, shares_of(3, True)[1]) for row in batch]
+    assert len(rows) == len(parsed) == 200 and rows[0][0] == 42
 
 
 @pytest.mark.parametrize("time", ["2024-05-01", "2024-05-01T12:30:15Z", "2024-05-01 12:30", "2024-05-01T12:30:15.25+00:00"])

@@ -1,9 +1,11 @@
-//! Times keys, jumps and plans. Without arguments it makes each call once; with a number it makes
+//! Times keys, jumps, plans and the tests of a page. Without arguments it makes each call once; with a number it makes
 //! each call that many times, and prints how long one takes.
 #![tactic(auto)]
 
+mod page;
 mod rounds;
 
+use page::Page;
 use rounds::Rounds;
 use std::time::{Duration, Instant};
 use std::{env, io};
@@ -56,7 +58,31 @@ fn time(rt: &HostRuntime, count: u32) -> io::Result<()> {
         start.elapsed(rt)?,
         count,
         sum,
-    )
+    )?;
+    time_page(rt, count)
+}
+
+// Times the tests of a page of 32 points, each way.
+fn time_page(rt: &HostRuntime, count: u32) -> io::Result<()> {
+    let page = Page::random();
+    let start = Instant::now(rt)?;
+    let sum = page.masks(count);
+    print(rt, "page by a mask", start.elapsed(rt)?, count, sum)?;
+    let start = Instant::now(rt)?;
+    let sum = page.gathered_masks(count);
+    print(
+        rt,
+        "page by a mask, from keys",
+        start.elapsed(rt)?,
+        count,
+        sum,
+    )?;
+    let start = Instant::now(rt)?;
+    let sum = page.key_tests(count);
+    print(rt, "page by its keys", start.elapsed(rt)?, count, sum)?;
+    let start = Instant::now(rt)?;
+    let sum = page.marks(count);
+    print(rt, "page by its marks", start.elapsed(rt)?, count, sum)
 }
 
 fn main(rt: HostRuntime) -> io::Result<()> {

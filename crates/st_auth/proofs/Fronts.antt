@@ -9,7 +9,7 @@ use Rattle.std.specs.declared.cmp.Ordering.{Ordering}
 use Rattle.std.specs.declared.cmp.Ordering.TheVariants.{Less, Equal, Greater}
 use Rattle.std.proofs.lemmas.Cmp.{nat_list_cmp_total}
 use Rattle.st_text.specs.Texts.{Text}
-use Rattle.st_auth.specs.Order.{name_at}
+use Rattle.st_auth.specs.inner.Order.{name_at}
 use Rattle.st_auth.specs.inner.Fronts.{spelt, front, AreBytes}
 
 abbrev ComesFirst : Text → Text → Type 0
@@ -58,8 +58,8 @@ front_less : (xs ys : Text) → AreBytes xs → AreBytes ys → front xs < front
 front_less xs ys small small' less = ⊎_elim (λ l. absurd (omega arith)) (λ h. h.1) (spelt_less 8 0 0 xs ys small small' less)
 
 -- texts whose first bytes spell different numbers compare as these do
-pub fronts_settle : (xs ys : Text) → AreBytes xs → AreBytes ys → front xs ≢ front ys → nat_cmp (front xs) (front ys) ≡ slice_cmp nat_cmp xs ys
-fronts_settle xs ys small small' apart = by (nat_cmp (front xs) (front ys)) (ranks (front xs) (front ys))
+pub fronts_decide : (xs ys : Text) → AreBytes xs → AreBytes ys → front xs ≢ front ys → nat_cmp (front xs) (front ys) ≡ slice_cmp nat_cmp xs ys
+fronts_decide xs ys small small' apart = by (nat_cmp (front xs) (front ys)) (ranks (front xs) (front ys))
   where
     by : (o : Ordering) → MatchOrdering o (front xs < front ys) (front xs ≡ front ys) (front ys < front xs) → o ≡ slice_cmp nat_cmp xs ys
     by Less h = sym (front_less xs ys small small' h)

@@ -11,7 +11,7 @@ use Rattle.std.proofs.lemmas.Cmp.{nat_list_cmp_total}
 use Rattle.std.proofs.lemmas.List.Folds.{list_all-map}
 use Rattle.std.proofs.lemmas.List.Sorted.{list_any-IsPermutation, searchable_from_sorted}
 use Rattle.st_text.specs.Texts.{Text, same, is_among}
-use Rattle.st_auth.specs.Order.{IsOrder, name_at}
+use Rattle.st_auth.specs.inner.Order.{IsOrder, name_at}
 use Rattle.st_auth.proofs.Search.{all_names, among_in_order, none_of, other_when_less, other_when_greater, same_when_equal}
 
 -- ---- lists whose elements all pass
@@ -57,7 +57,8 @@ at_first names others ours theirs h k = record {
       ap (list_all (is_among names)) (all_names others)
       ∙ list_all-map (is_among names) (name_at others) (range_with_len 0 (length others))
       ∙ all_permuted (λ y. is_among names (name_at others y)) (range_with_len 0 (length others)) theirs k.whole
-      ∙ all_alike (λ y. is_among names (name_at others y)) (λ y. list_any (same (name_at others y)) (map (name_at names) ours)) theirs (λ i less. among_in_order names ours (name_at others (get_or theirs i 0)) h);
+      ∙ all_alike (λ y. is_among names (name_at others y)) (λ y. list_any (same (name_at others y)) (map (name_at names) ours)) theirs
+      (λ i less. among_in_order names ours (name_at others (get_or theirs i 0)) h);
   ours_rise = h.rises;
   theirs_rise = k.rises;
 }
@@ -77,7 +78,8 @@ behind names x xs name h e k less =
     at Equal h = absurd (omega (arith, h))
     at Greater h = refl
 
-when_less : (names others : List Text) (x y : ℕ) (xs ys : List ℕ) → slice_cmp nat_cmp (name_at names x) (name_at others y) ≡ Less → Decide names others (x ∷ xs) (y ∷ ys) → Decide names others xs (y ∷ ys)
+when_less : (names others : List Text) (x y : ℕ) (xs ys : List ℕ) → slice_cmp nat_cmp (name_at names x) (name_at others y) ≡ Less
+    → Decide names others (x ∷ xs) (y ∷ ys) → Decide names others xs (y ∷ ys)
 when_less names others x y xs ys less d = record {
   rest =
       d.rest
@@ -95,24 +97,30 @@ when_less names others x y xs ys less d = record {
         let above = behind others y ys (name_at names x) d.theirs_rise over k inside in
         other_when_less (name_at names x) (name_at others (get_or (y ∷ ys) k 0)) (nat_list_cmp_total.antisymm (name_at names x) (name_at others (get_or (y ∷ ys) k 0)) ∙ ap ordering_reverse above)
 
-when_equal : (names others : List Text) (x y : ℕ) (xs ys : List ℕ) → slice_cmp nat_cmp (name_at names x) (name_at others y) ≡ Equal → Decide names others (x ∷ xs) (y ∷ ys) → Decide names others (x ∷ xs) ys
+when_equal : (names others : List Text) (x y : ℕ) (xs ys : List ℕ) → slice_cmp nat_cmp (name_at names x) (name_at others y) ≡ Equal
+    → Decide names others (x ∷ xs) (y ∷ ys) → Decide names others (x ∷ xs) ys
 when_equal names others x y xs ys equal d = record {
   rest = d.rest ∙ ap (λ b. (b || list_any (same (name_at others y)) (map (name_at names) xs)) && all_held names others (x ∷ xs) ys) (same_when_equal (name_at names x) (name_at others y) equal);
   ours_rise = d.ours_rise;
   theirs_rise = without_first others y ys d.theirs_rise;
 }
 
-when_greater : (names others : List Text) (x y : ℕ) (xs ys : List ℕ) → slice_cmp nat_cmp (name_at names x) (name_at others y) ≡ Greater → Decide names others (x ∷ xs) (y ∷ ys) → list_all (is_among names) others ≡ false
+when_greater : (names others : List Text) (x y : ℕ) (xs ys : List ℕ) → slice_cmp nat_cmp (name_at names x) (name_at others y) ≡ Greater
+    → Decide names others (x ∷ xs) (y ∷ ys) → list_all (is_among names) others ≡ false
 when_greater names others x y xs ys greater d =
-    let none = none_of names (x ∷ xs) (name_at others y) (λ k inside. other_when_greater (name_at names (get_or (x ∷ xs) k 0)) (name_at others y) (behind names x xs (name_at others y) d.ours_rise greater k inside)) in
+    let none = none_of names (x ∷ xs) (name_at others y)
+    (λ k inside. other_when_greater (name_at names (get_or (x ∷ xs) k 0)) (name_at others y)
+    (behind names x xs (name_at others y) d.ours_rise greater k inside)) in
     d.rest ∙ ap (λ b. b && all_held names others (x ∷ xs) ys) none
 
 -- What a step leaves, where both orders go on.
-pub after_step : (names others : List Text) (x y : ℕ) (xs ys ours theirs : List ℕ) → ours ≡ x ∷ xs → theirs ≡ y ∷ ys → (o : Ordering) → slice_cmp nat_cmp (name_at names x) (name_at others y) ≡ o → Decide names others ours theirs →
+pub after_step : (names others : List Text) (x y : ℕ) (xs ys ours theirs : List ℕ) → ours ≡ x ∷ xs → theirs ≡ y ∷ ys → (o : Ordering)
+    → slice_cmp nat_cmp (name_at names x) (name_at others y) ≡ o → Decide names others ours theirs →
     MatchOrdering o (Decide names others xs theirs) (Decide names others ours ys) (list_all (is_among names) others ≡ false)
 after_step names others x y xs ys ours theirs e f o c d = at o c (subst (λ l. Decide names others (x ∷ xs) l) f (subst (λ l. Decide names others l theirs) e d))
   where
-    at : (o : Ordering) → slice_cmp nat_cmp (name_at names x) (name_at others y) ≡ o → Decide names others (x ∷ xs) (y ∷ ys) → MatchOrdering o (Decide names others xs theirs) (Decide names others ours ys) (list_all (is_among names) others ≡ false)
+    at : (o : Ordering) → slice_cmp nat_cmp (name_at names x) (name_at others y) ≡ o → Decide names others (x ∷ xs) (y ∷ ys)
+        → MatchOrdering o (Decide names others xs theirs) (Decide names others ours ys) (list_all (is_among names) others ≡ false)
     at Less c d = subst (λ l. Decide names others xs l) (sym f) (when_less names others x y xs ys c d)
     at Equal c d = subst (λ l. Decide names others l ys) (sym e) (when_equal names others x y xs ys c d)
     at Greater c d = when_greater names others x y xs ys c d

@@ -1,5 +1,6 @@
 -- A search in a set's order finds just its names.
-use Rattle.std.proofs.Common.{◌≡◌, ◌≢◌, ◌+◌, ◌<◌, ℕ, zero, suc, List, [], ◌∷◌, ◌++◌, Bool, true, false, not, Result, Ok, Err, length, map, get_or, refl, sym, subst, ap, ap₂, take, ◌∙◌, arith, add-one, is_ok}
+use Rattle.std.proofs.Common.{◌≡◌, ◌≢◌, ◌+◌, ◌<◌, ℕ, zero, suc, List, [], ◌∷◌, ◌++◌, Bool, true, false, not, Result, Ok, Err, length, map, get_or}
+use Rattle.std.proofs.Common.{refl, sym, subst, ap, ap₂, take, ◌∙◌, arith, add-one, is_ok}
 use lib.Dec.{ltb}
 use Rattle.std.proofs.lemmas.Bool.{ltb-true, ltb-false}
 use Rattle.std.specs.Cmp.{Equal-is}
@@ -16,7 +17,7 @@ use Rattle.std.proofs.lemmas.List.Sorted.{All-permutation, IsPermutation-map, li
 use Rattle.std.proofs.lemmas.Map.Text.{is_eq-slice_cmp}
 use Rattle.st_text.specs.Texts.{Text, same, is_among}
 use Rattle.st_text.proofs.Same.{same-eq, same-refl}
-use Rattle.st_auth.specs.Order.{IsOrder, name_at}
+use Rattle.st_auth.specs.inner.Order.{IsOrder, name_at}
 
 -- ---- texts that compare equal are the same
 
@@ -55,22 +56,27 @@ places_inside names order h =
 pub among_in_order : (names : List Text) (order : List ℕ) (name : Text) → IsOrder names order → is_among names name ≡ list_any (same name) (map (name_at names) order)
 among_in_order names order name h =
     ap (list_any (same name)) (all_names names)
-    ∙ list_any-IsPermutation (same name) (map (name_at names) (range_with_len 0 (length names))) (map (name_at names) order) (IsPermutation-map (name_at names) (range_with_len 0 (length names)) order h.whole)
+    ∙ list_any-IsPermutation (same name) (map (name_at names) (range_with_len 0 (length names))) (map (name_at names) order)
+    (IsPermutation-map (name_at names) (range_with_len 0 (length names)) order h.whole)
 
-pub none_of : (names : List Text) (order : List ℕ) (name : Text) → ((k : ℕ) → k < length order → same name (name_at names (get_or order k 0)) ≡ false) → list_any (same name) (map (name_at names) order) ≡ false
+pub none_of : (names : List Text) (order : List ℕ) (name : Text) → ((k : ℕ) → k < length order → same name (name_at names (get_or order k 0)) ≡ false)
+    → list_any (same name) (map (name_at names) order) ≡ false
 none_of names [] name h = refl
 none_of names (i ∷ order) name h = rw (h 0 (omega arith)) (none_of names order name (λ k less. h (suc k) (omega arith)))
 
-parted : (names : List Text) (order : List ℕ) (name : Text) (i : ℕ) → IsPartitionPoint (λ y. slice_cmp nat_cmp (name_at names y) name ≡ Less) (λ y. slice_cmp nat_cmp (name_at names y) name ≡ Greater) order i →
+parted : (names : List Text) (order : List ℕ) (name : Text) (i : ℕ)
+    → IsPartitionPoint (λ y. slice_cmp nat_cmp (name_at names y) name ≡ Less) (λ y. slice_cmp nat_cmp (name_at names y) name ≡ Greater) order i →
     (k : ℕ) → k < length order → same name (name_at names (get_or order k 0)) ≡ false
 parted names order name i h k less = by_side names order name i k h less (ltb k i) refl
   where
-    by_side : (names : List Text) (order : List ℕ) (name : Text) (i k : ℕ) → IsPartitionPoint (λ y. slice_cmp nat_cmp (name_at names y) name ≡ Less) (λ y. slice_cmp nat_cmp (name_at names y) name ≡ Greater) order i →
+    by_side : (names : List Text) (order : List ℕ) (name : Text) (i k : ℕ)
+        → IsPartitionPoint (λ y. slice_cmp nat_cmp (name_at names y) name ≡ Less) (λ y. slice_cmp nat_cmp (name_at names y) name ≡ Greater) order i →
         k < length order → (v : Bool) → ltb k i ≡ v → same name (name_at names (get_or order k 0)) ≡ false
     by_side names order name i k h less true e = other_when_less (name_at names (get_or order k 0)) name (h.0 k 0 (omega arith) (ltb-true k i e))
     by_side names order name i k h less false e = other_when_greater (name_at names (get_or order k 0)) name (h.1 k 0 (ltb-false k i e) less)
 
-pub found : (names : List Text) (order : List ℕ) (name : Text) (r : Result ℕ ℕ) → IsOrder names order → IsSearchInRange r (length order) → IsBinarySearchResult (λ y. slice_cmp nat_cmp (name_at names y) name) order r →
+pub found : (names : List Text) (order : List ℕ) (name : Text) (r : Result ℕ ℕ) → IsOrder names order → IsSearchInRange r (length order)
+    → IsBinarySearchResult (λ y. slice_cmp nat_cmp (name_at names y) name) order r →
     is_ok r ≡ is_among names name
 found names order name (Ok i) h inside is =
     let at : name_at names (get_or order i 0) ≡ get_or (map (name_at names) order) i [] = sym (get_or-map (name_at names) order i 0 [] inside) in

@@ -6,7 +6,9 @@ use Rattle.st_text.specs.Texts.{Text}
 use Rattle.st_auth.specs.Names.{is_auth_name, first_bad}
 
 -- a list that begins with no name has a first one that is none
-split : (ns : List Text) (b : Bool) → b ≡ false → cond (nat_lt (cond (not (not b)) (1 + prefix_len (λ m. not (not (is_auth_name m))) ns) 0) (suc (length ns))) (Some (cond (not (not b)) (1 + prefix_len (λ m. not (not (is_auth_name m))) ns) 0)) None ≡ None → b ≡ true
+split : (ns : List Text) (b : Bool) → b ≡ false
+    → cond (nat_lt (cond (not (not b)) (1 + prefix_len (λ m. not (not (is_auth_name m))) ns) 0) (suc (length ns)))
+    (Some (cond (not (not b)) (1 + prefix_len (λ m. not (not (is_auth_name m))) ns) 0)) None ≡ None → b ≡ true
 split ns true e h = refl
 split ns false e h = let some : nat_lt 0 (suc (length ns)) ≡ true = grind (arith, nat_tests) in let h2 = rw some at h in cc
 

@@ -3,8 +3,9 @@ ghost use Rattle.std.specs.Prelude.{◌≡◌, ◌↔◌, ◌<◌, ◌≤◌, []
 ghost use Rattle.std.specs.Prelude.{slice_index_or};
 ghost use Rattle.std.specs.List.{list_all, position};
 ghost use Rattle.st_text.specs.Texts.{is_among};
-ghost use Rattle.st_auth.specs.Names.{is_auth_name as is_auth_name_of, first_bad, first_missing, RefusesNames};
-ghost use Rattle.st_auth.specs.Order.{IsOrder};
+ghost use Rattle.st_auth.specs.Names.{is_auth_name as is_auth_name_of, first_bad, RefusesNames};
+ghost use Rattle.st_auth.specs.inner.Order.{first_missing};
+ghost use Rattle.st_auth.specs.inner.Order.{IsOrder};
 ghost use Rattle.st_auth.specs.declared.auths.AuthsFault.TheVariants.{NoMemory};
 
 use crate::order::{name_or_empty, places_in_order};
@@ -67,7 +68,7 @@ impl<A: Allocator> Model for Auths<A> {
 
     ghost use Rattle.std.specs.Prelude.{◌≡◌, None};
     ghost use Rattle.st_auth.specs.Names.{first_bad};
-    ghost use Rattle.st_auth.specs.Order.{IsOrder};
+    ghost use Rattle.st_auth.specs.inner.Order.{IsOrder};
 
     ghost invariant = { λ a. IsOrder a.names.items a.order.items × (first_bad a.names.items ≡ None) };
 }

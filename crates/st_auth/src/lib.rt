@@ -2,12 +2,12 @@
 #![tactic(auto)]
 
 mod auths;
+mod cache;
 mod long_labels;
 mod long_text;
 mod order;
 mod set_verdicts;
 mod short_labels;
-mod table;
 mod truth;
 mod verdicts;
 

@@ -7,97 +7,97 @@ ghost use Rattle.st_auth.specs.inner.Remembered.{AreOf, AreHeld, AreKnown, has_t
 ghost use Rattle.lru.specs.LruCache.{lru_cache, promoted};
 
 use crate::auths::Auths;
+use crate::cache::{Cache, CacheKey};
 use crate::long_text::LongText;
-use crate::table::{Kept, Table};
 use crate::truth::satisfies;
 use lru::{DefaultHasher, LruCache};
 use st_label::Label;
 use std::alloc::Allocator;
 use std::num::NonZeroUsize;
 
-// How many labels the table knows at most.
+// How many labels the first cache knows at most.
 const MOST: usize = 4_096;
 
 // The factor of a hash, whose highest bits depend on all bits that are multiplied.
 const FACTOR: u64 = 0x9e37_79b9_7f4a_7c15;
 
-type Cache<A> = LruCache<String<A>, bool, DefaultHasher, A>;
+type Recent<A> = LruCache<String<A>, bool, DefaultHasher, A>;
 
-/// A cache of the verdicts on labels. The first 4,096 stand in a table. The others stand in a cache that forgets, when it is
+/// A cache of the verdicts on labels. The first 4,096 stay. The others are in a second cache that forgets, when it is
 /// full, the label that was asked for longest ago. Both allocate with their first label.
 #[derive(Drop)]
 pub struct LongLabels<A: Allocator> {
     alloc: A,
     pub capacity: NonZeroUsize,
-    table: Table<LongText<A>, A>,
-    cache: Option<Cache<A>>,
+    cache: Cache<LongText<A>, A>,
+    recent: Option<Recent<A>>,
 }
 
 impl<A: Allocator + Copy> LongLabels<A> {
-    /// An empty cache with room for `capacity` labels that the table has no place for.
+    /// An empty cache with room for `capacity` labels beyond the first 4,096.
     pub fn new(alloc: A, capacity: NonZeroUsize) -> LongLabels<A>
         ensures capacity { result.capacity ≡ capacity }
-        ensures known { (names : List Text) → AreKnown kept_text names result.table.known.items }
-        ensures held { (names : List Text) → AreHeld names result.cache }
+        ensures known { (names : List Text) → AreKnown kept_text names result.cache.known.items }
+        ensures held { (names : List Text) → AreHeld names result.recent }
     {
         LongLabels {
             alloc,
             capacity,
-            table: Table::new(alloc, MOST),
-            cache: None,
+            cache: Cache::new(alloc, MOST),
+            recent: None,
         }
     }
 
     /// Forgets all labels.
     pub fn forget(&mut self)
         ensures capacity { self.new.capacity ≡ self.old.capacity }
-        ensures known { (names : List Text) → AreKnown kept_text names self.new.table.known.items }
-        ensures held { (names : List Text) → AreHeld names self.new.cache }
+        ensures known { (names : List Text) → AreKnown kept_text names self.new.cache.known.items }
+        ensures held { (names : List Text) → AreHeld names self.new.recent }
     {
-        self.table.forget();
-        self.cache = None;
+        self.cache.forget();
+        self.recent = None;
     }
 
     /// Whether the label is true for the set. When out of memory it remembers nothing.
     pub fn ask<B: Allocator, C: Allocator>(&mut self, label: &Label<B>, auths: &Auths<C>) -> bool
-        requires known { AreKnown kept_text auths.now self.old.table.known.items }
-        requires held { AreHeld auths.now self.old.cache }
+        requires known { AreKnown kept_text auths.now self.old.cache.known.items }
+        requires held { AreHeld auths.now self.old.recent }
         ensures value { result ≡ is_true (is_among auths.now) label.now }
-        ensures known { AreKnown kept_text auths.now self.new.table.known.items }
-        ensures held { AreHeld auths.now self.new.cache }
+        ensures known { AreKnown kept_text auths.now self.new.cache.known.items }
+        ensures held { AreHeld auths.now self.new.recent }
         ensures capacity { self.new.capacity ≡ self.old.capacity }
     {
-        if let Some(verdict) = self.table.verdict(hash_of(label.text()), label) {
+        if let Some(verdict) = self.cache.verdict(hash_of(label.text()), label) {
             return verdict;
         }
-        if self.table.is_full() {
-            return self.ask_cache(label, auths);
+        if self.cache.is_full() {
+            return self.ask_recent(label, auths);
         }
         let verdict = satisfies(label, auths);
         if let Ok(text) = LongText::new(self.alloc, label.text()) {
-            self.table.keep(text, verdict);
+            self.cache.keep(text, verdict);
         }
         verdict
     }
 
-    // Whether the label, for which the table has no place, is true for the set.
-    fn ask_cache<B: Allocator, C: Allocator>(&mut self, label: &Label<B>, auths: &Auths<C>) -> bool
-        requires held { AreHeld auths.now self.old.cache }
+    // Whether the label, which the first cache has no room for, is true for the set.
+    fn ask_recent<B: Allocator, C: Allocator>(&mut self, label: &Label<B>, auths: &Auths<C>) -> bool
+        requires held { AreHeld auths.now self.old.recent }
         ensures value { result ≡ is_true (is_among auths.now) label.now }
-        ensures held { AreHeld auths.now self.new.cache }
-        ensures table { self.new.table ≡ self.old.table }
+        ensures held { AreHeld auths.now self.new.recent }
+        ensures cache { self.new.cache ≡ self.old.cache }
         ensures capacity { self.new.capacity ≡ self.old.capacity }
     {
-        let Some(mut cache) = cache_of(self.alloc, self.capacity, self.cache.take()) else {
+        let Some(mut recent) = recent_of(self.alloc, self.capacity, self.recent.take()) else {
             return satisfies(label, auths);
         };
-        let verdict = ask_in(self.alloc, &mut cache, label, auths);
-        self.cache = Some(cache);
+        let verdict = ask_in(self.alloc, &mut recent, label, auths);
+        self.recent = Some(recent);
         verdict
     }
 }
 
-impl<A: Allocator> Kept for LongText<A> {
+impl<A: Allocator> CacheKey for LongText<A> {
     ghost text = { kept_text };
 
     fn hash(&self) -> usize {
@@ -131,17 +131,17 @@ fn word_at(bytes: &[u8], place: usize) -> u64 {
 }
 
 // The cache, or an empty one when there is none yet. `None` when out of memory.
-fn cache_of<A: Allocator + Copy>(
+fn recent_of<A: Allocator + Copy>(
     alloc: A,
     capacity: NonZeroUsize,
-    cache: Option<Cache<A>>,
-) -> Option<Cache<A>>
-    ensures { (names : List Text) → AreHeld names cache → AreHeld names result }
+    recent: Option<Recent<A>>,
+) -> Option<Recent<A>>
+    ensures { (names : List Text) → AreHeld names recent → AreHeld names result }
 {
-    match cache {
-        Some(cache) => Some(cache),
+    match recent {
+        Some(recent) => Some(recent),
         None => match LruCache::new(alloc, capacity) {
-            Ok(cache) => Some(cache),
+            Ok(recent) => Some(recent),
             Err(_) => None,
         },
     }
@@ -150,36 +150,36 @@ fn cache_of<A: Allocator + Copy>(
 // Whether the label is true for the set, from the cache or computed now.
 fn ask_in<A: Allocator + Copy, B: Allocator, C: Allocator>(
     alloc: A,
-    cache: &mut Cache<A>,
+    recent: &mut Recent<A>,
     label: &Label<B>,
     auths: &Auths<C>,
 ) -> bool
-    requires entries { AreOf auths.now cache.old.entries }
+    requires entries { AreOf auths.now recent.old.entries }
     ensures value { result ≡ is_true (is_among auths.now) label.now }
-    ensures entries { AreOf auths.now cache.new.entries }
+    ensures entries { AreOf auths.now recent.new.entries }
 {
-    if let Some(verdict) = recall(cache, label.text()) {
+    if let Some(verdict) = recall(recent, label.text()) {
         return verdict;
     }
     let verdict = satisfies(label, auths);
-    remember(alloc, cache, label.text(), verdict);
+    remember(alloc, recent, label.text(), verdict);
     verdict
 }
 
 // The verdict that the cache remembers.
-fn recall<A: Allocator + Copy>(cache: &mut Cache<A>, text: &str) -> Option<bool>
-    ensures value { result ≡ lookup (has_text text.now) cache.old.entries }
-    ensures entries { cache.new ≡ lru_cache (promoted (has_text text.now) cache.old.entries) cache.old.cap }
+fn recall<A: Allocator + Copy>(recent: &mut Recent<A>, text: &str) -> Option<bool>
+    ensures value { result ≡ lookup (has_text text.now) recent.old.entries }
+    ensures entries { recent.new ≡ lru_cache (promoted (has_text text.now) recent.old.entries) recent.old.cap }
 {
-    cache.get(text).copied()
+    recent.get(text).copied()
 }
 
 // Remembers the verdict. When out of memory the cache is unchanged.
-fn remember<A: Allocator + Copy>(alloc: A, cache: &mut Cache<A>, text: &str, verdict: bool)
+fn remember<A: Allocator + Copy>(alloc: A, recent: &mut Recent<A>, text: &str, verdict: bool)
     ensures { (names : List Text) → verdict ≡ is_true (is_among names) text.now
-        → AreOf names cache.old.entries → AreOf names cache.new.entries }
+        → AreOf names recent.old.entries → AreOf names recent.new.entries }
 {
     if let Ok(text) = String::from_str(alloc, text) {
-        let _kept = cache.put(text, verdict);
+        let _kept = recent.put(text, verdict);
     }
 }

@@ -1,4 +1,4 @@
-//! The text of a long label, as a table of verdicts keeps it.
+//! The text of a long label, as a cache of verdicts keeps it.
 ghost use Rattle.std.specs.Prelude.{◌≡◌, IfOk};
 ghost use Rattle.st_auth.specs.inner.Remembered.{kept_text};
 
@@ -8,7 +8,7 @@ use std::alloc::{AllocError, Allocator};
 // The greatest length of a text that is stored in the value itself, in bytes.
 const MAX_INLINE: usize = 48;
 
-/// The text of a label: in the value itself up to 48 bytes, else on the heap. So a table of such texts is one block of memory, and
+/// The text of a label: in the value itself up to 48 bytes, else on the heap. So a cache of such texts is one block of memory, and
 /// not one more for each.
 #[derive(Drop)]
 pub enum LongText<A: Allocator> {

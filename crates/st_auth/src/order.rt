@@ -1,9 +1,12 @@
 //! The order of names.
+//!
+//! A set is sorted by the first 8 bytes of each name as one number (`Fronts`), the greatest first; only names that agree in these
+//! are compared whole.
 ghost use Rattle.std.specs.Prelude.{◌≡◌, IfOk, slice_index};
 ghost use Rattle.std.specs.Cmp.Lexicographic.{slice_cmp};
 ghost use Rattle.std.specs.Ordering.{nat_cmp};
 ghost use Rattle.std.specs.List.{range_with_len};
-ghost use Rattle.st_auth.specs.Order.{IsOrder, name_at};
+ghost use Rattle.st_auth.specs.inner.Order.{IsOrder, name_at};
 ghost use Rattle.st_auth.specs.inner.Fronts.{AreBytes, front};
 
 use st_text::CompactText;
@@ -20,7 +23,7 @@ struct Fronts<'n, A: Allocator> {
 
 impl<'n, A: Allocator> Model for Fronts<'n, A> {
     ghost use Rattle.std.specs.Prelude.{ℕ, List, ◌≡◌, map};
-    ghost use Rattle.st_auth.specs.Order.{name_at};
+    ghost use Rattle.st_auth.specs.inner.Order.{name_at};
     ghost use Rattle.st_auth.specs.inner.Fronts.{AreBytes, front};
 
     ghost Value = { List (List ℕ) };
@@ -95,7 +98,7 @@ fn byte_or_zero(bytes: &[u8], place: usize) -> u8
     }
 }
 
-/// The name at an index, or the empty text past the end.
+// The name at an index, or the empty text past the end.
 pub(crate) fn name_or_empty<A: Allocator>(names: &[CompactText<A>], place: usize) -> &str
     ensures { result.now ≡ name_at names.now place }
 {
@@ -116,7 +119,7 @@ fn places<A: Allocator>(alloc: A, count: usize) -> Result<Vec<usize, A>, AllocEr
     Ok(list)
 }
 
-/// The indices of the names, lesser names first. `AllocError` when out of memory.
+// The indices of the names, lesser names first. `AllocError` when out of memory.
 pub(crate) fn places_in_order<A: Allocator + Copy>(
     alloc: A,
     names: &[CompactText<A>],

@@ -1,4 +1,7 @@
 //! A cache of verdicts on labels for one set of authorizations.
+//!
+//! Each cache has 64 places at first and four times as many once a quarter are taken, up to 32,768. A label without a free place
+//! within four behind that of its hash replaces another; long labels that come to a full one go to an `lru` cache.
 ghost use Rattle.std.specs.Prelude.{◌≡◌};
 ghost use Rattle.st_label.specs.Reading.{is_true};
 ghost use Rattle.st_text.specs.Texts.{is_among};
@@ -36,13 +39,13 @@ impl<'s, A: Allocator, B: Allocator> Model for SetVerdicts<'s, A, B> {
 
     ghost view = { λ v. v.auths.now };
 
-    ghost invariant = { λ v. AreHeld v.auths.now v.long.cache × AreKnown itself v.auths.now v.short.table.known.items
-        × AreKnown kept_text v.auths.now v.long.table.known.items };
+    ghost invariant = { λ v. AreHeld v.auths.now v.long.recent × AreKnown itself v.auths.now v.short.cache.known.items
+        × AreKnown kept_text v.auths.now v.long.cache.known.items };
 }
 
 impl<'s, A: Allocator + Copy, B: Allocator> SetVerdicts<'s, A, B> {
-    /// An empty cache with room for 4,096 labels longer than [`st_text::MAX_SHORT`] bytes in its table, and for `capacity` more
-    /// beside it. It allocates with the seventeenth label that is asked for, or later.
+    /// An empty cache with room for 4,096 labels longer than [`st_text::MAX_SHORT`] bytes, and for `capacity` more. It
+    /// allocates with the seventeenth label that is asked for, or later.
     pub fn new(alloc: A, capacity: NonZeroUsize, auths: &'s Auths<B>) -> SetVerdicts<'s, A, B>
         ensures { result ≡ auths.now }
     {

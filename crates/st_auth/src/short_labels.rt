@@ -5,7 +5,7 @@ ghost use Rattle.st_text.specs.Texts.{Text, is_among};
 ghost use Rattle.st_auth.specs.inner.Remembered.{AreKnown, itself};
 
 use crate::auths::Auths;
-use crate::table::{Kept, Table};
+use crate::cache::{Cache, CacheKey};
 use crate::truth::satisfies;
 use st_label::Label;
 use st_text::ShortText;
@@ -18,24 +18,24 @@ const MOST: usize = 8_192;
 /// and grows with how many there are, up to 8,192 labels.
 #[derive(Drop)]
 pub struct ShortLabels<A: Allocator> {
-    table: Table<ShortText, A>,
+    cache: Cache<ShortText, A>,
 }
 
 impl<A: Allocator + Copy> ShortLabels<A> {
     /// The empty cache.
     pub fn new(alloc: A) -> ShortLabels<A>
-        ensures { (names : List Text) → AreKnown itself names result.table.known.items }
+        ensures { (names : List Text) → AreKnown itself names result.cache.known.items }
     {
         ShortLabels {
-            table: Table::new(alloc, MOST),
+            cache: Cache::new(alloc, MOST),
         }
     }
 
     /// Forgets all labels.
     pub fn forget(&mut self)
-        ensures { (names : List Text) → AreKnown itself names self.new.table.known.items }
+        ensures { (names : List Text) → AreKnown itself names self.new.cache.known.items }
     {
-        self.table.forget();
+        self.cache.forget();
     }
 
     /// Whether the label is true for the set, or `None` when its text is not short.
@@ -44,21 +44,21 @@ impl<A: Allocator + Copy> ShortLabels<A> {
         label: &Label<B>,
         auths: &Auths<C>,
     ) -> Option<bool>
-        requires known { AreKnown itself auths.now self.old.table.known.items }
+        requires known { AreKnown itself auths.now self.old.cache.known.items }
         ensures value { IfSome result (λ verdict. verdict ≡ is_true (is_among auths.now) label.now) }
-        ensures known { AreKnown itself auths.now self.new.table.known.items }
+        ensures known { AreKnown itself auths.now self.new.cache.known.items }
     {
         let text = label.as_short()?;
-        if let Some(verdict) = self.table.verdict(text.hash(), label) {
+        if let Some(verdict) = self.cache.verdict(text.hash(), label) {
             return Some(verdict);
         }
         let verdict = satisfies(label, auths);
-        self.table.keep(text.copy(), verdict);
+        self.cache.keep(text.copy(), verdict);
         Some(verdict)
     }
 }
 
-impl Kept for ShortText {
+impl CacheKey for ShortText {
     ghost text = { λ t. t };
 
     fn hash(&self) -> usize {

@@ -34,12 +34,12 @@ impl<A: Allocator> Model for Verdicts<A> {
 
     ghost view = { λ v. non_zero_usize_get v.long.capacity };
 
-    ghost invariant = { λ v. AreHeld v.auths v.long.cache × AreKnown itself v.auths v.short.table.known.items
-        × AreKnown kept_text v.auths v.long.table.known.items };
+    ghost invariant = { λ v. AreHeld v.auths v.long.recent × AreKnown itself v.auths v.short.cache.known.items
+        × AreKnown kept_text v.auths v.long.cache.known.items };
 }
 
 impl<A: Allocator + Copy> Verdicts<A> {
-    /// An empty cache with room for 4,096 long labels in its table, and for `capacity` more beside it. `AllocError` when out of memory.
+    /// An empty cache with room for 4,096 long labels, and for `capacity` more. `AllocError` when out of memory.
     pub fn new(alloc: A, capacity: NonZeroUsize) -> Result<Verdicts<A>, AllocError>
         ensures { IfOk result (λ verdicts. verdicts ≡ non_zero_usize_get capacity) }
     {

@@ -7,9 +7,10 @@ use Rattle.st_key.specs.Key.{IsBefore}
 use Rattle.st_box.specs.declared.query.Query.{Query}
 use Rattle.st_box.specs.declared.zbox.ZBox.{ZBox}
 use Rattle.st_box.specs.ZBox.{IsInside}
-use Rattle.st_box.specs.Query.{HasKey, IsBoxIn}
-use Rattle.st_bigmin.specs.First.{IsFirstIn, IsFirstFrom, IsAtOrAfter}
-use Rattle.st_bigmin.specs.Jump.{IsLeastAbove}
+use Rattle.st_box.specs.Query.{HasKey}
+use Rattle.st_box.specs.inner.Bins.{IsBoxIn}
+use Rattle.st_bigmin.specs.inner.First.{IsFirstIn, IsFirstFrom, IsAtOrAfter}
+use Rattle.st_bigmin.specs.inner.Jump.{IsLeastAbove}
 
 pub first_in : (q : Query) (w : Period) (bin : ℕ) (b : ZBox) (k : Key) → IsBoxIn q w bin b → k.bin ≡ bin → IsInside b k.address
     → ((a : ℕ) → IsInside b a → k.address ≤ a) → IsFirstIn q w bin k

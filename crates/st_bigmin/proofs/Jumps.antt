@@ -6,12 +6,14 @@ use Rattle.std.proofs.Math.Nat.{pow-suc, div-mul-le_self, div-eq_of_lt}
 use Rattle.std.proofs.lemmas.Nat.{shr-shr, shr_below, pow-add, mul-le}
 use Rattle.st_key.specs.Order.{Spot}
 use Rattle.st_box.specs.declared.zbox.ZBox.{ZBox}
-use Rattle.st_box.specs.Corner.{IsWithin, spot_at, address_at, later_of, earlier_of}
+use Rattle.st_box.specs.Corner.{IsWithin, spot_at}
+use Rattle.st_box.specs.inner.Corners.{address_at, later_of, earlier_of}
 use Rattle.st_box.specs.ZBox.{IsInside, first_of, last_of}
-use Rattle.st_bigmin.specs.Jump.{IsLeastAbove, IsGreatestBelow}
+use Rattle.st_bigmin.specs.inner.Jump.{IsLeastAbove, IsGreatestBelow}
 use Rattle.st_bigmin.specs.inner.Cells.{IsBetween}
 use Rattle.st_box.proofs.Cells.{after_first, before_last, in_cell, address-mono, address-spot, spot_in_cube, above_prefix, last_prefix, within-cube}
 use Rattle.st_box.proofs.Boxes.{cell_first, cell_last, Meets, meets, box_in_cube, box_ordered, inside_at}
+use Rattle.st_bigmin.proofs.Ends.{earlier_within, later_within}
 
 pub no_prefix : (z k : ℕ) → z < 2 ^ k → z / 2 ^ k ≡ 0
 no_prefix z k fits = div-eq_of_lt fits
@@ -68,9 +70,6 @@ least_above b z k none room meet =
             subst (λ n. address_at s ≤ n) (address-spot a inside.is_address) (address-mono s (spot_at a) w (spot_in_cube a))
       ];
     }
-  where
-    later_within : (s t u : Spot) → IsWithin s u → IsWithin t u → IsWithin (later_of s t) u
-    later_within s t u h g = record { x_within = omega arith; y_within = omega arith; offset_within = omega arith }
 
 -- ---- the greatest below
 
@@ -113,9 +112,6 @@ greatest_below b z k none odd room meet =
             subst (λ n. n ≤ address_at s) (address-spot a inside.is_address) (address-mono (spot_at a) s w cube)
       ];
     }
-  where
-    earlier_within : (s t u : Spot) → IsWithin u s → IsWithin u t → IsWithin u (earlier_of s t)
-    earlier_within s t u h g = record { x_within = omega arith; y_within = omega arith; offset_within = omega arith }
 
 -- every address is below 2 ^ 63, so a greater z stands for no more than that
 pub greatest_below-min : (b : ZBox) (z y m : ℕ) → y ≡ min z (2 ^ 63) → IsGreatestBelow b y m → IsGreatestBelow b z m

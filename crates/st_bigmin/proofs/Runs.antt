@@ -8,7 +8,8 @@ use Rattle.st_key.specs.Order.{Spot}
 use Rattle.st_box.specs.declared.zbox.ZBox.{ZBox}
 use Rattle.st_box.specs.Corner.{IsWithin, spot_at}
 use Rattle.st_box.specs.ZBox.{IsInside, first_of, last_of}
-use Rattle.st_bigmin.specs.Run.{IsRunTo, IsNextRun}
+use Rattle.st_bigmin.specs.Run.{IsNextRun}
+use Rattle.st_bigmin.specs.inner.Runs.{IsRunTo}
 use Rattle.st_bigmin.specs.inner.Cells.{IsBetween, HasCell, IsFirstOutside}
 use Rattle.st_box.proofs.Cells.{after_first, before_last, above_prefix}
 use Rattle.st_box.proofs.Boxes.{within_trans}

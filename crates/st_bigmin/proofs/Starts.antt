@@ -5,7 +5,8 @@ use Rattle.std.specs.Int.Count.{count_leading_zeros, leading_of_zero}
 use Rattle.std.proofs.lemmas.Bool.{cases_lt}
 use Rattle.std.proofs.lemmas.Nat.{xor_shr, xor_lt, le-div, leading_top, pow_pos}
 use Rattle.st_key.specs.Order.{Spot}
-use Rattle.st_box.specs.Corner.{IsWithin, spot_at, address_at, later_of, earlier_of}
+use Rattle.st_box.specs.Corner.{IsWithin, spot_at}
+use Rattle.st_box.specs.inner.Corners.{address_at, later_of, earlier_of}
 use Rattle.st_box.proofs.Cells.{after_first, before_last, in_cell, spot_in_cube, spot-address, within-cube}
 use Rattle.st_bigmin.specs.inner.Cells.{IsBetween}
 use Rattle.st_bigmin.proofs.Ends.{cell_room}

@@ -1,4 +1,2 @@
-pub mod First
-pub mod Jump
 pub mod Run
 pub mod inner

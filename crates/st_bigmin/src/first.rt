@@ -4,7 +4,7 @@ ghost use Rattle.st_key.specs.Period.{seconds_of};
 ghost use Rattle.st_key.specs.Key.{IsBefore};
 ghost use Rattle.st_key.specs.declared.key.Key.{Key};
 ghost use Rattle.st_box.specs.Query.{HasKey};
-ghost use Rattle.st_bigmin.specs.First.{IsFirstFrom, IsFirstIn};
+ghost use Rattle.st_bigmin.specs.inner.First.{IsFirstFrom, IsFirstIn};
 
 use crate::jump::next_between;
 use st_box::{KeyTest, Query};

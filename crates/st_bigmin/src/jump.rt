@@ -1,7 +1,7 @@
 //! The neighbours of a number among the addresses of a box.
 ghost use Rattle.std.specs.Prelude.{◌≡◌, ℕ, ◌^◌, ◌<◌, ◌≤◌, ◌+◌, ◌-◌, ◌*◌, ◌/◌, IfSome, IfNone};
 ghost use Rattle.st_box.specs.Corner.{spot_at};
-ghost use Rattle.st_bigmin.specs.Jump.{IsLeastAbove, IsGreatestBelow};
+ghost use Rattle.st_bigmin.specs.inner.Jump.{IsLeastAbove, IsGreatestBelow};
 ghost use Rattle.st_bigmin.specs.inner.Cells.{IsBetween};
 ghost use Rattle.st_box.specs.ZBox.{IsInside, first_of, last_of};
 ghost use Rattle.st_box.specs.declared.zbox.ZBox.{ZBox};

@@ -1,6 +1,7 @@
 //! The runs of a box: the maximal intervals of consecutive addresses in it.
 ghost use Rattle.std.specs.Prelude.{◌≡◌, ◌↔◌, ℕ, ◌^◌, ◌<◌, ◌≤◌, ◌+◌, ◌*◌, ◌/◌, IsTrue, IfSome, IfNone};
-ghost use Rattle.st_bigmin.specs.Run.{IsNextRun, IsRunTo, IsLeastInCell, IsGreatestInCell};
+ghost use Rattle.st_bigmin.specs.Run.{IsNextRun};
+ghost use Rattle.st_bigmin.specs.inner.Runs.{IsRunTo, IsLeastInCell, IsGreatestInCell};
 ghost use Rattle.st_bigmin.specs.inner.Cells.{HasCell, IsFirstOutside};
 ghost use Rattle.st_box.specs.ZBox.{IsInside};
 

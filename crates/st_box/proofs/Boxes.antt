@@ -2,7 +2,8 @@
 use Rattle.std.proofs.Common.{◌≡◌, ℕ, ◌+◌, ◌-◌, ◌*◌, ◌/◌, ◌^◌, ◌≤◌, sym, subst, arith}
 use Rattle.st_key.specs.Order.{Spot}
 use Rattle.st_box.specs.declared.zbox.ZBox.{ZBox}
-use Rattle.st_box.specs.Corner.{IsWithin, spot_at, address_at}
+use Rattle.st_box.specs.Corner.{IsWithin, spot_at}
+use Rattle.st_box.specs.inner.Corners.{address_at}
 use Rattle.st_box.specs.ZBox.{IsInside, first_of, last_of}
 use Rattle.st_box.proofs.Cells.{after_first, before_last, address-mono, address-spot, spot_in_cube, spot-address, address-lt, within-cube, InCube}
 

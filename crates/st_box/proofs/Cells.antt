@@ -8,7 +8,8 @@ use Rattle.std.proofs.lemmas.Nat.Bits.{bit_at_lowest, bit_at-zero, bit_at-lt, bi
 use Rattle.st_key.specs.Morton.{gather}
 use Rattle.st_key.specs.Order.{Spot}
 use Rattle.st_key.proofs.MortonLemmas.{joined-gather, gather-lt, joined-lt, gather_x, gather_y, gather_z}
-use Rattle.st_box.specs.Corner.{IsWithin, spot_at, address_at}
+use Rattle.st_box.specs.Corner.{IsWithin, spot_at}
+use Rattle.st_box.specs.inner.Corners.{address_at}
 use Rattle.st_box.proofs.Lanes.{spread_le}
 
 -- each bit of a is at most that of b

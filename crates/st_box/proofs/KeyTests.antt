@@ -11,7 +11,8 @@ use Rattle.st_key.proofs.PeriodLemmas.{period}
 use Rattle.st_box.specs.declared.query.Query.{Query}
 use Rattle.st_box.specs.declared.zbox.ZBox.{ZBox}
 use Rattle.st_box.specs.inner.KeyTest.{IsPlaceIn, IsTimeIn}
-use Rattle.st_box.specs.Query.{HasKey, IsBoxIn, first_offset_of, last_offset_of}
+use Rattle.st_box.specs.Query.{HasKey}
+use Rattle.st_box.specs.inner.Bins.{IsBoxIn, first_offset_of, last_offset_of}
 use Rattle.st_box.specs.inner.Edges.{IsFirstOffset, IsLastOffset}
 use Rattle.st_box.proofs.Spans.{box_in, bins_of_key, offsets_ordered, starts_in, starts_before, ends_in, ends_after}
 

@@ -10,14 +10,16 @@ use Rattle.st_key.proofs.PeriodLemmas.{period}
 use Rattle.st_box.specs.declared.part.Part.{Part}
 use Rattle.st_box.specs.declared.query.Query.{Query}
 use Rattle.st_box.specs.declared.zbox.ZBox.{ZBox}
-use Rattle.st_box.specs.Part.{Cut, cut_of, cut_to, cuts_of, IsInPart, HasPart, FollowBins}
+use Rattle.st_box.specs.Part.{Cut, cut_of, cut_to, cuts_of}
+use Rattle.st_box.specs.inner.Parts.{IsInPart, HasPart, FollowBins}
 use Rattle.st_box.specs.inner.Edges.{IsEdge, IsMiddle}
-use Rattle.st_box.specs.Query.{HasKey, first_offset_of, last_offset_of}
-use Rattle.st_box.specs.ZBox.{HasBounds}
+use Rattle.st_box.specs.Query.{HasKey}
+use Rattle.st_box.specs.inner.Bins.{first_offset_of, last_offset_of}
+use Rattle.st_box.specs.inner.Bounds.{HasBounds}
 use Rattle.st_box.proofs.Spans.{bins_of_key}
 
 abbrev make : (lo hi x0 x1 y0 y1 o0 o1 : ℕ) → Cut
-make lo hi x0 x1 y0 y1 o0 o1 = record { bin_lo = lo; bin_hi = hi; x_first = x0; x_last = x1; y_first = y0; y_last = y1; offset_first = o0; offset_last = o1 }
+make lo hi x0 x1 y0 y1 o0 o1 = record { bin_lo = lo; bin_hi = hi; first = record { x = x0; y = y0; offset = o0 }; last = record { x = x1; y = y1; offset = o1 } }
 
 -- a part by the bounds of its box
 pub cut_by_bounds : (b : ZBox) (lo hi x0 x1 y0 y1 o0 o1 : ℕ) → HasBounds x0 x1 y0 y1 o0 o1 b
@@ -73,7 +75,8 @@ cuts_two q w p r next e f =
     let s = seconds_of w in
     let h = edge_cut q w (q.t0 / s) p (q.t0 % s) (s - 1) e (first_here w q.t0 (q.t0 / s) refl) (last_sooner w q.t1 (q.t0 / s) (omega arith)) in
     let g = edge_cut q w (q.t1 / s) r 0 (q.t1 % s) f (first_later w q.t0 (q.t1 / s) (omega arith)) (last_here w q.t1 (q.t1 / s) refl) in
-    rw (ne_eqb (q.t0 / s) (q.t1 / s) (λ e. omega arith), le-ltb (q.t0 / s + 1) (q.t1 / s) (omega arith)) (ap (λ c. c ∷ cut_of r ∷ []) h ∙ ap (λ c. cut_to q (q.t0 / s) (q.t0 / s) (q.t0 % s) (s - 1) ∷ c ∷ []) g)
+    rw (ne_eqb (q.t0 / s) (q.t1 / s) (λ e. omega arith), le-ltb (q.t0 / s + 1) (q.t1 / s) (omega arith))
+    (ap (λ c. c ∷ cut_of r ∷ []) h ∙ ap (λ c. cut_to q (q.t0 / s) (q.t0 / s) (q.t0 % s) (s - 1) ∷ c ∷ []) g)
 
 pub cuts_three : (q : Query) (w : Period) (p m r : Part) → q.t0 / seconds_of w + 1 < q.t1 / seconds_of w
     → IsEdge q w (q.t0 / seconds_of w) p → IsMiddle q w m → IsEdge q w (q.t1 / seconds_of w) r

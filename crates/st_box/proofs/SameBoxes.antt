@@ -2,7 +2,7 @@
 use Rattle.std.proofs.Common.{◌≡◌, ℕ, ◌^◌, ◌<◌, ◌≤◌, ap, sym, subst}
 use Rattle.std.proofs.Props.{props}
 use Rattle.st_box.specs.declared.zbox.ZBox.{ZBox}
-use Rattle.st_box.specs.ZBox.{HasBounds}
+use Rattle.st_box.specs.inner.Bounds.{HasBounds}
 
 abbrev Facts : ℕ → ℕ → ℕ → ℕ → ℕ → ℕ → Type 0
 Facts x0 x1 y0 y1 o0 o1 = (x0 ≤ x1) × (y0 ≤ y1) × (o0 ≤ o1) × (x1 < 2 ^ 21) × (y1 < 2 ^ 21) × (o1 < 2 ^ 21)

@@ -12,7 +12,8 @@ use Rattle.st_key.proofs.MortonLemmas.{gather-lt}
 use Rattle.st_key.proofs.PeriodLemmas.{period}
 use Rattle.st_box.specs.declared.query.Query.{Query}
 use Rattle.st_box.specs.declared.zbox.ZBox.{ZBox}
-use Rattle.st_box.specs.Query.{HasKey, IsBoxIn}
+use Rattle.st_box.specs.Query.{HasKey}
+use Rattle.st_box.specs.inner.Bins.{IsBoxIn}
 use Rattle.st_box.specs.inner.Edges.{IsFirstOffset, IsLastOffset}
 use Rattle.st_box.proofs.Bounds.{has, holds}
 

@@ -1,5 +1,5 @@
 -- A box of x, y and offset, as a set of addresses.
-use Rattle.std.specs.Prelude.{ℕ, ◌≡◌, ◌<◌, ◌^◌}
+use Rattle.std.specs.Prelude.{ℕ, ◌<◌, ◌^◌}
 use Rattle.st_box.specs.Corner.{spot_at, IsWithin}
 use Rattle.st_box.specs.declared.zbox.ZBox.{ZBox}
 use Rattle.st_key.specs.Order.{Spot}
@@ -15,8 +15,3 @@ pub record IsInside (b : ZBox) (a : ℕ) : Type 0 where
   pub is_address : a < 2 ^ 63
   pub from_first : IsWithin (first_of b) (spot_at a)
   pub to_last : IsWithin (spot_at a) (last_of b)
-
--- these are the bounds of the box
-abbrev pub HasBounds : (x0 x1 y0 y1 o0 o1 : ℕ) → ZBox → Type 0
-HasBounds x0 x1 y0 y1 o0 o1 b =
-    (b.x_first ≡ x0) × (b.x_last ≡ x1) × (b.y_first ≡ y0) × (b.y_last ≡ y1) × (b.offset_first ≡ o0) × (b.offset_last ≡ o1)

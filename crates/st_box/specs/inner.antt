@@ -2,3 +2,7 @@
 pub mod Coordinates
 pub mod Edges
 pub mod KeyTest
+pub mod Corners
+pub mod Parts
+pub mod Bins
+pub mod Bounds

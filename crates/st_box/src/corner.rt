@@ -2,7 +2,8 @@
 ghost use Rattle.std.specs.Prelude.{◌≡◌, ◌↔◌, ◌^◌, ◌<◌, IsTrue};
 ghost use Rattle.st_key.specs.Morton.{spread, gather};
 ghost use Rattle.st_key.specs.Order.{Spot};
-ghost use Rattle.st_box.specs.Corner.{spot_at, address_at, IsWithin, later_of, earlier_of};
+ghost use Rattle.st_box.specs.Corner.{spot_at, IsWithin};
+ghost use Rattle.st_box.specs.inner.Corners.{address_at, later_of, earlier_of};
 
 use st_key::spread;
 use std::marker::Model;

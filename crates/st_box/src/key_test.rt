@@ -35,7 +35,8 @@ pub struct KeyTest {
 
 impl KeyTest {
     ghost use Rattle.st_box.specs.inner.KeyTest.{IsPlaceIn, IsTimeIn};
-    ghost use Rattle.st_box.specs.Query.{HasKey, first_offset_of, last_offset_of};
+    ghost use Rattle.st_box.specs.Query.{HasKey};
+    ghost use Rattle.st_box.specs.inner.Bins.{first_offset_of, last_offset_of};
 
     /// The test for a query, in a period.
     pub fn new(query: &Query, period: Period) -> KeyTest

@@ -1,7 +1,7 @@
 //! Laws of the definitions, each the contract of a function that does nothing.
 ghost use Rattle.std.specs.Prelude.{◌≡◌};
 ghost use Rattle.st_box.specs.Query.{Makes};
-ghost use Rattle.st_box.specs.ZBox.{HasBounds};
+ghost use Rattle.st_box.specs.inner.Bounds.{HasBounds};
 ghost use Rattle.st_box.specs.declared.query.Query.{Query};
 ghost use Rattle.st_box.specs.declared.zbox.ZBox.{ZBox};
 

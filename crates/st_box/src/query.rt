@@ -33,11 +33,13 @@ pub struct Query {
 impl Query {
     ghost use Rattle.st_key.specs.Period.{seconds_of};
     ghost use Rattle.st_key.specs.declared.key.Key.{Key};
-    ghost use Rattle.st_box.specs.Part.{cut_of, cuts_of, HasPart, FollowBins};
+    ghost use Rattle.st_box.specs.Part.{cut_of, cuts_of};
+    ghost use Rattle.st_box.specs.inner.Parts.{HasPart, FollowBins};
     ghost use Rattle.st_box.specs.inner.Edges.{IsEdge, IsMiddle};
-    ghost use Rattle.st_box.specs.Query.{Makes, is_inside, HasKey, IsBoxIn, first_offset_of, last_offset_of};
+    ghost use Rattle.st_box.specs.Query.{Makes, is_inside, HasKey};
+    ghost use Rattle.st_box.specs.inner.Bins.{IsBoxIn, first_offset_of, last_offset_of};
     ghost use Rattle.st_box.specs.inner.Edges.{IsFirstOffset, IsLastOffset};
-    ghost use Rattle.st_box.specs.ZBox.{HasBounds};
+    ghost use Rattle.st_box.specs.inner.Bounds.{HasBounds};
 
     /// The query with these bounds. `BadBox` when one is out of range or a pair is reversed.
     pub fn new(x0: u64, x1: u64, y0: u64, y1: u64, t0: u64, t1: u64) -> Result<Query, BadBox>

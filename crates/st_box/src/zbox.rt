@@ -40,7 +40,8 @@ impl Default for ZBox {
 }
 
 impl ZBox {
-    ghost use Rattle.st_box.specs.ZBox.{HasBounds, IsInside, first_of, last_of};
+    ghost use Rattle.st_box.specs.ZBox.{IsInside, first_of, last_of};
+    ghost use Rattle.st_box.specs.inner.Bounds.{HasBounds};
 
     /// The box with these bounds, and `None` when one exceeds 2,097,151 or a pair is reversed.
     pub fn new(x0: u32, x1: u32, y0: u32, y1: u32, o0: u32, o1: u32) -> Option<ZBox>

@@ -1,5 +1,6 @@
 -- An opening is said by one text alone.
-use Rattle.std.proofs.Common.{◌≡◌, ◌≢◌, ◌==◌, ◌+◌, ◌*◌, ◌/◌, ◌%◌, ◌++◌, ◌<◌, ◌^◌, ℕ, suc, false, not, cond, List, [], ◌∷◌, codes, decimal, length, take, slice_index, Option, None, Some, Ok, refl, ap, sym, ◌∙◌, arith, append_assoc, ne_eqb}
+use Rattle.std.proofs.Common.{◌≡◌, ◌≢◌, ◌==◌, ◌+◌, ◌*◌, ◌/◌, ◌%◌, ◌++◌, ◌<◌, ◌^◌, ℕ, suc, not, cond, List, [], ◌∷◌, decimal, length, take}
+use Rattle.std.proofs.Common.{slice_index, None, Some, Ok, refl, ap, sym, ◌∙◌, arith, append_assoc, ne_eqb}
 use Rattle.std.specs.Prelude.{⊤, ◌↔◌}
 use Rattle.std.specs.declared.alloc.Global.{Global}
 use Rattle.std.specs.List.{before_first, position_or_len}

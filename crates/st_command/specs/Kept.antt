@@ -3,13 +3,13 @@ use Rattle.std.specs.Prelude.{◌≡◌, ◌≢◌, ℕ, Option, Some, is_some, 
 use Rattle.std.specs.declared.alloc.Global.{Global}
 use Rattle.st_core.specs.State.{State}
 use Rattle.st_journal.specs.declared.record.Record.{Record}
-use Rattle.st_journal.specs.Faults.{Rises}
+use Rattle.st_journal.specs.Faults.{FaultsRise}
 use Rattle.st_journal.specs.Replays.{Replays}
 use Rattle.st_service.specs.Answers.{Answers}
 use Rattle.st_connection.specs.Connection.{EndsOn, KeptUnlessLost, ServedWithin}
 use Rattle.st_connection.specs.declared.connection.TheConstants.{MAX_READS}
 use Rattle.st_connection.specs.declared.connection.Ended.{Ended}
-use Rattle.st_connection.specs.declared.connection.Ended.TheVariants.{Clean, Closed, Cut, TurnsSpent, Lost}
+use Rattle.st_connection.specs.declared.connection.Ended.TheVariants.{Cut, TurnsSpent, Lost}
 use Rattle.st_connection.specs.declared.connection.IoFault.{IoFault}
 use Rattle.st_journal_store.specs.declared.loss.Loss.{Loss}
 use Rattle.st_journal_store.specs.declared.loss.Loss.TheVariants.{Disk}
@@ -19,12 +19,11 @@ use Rattle.st_connection.specs.Streams.{Streams}
 
 -- the exit status after a connection that ended so, where this is why a change was lost
 abbrev pub status_after : Result Ended IoFault → Option Loss → ℕ
-status_after (Ok Clean) loss = 0
-status_after (Ok Closed) loss = 0
 status_after (Ok Cut) loss = 3
 status_after (Ok TurnsSpent) loss = 4
 status_after (Ok Lost) (Some Disk) = 7
 status_after (Ok Lost) loss = 6
+status_after (Ok _) loss = 0
 status_after (Err broken) loss = 5
 
 -- The connection was served from this state, and the status says how it ended, and only so where it did. Each change that was answered
@@ -41,7 +40,7 @@ pub record ServesStored {J : Type 0} (list : J → List Record) (misreads faults
   pub stands : ended ≢ Ok Lost → misreads after.journal ≡ 0 → Replays Applies first (list after.journal) after.kept
   pub leaves : misreads after.journal ≡ 0 → (left : List Record) → may_leave after.journal left
       → LeadTo first after.kept (answered after) left
-  pub disk : misreads after.journal ≡ 0 → after.loss ≡ Some Disk → Rises begun (faults after.journal)
+  pub disk : misreads after.journal ≡ 0 → after.loss ≡ Some Disk → FaultsRise begun (faults after.journal)
   pub status_is : status ≡ status_after ended after.loss
 
 -- a journal was opened, and the connection was served from the state after its changes

@@ -9,8 +9,8 @@ use Rattle.st_connection.specs.declared.connection.TheConstants.{MAX_READS}
 use Rattle.st_connection.specs.declared.connection.Ended.{Ended}
 use Rattle.st_connection.specs.declared.connection.IoFault.{IoFault}
 use Rattle.st_journal.specs.declared.record.Record.{Record}
-use Rattle.st_command_line.specs.Common.{RefusesWords}
-use Rattle.st_command_line.specs.RunArguments.{SaysRun, run_command, store_of}
+use Rattle.st_command_line.specs.Common.{RefusesWords, path_in}
+use Rattle.st_command_line.specs.RunArguments.{SaysRun, run_command}
 use Rattle.st_command_line.specs.declared.run_arguments.RunArguments.{RunArguments}
 use Rattle.st_command.specs.Opening.{Fails, IsOfStore, OpensState, OpensWith}
 use Rattle.st_connection.specs.Streams.{Streams, AreUntouched}
@@ -24,17 +24,13 @@ pub record Serves (before after : State Global) (s : Streams) (status : ℕ) : T
   pub ends : EndsOn MAX_READS s ended
   pub status_is : status ≡ status_after ended None
 
--- root's authorizations, as the arguments name them
-abbrev pub names_in : RunArguments → List Text
-names_in said = map (λ name. name.now) said.names.items
-
 -- the arguments name no store, they open a state, and the connection was served from that state
 pub record IsServed (words : List Text) (s : Streams) (status : ℕ) : Type 0 where
   pub said : RunArguments
   pub says : SaysRun words said
-  pub in_memory : store_of said ≡ None
+  pub in_memory : path_in said.store ≡ None
   pub before : State Global
-  pub opens : OpensState said.digest.now (names_in said) before
+  pub opens : OpensState said.digest.now (map (λ name. name.now) said.names.items) before
   pub after : State Global
   pub serves : Serves before after s status
 
@@ -45,14 +41,15 @@ pub record IsKept {J : Type 0} (holds : (path opening : List ℕ) → List Recor
   pub said : RunArguments
   pub says : SaysRun words said
   pub path : Text
-  pub named : store_of said ≡ Some path
+  pub named : path_in said.store ≡ Some path
   pub first : State Global
   pub opening : Text
-  pub opens : OpensWith said.digest.now (names_in said) first opening
+  pub opens : OpensWith said.digest.now (map (λ name. name.now) said.names.items) first opening
   pub ends : IsOpened (holds path) list misreads faults may_leave opening first s status ⊎ Fails IsOfStore (AreUntouched s) status
 
 -- it was one of these, or the arguments are refused, and nothing was read or written
-abbrev pub Ran : {J : Type 0} → ((path opening : List ℕ) → List Record → Type 0) → (J → List Record) → (misreads faults : J → ℕ) → (J → List Record → Type 0)
-    → List Text → Streams → ℕ → Type 0
+abbrev pub Ran : {J : Type 0} → ((path opening : List ℕ) → List Record → Type 0) → (J → List Record) → (misreads faults : J → ℕ)
+    → (J → List Record → Type 0) → List Text → Streams → ℕ → Type 0
 Ran holds list misreads faults may_leave words s status =
-    IsServed words s status ⊎ (Fails (RefusesWords run_command words) (AreUntouched s) status ⊎ IsKept holds list misreads faults may_leave words s status)
+    IsServed words s status
+    ⊎ (Fails (RefusesWords run_command words) (AreUntouched s) status ⊎ IsKept holds list misreads faults may_leave words s status)

@@ -20,7 +20,7 @@ use std::time::Clock;
 
 // Where a store is kept, and what it is opened with.
 #[derive(Drop)]
-pub(crate) struct Place<'a> {
+pub(crate) struct StoreLocation<'a> {
     pub(crate) path: &'a str,
     pub(crate) opening: String,
 }
@@ -54,7 +54,7 @@ fn converse_kept<B: Beginning + Since, J: Journal + Drop, C: Clock, R: Source, W
     reader: &mut R,
     writer: &mut W,
 ) -> Result<(), Fault>
-    requires settled { service.old.kept ≡ answered service.old }
+    requires synced { service.old.kept ≡ answered service.old }
     requires sound { service.old.loss ≡ None }
     requires reader_sound { R.has_failed reader.old ≡ false }
     requires writer_sound { W.has_failed writer.old ≡ false }
@@ -103,7 +103,7 @@ pub(crate) fn serve_kept<
     clock: &C,
     alloc: Global,
     keeper: K,
-    place: &Place<'_>,
+    location: &StoreLocation<'_>,
     mut state: ReplayedStore,
     reader: &mut R,
     writer: &mut W,
@@ -111,14 +111,15 @@ pub(crate) fn serve_kept<
     requires first { state ≡ B.first }
     requires reader_sound { R.has_failed reader.old ≡ false }
     requires writer_sound { W.has_failed writer.old ≡ false }
-    ensures { IsOpened (K.holds keeper place.now.path.now) J.list J.misreads J.faults J.may_leave (string_bytes place.now.opening) B.first
+    ensures { IsOpened (K.holds keeper location.now.path.now) J.list J.misreads J.faults J.may_leave
+        (string_bytes location.now.opening) B.first
         (streams R.left R.reads R.has_ended R.has_failed W.held W.has_failed reader.old reader.new writer.old writer.new)
         (exit_status_after result)
         ⊎ Fails IsOfStore
         (AreUntouched (streams R.left R.reads R.has_ended R.has_failed W.held W.has_failed reader.old reader.new writer.old writer.new))
         (exit_status_after result) }
 {
-    let journal = keeper.open(place.path, place.opening.as_str(), &mut state)?;
+    let journal = keeper.open(location.path, location.opening.as_str(), &mut state)?;
     let store = state.into_store();
     serve_opened::<Brand, J, C, R, W>(clock, alloc, store, journal, reader, writer)
 }

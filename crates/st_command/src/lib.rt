@@ -9,4 +9,4 @@ mod run;
 
 pub use keeper::Keeper;
 pub use opening::{store_and_opening_for, stores_for};
-pub use run::run_words;
+pub use run::run_with;

@@ -3,4 +3,4 @@ pub mod Refusing
 pub mod Wanting
 mod WorkedRun
 mod WorkedServed
-mod Places
+mod BindAddresses

@@ -15,8 +15,7 @@ use Rattle.clap.specs.declared.error.kind.ErrorKind.{ErrorKind}
 use Rattle.clap.specs.declared.error.kind.ErrorKind.TheVariants.{OutOfMemory}
 use Rattle.st_text.specs.Texts.{Text}
 use Rattle.st_command_line.specs.Common.{RefusesWords}
-use Rattle.st_command_line.specs.Status.{as_fault}
-use Rattle.st_command_line.specs.inner.Commands.{is_own}
+use Rattle.st_command_line.specs.inner.Commands.{as_fault, is_own}
 
 -- what follows from a fact of the value, or of the error
 pub if_ok : {T E : Type 0} (P Q : T → Type 0) (r : Result T E) → ((x : T) → P x → Q x) → IfOk r P → IfOk r Q

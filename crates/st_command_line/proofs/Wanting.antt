@@ -7,8 +7,8 @@ use Rattle.clap.specs.Words.{App, first_of, first_value, found_of}
 use Rattle.clap.specs.declared.parser.matches.ArgMatches.{ArgMatches}
 use Rattle.clap.proofs.WalkLemmas.{first_value-rows}
 use Rattle.st_text.specs.Texts.{Text}
-use Rattle.st_command_line.specs.Common.{WantsAStore, file_of, says_true}
-use Rattle.st_command_line.specs.inner.Commands.{IsParsed}
+use Rattle.st_command_line.specs.Common.{WantsAStore, file_of}
+use Rattle.st_command_line.specs.inner.Commands.{IsParsed, says_true}
 
 -- a file of the words is that of their matches
 pub file_is : (app : App) (words : List Text) (id : Text) (matches : ArgMatches) → IsParsed app words matches

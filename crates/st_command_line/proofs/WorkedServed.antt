@@ -46,7 +46,9 @@ no_worker : fault_of served_command (codes "st_served" ∷ codes "--port=47001" 
 unfolding clap_on_literals
 no_worker = refl
 
-every_option : fault_of served_command (codes "st_served" ∷ codes "--root=66" ∷ codes "--port=47001" ∷ codes "--workers" ∷ codes "256" ∷ codes "--idle" ∷ codes "3600" ∷ codes "--listen" ∷ codes "10.0.0.7" ∷ codes "A" ∷ []) ≡ []
+every_option : fault_of served_command
+    (codes "st_served" ∷ codes "--root=66" ∷ codes "--port=47001" ∷ codes "--workers" ∷ codes "256" ∷ codes "--idle" ∷ codes "3600" ∷ codes "--listen"
+    ∷ codes "10.0.0.7" ∷ codes "A" ∷ []) ≡ []
 unfolding clap_on_literals
 every_option = refl
 
@@ -62,7 +64,9 @@ the_store : first_of (codes "store") (matches_of served_command (codes "st_serve
 unfolding clap_on_literals
 the_store = refl
 
-with_copy : fault_of served_command (codes "st_served" ∷ codes "--root=66" ∷ codes "--port=1" ∷ codes "--store=a" ∷ codes "--compact" ∷ codes "--copy=b" ∷ codes "--copy-every" ∷ codes "3600" ∷ []) ≡ []
+with_copy : fault_of served_command
+    (codes "st_served" ∷ codes "--root=66" ∷ codes "--port=1" ∷ codes "--store=a" ∷ codes "--compact" ∷ codes "--copy=b" ∷ codes "--copy-every"
+    ∷ codes "3600" ∷ []) ≡ []
 unfolding clap_on_literals
 with_copy = refl
 

@@ -2,5 +2,5 @@ pub mod Status
 pub mod Common
 pub mod RunArguments
 pub mod ServedArguments
-pub mod Shown
+pub mod Help
 pub mod inner

@@ -1,10 +1,7 @@
--- The exit status of a program, and the fault that an error of its command line is.
+-- The exit status of a program.
 use Rattle.std.specs.Prelude.{ℕ, Result, Ok, Err}
-use Rattle.clap.specs.declared.error.Error.{Error}
-use Rattle.clap.specs.declared.error.kind.ErrorKind.{ErrorKind}
-use Rattle.clap.specs.declared.error.kind.ErrorKind.TheVariants.{OutOfMemory}
 use Rattle.st_command_line.specs.declared.fault.Fault.{Fault}
-use Rattle.st_command_line.specs.declared.fault.Fault.TheVariants.{Usage, Cut}
+use Rattle.st_command_line.specs.declared.fault.Fault.TheVariants.{Cut}
 use Rattle.st_command_line.specs.declared.fault.Fault.TheVariants.{TurnsSpent, Io, Bind, Accept, Write, NoMemory, NoPlace, NoThread}
 use Rattle.st_command_line.specs.declared.fault.Fault.TheVariants.{OtherStore, OtherNames, StoreInUse, LaterStore, NoStore, StoreDamaged}
 use Rattle.st_command_line.specs.declared.fault.Fault.TheVariants.{StoreInterrupted, StoreIo, StoreLost}
@@ -35,8 +32,3 @@ exit_status_of _ = 2
 abbrev pub exit_status_after : Result Unit Fault → ℕ
 exit_status_after (Ok done) = 0
 exit_status_after (Err fault) = exit_status_of fault
-
--- the fault that an error of this kind is
-abbrev pub as_fault : ErrorKind → Error → Fault
-as_fault OutOfMemory error = NoMemory
-as_fault _ error = Usage error

@@ -4,9 +4,9 @@ ghost use Rattle.clap.specs.Built.{FitsChain, TakesValue};
 ghost use Rattle.clap.specs.Words.{App, app_of, args_of, first_value, found_of, groups_of, new_app, rule_of};
 ghost use Rattle.clap.specs.declared.builder.command.Command.TheViews.{out-Command as fields_of};
 ghost use Rattle.st_text.specs.Texts.{Text};
-ghost use Rattle.st_command_line.specs.Common.{NamesItsStore, RefusesWords, says_true};
-ghost use Rattle.st_command_line.specs.Common.{option_rule, root_option, store_option, compact_flag, name_operand, with_version};
-ghost use Rattle.st_command_line.specs.inner.Commands.{Builds, IsParsed, is_own};
+ghost use Rattle.st_command_line.specs.Common.{NamesItsStore, RefusesWords};
+ghost use Rattle.st_command_line.specs.Common.{option_rule, root_option, compact_flag, name_operand, with_version};
+ghost use Rattle.st_command_line.specs.inner.Commands.{Builds, IsParsed, is_own, says_true};
 ghost use Rattle.st_command_line.specs.declared.fault.Fault.TheVariants.{NotText, NoMemory};
 
 use crate::VERSION;
@@ -58,7 +58,7 @@ pub fn option<'a>(alloc: Global, name: &'a str, value: &'a str, help: &'a str) -
 /// The option `--store FILE`.
 pub fn store<'a>(alloc: Global) -> Arg<'a>
     ensures id { result.id.now ≡ codes "store" }
-    ensures rule { rule_of result ≡ store_option }
+    ensures rule { rule_of result ≡ option_rule (codes "store") }
     ensures fits { FitsChain result }
 {
     option(

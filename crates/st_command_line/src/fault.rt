@@ -24,7 +24,7 @@ pub enum Fault {
     BadAddress,
     /// Neither a port nor a socket is named, or both are.
     #[error("one of --port P and --socket PATH is wanted")]
-    WantsPlace,
+    WantsBindAddress,
     /// `--listen` is given, and no port is named.
     #[error("--listen wants --port P")]
     WantsPort,
@@ -106,7 +106,7 @@ impl Fault {
             | Fault::NotText
             | Fault::BadNumber
             | Fault::BadAddress
-            | Fault::WantsPlace
+            | Fault::WantsBindAddress
             | Fault::WantsPort
             | Fault::WantsStore
             | Fault::WantsCopy
@@ -141,7 +141,7 @@ impl From<AllocError> for Fault {
 impl From<clap::Error> for Fault {
     ghost use Rattle.std.specs.Prelude.{◌≡◌};
     ghost use Rattle.clap.specs.Words.{kind_of};
-    ghost use Rattle.st_command_line.specs.Status.{as_fault};
+    ghost use Rattle.st_command_line.specs.inner.Commands.{as_fault};
 
     ghost from_gives = { λ error fault. fault ≡ as_fault (kind_of error) error };
 

@@ -3,16 +3,16 @@
 
 mod common;
 mod fault;
+mod help;
 mod run_arguments;
 mod served_arguments;
 mod served_options;
-mod shown;
 
 /// The version of the programs.
 pub const VERSION: &str = "0.1.0";
 
 pub use common::words_of;
 pub use fault::{Fault, give_up};
+pub use help::refuse;
 pub use run_arguments::RunArguments;
-pub use served_arguments::{Place, ServedArguments};
-pub use shown::{show_run, show_served};
+pub use served_arguments::{BindAddress, ServedArguments};

@@ -1,16 +1,19 @@
 //! The command line `st_served --root DIGEST (--port P [--listen ADDRESS] | --socket PATH) [--store FILE] [--compact] [--copy FILE]
 //! [--copy-every SECONDS] [--connections N] [--workers N] [--timeout SECONDS] [--idle SECONDS] [NAME]...`.
-ghost use Rattle.std.specs.Prelude.{◌≡◌, ◌<◌, ◌*◌, IfOk, IfErr, OnOk, List, codes, map, string_bytes, unwrap_or};
+//!
+//! `clap` judges the ranges of numbers; the program reads them once more. If one were unreadable, it would say `bad number` with
+//! status 2, since the lemmas say only of a required argument that it is read as a number.
+ghost use Rattle.std.specs.Prelude.{◌≡◌, ◌<◌, ◌*◌, IfOk, IfErr, OnOk, List, codes, map, string_bytes, true, unwrap_or};
 ghost use Rattle.std.specs.Net.Grammar.{IsIpv4Text};
 ghost use Rattle.std.specs.Net.Socket.{v4_port};
 ghost use Rattle.std.specs.Duration.{as_nanos};
-ghost use Rattle.st_text.specs.Texts.{Text};
+ghost use Rattle.st_text.specs.Texts.{Text, is_among};
 ghost use Rattle.st_command_line.specs.Common.{NamesItsStore, file_of};
 ghost use Rattle.st_command_line.specs.inner.Commands.{IsParsed};
-ghost use Rattle.st_command_line.specs.ServedArguments.{Gives, GivesPlace, ListensAt, WantsWith, Writes};
+ghost use Rattle.st_command_line.specs.ServedArguments.{Gives, GivesBindAddress, ListensAt, WantsWith, Writes};
 ghost use Rattle.st_command_line.specs.ServedArguments.{SaysServed, RefusesServedWords};
-ghost use Rattle.st_command_line.specs.ServedArguments.{served_command, value_of};
-ghost use Rattle.st_command_line.specs.ServedArguments.{message_seconds_of, idle_seconds_of, copy_seconds_of, workers_of};
+ghost use Rattle.st_command_line.specs.ServedArguments.{address_options, number_options, served_command, value_of};
+ghost use Rattle.st_command_line.specs.ServedArguments.{workers_of};
 
 use crate::common::{check_store, flag};
 use crate::fault::Fault;
@@ -28,7 +31,7 @@ const COPY_SECONDS: u16 = 60;
 
 /// Where `st_served` listens.
 #[derive(Clone, Copy)]
-pub enum Place<'a> {
+pub enum BindAddress<'a> {
     /// A TCP port, 1 to 65,535.
     Port(u16),
     /// The path of a Unix socket.
@@ -41,7 +44,7 @@ pub struct ServedArguments<'a> {
     /// The SHA-256 of root's secret in 64 hexadecimal digits; not checked here.
     pub digest: &'a str,
     /// Where to listen.
-    pub place: Place<'a>,
+    pub bind_address: BindAddress<'a>,
     /// The path of the file that keeps the store; without it the store is in memory alone.
     pub store: Option<&'a str>,
     /// Whether the store's list of changes is made short before anything is served; only with a store.
@@ -66,6 +69,7 @@ pub struct ServedArguments<'a> {
 
 // The number of an optional option.
 fn number(matches: &ArgMatches<'_>, id: &str) -> Result<Option<u16>, Fault>
+    requires taken { is_among number_options id.now ≡ true }
     ensures ok { IfOk result (λ number. (words : List Text) → IsParsed served_command words matches.now
         → Gives Writes (value_of id.now words) number) }
     ensures err { IfErr result (λ fault. (words : List Text) → IsParsed served_command words matches.now
@@ -79,6 +83,7 @@ fn number(matches: &ArgMatches<'_>, id: &str) -> Result<Option<u16>, Fault>
 
 // The address of an optional option.
 fn address_in(matches: &ArgMatches<'_>, id: &str) -> Result<Option<Ipv4Addr>, Fault>
+    requires taken { is_among address_options id.now ≡ true }
     ensures ok { IfOk result (λ address. (words : List Text) → IsParsed served_command words matches.now
         → Gives IsIpv4Text (value_of id.now words) address) }
     ensures err { IfErr result (λ fault. (words : List Text) → IsParsed served_command words matches.now
@@ -91,21 +96,21 @@ fn address_in(matches: &ArgMatches<'_>, id: &str) -> Result<Option<Ipv4Addr>, Fa
 }
 
 // Where the words say that the server listens.
-fn place_in<'a>(matches: &ArgMatches<'a>) -> Result<Place<'a>, Fault>
-    ensures ok { IfOk result (λ place. (words : List Text) → IsParsed served_command words matches.now
-        → GivesPlace (value_of (codes "port") words) (file_of (codes "socket") served_command words) place) }
+fn bind_address_in<'a>(matches: &ArgMatches<'a>) -> Result<BindAddress<'a>, Fault>
+    ensures ok { IfOk result (λ bind_address. (words : List Text) → IsParsed served_command words matches.now
+        → GivesBindAddress (value_of (codes "port") words) (file_of (codes "socket") served_command words) bind_address) }
     ensures err { IfErr result (λ fault. (words : List Text) → IsParsed served_command words matches.now
         → RefusesServedWords words fault) }
 {
     let port = number(matches, "port")?;
     match matches.get_str("socket") {
         Some(path) => match port {
-            Some(_) => Err(Fault::WantsPlace),
-            None => Ok(Place::Socket(path)),
+            Some(_) => Err(Fault::WantsBindAddress),
+            None => Ok(BindAddress::Socket(path)),
         },
         None => match port {
-            Some(port) => Ok(Place::Port(port)),
-            None => Err(Fault::WantsPlace),
+            Some(port) => Ok(BindAddress::Port(port)),
+            None => Err(Fault::WantsBindAddress),
         },
     }
 }
@@ -169,7 +174,7 @@ impl<'a> ServedArguments<'a> {
         let Some(digest) = matches.get_str("root") else {
             unreachable!()
         };
-        let place = place_in(&matches)?;
+        let bind_address = bind_address_in(&matches)?;
         let store = matches.get_str("store");
         let compacts = flag(&matches, "compact");
         let copy = matches.get_str("copy");
@@ -182,7 +187,7 @@ impl<'a> ServedArguments<'a> {
         let names = matches.get_strs("NAME").unwrap_or(&[]);
         Ok(ServedArguments {
             digest,
-            place,
+            bind_address,
             store,
             compacts,
             copy,
@@ -218,21 +223,21 @@ impl<'a> ServedArguments<'a> {
 
     /// How long a message may take from its first byte to its last, and so a reply: 30 seconds without `--timeout`.
     pub fn limit(&self) -> Duration
-        ensures { as_nanos result ≡ message_seconds_of self.now * 1000000000 }
+        ensures { as_nanos result ≡ unwrap_or self.now.timeout 30 * 1000000000 }
     {
         Duration::from_secs(u64::from(self.timeout.unwrap_or(SECONDS)))
     }
 
     /// How long the copy stays behind: 60 seconds without `--copy-every`.
     pub fn copy_period(&self) -> Duration
-        ensures { as_nanos result ≡ copy_seconds_of self.now * 1000000000 }
+        ensures { as_nanos result ≡ unwrap_or self.now.copy_every 60 * 1000000000 }
     {
         Duration::from_secs(u64::from(self.copy_every.unwrap_or(COPY_SECONDS)))
     }
 
     /// How long a client may take to begin its next message: as long as `limit` says without `--idle`.
     pub fn idle_limit(&self) -> Duration
-        ensures { as_nanos result ≡ idle_seconds_of self.now * 1000000000 }
+        ensures { as_nanos result ≡ unwrap_or self.now.idle (unwrap_or self.now.timeout 30) * 1000000000 }
     {
         match self.idle {
             Some(seconds) => Duration::from_secs(u64::from(seconds)),

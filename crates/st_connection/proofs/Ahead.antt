@@ -1,5 +1,6 @@
 -- Clients that are told ahead that a body is awaited.
-use Rattle.std.proofs.Common.{◌≡◌, ◌∙◌, ◌⊎◌, inl, inr, ℕ, ◌+◌, ◌-◌, ◌*◌, ◌^◌, ◌≤◌, ◌<◌, if◌then◌else◌, Bool, true, false, Option, Ok, Err, List, [], ◌∷◌, ◌++◌, length, drop, refl, sym, ap, subst, arith, append_assoc, append-nil, length-append}
+use Rattle.std.proofs.Common.{◌≡◌, ◌∙◌, ◌⊎◌, inl, inr, ℕ, ◌+◌, ◌-◌, ◌*◌, ◌^◌, ◌≤◌, ◌<◌, if◌then◌else◌, Bool, true, false, Option, Ok, Err, List, []}
+use Rattle.std.proofs.Common.{◌∷◌, ◌++◌, length, drop, refl, sym, ap, subst, arith, append_assoc, append-nil, length-append}
 use Rattle.std.specs.List.{concat}
 use Rattle.std.specs.Io.KnownBytes.{Appends}
 use Rattle.std.proofs.KnownBytes.{Appends-nil, Appends-trans}
@@ -7,7 +8,7 @@ use Rattle.st_http.specs.First.{First, IsFirst, more, expects}
 use Rattle.st_connection.specs.Items.{BeginsWith}
 use Rattle.st_connection.specs.Connection.{Amid, Run}
 use Rattle.st_connection.specs.Render.{continue_text, interim}
-use Rattle.st_connection.specs.inner.Stages.{Whole, Broken, Loses, Spoken, One, Sent, Stands, Answered, AnsweredTold, AnsweredOn, AnsweredText, Passed}
+use Rattle.st_connection.specs.inner.Stages.{Whole, Broken, Loses, Spoken, One, Sent, Stands, Answered, AnsweredExpecting, AnsweredOn, AnsweredText, Passed}
 use Rattle.st_connection.specs.declared.sending.Stopped.{Stopped}
 use Rattle.st_connection.specs.declared.sending.Stopped.TheVariants as stopped
 use Rattle.st_connection.specs.declared.connection.Next.{Next}
@@ -23,15 +24,16 @@ use Rattle.st_connection.proofs.Passes.{piece, piece_is, piece_length, drop_agai
 
 -- ---- the first item, whose client was told ahead
 
-module _ {S : Type 0} (step : S → First → List ℕ → S → Type 0) (hold : ℕ) (old : S) (text : List ℕ) (held ho : Option (List ℕ)) (before wo : ℕ) (told : Bool) (wrote : Appends held ho (interim told)) (counted : wo ≡ before + length (interim told)) where
-  pub told_none : told ≡ false → (kept : S) → AnsweredTold step hold told old old kept text held ho before wo (Ok (nexts.Open 0))
+module _ {S : Type 0} (step : S → First → List ℕ → S → Type 0) (hold : ℕ) (old : S) (text : List ℕ) (held ho : Option (List ℕ)) (before wo : ℕ)
+    (told : Bool) (wrote : Appends held ho (interim told)) (counted : wo ≡ before + length (interim told)) where
+  pub told_none : told ≡ false → (kept : S) → AnsweredExpecting step hold told old old kept text held ho before wo (Ok (nexts.Open 0))
   told_none e kept = (
     omega arith,
     (λ t. absurd (let k : true ≡ false = sym t ∙ e in cc)),
     whole_stays step false old old text text held held before before (whole_none step old text held before) ho wo (interim told) (ap interim e) wrote counted,
   )
 
-  pub told_waits : told ≡ true → IsFirst text (more true) → (kept : S) (due : Bool) → AnsweredTold step hold told old old kept text held ho before wo (Ok (nexts.Waits due))
+  pub told_waits : told ≡ true → IsFirst text (more true) → (kept : S) (due : Bool) → AnsweredExpecting step hold told old old kept text held ho before wo (Ok (nexts.Waits due))
   told_waits e waits kept due = (
     waits,
     record {
@@ -43,10 +45,12 @@ module _ {S : Type 0} (step : S → First → List ℕ → S → Type 0) (hold :
     },
   )
 
-  module _ (closed : Bool) (new : S) (rest answer : List ℕ) (one : One step closed old new text rest (interim told ++ answer)) (kept_old kept : S) (settled : kept_old ≡ old) (which : (kept ≡ kept_old) ⊎ (kept ≡ new)) (hn : Option (List ℕ)) (wn : ℕ) where
+  module _ (closed : Bool) (new : S) (rest answer : List ℕ) (one : One step closed old new text rest (interim told ++ answer)) (kept_old kept : S)
+      (synced : kept_old ≡ old) (which : (kept ≡ kept_old) ⊎ (kept ≡ new)) (hn : Option (List ℕ)) (wn : ℕ) where
     gathered : Gathered step hold closed old new kept text rest held held before before (interim told ++ answer)
     gathered =
-        gathered_one step hold old old kept_old text text held held before before [] (gathered_none step hold old old text text held held before before [] kept_old (whole_none step old text held before) refl settled)
+        gathered_one step hold old old kept_old text text held held before before []
+        (gathered_none step hold old old text text held held before before [] kept_old (whole_none step old text held before) refl synced)
         (omega arith) closed new kept rest (interim told ++ answer) one which
 
     told_out : Appends ho hn answer → wn ≡ wo + length answer → Whole step closed old new text rest held hn before wn
@@ -84,7 +88,7 @@ module _ {S : Type 0} (step : S → First → List ℕ → S → Type 0) (hold :
 
     either : (last : S) → (last ≡ kept) ⊎ (last ≡ new) → (last ≡ old) ⊎ (last ≡ new)
     either last (inl same) = elim which [
-      | inl still ↦ inl (same ∙ still ∙ settled)
+      | inl still ↦ inl (same ∙ still ∙ synced)
       | inr all ↦ inr (same ∙ all)
     ]
     either last (inr all) = inr all
@@ -117,29 +121,30 @@ module _ {S : Type 0} (step : S → First → List ℕ → S → Type 0) (hold :
     }
 
     told_stops_here : (expects one.item ≡ told) → (last : S) (back : List ℕ) (why : Stopped) → Passed new kept last ho hn wo wn answer back (Err why)
-        → AnsweredTold step hold told old new last text held hn before wn (Err why)
+        → AnsweredExpecting step hold told old new last text held hn before wn (Err why)
     told_stops_here expected last back stopped.Unwritten s = told_breaks s
     told_stops_here expected last back stopped.Lost s = told_loses expected s.0 last s.1
 
     -- in the state as the code has it
     module _ (after last : S) (now : after ≡ new) where
       pub told_stops : (expects one.item ≡ told) → (back : List ℕ) (why : Stopped) → Passed new kept last ho hn wo wn answer back (Err why)
-          → AnsweredTold step hold told old after last text held hn before wn (Err why)
+          → AnsweredExpecting step hold told old after last text held hn before wn (Err why)
       told_stops expected back why s =
-          subst (λ (s : S). AnsweredTold step hold told old s last text held hn before wn (Err why)) (sym now) (told_stops_here expected last back why s)
+          subst (λ (s : S). AnsweredExpecting step hold told old s last text held hn before wn (Err why)) (sym now) (told_stops_here expected last back why s)
 
-      told_so : (found next : Next) → found ≡ next → AnsweredTold step hold told old after last text held hn before wn (Ok next)
-          → AnsweredTold step hold told old after last text held hn before wn (Ok found)
-      told_so found next is = subst (λ (n : Next). AnsweredTold step hold told old after last text held hn before wn (Ok n)) (sym is)
+      told_so : (found next : Next) → found ≡ next → AnsweredExpecting step hold told old after last text held hn before wn (Ok next)
+          → AnsweredExpecting step hold told old after last text held hn before wn (Ok found)
+      told_so found next is = subst (λ (n : Next). AnsweredExpecting step hold told old after last text held hn before wn (Ok n)) (sym is)
 
-      pub told_closes : (found : Next) → found ≡ nexts.Closed → closed ≡ true → Passed new kept last ho hn wo wn answer [] (Ok tt) → AnsweredTold step hold told old after last text held hn before wn (Ok found)
+      pub told_closes : (found : Next) → found ≡ nexts.Closed → closed ≡ true → Passed new kept last ho hn wo wn answer [] (Ok tt)
+          → AnsweredExpecting step hold told old after last text held hn before wn (Ok found)
       told_closes found is e passed =
           let out = flushed new kept last ho hn wo wn answer passed in
           let whole = subst (λ (b : Bool). Whole step b old new text rest held hn before wn) e (told_out out.0 out.1) in
           told_so found nexts.Closed is (rest, subst (λ (s : S). Whole step true old s text rest held hn before wn) (sym now) whole)
 
       pub told_opens : (found : Next) (used : ℕ) → found ≡ nexts.Open used → closed ≡ false → rest ≡ drop used text → 0 < used → used ≤ length text → Passed new kept last ho hn wo wn answer [] (Ok tt)
-          → AnsweredTold step hold told old after last text held hn before wn (Ok found)
+          → AnsweredExpecting step hold told old after last text held hn before wn (Ok found)
       told_opens found used is e rest_is some within passed =
           let out = flushed new kept last ho hn wo wn answer passed in
           let whole = subst (λ (b : Bool). Whole step b old new text rest held hn before wn) e (told_out out.0 out.1) in
@@ -156,7 +161,8 @@ module _ {S : Type 0} (step : S → First → List ℕ → S → Type 0) (hold :
   on_stops stopped.Unwritten a = a
   on_stops stopped.Lost a = a
 
-  module _ (used : ℕ) (a : Answered step hold old new kept text ho hn wo wn (Ok (stops.Waits used true))) (last : S) (hm : Option (List ℕ)) (wm : ℕ) (bytes : List ℕ) (bytes_are : bytes ≡ continue_text) where
+  module _ (used : ℕ) (a : Answered step hold old new kept text ho hn wo wn (Ok (stops.Waits used true))) (last : S) (hm : Option (List ℕ)) (wm : ℕ)
+      (bytes : List ℕ) (bytes_are : bytes ≡ continue_text) where
     pub on_told : Sent hn hm wn wm bytes true → AnsweredOn step hold old new last text ho hm wo wm (Ok (stops.Waits used true))
     on_told s =
         let same : s.sent ≡ continue_text = sym (append-nil s.sent) ∙ ap (λ (l : List ℕ). s.sent ++ l) (sym (s.whole_out refl)) ∙ sym s.prefix ∙ bytes_are in (
@@ -192,7 +198,8 @@ module _ {S : Type 0} (step : S → First → List ℕ → S → Type 0) (hold :
 
 -- ---- one after another
 
-module _ {S : Type 0} (step : S → First → List ℕ → S → Type 0) (hold : ℕ) (old mid : S) (text : List ℕ) (used : ℕ) (ho hm : Option (List ℕ)) (wo wm : ℕ) (whole : Whole step false old mid text (drop used text) ho hm wo wm) (new last : S) (hn : Option (List ℕ)) (wn : ℕ) where
+module _ {S : Type 0} (step : S → First → List ℕ → S → Type 0) (hold : ℕ) (old mid : S) (text : List ℕ) (used : ℕ) (ho hm : Option (List ℕ))
+    (wo wm : ℕ) (whole : Whole step false old mid text (drop used text) ho hm wo wm) (new last : S) (hn : Option (List ℕ)) (wn : ℕ) where
   a : Whole step false old mid text (piece text used) ho hm wo wm
   a = subst (λ (t : List ℕ). Whole step false old mid text t ho hm wo wm) (sym (piece_is text used)) whole
 
@@ -205,21 +212,25 @@ module _ {S : Type 0} (step : S → First → List ℕ → S → Type 0) (hold :
   closes_behind : (rest : List ℕ) × Whole step true mid new (piece text used) rest hm hn wm wn → (rest : List ℕ) × Whole step true old new text rest ho hn wo wn
   closes_behind (rest, b) = (rest, whole_join step old mid new text (piece text used) ho hm hn wo wm wn a true rest b)
 
-  pub first_stops : (told : Bool) (why : Stopped) → AnsweredTold step hold told mid new last (piece text used) hm hn wm wn (Err why) → AnsweredText step hold old new last text ho hn wo wn (Err why)
+  pub first_stops : (told : Bool) (why : Stopped) → AnsweredExpecting step hold told mid new last (piece text used) hm hn wm wn (Err why)
+      → AnsweredText step hold old new last text ho hn wo wn (Err why)
   first_stops told stopped.Unwritten b = breaks_behind b
   first_stops told stopped.Lost b = loses_behind b
 
   -- what was answered, by what the code found in its result
-  first_so : (told : Bool) (next found : Next) → next ≡ found → AnsweredTold step hold told mid new last (piece text used) hm hn wm wn (Ok next) → AnsweredTold step hold told mid new last (piece text used) hm hn wm wn (Ok found)
-  first_so told next found is = subst (λ (n : Next). AnsweredTold step hold told mid new last (piece text used) hm hn wm wn (Ok n)) is
+  first_so : (told : Bool) (next found : Next) → next ≡ found → AnsweredExpecting step hold told mid new last (piece text used) hm hn wm wn (Ok next)
+      → AnsweredExpecting step hold told mid new last (piece text used) hm hn wm wn (Ok found)
+  first_so told next found is = subst (λ (n : Next). AnsweredExpecting step hold told mid new last (piece text used) hm hn wm wn (Ok n)) is
 
   then_so : (stop found : Stop) → stop ≡ found → AnsweredOn step hold mid new last (piece text used) hm hn wm wn (Ok stop) → AnsweredOn step hold mid new last (piece text used) hm hn wm wn (Ok found)
   then_so stop found is = subst (λ (s : Stop). AnsweredOn step hold mid new last (piece text used) hm hn wm wn (Ok s)) is
 
-  pub first_closes : (told : Bool) (next : Next) → next ≡ nexts.Closed → AnsweredTold step hold told mid new last (piece text used) hm hn wm wn (Ok next) → AnsweredText step hold old new last text ho hn wo wn (Ok stops.Closed)
+  pub first_closes : (told : Bool) (next : Next) → next ≡ nexts.Closed
+      → AnsweredExpecting step hold told mid new last (piece text used) hm hn wm wn (Ok next)
+      → AnsweredText step hold old new last text ho hn wo wn (Ok stops.Closed)
   first_closes told next is b = closes_behind (first_so told next nexts.Closed is b)
 
-  pub first_waits : (told due : Bool) (next : Next) → next ≡ nexts.Waits due → used ≤ length text → AnsweredTold step hold told mid new last (piece text used) hm hn wm wn (Ok next)
+  pub first_waits : (told due : Bool) (next : Next) → next ≡ nexts.Waits due → used ≤ length text → AnsweredExpecting step hold told mid new last (piece text used) hm hn wm wn (Ok next)
       → AnsweredText step hold old new last text ho hn wo wn (Ok (stops.Waits used true))
   first_waits told due next is within answered =
       let there = first_so told next (nexts.Waits due) is answered in (
@@ -229,7 +240,9 @@ module _ {S : Type 0} (step : S → First → List ℕ → S → Type 0) (hold :
             (spoken_join step old mid new text (piece text used) ho hm hn wo wm wn a (piece text used) true there.1),
       )
 
-  pub first_open : (told : Bool) (next : Next) (count : ℕ) → next ≡ nexts.Open count → AnsweredTold step hold told mid new last (piece text used) hm hn wm wn (Ok next) → Whole step false old new text (drop (used + count) text) ho hn wo wn
+  pub first_open : (told : Bool) (next : Next) (count : ℕ) → next ≡ nexts.Open count
+      → AnsweredExpecting step hold told mid new last (piece text used) hm hn wm wn (Ok next)
+      → Whole step false old new text (drop (used + count) text) ho hn wo wn
   first_open told next count is answered =
       let there = first_so told next (nexts.Open count) is answered in
       subst (λ (t : List ℕ). Whole step false old new text t ho hn wo wn) (drop_again text used count)
@@ -240,7 +253,8 @@ module _ {S : Type 0} (step : S → First → List ℕ → S → Type 0) (hold :
   then_stops stopped.Unwritten room same b = breaks_behind (subst (λ (n : ℕ). Broken step n mid new (piece text used) hm hn wm wn) same b)
   then_stops stopped.Lost room same b = loses_behind b
 
-  pub then_closes : (stop : Stop) → stop ≡ stops.Closed → AnsweredOn step hold mid new last (piece text used) hm hn wm wn (Ok stop) → AnsweredText step hold old new last text ho hn wo wn (Ok stops.Closed)
+  pub then_closes : (stop : Stop) → stop ≡ stops.Closed → AnsweredOn step hold mid new last (piece text used) hm hn wm wn (Ok stop)
+      → AnsweredText step hold old new last text ho hn wo wn (Ok stops.Closed)
   then_closes stop is b = closes_behind (then_so stop stops.Closed is b)
 
   then_spoken : (count : ℕ) (told : Bool) → Spoken step mid new (piece text used) (drop count (piece text used)) told hm hn wm wn
@@ -265,14 +279,15 @@ module _ {S : Type 0} (step : S → First → List ℕ → S → Type 0) (hold :
       (subst (λ (t : List ℕ). Stands false true t) (drop_again text used count) there.1, then_spoken count true there.2)
 
 -- how far the code goes on in the text
-module _ {S : Type 0} (step : S → First → List ℕ → S → Type 0) (hold : ℕ) (mid new last : S) (text : List ℕ) (used : ℕ) (within : used ≤ length text) (hm hn : Option (List ℕ)) (wm wn : ℕ) (count : ℕ) where
-  pub open_within : (told : Bool) (next : Next) → next ≡ nexts.Open count → AnsweredTold step hold told mid new last (piece text used) hm hn wm wn (Ok next) → used + count ≤ length text
+module _ {S : Type 0} (step : S → First → List ℕ → S → Type 0) (hold : ℕ) (mid new last : S) (text : List ℕ) (used : ℕ) (within : used ≤ length text)
+    (hm hn : Option (List ℕ)) (wm wn : ℕ) (count : ℕ) where
+  pub open_within : (told : Bool) (next : Next) → next ≡ nexts.Open count → AnsweredExpecting step hold told mid new last (piece text used) hm hn wm wn (Ok next) → used + count ≤ length text
   open_within told next is answered =
-      let there = subst (λ (n : Next). AnsweredTold step hold told mid new last (piece text used) hm hn wm wn (Ok n)) is answered in omega (arith, within, there.0, piece_length text used)
+      let there = subst (λ (n : Next). AnsweredExpecting step hold told mid new last (piece text used) hm hn wm wn (Ok n)) is answered in omega (arith, within, there.0, piece_length text used)
 
-  pub open_some : (told : Bool) (next : Next) → next ≡ nexts.Open count → AnsweredTold step hold told mid new last (piece text used) hm hn wm wn (Ok next) → told ≡ true → 0 < count
+  pub open_some : (told : Bool) (next : Next) → next ≡ nexts.Open count → AnsweredExpecting step hold told mid new last (piece text used) hm hn wm wn (Ok next) → told ≡ true → 0 < count
   open_some told next is answered =
-      let there = subst (λ (n : Next). AnsweredTold step hold told mid new last (piece text used) hm hn wm wn (Ok n)) is answered in there.1
+      let there = subst (λ (n : Next). AnsweredExpecting step hold told mid new last (piece text used) hm hn wm wn (Ok n)) is answered in there.1
 
   pub then_within : (stop : Stop) (due : Bool) → stop ≡ stops.Waits count due → AnsweredOn step hold mid new last (piece text used) hm hn wm wn (Ok stop) → used + count ≤ length text
   then_within stop due is answered =

@@ -1,5 +1,6 @@
 -- Answers that are held back, and what comes of them.
-use Rattle.std.proofs.Common.{◌≡◌, ◌⊎◌, inl, inr, ◌∙◌, ℕ, ◌+◌, ◌*◌, ◌^◌, ◌≤◌, Bool, true, false, Option, Ok, Err, List, [], ◌∷◌, ◌++◌, length, refl, sym, ap, subst, arith, append_assoc, append-nil, length-append}
+use Rattle.std.proofs.Common.{◌≡◌, ◌⊎◌, inl, inr, ◌∙◌, ℕ, suc, take, ◌+◌, ◌-◌, ◌*◌, ◌^◌, ◌≤◌, Bool, true, false, Option, Ok, Err, List, [], ◌∷◌, ◌++◌}
+use Rattle.std.proofs.Common.{length, refl, sym, ap, subst, arith, append_assoc, append-nil, length-append}
 use Rattle.std.specs.Prelude.{Result}
 use Rattle.std.specs.List.{concat}
 use Rattle.std.specs.Io.KnownBytes.{Appends}
@@ -7,7 +8,7 @@ use Rattle.std.proofs.KnownBytes.{Appends-trans}
 use Rattle.std.proofs.lemmas.List.Folds.{concat-append}
 use Rattle.st_http.specs.First.{First}
 use Rattle.st_connection.specs.Items.{BeginsWith, is_closed}
-use Rattle.st_connection.specs.Connection.{Run, ReachesWithin, all_but_last, Amid, MayHear}
+use Rattle.st_connection.specs.Connection.{Run, ReachesWithin, Amid, MayHear}
 use Rattle.st_connection.specs.inner.Stages.{Whole, Broken, Loses, One, Sent, Passed}
 use Rattle.st_connection.specs.declared.sending.Stopped.{Stopped}
 use Rattle.st_connection.specs.declared.sending.Stopped.TheVariants as stopped
@@ -16,26 +17,56 @@ use Rattle.st_connection.proofs.Joins.{run_join, whole_join}
 
 -- ---- fronts of answers
 
-pub all_but_most : (answers : List (List ℕ)) → length (concat (all_but_last answers)) ≤ length (concat answers)
-all_but_most [] = omega arith
-all_but_most (answer ∷ []) = omega arith
-all_but_most (answer ∷ next ∷ answers) =
-    let r = all_but_most (next ∷ answers) in
-    omega (arith, r, length-append answer (concat (all_but_last (next ∷ answers))), length-append answer (concat (next ∷ answers)))
+-- all of them but the last, by recursion
+abbrev but_last : List (List ℕ) → List (List ℕ)
+but_last [] = []
+but_last (answer ∷ []) = []
+but_last (answer ∷ next ∷ answers) = answer ∷ but_last (next ∷ answers)
 
-all_but_end : (answers : List (List ℕ)) (answer : List ℕ) → all_but_last (answers ++ answer ∷ []) ≡ answers
-all_but_end [] answer = refl
-all_but_end (a ∷ []) answer = refl
-all_but_end (a ∷ b ∷ answers) answer = ap (λ (l : List (List ℕ)). a ∷ l) (all_but_end (b ∷ answers) answer)
+take_but_last : (answers : List (List ℕ)) → take (length answers - 1) answers ≡ but_last answers
+take_but_last [] = refl
+take_but_last (answer ∷ []) = refl
+take_but_last (answer ∷ next ∷ answers) =
+    let more : length (answer ∷ next ∷ answers) - 1 ≡ suc (length (next ∷ answers) - 1) = omega arith in
+    ap (λ (n : ℕ). take n (answer ∷ next ∷ answers)) more ∙ ap (λ (l : List (List ℕ)). answer ∷ l) (take_but_last (next ∷ answers))
+
+abbrev bytes_in : List (List ℕ) → ℕ
+bytes_in answers = length (concat answers)
+
+but_most : (answers : List (List ℕ)) → bytes_in (but_last answers) ≤ bytes_in answers
+but_most [] = omega arith
+but_most (answer ∷ []) = omega arith
+but_most (answer ∷ next ∷ answers) =
+    let r = but_most (next ∷ answers) in
+    omega (arith, r, length-append answer (concat (but_last (next ∷ answers))), length-append answer (concat (next ∷ answers)))
+
+but_end : (answers : List (List ℕ)) (answer : List ℕ) → but_last (answers ++ answer ∷ []) ≡ answers
+but_end [] answer = refl
+but_end (a ∷ []) answer = refl
+but_end (a ∷ b ∷ answers) answer = ap (λ (l : List (List ℕ)). a ∷ l) (but_end (b ∷ answers) answer)
+
+but_join : (answers replies : List (List ℕ)) → bytes_in (but_last (answers ++ replies)) ≤ bytes_in answers + bytes_in (but_last replies)
+but_join [] replies = omega arith
+but_join (a ∷ []) [] = omega arith
+but_join (a ∷ []) (b ∷ replies) = omega (arith, length-append a (concat (but_last (b ∷ replies))), length-append a [])
+but_join (a ∷ b ∷ answers) replies =
+    let r = but_join (b ∷ answers) replies in
+    omega (arith, r, length-append a (concat (but_last (b ∷ answers ++ replies))), length-append a (concat (b ∷ answers)))
+
+pub all_but_most : (answers : List (List ℕ)) → length (concat (take (length answers - 1) answers)) ≤ length (concat answers)
+all_but_most answers = subst (λ (l : List (List ℕ)). bytes_in l ≤ bytes_in answers) (sym (take_but_last answers)) (but_most answers)
+
+all_but_end : (answers : List (List ℕ)) (answer : List ℕ)
+    → take (length (answers ++ answer ∷ []) - 1) (answers ++ answer ∷ []) ≡ answers
+all_but_end answers answer = take_but_last (answers ++ answer ∷ []) ∙ but_end answers answer
 
 all_but_join : (answers replies : List (List ℕ))
-    → length (concat (all_but_last (answers ++ replies))) ≤ length (concat answers) + length (concat (all_but_last replies))
-all_but_join [] replies = omega arith
-all_but_join (a ∷ []) [] = omega arith
-all_but_join (a ∷ []) (b ∷ replies) = omega (arith, length-append a (concat (all_but_last (b ∷ replies))), length-append a [])
-all_but_join (a ∷ b ∷ answers) replies =
-    let r = all_but_join (b ∷ answers) replies in
-    omega (arith, r, length-append a (concat (all_but_last (b ∷ answers ++ replies))), length-append a (concat (b ∷ answers)))
+    → length (concat (take (length (answers ++ replies) - 1) (answers ++ replies)))
+    ≤ length (concat answers) + length (concat (take (length replies - 1) replies))
+all_but_join answers replies =
+    subst (λ (l : List (List ℕ)). bytes_in l ≤ bytes_in answers + bytes_in (take (length replies - 1) replies)) (sym (take_but_last (answers ++ replies)))
+    (subst (λ (l : List (List ℕ)). bytes_in (but_last (answers ++ replies)) ≤ bytes_in answers + bytes_in l) (sym (take_but_last replies))
+    (but_join answers replies))
 
 concat_end : (answers : List (List ℕ)) (answer : List ℕ) → concat (answers ++ answer ∷ []) ≡ concat answers ++ answer
 concat_end answers answer = concat-append answers (answer ∷ []) ∙ ap (λ (l : List ℕ). concat answers ++ l) (append-nil answer)
@@ -88,7 +119,7 @@ module _ {S : Type 0} (step : S → First → List ℕ → S → Type 0) where
     pub run : Run step mid items answers now
     pub bytes_are : bytes ≡ concat answers
     pub few : length (concat answers) ≤ 2 ^ 65 * length items
-    pub most : length (concat (all_but_last answers)) ≤ hold
+    pub most : length (concat (take (length answers - 1) answers)) ≤ hold
     pub amid : Amid step mid kept now items answers
 
   pub gathered_none : (hold : ℕ) (old now : S) (text rest : List ℕ) (ho hn : Option (List ℕ)) (wo wn : ℕ) (bytes : List ℕ) (kept : S)
@@ -108,7 +139,8 @@ module _ {S : Type 0} (step : S → First → List ℕ → S → Type 0) where
     amid = subst (λ (s : S). Amid step now s now [] []) (sym e) (amid_start now);
   }
 
-  module _ (hold : ℕ) (closed : Bool) (old now kept : S) (text rest : List ℕ) (ho hn : Option (List ℕ)) (wo wn : ℕ) (bytes : List ℕ) (a : Gathered hold closed old now kept text rest ho hn wo wn bytes) where
+  module _ (hold : ℕ) (closed : Bool) (old now kept : S) (text rest : List ℕ) (ho hn : Option (List ℕ)) (wo wn : ℕ) (bytes : List ℕ)
+      (a : Gathered hold closed old now kept text rest ho hn wo wn bytes) where
     -- they are written
     pub gathered_out : (hm : Option (List ℕ)) (wm : ℕ) → Appends hn hm bytes → wm ≡ wn + length bytes → Whole step closed old now text rest ho hm wo wm
     gathered_out hm wm wrote counted =
@@ -136,7 +168,9 @@ module _ {S : Type 0} (step : S → First → List ℕ → S → Type 0) where
       may = inl refl;
       reaches = (
         s.missing,
-        append-nil (concat (a.whole.answers ++ a.answers)) ∙ concat-append a.whole.answers a.answers ∙ ap (λ (l : List ℕ). concat a.whole.answers ++ l) (sym a.bytes_are ∙ s.prefix) ∙ sym (append_assoc (concat a.whole.answers) s.sent s.missing),
+        append-nil (concat (a.whole.answers ++ a.answers)) ∙ concat-append a.whole.answers a.answers
+            ∙ ap (λ (l : List ℕ). concat a.whole.answers ++ l) (sym a.bytes_are ∙ s.prefix)
+            ∙ sym (append_assoc (concat a.whole.answers) s.sent s.missing),
         let j = all_but_join a.whole.answers a.answers in omega (arith, j, a.most, length-append (concat a.whole.answers) s.sent),
       );
       wrote = Appends-trans ho hn hm (concat a.whole.answers) s.sent a.whole.wrote s.wrote;
@@ -225,7 +259,8 @@ module _ {S : Type 0} (step : S → First → List ℕ → S → Type 0) where
         few = omega (arith, a.few, one.fits, ap length (concat_end a.answers answer), length-append (concat a.answers) answer, length-append a.items (one.item ∷ []));
         most = omega (arith, le, ap length a.bytes_are, ap (λ (l : List (List ℕ)). length (concat l)) (all_but_end a.answers answer));
         amid = elim which [
-          | inl same ↦ subst (λ (s : S). Amid step a.mid s new (a.items ++ one.item ∷ []) (a.answers ++ answer ∷ [])) (sym same) (amid_more a.mid kept now new a.items (one.item ∷ []) a.answers (answer ∷ []) a.amid run1)
+          | inl same ↦ subst (λ (s : S). Amid step a.mid s new (a.items ++ one.item ∷ []) (a.answers ++ answer ∷ [])) (sym same)
+              (amid_more a.mid kept now new a.items (one.item ∷ []) a.answers (answer ∷ []) a.amid run1)
           | inr all ↦ amid_all a.mid new after (a.items ++ one.item ∷ []) (a.answers ++ answer ∷ []) run all
         ];
       }

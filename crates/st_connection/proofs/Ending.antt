@@ -77,18 +77,18 @@ not_err value fault same = cc
 pub same_err : {A B : Type 0} (why other : Stopped) → ◌≡◌ {A = Result A Stopped} (Err why) (Err other) → ◌≡◌ {A = Result B Stopped} (Err why) (Err other)
 same_err why other same = ap Err (let e : why ≡ other = cc in e)
 
-pub settled_unless : {A B : Type 0} {P : Type 0} (why : Stopped) → (◌≡◌ {A = Result A Stopped} (Err why) (Err stopped.Unwritten) → P)
+pub synced_unless : {A B : Type 0} {P : Type 0} (why : Stopped) → (◌≡◌ {A = Result A Stopped} (Err why) (Err stopped.Unwritten) → P)
     → (◌≡◌ {A = Result B Stopped} (Err why) (Err stopped.Lost) → ⊥) → P
-settled_unless stopped.Unwritten settled other = settled refl
-settled_unless stopped.Lost settled other = absurd (other refl)
+synced_unless stopped.Unwritten synced other = synced refl
+synced_unless stopped.Lost synced other = absurd (other refl)
 
 -- ---- what answers
 
 module _ {S : Type 0} (kept now : S) (has_failed : Bool) where
   kept_sound : (result : Result Ended IoFault) → (result ≡ Ok Lost → ⊥) → kept ≡ now → has_failed ≡ false
       → KeptUnlessLost kept now has_failed result
-  kept_sound result some settled sound = record {
-    settled = λ n. settled;
+  kept_sound result some synced sound = record {
+    synced = λ n. synced;
     lost = λ e. absurd (some e);
     sound = λ n. sound;
   }
@@ -110,7 +110,7 @@ module _ {S : Type 0} (kept now : S) (has_failed : Bool) where
 
   pub kept_lost : has_failed ≡ true → KeptUnlessLost kept now has_failed (Ok Lost)
   kept_lost failed = record {
-    settled = λ n. absurd (n refl);
+    synced = λ n. absurd (n refl);
     lost = λ e. failed;
     sound = λ n. absurd (n refl);
   }

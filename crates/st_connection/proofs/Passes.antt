@@ -1,5 +1,6 @@
 -- The items of a text, as far as the loop over them has come.
-use Rattle.std.proofs.Common.{◌≡◌, ◌∙◌, ◌⊎◌, inl, inr, Bool, Ok, Err, [], ◌++◌, sym, ℕ, ◌+◌, ◌-◌, ◌*◌, ◌^◌, ◌<◌, ◌≤◌, Fits, w64, true, false, Option, List, length, take, drop, ap, subst, arith, refl, append_assoc, append-nil, length-append, length-take}
+use Rattle.std.proofs.Common.{◌≡◌, ◌∙◌, ◌⊎◌, inl, inr, Bool, Ok, Err, [], ◌++◌, sym, ℕ, ◌+◌, ◌-◌, ◌*◌, ◌^◌, ◌<◌, ◌≤◌, Fits, w64, true, false, Option}
+use Rattle.std.proofs.Common.{List, length, take, drop, ap, subst, arith, refl, append_assoc, append-nil, length-append, length-take}
 use Rattle.std.proofs.lemmas.Grind.{common_steps}
 use Rattle.st_http.specs.First.{First}
 use Rattle.std.specs.Io.KnownBytes.{Appends}
@@ -27,7 +28,8 @@ drop_again text used count = ap (drop count) (piece_is text used) ∙ grind (ari
 pub piece_length : (text : List ℕ) (used : ℕ) → length (piece text used) ≡ length text - used
 piece_length text used = grind (arith, common_steps)
 
-module _ {S : Type 0} (step : S → First → List ℕ → S → Type 0) (hold : ℕ) (old mid kept : S) (text : List ℕ) (used : ℕ) (ho hm : Option (List ℕ)) (wo wm : ℕ) (bytes : List ℕ) (a : Gathered step hold false old mid kept text (drop used text) ho hm wo wm bytes) where
+module _ {S : Type 0} (step : S → First → List ℕ → S → Type 0) (hold : ℕ) (old mid kept : S) (text : List ℕ) (used : ℕ) (ho hm : Option (List ℕ))
+    (wo wm : ℕ) (bytes : List ℕ) (a : Gathered step hold false old mid kept text (drop used text) ho hm wo wm bytes) where
   pub written_bound : wm ≤ wo + 2 ^ 65 * length text
   written_bound =
       let f = few_items text a.whole.items a.between a.whole.begins a.whole.ends in
@@ -150,21 +152,28 @@ gathered_stops step hold closed old now kept text rest ho hn wo wn bytes a last 
 gathered_stops step hold closed old now kept text rest ho hn wo wn bytes a last hm wm stopped.Lost back s =
     gathered_lost step hold closed old now kept text rest ho hn wo wn bytes a hm last s.0 s.1
 
-module _ {S : Type 0} (step : S → First → List ℕ → S → Type 0) (hold : ℕ) (old mid kept : S) (text : List ℕ) (used : ℕ) (ho hm : Option (List ℕ)) (wo wm : ℕ) (bytes : List ℕ) (a : Gathered step hold false old mid kept text (drop used text) ho hm wo wm bytes) (le : length bytes ≤ hold) (new last : S) (hn : Option (List ℕ)) (wn : ℕ) (back : List ℕ) where
+module _ {S : Type 0} (step : S → First → List ℕ → S → Type 0) (hold : ℕ) (old mid kept : S) (text : List ℕ) (used : ℕ) (ho hm : Option (List ℕ))
+    (wo wm : ℕ) (bytes : List ℕ) (a : Gathered step hold false old mid kept text (drop used text) ho hm wo wm bytes) (le : length bytes ≤ hold)
+    (new last : S) (hn : Option (List ℕ)) (wn : ℕ) (back : List ℕ) where
   pub next_breaks : (why : Stopped) → AnsweredNext step false mid new kept last (piece text used) hm hn wm wn bytes back (Err why) → Answered step hold old new last text ho hn wo wn (Err why)
   next_breaks why (answer, after, rest, closed, one, which, passed) =
       gathered_stops step hold closed old new after text rest ho hm wo wm (bytes ++ answer)
       (one_more step hold old mid kept text used ho hm wo wm bytes a le closed new after rest answer one which) last hn wn why back passed
 
   -- what was answered, by what the code found in its result
-  next_so : (next found : Next) → next ≡ found → AnsweredNext step false mid new kept last (piece text used) hm hn wm wn bytes back (Ok next) → AnsweredNext step false mid new kept last (piece text used) hm hn wm wn bytes back (Ok found)
+  next_so : (next found : Next) → next ≡ found → AnsweredNext step false mid new kept last (piece text used) hm hn wm wn bytes back (Ok next)
+      → AnsweredNext step false mid new kept last (piece text used) hm hn wm wn bytes back (Ok found)
   next_so next found is = subst (λ (n : Next). AnsweredNext step false mid new kept last (piece text used) hm hn wm wn bytes back (Ok n)) is
 
   module _ (new2 last2 : S) (now : new2 ≡ new) (hk : Option (List ℕ)) (wk : ℕ) where
-    still : (due : Bool) → AnsweredNext step false mid new kept last (piece text used) hm hn wm wn bytes back (Ok (nexts.Waits due)) → Gathered step hold false old new last text (drop used text) ho hn wo wn back
-    still due (stands, now_same, kept_same, back_same, wrote, counted) = same_one step hold old mid kept text used ho hm wo wm bytes a new last hn wn back (now_same, kept_same, back_same, wrote, counted)
+    still : (due : Bool) → AnsweredNext step false mid new kept last (piece text used) hm hn wm wn bytes back (Ok (nexts.Waits due))
+        → Gathered step hold false old new last text (drop used text) ho hn wo wn back
+    still due (stands, now_same, kept_same, back_same, wrote, counted) =
+        same_one step hold old mid kept text used ho hm wo wm bytes a new last hn wn back (now_same, kept_same, back_same, wrote, counted)
 
-    pub waits : (next : Next) (due : Bool) → next ≡ nexts.Waits due → used ≤ length text → AnsweredNext step false mid new kept last (piece text used) hm hn wm wn bytes back (Ok next) → Passed new last last2 hn hk wn wk back [] (Ok tt)
+    pub waits : (next : Next) (due : Bool) → next ≡ nexts.Waits due → used ≤ length text
+        → AnsweredNext step false mid new kept last (piece text used) hm hn wm wn bytes back (Ok next)
+        → Passed new last last2 hn hk wn wk back [] (Ok tt)
         → Answered step hold old new2 last2 text ho hk wo wk (Ok (stops.Waits used due))
     waits next due is within answered passed =
         let n = next_so next (nexts.Waits due) is answered in
@@ -172,7 +181,9 @@ module _ {S : Type 0} (step : S → First → List ℕ → S → Type 0) (hold :
         let w = gathered_out step hold false old new last text (drop used text) ho hn wo wn back (still due n) hk wk f.0 f.1 in
         (within, stands_so text used due n.0, subst (λ (s : S). Whole step false old s text (drop used text) ho hk wo wk) (sym now) w)
 
-    pub waits_breaks : (next : Next) (due : Bool) → next ≡ nexts.Waits due → AnsweredNext step false mid new kept last (piece text used) hm hn wm wn bytes back (Ok next) → (why : Stopped) → Passed new last last2 hn hk wn wk back [] (Err why)
+    pub waits_breaks : (next : Next) (due : Bool) → next ≡ nexts.Waits due
+        → AnsweredNext step false mid new kept last (piece text used) hm hn wm wn bytes back (Ok next) → (why : Stopped)
+        → Passed new last last2 hn hk wn wk back [] (Err why)
         → Answered step hold old new2 last2 text ho hk wo wk (Err why)
     waits_breaks next due is answered why passed =
         let n = next_so next (nexts.Waits due) is answered in
@@ -192,7 +203,9 @@ module _ {S : Type 0} (step : S → First → List ℕ → S → Type 0) (hold :
               ]),
         )
 
-    pub closes_breaks : (next : Next) → next ≡ nexts.Closed → AnsweredNext step false mid new kept last (piece text used) hm hn wm wn bytes back (Ok next) → (why : Stopped) → Passed new last last2 hn hk wn wk back [] (Err why)
+    pub closes_breaks : (next : Next) → next ≡ nexts.Closed
+        → AnsweredNext step false mid new kept last (piece text used) hm hn wm wn bytes back (Ok next) → (why : Stopped)
+        → Passed new last last2 hn hk wn wk back [] (Err why)
         → Answered step hold old new2 last2 text ho hk wo wk (Err why)
     closes_breaks next is answered why passed =
         let n = next_so next nexts.Closed is answered in
@@ -214,7 +227,9 @@ pub at_most_is : (a b n : ℕ) → a ≤ b → b ≡ n → a ≤ n
 at_most_is a b n le e = omega (arith, le, e)
 
 -- how far the code goes on in the text, and how much it has written then
-module _ {S : Type 0} (step : S → First → List ℕ → S → Type 0) (mid new kept last : S) (text : List ℕ) (used : ℕ) (hm hn : Option (List ℕ)) (wm wn : ℕ) (bytes back : List ℕ) (next : Next) (answered : AnsweredNext step false mid new kept last (piece text used) hm hn wm wn bytes back (Ok next)) where
+module _ {S : Type 0} (step : S → First → List ℕ → S → Type 0) (mid new kept last : S) (text : List ℕ) (used : ℕ) (hm hn : Option (List ℕ))
+    (wm wn : ℕ) (bytes back : List ℕ) (next : Next)
+    (answered : AnsweredNext step false mid new kept last (piece text used) hm hn wm wn bytes back (Ok next)) where
   pub next_within : (count : ℕ) → next ≡ nexts.Open count → used ≤ length text → used + count ≤ length text
   next_within count is within =
       let there = subst (λ (n : Next). AnsweredNext step false mid new kept last (piece text used) hm hn wm wn bytes back (Ok n)) is answered in omega (arith, within, there.3, piece_length text used)

@@ -1,5 +1,6 @@
 -- A connection, as far as the loop over its reads has come.
-use Rattle.std.proofs.Common.{◌≡◌, ◌≢◌, ◌+◌, ◌-◌, ◌*◌, ◌^◌, ◌≤◌, ◌<◌, min, ℕ, zero, suc, Bool, true, false, Option, Ok, Err, inr, List, [], ◌++◌, length, drop, refl, ap, sym, ◌∙◌, subst, arith, append-nil, length-append}
+use Rattle.std.proofs.Common.{◌≡◌, ◌≢◌, ◌+◌, ◌-◌, ◌*◌, ◌^◌, ◌≤◌, ◌<◌, min, ℕ, zero, suc, Bool, true, false, Option, Ok, Err, inr, List, [], ◌++◌}
+use Rattle.std.proofs.Common.{length, drop, refl, ap, sym, ◌∙◌, subst, arith, append-nil, length-append}
 use Rattle.std.specs.List.{concat}
 use Rattle.std.specs.Io.KnownBytes.{Appends, Consumes, Keeps}
 use Rattle.std.proofs.KnownBytes.{Appends-nil, Appends-trans, Consumes-nil, Consumes-trans, Consumes-kept}
@@ -7,7 +8,7 @@ use Rattle.st_http.specs.First.{First, more, IsFirst, expects}
 use Rattle.st_http.specs.Items.{Items}
 use Rattle.st_http.proofs.FirstLemmas.{first_unique, more_short}
 use Rattle.st_http.proofs.ExpectLemmas.{awaited}
-use Rattle.st_connection.specs.Connection.{ServedWithin, SaysAll, Told}
+use Rattle.st_connection.specs.Connection.{ServedWithin, SaysAll, WithInterim}
 use Rattle.st_connection.specs.Streams.{Streams}
 use Rattle.st_connection.specs.Render.{interim}
 use Rattle.st_connection.specs.inner.Stages.{Whole, Broken, Loses, Spoken, AnsweredText}
@@ -50,7 +51,8 @@ serving_start step old l h = record {
   turns = omega arith;
 }
 
-module _ {S : Type 0} (step : S → First → List ℕ → S → Type 0) (old now : S) (text : List ℕ) (told : Bool) (lo ln ho hn : Option (List ℕ)) (w turn : ℕ) (s : Serving (Told step) old now text told lo ln ho hn w turn) (hold : ℕ) where
+module _ {S : Type 0} (step : S → First → List ℕ → S → Type 0) (old now : S) (text : List ℕ) (told : Bool) (lo ln ho hn : Option (List ℕ))
+    (w turn : ℕ) (s : Serving (WithInterim step) old now text told lo ln ho hn w turn) (hold : ℕ) where
   pub text_short : length text < 73728
   text_short = more_short text told s.waits
 
@@ -81,7 +83,8 @@ module _ {S : Type 0} (step : S → First → List ℕ → S → Type 0) (old no
   counts : w ≡ length said
   counts = omega (arith, s.spoken.counted, s.spoken.whole.counted, length-append (concat s.spoken.whole.answers) (interim told))
 
-  pub read_breaks : {ro rn : ℕ} {he wf : Bool} (kept : S) (lm : Option (List ℕ)) (failed : Bool) → Keeps ln lm → ServedWithin step hold old now kept (seen lo lm ho hn failed ro rn he wf) (Err (record { written = w }))
+  pub read_breaks : {ro rn : ℕ} {he wf : Bool} (kept : S) (lm : Option (List ℕ)) (failed : Bool) → Keeps ln lm
+      → ServedWithin step hold old now kept (seen lo lm ho hn failed ro rn he wf) (Err (record { written = w }))
   read_breaks kept lm failed keeps = record {
     given = s.given;
     gave = Consumes-kept lo ln lm s.given s.gave keeps;
@@ -152,15 +155,15 @@ module _ {S : Type 0} (step : S → First → List ℕ → S → Type 0) (old no
     }
 
     module _ (new : S) (longer : List ℕ) (longer_is : longer ≡ text ++ got) (hm : Option (List ℕ)) (wm : ℕ) where
-      grown : Whole (Told step) false old now (s.given ++ got) longer ho s.spoken.held 0 s.spoken.written
+      grown : Whole (WithInterim step) false old now (s.given ++ got) longer ho s.spoken.held 0 s.spoken.written
       grown =
-          subst (λ (t : List ℕ). Whole (Told step) false old now (s.given ++ got) t ho s.spoken.held 0 s.spoken.written) (sym longer_is)
-          (whole_grows (Told step) old now s.given text got ho s.spoken.held 0 s.spoken.written s.spoken.whole)
+          subst (λ (t : List ℕ). Whole (WithInterim step) false old now (s.given ++ got) t ho s.spoken.held 0 s.spoken.written) (sym longer_is)
+          (whole_grows (WithInterim step) old now s.given text got ho s.spoken.held 0 s.spoken.written s.spoken.whole)
 
-      pub write_breaks : {ro rn : ℕ} {he wf : Bool} (kept : S) (failed : Bool) → failed ≡ false → Broken (Told step) hold now new longer s.spoken.held hm s.spoken.written wm
+      pub write_breaks : {ro rn : ℕ} {he wf : Bool} (kept : S) (failed : Bool) → failed ≡ false → Broken (WithInterim step) hold now new longer s.spoken.held hm s.spoken.written wm
           → ServedWithin step hold old new kept (seen lo lm ho hm failed ro rn he wf) (Err (record { written = wm }))
       write_breaks kept failed sound a =
-          let b = broken_join (Told step) hold old now new (s.given ++ got) longer ho s.spoken.held hm 0 s.spoken.written wm grown a in
+          let b = broken_join (WithInterim step) hold old now new (s.given ++ got) longer ho s.spoken.held hm 0 s.spoken.written wm grown a in
           record {
             given = s.given ++ got;
             gave = gave_more;
@@ -173,10 +176,10 @@ module _ {S : Type 0} (step : S → First → List ℕ → S → Type 0) (old no
             ending = (b.begins, omega (arith, b.counted), (b.said, b.may, b.reaches), (λ e. absurd (let k : true ≡ false = cc (sound, e) in cc)));
           }
 
-      pub connection_lost : {ro rn : ℕ} {he wf : Bool} (kept : S) (failed : Bool) → Loses (Told step) now new kept longer s.spoken.held hm
+      pub connection_lost : {ro rn : ℕ} {he wf : Bool} (kept : S) (failed : Bool) → Loses (WithInterim step) now new kept longer s.spoken.held hm
           → ServedWithin step hold old new kept (seen lo lm ho hm failed ro rn he wf) (Ok Lost)
       connection_lost kept failed a =
-          let b = loses_join (Told step) old now new (s.given ++ got) longer ho s.spoken.held hm 0 s.spoken.written grown kept a in
+          let b = loses_join (WithInterim step) old now new (s.given ++ got) longer ho s.spoken.held hm 0 s.spoken.written grown kept a in
           record {
             given = s.given ++ got;
             gave = gave_more;
@@ -189,10 +192,10 @@ module _ {S : Type 0} (step : S → First → List ℕ → S → Type 0) (old no
             ending = (b.begins, b.past);
           }
 
-      pub connection_closes : {ro rn : ℕ} {he wf : Bool} (kept : S) (failed : Bool) → (rest : List ℕ) × Whole (Told step) true now new longer rest s.spoken.held hm s.spoken.written wm
+      pub connection_closes : {ro rn : ℕ} {he wf : Bool} (kept : S) (failed : Bool) → (rest : List ℕ) × Whole (WithInterim step) true now new longer rest s.spoken.held hm s.spoken.written wm
           → ServedWithin step hold old new kept (seen lo lm ho hm failed ro rn he wf) (Ok Closed)
       connection_closes kept failed (rest, a) =
-          let b = whole_join (Told step) old now new (s.given ++ got) longer ho s.spoken.held hm 0 s.spoken.written wm grown true rest a in
+          let b = whole_join (WithInterim step) old now new (s.given ++ got) longer ho s.spoken.held hm 0 s.spoken.written wm grown true rest a in
           record {
             given = s.given ++ got;
             gave = gave_more;
@@ -210,21 +213,22 @@ module _ {S : Type 0} (step : S → First → List ℕ → S → Type 0) (old no
           }
 
       pub goes_on_serving : (last : S) (stop : Stop) (used : ℕ) (ahead : Bool) → stop ≡ stops.Waits used ahead → (left : List ℕ) → left ≡ drop used longer → length got ≤ 65536
-          → AnsweredText (Told step) hold now new last longer s.spoken.held hm s.spoken.written wm (Ok stop)
-          → Serving (Told step) old new left ahead lo lm ho hm wm (turn + 1)
+          → AnsweredText (WithInterim step) hold now new last longer s.spoken.held hm s.spoken.written wm (Ok stop)
+          → Serving (WithInterim step) old new left ahead lo lm ho hm wm (turn + 1)
       goes_on_serving last stop used ahead found left is le answered =
-          let a = subst (λ (o : Stop). AnsweredText (Told step) hold now new last longer s.spoken.held hm s.spoken.written wm (Ok o)) found answered in
+          let a = subst (λ (o : Stop). AnsweredText (WithInterim step) hold now new last longer s.spoken.held hm s.spoken.written wm (Ok o)) found answered in
           record {
             given = s.given ++ got;
             gave = gave_more;
-            spoken = spoken_join (Told step) old now new (s.given ++ got) longer ho s.spoken.held hm 0 s.spoken.written wm grown left ahead
-                (subst (λ (t : List ℕ). Spoken (Told step) now new longer t ahead s.spoken.held hm s.spoken.written wm) (sym is) a.2);
+            spoken = spoken_join (WithInterim step) old now new (s.given ++ got) longer ho s.spoken.held hm 0 s.spoken.written wm grown left ahead
+                (subst (λ (t : List ℕ). Spoken (WithInterim step) now new longer t ahead s.spoken.held hm s.spoken.written wm) (sym is) a.2);
             waits = subst (λ (t : List ℕ). IsFirst t (more ahead)) (sym is) a.1;
             turns = omega (arith, s.turns, length-append s.given got);
           }
 
 -- the number of reads after one more
-pub counted_on : (first_reads reads next turn : ℕ) → (turn ≡ 0 → reads ≡ first_reads) → (0 < turn → reads ≡ min (first_reads + turn) (2 ^ 64 - 1)) → next ≡ min (reads + 1) (2 ^ 64 - 1) → next ≡ min (first_reads + (turn + 1)) (2 ^ 64 - 1)
+pub counted_on : (first_reads reads next turn : ℕ) → (turn ≡ 0 → reads ≡ first_reads) → (0 < turn → reads ≡ min (first_reads + turn) (2 ^ 64 - 1))
+    → next ≡ min (reads + 1) (2 ^ 64 - 1) → next ≡ min (first_reads + (turn + 1)) (2 ^ 64 - 1)
 counted_on first_reads reads next zero a b e = let i = a refl in omega (arith, i, e)
 counted_on first_reads reads next (suc turn) a b e = let i = b (omega arith) in omega (arith, i, e)
 

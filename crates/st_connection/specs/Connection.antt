@@ -1,13 +1,13 @@
 -- What is written for what was read, and how a connection ends.
 use Rattle.std.specs.Prelude.{◌≡◌, ◌≢◌, ◌⊎◌, ◌-◌, ◌+◌, ◌^◌, ◌≤◌, ℕ, Bool, true, false, Result, Ok, Err, OnOk, IsErr, min}
-use Rattle.std.specs.Prelude.{List, [], ◌∷◌, ◌++◌, length}
+use Rattle.std.specs.Prelude.{List, [], ◌∷◌, ◌++◌, length, take}
 use Rattle.std.specs.List.{concat}
 use Rattle.std.specs.Io.KnownBytes.{Appends, Consumes, IsAtEnd}
 use Rattle.httparse.specs.Grammar.{RequestHead}
 use Rattle.st_http.specs.declared.message.Message.{Message}
 use Rattle.st_http.specs.First.{First, message, IsFirst, expects}
 use Rattle.st_http.specs.Items.{Items}
-use Rattle.st_http.specs.Message.{ShowsMessage}
+use Rattle.st_http.specs.Message.{RepresentsMessage}
 use Rattle.st_connection.specs.Items.{BeginsWith, is_closed}
 use Rattle.st_connection.specs.Streams.{Streams}
 use Rattle.st_connection.specs.Render.{interim}
@@ -22,7 +22,7 @@ Answering S = S → First → List ℕ → S → Type 0
 -- the answer to a message, whatever its head and its body are
 abbrev pub Replied : {S : Type 0} → Answering S → S → Message → List ℕ → S → Type 0
 Replied step old m answer new =
-    (h : RequestHead) (body : List ℕ) (bare : Bool) → ShowsMessage h body bare m → step old (message h body bare) answer new
+    (h : RequestHead) (body : List ℕ) (bare : Bool) → RepresentsMessage h body bare m → step old (message h body bare) answer new
 
 -- Items may get these answers, one after another, and lead from one state to another.
 abbrev pub Run : {S : Type 0} → Answering S → S → List First → List (List ℕ) → S → Type 0
@@ -34,8 +34,8 @@ Run step old (item ∷ items) [] new = ⊥
 -- ---- the interim response
 
 -- An item is told its answer, behind the interim response where its client may wait for one, whether or not the body came with the head.
-abbrev pub Told : {S : Type 0} → Answering S → Answering S
-Told step old item text new = (answer : List ℕ) × (text ≡ interim (expects item) ++ answer) × step old item answer new
+abbrev pub WithInterim : {S : Type 0} → Answering S → Answering S
+WithInterim step old item text new = (answer : List ℕ) × (text ≡ interim (expects item) ++ answer) × step old item answer new
 
 -- What the first item of a rest is told ahead: the interim response where it expects one, or nothing.
 abbrev pub Ahead : List ℕ → List ℕ → Type 0
@@ -54,15 +54,11 @@ pub record EndsOn (most : ℕ) (s : Streams) (result : Result Ended IoFault) : T
 
 -- ---- answers are held back in a block
 
-abbrev pub all_but_last : List (List ℕ) → List (List ℕ)
-all_but_last [] = []
-all_but_last (answer ∷ []) = []
-all_but_last (answer ∷ next ∷ answers) = answer ∷ all_but_last (next ∷ answers)
-
 -- What is out is a front of the answers and of what is said behind them. Of the answers before the last it lacks at most so many bytes.
 abbrev pub ReachesWithin : ℕ → List (List ℕ) → List ℕ → List ℕ → Type 0
 ReachesWithin hold answers said sent =
-    (missing : List ℕ) × (concat answers ++ said ≡ sent ++ missing) × (length (concat (all_but_last answers)) ≤ length sent + hold)
+    (missing : List ℕ) × (concat answers ++ said ≡ sent ++ missing)
+    × (length (concat (take (length answers - 1) answers)) ≤ length sent + hold)
 
 -- The kept state is that after the first of the items, and the others lead on from it.
 pub record Amid {S : Type 0} (step : Answering S) (old kept new : S) (items : List First) (answers : List (List ℕ)) : Type 0 where
@@ -129,10 +125,10 @@ pub record ServedWithin {S : Type 0} (step : Answering S) (hold : ℕ) (old new 
   pub items : List First
   pub rest : List ℕ
   pub answers : List (List ℕ)
-  pub run : Run (Told step) old items answers new
+  pub run : Run (WithInterim step) old items answers new
   pub sent : List ℕ
   pub wrote : Appends s.held_old s.held_new sent
-  pub ending : EndsWithin (Told step) hold old new kept result s.read_failed given items rest answers sent
+  pub ending : EndsWithin (WithInterim step) hold old new kept result s.read_failed given items rest answers sent
 
 -- No answer was held back, so that each but the last is out whole, and nothing was lost.
 pub record Served {S : Type 0} (step : Answering S) (old new : S) (s : Streams) (result : Result Ended IoFault) : Type 0 where
@@ -142,6 +138,6 @@ pub record Served {S : Type 0} (step : Answering S) (old new : S) (s : Streams) 
 
 -- All that was answered is kept, but where the call ended as lost, which says that the answerer has failed.
 pub record KeptUnlessLost {S : Type 0} (kept now : S) (has_failed : Bool) (result : Result Ended IoFault) : Type 0 where
-  pub settled : result ≢ Ok Lost → kept ≡ now
+  pub synced : result ≢ Ok Lost → kept ≡ now
   pub lost : result ≡ Ok Lost → has_failed ≡ true
   pub sound : result ≢ Ok Lost → has_failed ≡ false

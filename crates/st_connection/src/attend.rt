@@ -1,4 +1,7 @@
 //! What answers the requests of connections, as the threads of a server see it.
+//!
+//! The trait stands here, below the stations, since an `impl` of another crate's trait is for a type of its own. A trait over
+//! single messages would stand under `for<'m>`, which the check does not take.
 ghost use Rattle.std.specs.Prelude.{◌≡◌, false, Result as Either};
 ghost use Rattle.st_connection.specs.Connection.{EndsOn};
 ghost use Rattle.st_connection.specs.Streams.{Streams, streams};

@@ -1,14 +1,14 @@
 //! One connection, from its first byte to its end.
 ghost use Rattle.std.specs.Prelude.{◌≡◌, ◌≢◌, ◌+◌, ◌*◌, ◌^◌, ◌<◌, ◌≤◌, Err, true, false, length, take};
-ghost use Rattle.st_connection.specs.Connection.{EndsOn, KeptUnlessLost, ServedWithin, Told};
+ghost use Rattle.st_connection.specs.Connection.{EndsOn, KeptUnlessLost, ServedWithin, WithInterim};
 ghost use Rattle.st_connection.specs.Streams.{streams};
 ghost use Rattle.st_connection.specs.inner.Stages.{Answered, AnsweredNext};
 
 use crate::constant::fault_text;
+use crate::expecting::answer_text;
 use crate::replies::Replies;
 use crate::sending::{Stopped, flush, pass};
 use crate::streams::{Sink, Source};
-use crate::telling::answer_text;
 use st_http::message::Take;
 use st_http::routes::Routes;
 use std::convert::AsSlice;
@@ -25,7 +25,7 @@ pub enum Ended {
     Cut,
     /// None of these after `MAX_READS` reads.
     TurnsSpent,
-    /// What was answered could not be settled.
+    /// What was answered could not be synced.
     Lost,
 }
 
@@ -77,11 +77,11 @@ fn answer_next<X: Replies, W: Sink>(
     requires room { written.old + 2 * 2 ^ 64 < 2 ^ 128 }
     requires within { held.old ≤ length block.old }
     requires sound { X.has_failed answerer.old ≡ false }
-    ensures answered { AnsweredNext (Told X.answers) false (X.now answerer.old) (X.now answerer.new)
+    ensures answered { AnsweredNext (WithInterim X.answers) false (X.now answerer.old) (X.now answerer.new)
         (X.kept answerer.old) (X.kept answerer.new) text.now
         (W.held writer.old) (W.held writer.new) written.old written.new (take held.old block.old) (take held.new block.new) result }
     ensures unwritten { result ≡ Err Stopped.Unwritten → W.has_failed writer.new ≡ true }
-    ensures settled { result ≡ Err Stopped.Unwritten → X.kept answerer.new ≡ X.now answerer.new }
+    ensures synced { result ≡ Err Stopped.Unwritten → X.kept answerer.new ≡ X.now answerer.new }
     ensures lost { result ≡ Err Stopped.Lost → X.has_failed answerer.new ≡ true }
     ensures not_lost { result ≢ Err Stopped.Lost → X.has_failed answerer.new ≡ false }
     ensures ok { result ≢ Err Stopped.Unwritten → W.has_failed writer.new ≡ W.has_failed writer.old }
@@ -128,11 +128,12 @@ pub(crate) fn answer_all<X: Replies, W: Sink>(
     written: &mut u128,
 ) -> Result<Stop, Stopped>
     requires room { written.old + 2 ^ 65 * (length text.now + 3) < 2 ^ 128 }
-    requires settled { X.kept answerer.old ≡ X.now answerer.old }
+    requires synced { X.kept answerer.old ≡ X.now answerer.old }
     requires sound { X.has_failed answerer.old ≡ false }
-    ensures answered { Answered (Told X.answers) (length block.old) (X.now answerer.old) (X.now answerer.new) (X.kept answerer.new) text.now
+    ensures answered { Answered (WithInterim X.answers) (length block.old) (X.now answerer.old) (X.now answerer.new)
+        (X.kept answerer.new) text.now
         (W.held writer.old) (W.held writer.new) written.old written.new result }
-    ensures settled { result ≢ Err Stopped.Lost → X.kept answerer.new ≡ X.now answerer.new }
+    ensures synced { result ≢ Err Stopped.Lost → X.kept answerer.new ≡ X.now answerer.new }
     ensures lost { result ≡ Err Stopped.Lost → X.has_failed answerer.new ≡ true }
     ensures not_lost { result ≢ Err Stopped.Lost → X.has_failed answerer.new ≡ false }
     ensures unwritten { result ≡ Err Stopped.Unwritten → W.has_failed writer.new ≡ true }
@@ -170,7 +171,7 @@ pub(crate) fn answer_all<X: Replies, W: Sink>(
 }
 
 /// Serves a connection: answers each item that the reader gives, in order, before it reads on. Answers are held back while
-/// `block` has room for them and a further item was read, and are settled before a byte of them is written. A client that may wait
+/// `block` has room for them and a further item was read, and are synced before a byte of them is written. A client that may wait
 /// with a body is told once that it is awaited, before its answer.
 pub fn serve_connection<X: Replies, R: Source, W: Sink>(
     answerer: &mut X,
@@ -181,7 +182,7 @@ pub fn serve_connection<X: Replies, R: Source, W: Sink>(
     writer: &mut W,
 ) -> Result<Ended, IoFault>
     requires room { ROOM ≤ length buffer.old }
-    requires answerer_settled { X.kept answerer.old ≡ X.now answerer.old }
+    requires answerer_synced { X.kept answerer.old ≡ X.now answerer.old }
     requires answerer_sound { X.has_failed answerer.old ≡ false }
     requires reader_sound { R.has_failed reader.old ≡ false }
     requires writer_sound { W.has_failed writer.old ≡ false }

@@ -4,12 +4,12 @@
 mod attend;
 pub mod connection;
 pub mod constant;
+mod expecting;
 pub mod law;
 pub mod replies;
 mod sending;
 mod server;
 pub mod streams;
-mod telling;
 
 pub use attend::Attend;
 pub use connection::{Ended, IoFault};

@@ -24,7 +24,7 @@ pub trait Replies {
     // The state that is kept, whatever becomes of it.
     ghost kept: { Self → State };
 
-    // Whether a settling failed.
+    // Whether a sync failed.
     ghost has_failed: { Self → Bool };
 
     // In a state an item may get this answer, and leave that state.
@@ -41,7 +41,7 @@ pub trait Replies {
         ensures sound { has_failed self.new ≡ false };
 
     /// Sees that what was answered so far is kept.
-    fn settle(&mut self) -> Result<(), Failed>
+    fn sync(&mut self) -> Result<(), Failed>
         requires { has_failed self.old ≡ false }
         ensures now { now self.new ≡ now self.old }
         ensures kept { OnOk result (kept self.new ≡ now self.new) }
@@ -50,7 +50,7 @@ pub trait Replies {
         ensures err { OnErr result (has_failed self.new ≡ true) };
 
     // A message gets an answer of the items that it may be.
-    ghost shown: { (old new : State) (m : Request) (answer : List ℕ) → replies old m answer new → Replied answers old m answer new };
+    ghost replied: { (old new : State) (m : Request) (answer : List ℕ) → replies old m answer new → Replied answers old m answer new };
 
     // A fault gets the constant answer, and changes nothing.
     ghost faults: { (s : State) (reason : Why) (bare : Bool) → answers s (of_fault reason bare) (fault_text reason bare) s };

@@ -1,4 +1,4 @@
-//! What is written of the answers: settled first, and in blocks.
+//! What is written of the answers: synced first, and in blocks.
 ghost use Rattle.std.specs.Prelude.{◌≡◌, ◌≢◌, ◌+◌, ◌*◌, ◌^◌, ◌<◌, ◌≤◌, ◌++◌, [], Err, true, false, length, take, OnErr, OnOk, is_ok};
 ghost use Rattle.st_connection.specs.inner.Stages.{Passed, Sent};
 
@@ -9,7 +9,7 @@ use crate::streams::{Failed, Sink};
 pub(crate) enum Stopped {
     // A write failed.
     Unwritten,
-    // The answers could not be settled.
+    // The answers could not be synced.
     Lost,
 }
 
@@ -36,7 +36,7 @@ pub(crate) fn write_all<W: Sink>(
     Ok(())
 }
 
-// Settles, and writes the block.
+// Syncs, and writes the block.
 pub(crate) fn flush<X: Replies, W: Sink>(
     answerer: &mut X,
     block: &[u8],
@@ -48,13 +48,13 @@ pub(crate) fn flush<X: Replies, W: Sink>(
     ensures passed { Passed (X.now answerer.old) (X.kept answerer.old) (X.kept answerer.new)
         (W.held writer.old) (W.held writer.new) written.old written.new block.now [] result }
     ensures now { X.now answerer.new ≡ X.now answerer.old }
-    ensures settled { result ≢ Err Stopped.Lost → X.kept answerer.new ≡ X.now answerer.old }
+    ensures synced { result ≢ Err Stopped.Lost → X.kept answerer.new ≡ X.now answerer.old }
     ensures unwritten { result ≡ Err Stopped.Unwritten → W.has_failed writer.new ≡ true }
     ensures lost { result ≡ Err Stopped.Lost → X.has_failed answerer.new ≡ true }
     ensures not_lost { result ≢ Err Stopped.Lost → X.has_failed answerer.new ≡ false }
     ensures ok { result ≢ Err Stopped.Unwritten → W.has_failed writer.new ≡ W.has_failed writer.old }
 {
-    if let Err(Failed) = answerer.settle() {
+    if let Err(Failed) = answerer.sync() {
         return Err(Stopped::Lost);
     }
     match write_all(writer, block, written) {
@@ -63,7 +63,7 @@ pub(crate) fn flush<X: Replies, W: Sink>(
     }
 }
 
-// Puts an answer behind those of the block. Where it has no room there, all are settled and written.
+// Puts an answer behind those of the block. Where it has no room there, all are synced and written.
 pub(crate) fn pass<X: Replies, W: Sink>(
     answerer: &mut X,
     answer: &[u8],
@@ -80,7 +80,7 @@ pub(crate) fn pass<X: Replies, W: Sink>(
         (take held.old block.old ++ answer.now) (take held.new block.new) result }
     ensures now { X.now answerer.new ≡ X.now answerer.old }
     ensures unwritten { result ≡ Err Stopped.Unwritten → W.has_failed writer.new ≡ true }
-    ensures settled { result ≡ Err Stopped.Unwritten → X.kept answerer.new ≡ X.now answerer.old }
+    ensures synced { result ≡ Err Stopped.Unwritten → X.kept answerer.new ≡ X.now answerer.old }
     ensures lost { result ≡ Err Stopped.Lost → X.has_failed answerer.new ≡ true }
     ensures not_lost { result ≢ Err Stopped.Lost → X.has_failed answerer.new ≡ false }
     ensures ok { result ≢ Err Stopped.Unwritten → W.has_failed writer.new ≡ W.has_failed writer.old }

@@ -64,7 +64,7 @@ impl<X: Replies + Drop, A: Allocator + Copy> Server<X, A> {
         reader: &mut R,
         writer: &mut W,
     ) -> Result<Ended, IoFault>
-        requires settled { X.kept self.old ≡ X.now self.old }
+        requires synced { X.kept self.old ≡ X.now self.old }
         requires sound { X.has_failed self.old ≡ false }
         requires reader_sound { R.has_failed reader.old ≡ false }
         requires writer_sound { W.has_failed writer.old ≡ false }

@@ -25,9 +25,12 @@ use Rattle.st_grant.specs.declared.permission.Permission.{Permission}
 use Rattle.st_policy.specs.declared.denial.Denial.{Denial}
 use Rattle.st_policy.specs.declared.refusal.Refusal.{Refusal}
 use Rattle.st_policy.specs.declared.request.Request.{Request}
-use Rattle.st_policy.specs.declared.request.Request.TheVariants.{Whoami, Tables, Users, User, Grants, NamespaceGrants, Label, Audit, Get, Scan, Count, Grid, Plan, Put, Delete, CreateTable, DropTable, Constraint, Period as SetPeriod, CreateUser, DropUser, Token as SetToken, Auths, GrantSystem, RevokeSystem, GrantTable, RevokeTable, GrantNamespace, RevokeNamespace}
-use Rattle.st_policy.specs.Requests.{table_of, named_auths}
-use Rattle.st_policy.specs.Policy.{Need, need_of, meets, auths_are_held, refusal_of}
+use Rattle.st_policy.specs.declared.request.Request.TheVariants.{Whoami, Tables, Users, User, Grants, NamespaceGrants, Label, Audit, Get, Scan, Count}
+use Rattle.st_policy.specs.declared.request.Request.TheVariants.{Grid, Plan, Put, Delete, CreateTable, DropTable, Constraint, Period as SetPeriod}
+use Rattle.st_policy.specs.declared.request.Request.TheVariants.{CreateUser, DropUser, Token as SetToken, Auths, GrantSystem, RevokeSystem}
+use Rattle.st_policy.specs.declared.request.Request.TheVariants.{GrantTable, RevokeTable, GrantNamespace, RevokeNamespace}
+use Rattle.st_policy.specs.Requests.{Need, need_of, table_of, named_auths}
+use Rattle.st_policy.specs.Policy.{meets, auths_are_held, refusal_of}
 use Rattle.st_core.specs.declared.asked.Call.{Call}
 use Rattle.st_core.specs.declared.asked.Token.{Token}
 use Rattle.st_policy.specs.declared.reply.Reply.{Reply}
@@ -149,7 +152,8 @@ module _ {A : Type 0} (sight : Sight) (user : Text) (s t : State A) (alike : Ali
     of_visible : (rows : List (Held A)) → in_order key (rows_that test table auths rows) ≡ map row_of (in_order row_key (filter passes (visible sight rows)))
     of_visible rows =
         let apart = filter_images row_of (λ h. same h.table table) (λ row. test row && is_true (is_among auths) row.label) rows in
-        let enough = filter_in_order full_name passes rows ∙ ap (in_order full_name) (sym (filter_weaker passes (is_visible sight) within rows)) ∙ sym (filter_in_order full_name passes (filter (is_visible sight) rows)) in
+        let enough = filter_in_order full_name passes rows ∙ ap (in_order full_name) (sym (filter_weaker passes (is_visible sight) within rows))
+        ∙ sym (filter_in_order full_name passes (filter (is_visible sight) rows)) in
         ap (in_order key) apart
         ∙ in_order_images row_of key (filter passes rows)
         ∙ ap (map row_of) (sym (resorted row_key full_name passes agree rows) ∙ ap (in_order row_key) enough)
@@ -182,11 +186,15 @@ module _ {A : Type 0} (sight : Sight) (user : Text) (s t : State A) (alike : Ali
   shown_alike (Label label) h = refl
   shown_alike Audit h =
       absurd (clash (met (has_system s.directory user Permission.System) (Refusal.Denied (Denial.Permission Permission.System None)) (allowed_need s.directory user Audit h)) covers.system)
-  shown_alike (Get table id auths) h = ap Reply.Rows (sorted_alike (λ row. row.label ∷ []) (λ row. same row.id id) (label_names id) table auths (allowed (Get table id auths) table auths h refl refl refl))
+  shown_alike (Get table id auths) h =
+      ap Reply.Rows (sorted_alike (λ row. row.label ∷ []) (λ row. same row.id id) (label_names id) table auths
+      (allowed (Get table id auths) table auths h refl refl refl))
   shown_alike (Scan table query auths limit after) h =
       λ i. page_of limit (filter (is_past (period_of (alike.directory i) table) after) (seen_alike table query auths (allowed (Scan table query auths limit after) table auths h refl refl refl) i))
   shown_alike (Count table query auths) h = ap (λ rows. Reply.Count (length rows)) (seen_alike table query auths (allowed (Count table query auths) table auths h refl refl refl))
-  shown_alike (Grid table query auths columns lines) h = ap (λ rows. Reply.Grid (grid_of query columns lines rows)) (seen_alike table query auths (allowed (Grid table query auths columns lines) table auths h refl refl refl))
+  shown_alike (Grid table query auths columns lines) h =
+      ap (λ rows. Reply.Grid (grid_of query columns lines rows))
+      (seen_alike table query auths (allowed (Grid table query auths columns lines) table auths h refl refl refl))
   shown_alike (Plan table query budget) h = λ i. Reply.Plan (plan_of (period_of (alike.directory i) table) query budget)
   shown_alike (Put _ _) h = refl
   shown_alike (Delete _ _ _) h = refl

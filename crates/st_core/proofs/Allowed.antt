@@ -11,10 +11,10 @@ use Rattle.st_policy.specs.declared.denial.Denial.{Denial}
 use Rattle.st_policy.specs.declared.refusal.Refusal.{Refusal}
 use Rattle.st_policy.specs.declared.refusal.Refusal.TheVariants.{NoTable, NoUser, TableExists, UserExists}
 use Rattle.st_policy.specs.declared.request.Request.{Request}
-use Rattle.st_policy.specs.Requests.{table_of, user_of, named_auths, first_some}
+use Rattle.st_policy.specs.Requests.{need_of, table_of, user_of, named_auths, first_some}
 use Rattle.st_core.specs.declared.asked.Token.{Token}
 use Rattle.st_core.specs.Step.{asker_of}
-use Rattle.st_policy.specs.Policy.{unless, refusal_of, table_exists, user_exists, name_is_free, need_of, meets, auths_are_held, label_is_met, is_not_oneself}
+use Rattle.st_policy.specs.Policy.{unless, refusal_of, table_exists, user_exists, name_is_free, meets, auths_are_held, label_is_met, is_not_oneself}
 
 none_first : (o : Option Refusal) (others : List (Option Refusal)) → first_some (o ∷ others) ≡ None → (o ≡ None) × (first_some others ≡ None)
 none_first None others e = (refl, e)
@@ -80,7 +80,8 @@ module _ {A : Type 0} (d : Directory A) (asker : Text) (request : Request A) whe
 pub allowed_new_table : {A : Type 0} (d : Directory A) (asker table : Text) (period : Period) → refusal_of d asker (Request.CreateTable table period) ≡ None → is_table d table ≡ false
 allowed_new_table d asker table period allowed = free (is_table d table) (TableExists table) (allowed_name d asker (Request.CreateTable table period) allowed)
 
-pub allowed_new_user : {A : Type 0} (d : Directory A) (asker user : Text) (digest : List ℕ) (auths : List Text) → refusal_of d asker (Request.CreateUser user digest auths) ≡ None → is_user d user ≡ false
+pub allowed_new_user : {A : Type 0} (d : Directory A) (asker user : Text) (digest : List ℕ) (auths : List Text)
+    → refusal_of d asker (Request.CreateUser user digest auths) ≡ None → is_user d user ≡ false
 allowed_new_user d asker user digest auths allowed = free (is_user d user) (UserExists user) (allowed_name d asker (Request.CreateUser user digest auths) allowed)
 
 -- whose token holds is a user

@@ -93,7 +93,9 @@ module _ {A : Type 0} (user : Text) (sight : Sight) where
   any_kept f [] s t e = ap (λ d. f d || false) e
   any_kept f (a ∷ rest) s t e = at (stays user sight s.directory a) refl (any_kept f rest (step s a).state)
     where
-      at : (b : Bool) → stays user sight s.directory a ≡ b → ((u : State A) → (step s a).state.directory ≡ u.directory → list_any f (moments (step s a).state rest) ≡ list_any f (moments u (kept user sight (step s a).state rest))) →
+      at : (b : Bool) → stays user sight s.directory a ≡ b
+          → ((u : State A) → (step s a).state.directory ≡ u.directory
+          → list_any f (moments (step s a).state rest) ≡ list_any f (moments u (kept user sight (step s a).state rest))) →
           list_any f (moments s (a ∷ rest)) ≡ list_any f (moments t (kept user sight s (a ∷ rest)))
       at true h ih = simp h (λ i. f (e i) || ih (step t a).state (next_directory a s t e) i)
       at false h ih =
@@ -104,7 +106,9 @@ module _ {A : Type 0} (user : Text) (sight : Sight) where
   kept_again [] s t e = refl
   kept_again (a ∷ rest) s t e = at (stays user sight s.directory a) refl (kept_again rest (step s a).state)
     where
-      at : (b : Bool) → stays user sight s.directory a ≡ b → ((u : State A) → (step s a).state.directory ≡ u.directory → kept user sight u (kept user sight (step s a).state rest) ≡ kept user sight (step s a).state rest) →
+      at : (b : Bool) → stays user sight s.directory a ≡ b
+          → ((u : State A) → (step s a).state.directory ≡ u.directory
+          → kept user sight u (kept user sight (step s a).state rest) ≡ kept user sight (step s a).state rest) →
           kept user sight t (kept user sight s (a ∷ rest)) ≡ kept user sight s (a ∷ rest)
       at true h ih =
           let there : stays user sight t.directory a ≡ true = ap (λ d. stays user sight d a) (sym e) ∙ h in

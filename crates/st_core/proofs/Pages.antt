@@ -7,7 +7,8 @@ use Rattle.st_key.specs.declared.place.Place.{Place}
 use Rattle.st_box.specs.declared.query.Query.{Query}
 use Rattle.st_index.specs.Order.{scan_key}
 use Rattle.st_index.specs.declared.row.Row.{Row}
-use Rattle.st_scan.specs.Pages.{is_past, visible_after}
+use Rattle.st_scan.specs.Pages.{is_past}
+use Rattle.st_scan.specs.inner.Pages.{visible_after}
 use Rattle.st_scan.specs.Visible.{is_visible_inside}
 use Rattle.st_table.specs.Rows.{rows_in_table}
 use Rattle.st_dir.specs.Directory.{period_of}

@@ -17,7 +17,9 @@ use Rattle.st_core.proofs.Worked.{asks, after, told, all_told, texts, put_in, co
 -- ---- listings
 
 -- what root is shown of the first state
-first_listings : map (told (fresh ("B" ∷ "A" ∷ "B" ∷ []))) (asks "root" Request.Whoami ∷ asks "root" Request.Tables ∷ asks "root" Request.Users ∷ asks "root" (Request.Grants (codes "points")) ∷ asks "root" Request.Audit ∷ [])
+first_listings : map (told (fresh ("B" ∷ "A" ∷ "B" ∷ [])))
+    (asks "root" Request.Whoami ∷ asks "root" Request.Tables ∷ asks "root" Request.Users ∷ asks "root" (Request.Grants (codes "points")) ∷ asks "root"
+    Request.Audit ∷ [])
     ≡ Reply.Who (record { user = codes "root"; auths = texts ("A" ∷ "B" ∷ []); permissions = system_permissions })
     ∷ Reply.Tables (record { table = codes "points"; constraint = false; period = Period.Week } ∷ [])
     ∷ Reply.Users (texts ("root" ∷ []))
@@ -26,16 +28,23 @@ first_listings : map (told (fresh ("B" ∷ "A" ∷ "B" ∷ []))) (asks "root" Re
 first_listings = refl
 
 -- users, tables and grants are listed by name, whatever the order in which they were made
-listed_by_name : map (told (after (fresh []) (make_user "v" [] ∷ make_user "a" [] ∷ make_table "root" "b" ∷ make_table "root" "a" ∷ grant "points" "v" TablePermission.Write ∷ grant "points" "v" TablePermission.Read ∷ [])))
+listed_by_name : map (told
+    (after (fresh []) (make_user "v" [] ∷ make_user "a" [] ∷ make_table "root" "b" ∷ make_table "root" "a" ∷ grant "points" "v" TablePermission.Write
+    ∷ grant "points" "v" TablePermission.Read ∷ [])))
     (asks "a" Request.Users ∷ asks "a" Request.Tables ∷ asks "a" (Request.Grants (codes "points")) ∷ [])
     ≡ Reply.Users (texts ("a" ∷ "root" ∷ "v" ∷ []))
-    ∷ Reply.Tables (record { table = codes "a"; constraint = false; period = Period.Week } ∷ record { table = codes "b"; constraint = false; period = Period.Week } ∷ record { table = codes "points"; constraint = false; period = Period.Week } ∷ [])
+    ∷ Reply.Tables (record { table = codes "a"; constraint = false; period = Period.Week } ∷ record
+    { table = codes "b"; constraint = false; period = Period.Week } ∷ record { table = codes "points"; constraint = false; period = Period.Week }
+    ∷ [])
     ∷ Reply.Grants (record { user = codes "root"; permissions = table_permissions } ∷ record { user = codes "v"; permissions = Permission.Read ∷ Permission.Write ∷ [] } ∷ []) ∷ []
 listed_by_name = refl
 
 -- ---- users
 
-nobody_there : map (told (fresh [])) (asks "root" (Request.User (codes "zoe")) ∷ asks "root" (Request.DropUser (codes "zoe")) ∷ asks "root" (Request.GrantTable (codes "points") (codes "zoe") TablePermission.Read) ∷ asks "root" (Request.GrantNamespace (codes "n") (codes "zoe") TablePermission.Read) ∷ [])
+nobody_there : map (told (fresh []))
+    (asks "root" (Request.User (codes "zoe")) ∷ asks "root" (Request.DropUser (codes "zoe")) ∷ asks "root"
+    (Request.GrantTable (codes "points") (codes "zoe") TablePermission.Read) ∷ asks "root"
+    (Request.GrantNamespace (codes "n") (codes "zoe") TablePermission.Read) ∷ [])
     ≡ Reply.Refused (Refusal.NoUser (codes "zoe")) ∷ Reply.Refused (Refusal.NoUser (codes "zoe")) ∷ Reply.Refused (Refusal.NoUser (codes "zoe")) ∷ Reply.Refused (Refusal.NoUser (codes "zoe")) ∷ []
 nobody_there = refl
 
@@ -44,7 +53,9 @@ oneself : told (fresh []) (asks "root" (Request.DropUser (codes "root"))) ≡ de
 oneself = refl
 
 -- one's own token may be set, and another's by who has the permission
-own_token : all_told (after (fresh []) (make_user "v" [] ∷ [])) (asks "v" (Request.Token (codes "v") (1 ∷ [])) ∷ asks "v" (Request.Token (codes "root") (1 ∷ [])) ∷ asks "root" (Request.Token (codes "v") (2 ∷ [])) ∷ [])
+own_token : all_told (after (fresh []) (make_user "v" [] ∷ []))
+    (asks "v" (Request.Token (codes "v") (1 ∷ [])) ∷ asks "v" (Request.Token (codes "root") (1 ∷ [])) ∷ asks "root"
+    (Request.Token (codes "v") (2 ∷ [])) ∷ [])
     ≡ Reply.Accepted ∷ denied (Denial.Permission Permission.AlterUser None) ∷ Reply.Accepted ∷ []
 own_token = refl
 
@@ -56,16 +67,23 @@ auths_set : told (after (fresh []) (make_user "v" ("A" ∷ []) ∷ asks "root" (
 auths_set = refl
 
 -- with a user go the grants to it, and a user of the same name made later has none of them
-made_again : all_told (after (fresh []) (make_user "v" [] ∷ grant "points" "v" TablePermission.Read ∷ asks "root" (Request.DropUser (codes "v")) ∷ [])) (make_user "v" [] ∷ count_in "v" "points" [] ∷ make_user "v" [] ∷ [])
+made_again : all_told (after (fresh [])
+    (make_user "v" [] ∷ grant "points" "v" TablePermission.Read ∷ asks "root" (Request.DropUser (codes "v")) ∷ []))
+    (make_user "v" [] ∷ count_in "v" "points" [] ∷ make_user "v" [] ∷ [])
     ≡ Reply.Accepted ∷ lacks Permission.Read "points" ∷ Reply.Refused (Refusal.UserExists (codes "v")) ∷ []
 made_again = refl
 
 -- granting what is held and revoking what is not change nothing but the audit listing
-granted_twice : (after (fresh []) (asks "root" (Request.GrantSystem (codes "root") SystemPermission.System) ∷ grant "points" "root" TablePermission.Read ∷ asks "root" (Request.RevokeNamespace (codes "n") (codes "root") TablePermission.Read) ∷ [])).directory ≡ (fresh []).directory
+granted_twice : (after (fresh [])
+    (asks "root" (Request.GrantSystem (codes "root") SystemPermission.System) ∷ grant "points" "root" TablePermission.Read ∷ asks "root"
+    (Request.RevokeNamespace (codes "n") (codes "root") TablePermission.Read) ∷ [])).directory ≡ (fresh []).directory
 granted_twice = refl
 
 -- who lets go of GRANT can't take it again
-let_go : all_told (fresh []) (asks "root" (Request.RevokeSystem (codes "root") SystemPermission.Grant) ∷ asks "root" (Request.GrantSystem (codes "root") SystemPermission.Grant) ∷ asks "root" (Request.RevokeTable (codes "points") (codes "root") TablePermission.Read) ∷ [])
+let_go : all_told (fresh [])
+    (asks "root" (Request.RevokeSystem (codes "root") SystemPermission.Grant) ∷ asks "root"
+    (Request.GrantSystem (codes "root") SystemPermission.Grant) ∷ asks "root"
+    (Request.RevokeTable (codes "points") (codes "root") TablePermission.Read) ∷ [])
     ≡ Reply.Accepted ∷ denied (Denial.Permission Permission.Grant None) ∷ Reply.Accepted ∷ []
 let_go = refl
 
@@ -81,7 +99,8 @@ unfolding reading class_of
 table_made_again = refl
 
 table_refusals : all_told (after (fresh []) (make_user "u" [] ∷ []))
-    (make_table "root" "points" ∷ make_table "u" "t" ∷ drop_table "u" "t" ∷ drop_table "u" "points" ∷ asks "u" (Request.Constraint (codes "points") true) ∷ asks "u" (Request.Period (codes "points") Period.Day) ∷ [])
+    (make_table "root" "points" ∷ make_table "u" "t" ∷ drop_table "u" "t" ∷ drop_table "u" "points" ∷ asks "u"
+    (Request.Constraint (codes "points") true) ∷ asks "u" (Request.Period (codes "points") Period.Day) ∷ [])
     ≡ Reply.Refused (Refusal.TableExists (codes "points")) ∷ denied (Denial.Permission Permission.CreateTable None) ∷ Reply.Refused (Refusal.NoTable (codes "t"))
     ∷ lacks Permission.DropTable "points" ∷ lacks Permission.AlterTable "points" ∷ lacks Permission.AlterTable "points" ∷ []
 table_refusals = refl
@@ -108,6 +127,8 @@ audit_shown : all_told (after (fresh []) (make_user "v" [] ∷ [])) (put_in "v" 
 audit_shown = refl
 
 -- what an entry names: the table, the namespace, the user, or the name that is made
-targets : map (λ entry. entry.target) (after (fresh []) (make_table "root" "t" ∷ make_user "v" [] ∷ grant "t" "v" TablePermission.Read ∷ asks "root" (Request.GrantNamespace (codes "n") (codes "v") TablePermission.Read) ∷ asks "root" (Request.DropUser (codes "v")) ∷ [])).audit
+targets : map (λ entry. entry.target)
+    (after (fresh []) (make_table "root" "t" ∷ make_user "v" [] ∷ grant "t" "v" TablePermission.Read ∷ asks "root"
+    (Request.GrantNamespace (codes "n") (codes "v") TablePermission.Read) ∷ asks "root" (Request.DropUser (codes "v")) ∷ [])).audit
     ≡ texts ("t" ∷ "v" ∷ "t" ∷ "n" ∷ "v" ∷ [])
 targets = refl

@@ -26,7 +26,9 @@ granting : all_told (after (fresh []) (make_user "u" [] ∷ make_table "root" "g
 granting = refl
 
 -- a grant on the first letters of a name holds for that name alone
-first_letters : all_told (after (fresh []) (make_user "u" [] ∷ make_table "root" "geo.a" ∷ make_table "root" "geo.ab" ∷ grant_namespace "root" "ge" "u" TablePermission.Read ∷ grant "geo.a" "u" TablePermission.Read ∷ []))
+first_letters : all_told
+    (after (fresh []) (make_user "u" [] ∷ make_table "root" "geo.a" ∷ make_table "root" "geo.ab" ∷ grant_namespace "root" "ge" "u"
+    TablePermission.Read ∷ grant "geo.a" "u" TablePermission.Read ∷ []))
     (count_in "u" "geo.ab" [] ∷ count_in "u" "geo.a" [] ∷ [])
     ≡ lacks Permission.Read "geo.ab" ∷ Reply.Count 0 ∷ []
 first_letters = refl

@@ -74,13 +74,18 @@ unfolding reading class_of
 replaced = refl
 
 -- rows stand by their tables' names, their ids and their labels, whatever the order of the puts
-stand_by_name : map full_name (after (fresh []) (make_table "root" "b" ∷ make_table "root" "a" ∷ put_in "root" "b" "p" "" ∷ put_in "root" "a" "q" "" ∷ put_in "root" "a" "p" "B" ∷ put_in "root" "a" "p" "A" ∷ [])).rows
+stand_by_name : map full_name
+    (after (fresh []) (make_table "root" "b" ∷ make_table "root" "a" ∷ put_in "root" "b" "p" "" ∷ put_in "root" "a" "q" "" ∷ put_in "root" "a" "p" "B"
+    ∷ put_in "root" "a" "p" "A" ∷ [])).rows
     ≡ texts ("a" ∷ "p" ∷ "A" ∷ []) ∷ texts ("a" ∷ "p" ∷ "B" ∷ []) ∷ texts ("a" ∷ "q" ∷ "" ∷ []) ∷ texts ("b" ∷ "p" ∷ "" ∷ []) ∷ []
 unfolding reading class_of
 stand_by_name = refl
 
 -- two rows of one id: a delete takes out the one of its label, and a second delete nothing
-deleted : map (λ held. held.row.label) (after (fresh ("A" ∷ [])) (put "p" "B" ∷ put "p" "A" ∷ asks "root" (Request.Delete (codes "points") (codes "p") (codes "A")) ∷ asks "root" (Request.Delete (codes "points") (codes "p") (codes "A")) ∷ [])).rows ≡ codes "B" ∷ []
+deleted : map (λ held. held.row.label)
+    (after (fresh ("A" ∷ []))
+    (put "p" "B" ∷ put "p" "A" ∷ asks "root" (Request.Delete (codes "points") (codes "p") (codes "A")) ∷ asks "root"
+    (Request.Delete (codes "points") (codes "p") (codes "A")) ∷ [])).rows ≡ codes "B" ∷ []
 unfolding reading class_of
 deleted = refl
 

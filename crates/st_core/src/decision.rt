@@ -22,7 +22,7 @@ pub struct Decision<A: Allocator = Global> {
 }
 
 // A decision that leaves the directory.
-fn told<A: Allocator>(reply: Reply<A>) -> Decision<A>
+fn reply_only<A: Allocator>(reply: Reply<A>) -> Decision<A>
     ensures { result ≡ record { reply = reply; directory = None } }
 {
     Decision {
@@ -71,11 +71,11 @@ impl<A: Allocator + Copy> Decision<A> {
             → unwrap_or decision.directory directory.now ≡ (settle s (judgement judged.now)).state.directory) }
     {
         match judged {
-            JudgedRef::Unheard(refusal) => Ok(told(Reply::Refused(refusal.copy()))),
+            JudgedRef::Unheard(refusal) => Ok(reply_only(Reply::Refused(refusal.copy()))),
             JudgedRef::Heard {
                 refusal: Some(refusal),
                 ..
-            } => Ok(told(Reply::Refused(refusal.copy()))),
+            } => Ok(reply_only(Reply::Refused(refusal.copy()))),
             JudgedRef::Heard {
                 asker,
                 request,

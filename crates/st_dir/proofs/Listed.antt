@@ -8,7 +8,8 @@ use Rattle.st_text.proofs.Same.{same-eq}
 use Rattle.st_dir.specs.Changes.{granted}
 use Rattle.st_dir.specs.Directory.{Directory, is_granted}
 use Rattle.st_grant.specs.Grants.{grant_of, same_scope}
-use Rattle.st_dir.specs.Listings.{granted_on, grants_on, held_on, shows}
+use Rattle.st_dir.specs.Listings.{granted_on, grants_on, held_on}
+use Rattle.st_dir.specs.inner.Shown.{lists}
 use Rattle.st_grant.specs.Permissions.{place_of, same_permission, table_permission, table_permissions}
 use Rattle.st_grant.specs.declared.grant.Grant.{Grant}
 use Rattle.st_grant.specs.declared.grant.Scope.{Scope}
@@ -78,15 +79,15 @@ module _ {A : Type 0} (d : Directory A) (user : Text) (scope : Scope) where
       (λ (h : Grant). same_scope scope h.scope && same user h.user)
       (λ h. swapped (same user h.user) (same_scope scope h.scope) (same_permission p h.permission)) d.grants e
 
-  is_shown : (p : TablePermission) → is_granted d user scope (table_permission p) ≡ true → shows user (table_permission p) (grants_on d scope) ≡ true
-  is_shown p e =
+  is_listed : (p : TablePermission) → is_granted d user scope (table_permission p) ≡ true → lists user (table_permission p) (grants_on d scope) ≡ true
+  is_listed p e =
       list_any-map (λ given. same user given.user && list_any (same_permission (table_permission p)) given.permissions) (given_of d scope) (granted_on d scope)
       ∙ any_other (same user) (λ name. same user name && list_any (same_permission (table_permission p)) (held_on d scope name))
       (λ name f. both (same user name) (list_any (same_permission (table_permission p)) (held_on d scope name)) f
       (subst (λ text. list_any (same_permission (table_permission p)) (held_on d scope text) ≡ true) (same-eq user name f) (is_held p e)))
       (granted_on d scope) (is_named (table_permission p) e)
 
-pub granted_shown : {A : Type 0} (d : Directory A) (user : Text) (scope : Scope) (p : TablePermission)
-    → shows user (table_permission p) (grants_on (granted user scope (table_permission p) d) scope) ≡ true
-granted_shown d user scope p =
-    is_shown (granted user scope (table_permission p) d) user scope p (held_with (grant_of user scope (table_permission p)) d.grants)
+pub granted_listed : {A : Type 0} (d : Directory A) (user : Text) (scope : Scope) (p : TablePermission)
+    → lists user (table_permission p) (grants_on (granted user scope (table_permission p) d) scope) ≡ true
+granted_listed d user scope p =
+    is_listed (granted user scope (table_permission p) d) user scope p (held_with (grant_of user scope (table_permission p)) d.grants)

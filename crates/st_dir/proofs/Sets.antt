@@ -3,7 +3,7 @@ use Rattle.std.proofs.Common.{◌≡◌, ℕ, zero, suc, ◌<◌, map, List, [],
 use Rattle.std.specs.Prelude.{slice_index_or}
 use Rattle.std.specs.List.{list_any}
 use Rattle.st_text.specs.Texts.{Text, same, is_among, set_of}
-use Rattle.st_auth.specs.Order.{IsOrder, name_at}
+use Rattle.st_auth.specs.inner.Order.{IsOrder, name_at}
 use Rattle.st_auth.proofs.Search.{among_in_order}
 use Rattle.st_grant.proofs.Sets.{among_set, one_set, rises_set}
 use Rattle.st_sorted.specs.Sorted.{Rises, name_key}

@@ -55,9 +55,6 @@ has_table d user table p =
     is_granted d user (OnTable table) p
     || option_map_or (λ namespace. is_granted d user (OnNamespace namespace) p) (namespace_of table) false
 
-abbrev pub constraint_of : {A : Type 0} → Directory A → Text → Option Bool
-constraint_of d table = option_map (λ info. info.constraint) (table_named d table)
-
 abbrev pub is_constrained : {A : Type 0} → Directory A → Text → Bool
 is_constrained d table = option_map_or (λ info. info.constraint) (table_named d table) false
 

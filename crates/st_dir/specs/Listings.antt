@@ -1,11 +1,10 @@
 -- What the directory lists.
-use Rattle.std.specs.Prelude.{Bool, ◌&&◌, List, map, filter, Option, option_map}
-use Rattle.std.specs.List.{list_any}
-use Rattle.st_text.specs.Texts.{Text, same, in_order, set_of}
+use Rattle.std.specs.Prelude.{List, map, filter, Option, option_map}
+use Rattle.st_text.specs.Texts.{Text, in_order, set_of}
 use Rattle.st_dir.specs.Directory.{Directory, user_named, is_granted}
 use Rattle.st_grant.specs.Grants.{same_scope}
 use Rattle.st_dir.specs.Order.{user_key, table_key}
-use Rattle.st_grant.specs.Permissions.{listed, same_permission, table_permissions}
+use Rattle.st_grant.specs.Permissions.{listed, table_permissions}
 use Rattle.st_dir.specs.declared.account.Account.{Account}
 use Rattle.st_dir.specs.declared.grantee.Grantee.{Grantee}
 use Rattle.st_grant.specs.declared.grant.Scope.{Scope}
@@ -36,7 +35,3 @@ granted_on d scope = set_of (map (λ g. g.user) (filter (λ g. same_scope scope 
 -- each of them with what it has been granted
 abbrev pub grants_on : {A : Type 0} → Directory A → Scope → List (Grantee A)
 grants_on d scope = map (λ user. record { user = user; permissions = held_on d scope user }) (granted_on d scope)
-
--- the list shows the user with the permission
-abbrev pub shows : {A : Type 0} → Text → Permission → List (Grantee A) → Bool
-shows user p given = list_any (λ g. same user g.user && list_any (same_permission p) g.permissions) given

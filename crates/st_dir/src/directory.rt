@@ -2,7 +2,7 @@
 ghost use Rattle.std.specs.Prelude.{◌≡◌, IfOk, option_map};
 ghost use Rattle.st_grant.specs.declared.grant.Scope.TheVariants.{OnNamespace};
 ghost use Rattle.st_dir.specs.Directory.{user_named, table_named, auths_of, has_digest, has_system, has_table};
-ghost use Rattle.st_dir.specs.Directory.{is_user, is_table, is_granted, constraint_of, first_directory};
+ghost use Rattle.st_dir.specs.Directory.{is_user, is_table, is_granted, first_directory};
 
 mod first;
 mod grant_changes;
@@ -97,7 +97,7 @@ impl<A: Allocator> Directory<A> {
 
     /// Whether the table's visibility constraint is on, or `None` if there is no such table.
     pub fn constraint_of(&self, table: &TableName) -> Option<bool>
-        ensures { result ≡ constraint_of self.now table.now }
+        ensures { result ≡ option_map (λ info. info.constraint) (table_named self.now table.now) }
     {
         match self.table(table.as_str()) {
             Some(info) => Some(info.constraint),

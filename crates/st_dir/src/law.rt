@@ -5,7 +5,8 @@ ghost use Rattle.st_text.specs.Texts.{Text};
 ghost use Rattle.st_sorted.specs.Sorted.{Rises, name_key};
 ghost use Rattle.st_dir.specs.Changes.{granted, user_dropped, table_dropped};
 ghost use Rattle.st_dir.specs.Directory.{Directory, has_table, is_granted};
-ghost use Rattle.st_dir.specs.Listings.{grants_on, shows};
+ghost use Rattle.st_dir.specs.Listings.{grants_on};
+ghost use Rattle.st_dir.specs.inner.Shown.{lists};
 ghost use Rattle.st_grant.specs.Permissions.{table_permission};
 ghost use Rattle.st_grant.specs.declared.grant.Scope.{Scope};
 ghost use Rattle.st_grant.specs.declared.grant.Scope.TheVariants.{OnTable, OnNamespace};
@@ -23,7 +24,7 @@ pub fn granting_what_is_held<A: Allocator>()
 /// What a user is granted on a table or a namespace is in the listing of its grants.
 pub fn what_is_granted_is_listed<A: Allocator>()
     ensures { (d : Directory A) (user : Text) (scope : Scope) (p : TablePermission)
-        → shows user (table_permission p) (grants_on (granted user scope (table_permission p) d) scope) ≡ true }
+        → lists user (table_permission p) (grants_on (granted user scope (table_permission p) d) scope) ≡ true }
 {}
 
 /// A dropped user holds no grant, so a user of the same name created later has none of them.

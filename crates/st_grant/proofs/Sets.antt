@@ -164,7 +164,8 @@ pub among_with_user : (scope : Scope) (grant : Grant) (names : List Text) (n : T
     → is_among (with_user scope grant names) n ≡ (is_among names n || (same_scope scope grant.scope && same n grant.user))
 among_with_user scope grant names n = at (same_scope scope grant.scope) refl (is_among names n) refl
   where
-    at : (b : Bool) → same_scope scope grant.scope ≡ b → (d : Bool) → is_among names n ≡ d → is_among (with_user scope grant names) n ≡ (is_among names n || (same_scope scope grant.scope && same n grant.user))
+    at : (b : Bool) → same_scope scope grant.scope ≡ b → (d : Bool) → is_among names n ≡ d
+        → is_among (with_user scope grant names) n ≡ (is_among names n || (same_scope scope grant.scope && same n grant.user))
     at true e d f = let whole = among_with grant.user names n in simp (e, whole)
     at false e true f = simp (e, f)
     at false e false f = simp (e, f)

@@ -16,8 +16,7 @@ grant_of user scope p = record { user = user; scope = scope; permission = p }
 abbrev pub same_scope : Scope → Scope → Bool
 same_scope (OnTable t) (OnTable s) = same t s
 same_scope (OnNamespace t) (OnNamespace s) = same t s
-same_scope (OnTable t) (OnNamespace s) = false
-same_scope (OnNamespace t) (OnTable s) = false
+same_scope _ _ = false
 
 abbrev pub same_grant : Grant → Grant → Bool
 same_grant g h = same g.user h.user && same_scope g.scope h.scope && same_permission g.permission h.permission

@@ -42,18 +42,24 @@ table_permissions = map table_permission grantable_on_tables
 abbrev pub system_permissions : List Permission
 system_permissions = map system_permission grantable_on_system
 
--- each permission has a rank of its own
+-- each permission has a rank of its own, and a name in requests and replies
+abbrev pub rank_and_name_of : Permission → ℕ × Text
+rank_and_name_of Permission.Read = (0, codes "READ")
+rank_and_name_of Permission.Write = (1, codes "WRITE")
+rank_and_name_of Permission.AlterTable = (2, codes "ALTER_TABLE")
+rank_and_name_of Permission.Grant = (3, codes "GRANT")
+rank_and_name_of Permission.DropTable = (4, codes "DROP_TABLE")
+rank_and_name_of Permission.CreateTable = (5, codes "CREATE_TABLE")
+rank_and_name_of Permission.CreateUser = (6, codes "CREATE_USER")
+rank_and_name_of Permission.DropUser = (7, codes "DROP_USER")
+rank_and_name_of Permission.AlterUser = (8, codes "ALTER_USER")
+rank_and_name_of Permission.System = (9, codes "SYSTEM")
+
 abbrev pub place_of : Permission → ℕ
-place_of Permission.Read = 0
-place_of Permission.Write = 1
-place_of Permission.AlterTable = 2
-place_of Permission.Grant = 3
-place_of Permission.DropTable = 4
-place_of Permission.CreateTable = 5
-place_of Permission.CreateUser = 6
-place_of Permission.DropUser = 7
-place_of Permission.AlterUser = 8
-place_of Permission.System = 9
+place_of p = (rank_and_name_of p).0
+
+abbrev pub permission_name : Permission → Text
+permission_name p = (rank_and_name_of p).1
 
 abbrev pub same_permission : Permission → Permission → Bool
 same_permission p q = nat_eq (place_of p) (place_of q)
@@ -61,19 +67,6 @@ same_permission p q = nat_eq (place_of p) (place_of q)
 -- the system permissions that are among these, in listing order, each once
 abbrev pub listed : List Permission → List Permission
 listed permissions = filter (λ p. list_any (same_permission p) permissions) system_permissions
-
--- its name in requests and replies
-abbrev pub permission_name : Permission → Text
-permission_name Permission.Read = codes "READ"
-permission_name Permission.Write = codes "WRITE"
-permission_name Permission.AlterTable = codes "ALTER_TABLE"
-permission_name Permission.Grant = codes "GRANT"
-permission_name Permission.DropTable = codes "DROP_TABLE"
-permission_name Permission.CreateTable = codes "CREATE_TABLE"
-permission_name Permission.CreateUser = codes "CREATE_USER"
-permission_name Permission.DropUser = codes "DROP_USER"
-permission_name Permission.AlterUser = codes "ALTER_USER"
-permission_name Permission.System = codes "SYSTEM"
 
 -- the one of this name
 abbrev pub table_permission_named : Text → Option TablePermission

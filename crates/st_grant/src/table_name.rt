@@ -1,6 +1,7 @@
 //! Names of tables.
 ghost use Rattle.std.specs.Prelude.{◌≡◌, ◌↔◌, IsOk, IsTrue, IfOk, IfSome, IfNone, true, false};
-ghost use Rattle.st_text.specs.Names.{is_table_name, namespace_of, has_dot, before_dot, behind_dot};
+ghost use Rattle.st_text.specs.Names.{is_table_name, namespace_of, has_dot, is_dot};
+ghost use Rattle.std.specs.List.{before_first, after_first};
 ghost use Rattle.st_text.specs.Texts.{same};
 
 use crate::name::{BadName, Name, is_text_of_name};
@@ -28,7 +29,7 @@ impl Model for TableName {
 // The parts before and after the first dot, if there is one.
 fn split_at_dot(text: &str) -> Option<(&str, &str)>
     ensures some { IfSome result (λ parts. (has_dot text.now ≡ true)
-        × (parts.0.now ≡ before_dot text.now) × (parts.1.now ≡ behind_dot text.now)) }
+        × (parts.0.now ≡ before_first is_dot text.now) × (parts.1.now ≡ after_first is_dot text.now)) }
     ensures none { IfNone result (has_dot text.now ≡ false) }
 {
     text.split_once('.')
@@ -74,13 +75,6 @@ impl TableName {
         ensures name { IsTrue (is_table_name self.now) }
     {
         self.text.as_str()
-    }
-
-    /// A copy of the text.
-    pub fn to_text(&self) -> Text<65>
-        ensures { result ≡ self.now }
-    {
-        self.text.copy()
     }
 
     /// Whether this is the name's text, byte by byte.

@@ -1,7 +1,8 @@
 //! The clerk, who makes changes and publishes them.
 //!
 //! A change that finds no memory to be queued waits in the press; the next `publish` queues it.
-ghost use Rattle.std.specs.Prelude.{◌≡◌, ◌+◌, ◌<◌, [], ◌∷◌, ◌++◌, length, true, is_some, Err, None, IfOk, OnOk, OnErr, MatchOption, MatchResult};
+ghost use Rattle.std.specs.Prelude.{◌≡◌, ◌+◌, ◌<◌, [], ◌∷◌, ◌++◌, length, true, is_some, Err, None, IfOk, OnOk, OnErr, MatchOption};
+ghost use Rattle.std.specs.Prelude.{MatchResult};
 ghost use mathlib.Core.List.{IsPrefix};
 ghost use Rattle.st_core.specs.Step.{asker_of, asks_for_change};
 ghost use Rattle.st_hall_press.specs.Steps.{reply_of, state_after};
@@ -18,12 +19,13 @@ use st_dir::Directory;
 use st_hall_desk::{Desk, Scribe};
 use st_hall_press::edition::{Edition, Queued};
 use st_hall_press::front::Front;
-use st_hall_press::{AskFault, HallName, Press};
+use st_hall_press::{AskFault, HallName, KeptFront, KeptMark, Press};
 use std::alloc::AllocError;
 use std::marker::Model;
 use std::sync::Wait;
 
-/// A scribe and a press. Contracts see the one list of changes, and the part of it that is published. Its drop waits for the readers.
+/// A scribe, a press, and what says how many changes are kept. Contracts see the one list of changes, the part of it that is published,
+/// and how many are kept. Its drop waits for the readers.
 pub struct Clerk<H: HallName, R: Wait + Drop>
 where
     Edition<H>: Absorb<Queued<H>, State = Edition<H>>,
@@ -31,6 +33,7 @@ where
     scribe: Scribe<H>,
     // It was given the whole list.
     press: Press<H, R>,
+    mark: KeptMark<H>,
 }
 
 impl<H: HallName, R: Wait + Drop> Model for Clerk<H, R>
@@ -42,27 +45,45 @@ where
 
     ghost Value = { Roll };
 
-    ghost view = { λ c. record { list = c.scribe; published = c.press.published } };
+    ghost view = { λ c. record { list = c.scribe; published = c.press.published; kept = c.mark } };
 
     ghost invariant = { λ c. c.press.pushed ≡ c.scribe };
 }
 
 impl<H: HallName, R: Wait + Drop> Clerk<H, R> {
-    pub(crate) fn new(scribe: Scribe<H>, press: Press<H, R>) -> Clerk<H, R>
-        requires start { (scribe ≡ []) × (press.pushed ≡ []) × (press.published ≡ []) }
-        ensures { (result.list ≡ []) × (result.published ≡ []) }
+    pub(crate) fn new(scribe: Scribe<H>, press: Press<H, R>, mark: KeptMark<H>) -> Clerk<H, R>
+        requires start { (scribe ≡ []) × (press.pushed ≡ []) × (press.published ≡ []) × (mark ≡ 0) }
+        ensures { (result.list ≡ []) × (result.published ≡ []) × (result.kept ≡ 0) }
     {
-        Clerk { scribe, press }
+        Clerk {
+            scribe,
+            press,
+            mark,
+        }
     }
 
-    /// Its scribe and its press, for two locks: one for deciding, and one for publishing.
-    pub fn apart(self) -> (Scribe<H>, Press<H, R>)
+    /// Its scribe and its press, for two locks: one for deciding, and one for publishing; and what says how many changes are kept.
+    pub fn apart(self) -> (Scribe<H>, Press<H, R>, KeptMark<H>)
         ensures scribe { result.0 ≡ self.list }
         ensures pushed { result.1.pushed ≡ self.list }
         ensures published { result.1.published ≡ self.published }
+        ensures kept { result.2 ≡ self.kept }
     {
-        let Self { scribe, press } = self;
-        (scribe, press)
+        let Self {
+            scribe,
+            press,
+            mark,
+        } = self;
+        (scribe, press, mark)
+    }
+
+    // A front as one that is kept, in a hall in memory: there all that is in the list is.
+    pub(crate) fn keep(&mut self, front: &Front<H>) -> KeptFront<H>
+        ensures is { result ≡ front.now }
+        ensures list { self.new.list ≡ self.old.list }
+        ensures published { self.new.published ≡ self.old.published }
+    {
+        self.mark.keep_all(front.again())
     }
 
     /// Publishes the changes that are not published yet. When out of memory none of them is.
@@ -71,6 +92,7 @@ impl<H: HallName, R: Wait + Drop> Clerk<H, R> {
         ensures published { MatchResult result (λ _. self.new.published ≡ self.new.list)
             (λ _. self.new.published ≡ self.old.published) }
         ensures grows { IsPrefix self.old.published self.new.published }
+        ensures kept { self.new.kept ≡ self.old.kept }
     {
         self.press.publish(rt)
     }
@@ -86,6 +108,7 @@ impl<H: HallName, R: Wait + Drop> Clerk<H, R> {
         ensures after { OnOk result (IsPrefix desk.old.seen self.old.list) }
         ensures published { self.new.published ≡ self.old.published }
         ensures list { MatchResult result (λ _. self.new.list ≡ self.old.list ++ asked.now ∷ []) (λ _. self.new.list ≡ self.old.list) }
+        ensures kept { self.new.kept ≡ self.old.kept }
         ensures made { MatchResult result (λ _. desk.new.made ≡ desk.old.made + 1) (λ _. desk.new.made ≡ desk.old.made) }
         ensures seen { desk.new.seen ≡ desk.old.seen }
         ensures reply { IfOk result (λ r. r ≡ reply_of (state_after H.start self.old.list) asked.now) }
@@ -110,11 +133,12 @@ impl<H: HallName, R: Wait + Drop> Clerk<H, R> {
         ensures heard { OnOk result (is_some (asker_of (state_after H.start self.old.list).directory asked.now.token) ≡ true) }
         ensures after { OnOk result (IsPrefix desk.old.seen self.old.list) }
         ensures grows { IsPrefix self.old.published self.new.published }
+        ensures kept { self.new.kept ≡ self.old.kept }
         ensures list { MatchResult result (λ _. self.new.list ≡ self.old.list ++ asked.now ∷ []) (λ _. self.new.list ≡ self.old.list) }
         ensures made { MatchResult result (λ _. desk.new.made ≡ desk.old.made + 1) (λ _. desk.new.made ≡ desk.old.made) }
         ensures seen { desk.new.seen ≡ desk.old.seen }
         ensures reply { IfOk result (λ r. r.0 ≡ reply_of (state_after H.start self.old.list) asked.now) }
-        ensures shown { OnOk result (IsPrefix desk.old.seen self.new.published) }
+        ensures published { OnOk result (IsPrefix desk.old.seen self.new.published) }
         ensures front { IfOk result (λ r. MatchOption r.1 (self.new.published ≡ self.old.list)
             (λ f. (f ≡ self.new.list) × (self.new.published ≡ self.new.list))) }
     {
@@ -142,10 +166,11 @@ impl<H: HallName, R: Wait + Drop> Clerk<H, R> {
         ensures heard { OnOk result (is_some (asker_of (state_after H.start self.old.list).directory asked.token) ≡ true) }
         ensures after { OnOk result (IsPrefix desk.old.seen self.old.list) }
         ensures grows { IsPrefix self.old.published self.new.published }
+        ensures kept { self.new.kept ≡ self.old.kept }
         ensures list { MatchResult result (λ _. self.new.list ≡ self.old.list ++ asked ∷ []) (λ _. self.new.list ≡ self.old.list) }
         ensures made { MatchResult result (λ _. desk.new.made ≡ desk.old.made + 1) (λ _. desk.new.made ≡ desk.old.made) }
         ensures seen { desk.new.seen ≡ desk.old.seen }
-        ensures shown { OnOk result (IsPrefix desk.old.seen self.new.published) }
+        ensures published { OnOk result (IsPrefix desk.old.seen self.new.published) }
         ensures asked { IfOk result (λ r. r.asked ≡ asked) }
         ensures reply { IfOk result (λ r. r.reply ≡ reply_of (state_after H.start self.old.list) asked) }
         ensures end { IfOk result (λ r. r.end ≡ self.new.list) }
@@ -166,6 +191,7 @@ impl<H: HallName, R: Wait + Drop> Clerk<H, R> {
         requires change { asks_for_change asked.now ≡ true }
         ensures decided { IfOk result (λ o. Decides H.start desk.old.seen asked.now o.reply o.front) }
         ensures list { IfOk result (λ o. o.front ≡ self.new.list) }
+        ensures kept { self.new.kept ≡ self.old.kept }
         ensures made { MatchResult result (λ o. desk.new.made ≡ desk.old.made + counted o.reply) (λ _. desk.new.made ≡ desk.old.made) }
         ensures seen { desk.new.seen ≡ desk.old.seen }
         ensures busy { OnErr result (result ≡ Err NoMemory) }
@@ -174,12 +200,12 @@ impl<H: HallName, R: Wait + Drop> Clerk<H, R> {
             Ok((reply, front)) => Ok(Outcome {
                 reply: Some(reply),
                 front: self.front(),
-                is_settled: front.is_some(),
+                is_published: front.is_some(),
             }),
             Err(AskFault::Stranger) => Ok(Outcome {
                 reply: None,
                 front: self.front(),
-                is_settled: true,
+                is_published: true,
             }),
             Err(AskFault::NoMemory) => Err(Undecided::NoMemory),
         }
@@ -244,6 +270,7 @@ impl<H: HallName, R: Wait + Drop> Drop for Clerk<H, R> {
         let Self {
             scribe: _scribe,
             press: _press,
+            mark: _mark,
         } = self;
     }
 }

@@ -3,6 +3,7 @@
 //! Nothing here says which thread decides a change, nor when: a hall may decide it under a lock, keep it in a journal, or read it
 //! back from a list of several machines.
 ghost use Rattle.std.specs.Prelude.{◌≡◌, ◌+◌, ◌<◌, length, true, Err, IfOk, IfSome, OnErr, OnOk, MatchResult};
+ghost use mathlib.Core.List.{IsPrefix};
 ghost use Rattle.st_core.specs.Step.{asks_for_change};
 ghost use Rattle.st_service.specs.Answers.{AsksBy, IsFound};
 ghost use Rattle.st_hall_press.specs.Views.{receipts};
@@ -14,9 +15,11 @@ use st_core::{Asked, Reply};
 use st_hall_desk::Desk;
 use st_hall_press::HallName;
 use st_hall_press::front::Front;
+use st_hall_press::kept::KeptFront;
 use st_http::message::Message;
 use std::alloc::AllocError;
 use std::sync::{Mutex, Wait};
+use thiserror::Error;
 
 /// What a change came to, and the list that says so.
 #[derive(Drop)]
@@ -25,16 +28,18 @@ pub struct Outcome<H: HallName> {
     pub reply: Option<Reply>,
     /// The list that ends with it; where its token does not hold, the one after which it does not.
     pub front: Front<H>,
-    /// Whether the list is kept and published.
-    pub is_settled: bool,
+    /// Whether the list is published.
+    pub is_published: bool,
 }
 
 /// Why nothing came of a change.
-#[derive(Clone, Copy, Debug, PartialEq, Eq)]
+#[derive(Clone, Copy, Debug, PartialEq, Eq, Error)]
 pub enum Undecided {
     /// Out of memory. The change is not made.
+    #[error("out of memory")]
     NoMemory,
     /// Nothing more is kept. Whether the change is made only the next opening can tell.
+    #[error("nothing more is kept")]
     Lost,
 }
 
@@ -47,22 +52,19 @@ impl From<AllocError> for Undecided {
 }
 
 /// Nothing more is kept.
-#[derive(Clone, Copy, Debug, PartialEq, Eq)]
+#[derive(Clone, Copy, Debug, PartialEq, Eq, Error)]
+#[error("nothing more is kept")]
 pub struct Lost;
 
 /// What makes the changes of a hall, in any thread.
 pub trait Commits<H: HallName> {
     ghost use Rattle.std.specs.Prelude.{ℕ, List};
-    ghost use mathlib.Core.List.{IsPrefix};
     ghost use Rattle.st_hall_press.specs.Steps.{Ask};
 
     // How many bytes of answers a station holds back, so that the changes that a client sends together are kept together.
     ghost HOLD: { ℕ };
 
     const HOLD: usize;
-
-    // These changes were kept.
-    ghost keeps: { List Ask → Type 0 };
 
     // It is one that may come to keep nothing more.
     ghost may_lose: { Type 0 };
@@ -73,7 +75,7 @@ pub trait Commits<H: HallName> {
     // What is left of it, if the process ends now, leads to the state after a list that goes on the first and begins the second.
     ghost leaves: { (kept list : List Ask) → Type 0 };
 
-    /// Makes a change at a desk. Its reply must not go out before the list of its outcome is settled, nor may that of a change whose
+    /// Makes a change at a desk. Its reply must not go out before the list of its outcome is synced, nor may that of a change whose
     /// token does not hold. When out of memory the change is not made.
     fn change<W: Wait>(
         &self,
@@ -86,19 +88,18 @@ pub trait Commits<H: HallName> {
         requires asks { AsksBy message.now asked.now }
         requires change { asks_for_change asked.now ≡ true }
         ensures decided { IfOk result (λ o. Decides H.start desk.old.seen asked.now o.reply o.front) }
-        ensures settled { IfOk result (λ o. o.is_settled ≡ true → keeps o.front) }
         ensures made { MatchResult result (λ o. desk.new.made ≡ desk.old.made + counted o.reply) (λ _. desk.new.made ≡ desk.old.made) }
         ensures seen { desk.new.seen ≡ desk.old.seen }
         ensures lost { result ≡ Err WasLost → may_lose };
 
-    /// Sees that a list is kept, and publishes it where there is memory: whether it is published.
-    fn settle<W: Wait>(&self, rt: &W, front: &Front<H>) -> Result<bool, Lost>
-        ensures kept { OnOk result (keeps front.now) }
+    /// Sees that a list is kept, and publishes it where there is memory: the list as one that is kept, and whether it is published.
+    fn sync<W: Wait>(&self, rt: &W, front: &Front<H>) -> Result<(KeptFront<H>, bool), Lost>
+        ensures kept { IfOk result (λ s. s.0 ≡ front.now) }
         ensures lost { OnErr result may_lose };
 
-    /// Whether a list is known to be kept. It waits for no other change.
-    fn has_kept<W: Wait>(&self, rt: &W, front: &Front<H>) -> bool
-        ensures { result ≡ true → keeps front.now };
+    /// A list as one that is kept, where it is known to be. It keeps nothing.
+    fn find_kept<W: Wait>(&self, rt: &W, front: &Front<H>) -> Option<KeptFront<H>>
+        ensures { IfSome result (λ kept. kept ≡ front.now) };
 
     /// Whether it is known that nothing more is kept.
     fn is_lost(&self) -> bool
@@ -114,12 +115,12 @@ pub trait Commits<H: HallName> {
         ensures counted { length result ≡ receipts desks.old }
         ensures same { desks.new ≡ desks.old };
 
-    /// What is kept of the whole list, once no change is made any more. There is none where some change is not in the list.
-    fn left<W: Wait>(&self, rt: &W, list: &Front<H>) -> Option<Front<H>>
-        ensures { IfSome result (λ kept. leaves kept list.now) };
-
-    // With a list all that begins it was kept.
-    ghost begins: { (front list : List Ask) → IsPrefix front list → keeps list → keeps front };
+    /// What is kept of the whole list, once no change is made any more; it has all that is known to be kept. There is none where some
+    /// change is not in the list.
+    fn left<W: Wait>(&self, rt: &W, list: &Front<H>, known: &KeptFront<H>) -> Option<Front<H>>
+        ensures leaves { IfSome result (λ kept. leaves kept list.now) }
+        ensures has { IfSome result (λ kept. IsPrefix known.now kept) }
+        ensures begins { IfSome result (λ kept. IsPrefix kept list.now) };
 }
 
 impl<H: HallName, R: Wait + Drop> Commits<H> for Mutex<Clerk<H, R>> {
@@ -129,17 +130,12 @@ impl<H: HallName, R: Wait + Drop> Commits<H> for Mutex<Clerk<H, R>> {
 
     const HOLD: usize = 0;
 
-    // In memory a change is kept once it is in the list.
-    ghost keeps = { λ list. ⊤ };
-
     ghost may_lose = { ⊥ };
 
     ghost fails = { ⊥ };
 
     // Nothing is left of it.
     ghost leaves = { λ kept list. ⊤ };
-
-    ghost begins = { λ front list begins kept. tt };
 
     fn change<W: Wait>(
         &self,
@@ -151,12 +147,15 @@ impl<H: HallName, R: Wait + Drop> Commits<H> for Mutex<Clerk<H, R>> {
         self.lock(rt).decide(rt, desk, asked)
     }
 
-    fn settle<W: Wait>(&self, rt: &W, _front: &Front<H>) -> Result<bool, Lost> {
-        Ok(self.lock(rt).publish(rt).is_ok())
+    // In memory a change is kept once it is in the list.
+    fn sync<W: Wait>(&self, rt: &W, front: &Front<H>) -> Result<(KeptFront<H>, bool), Lost> {
+        let mut clerk = self.lock(rt);
+        let kept = clerk.keep(front);
+        Ok((kept, clerk.publish(rt).is_ok()))
     }
 
-    fn has_kept<W: Wait>(&self, _rt: &W, _front: &Front<H>) -> bool {
-        true
+    fn find_kept<W: Wait>(&self, rt: &W, front: &Front<H>) -> Option<KeptFront<H>> {
+        Some(self.lock(rt).keep(front))
     }
 
     fn is_lost(&self) -> bool {
@@ -171,7 +170,12 @@ impl<H: HallName, R: Wait + Drop> Commits<H> for Mutex<Clerk<H, R>> {
         self.lock(rt).whole(desks)
     }
 
-    fn left<W: Wait>(&self, _rt: &W, list: &Front<H>) -> Option<Front<H>> {
-        Some(list.again())
+    fn left<W: Wait>(&self, _rt: &W, list: &Front<H>, known: &KeptFront<H>) -> Option<Front<H>> {
+        list.compare(known.front());
+        if known.front().len() <= list.len() {
+            Some(list.again())
+        } else {
+            None
+        }
     }
 }

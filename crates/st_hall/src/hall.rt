@@ -16,7 +16,7 @@ use st_hall_desk::{Desk, EditionReader, Scribe};
 use st_hall_press::edition::Edition;
 use st_hall_press::front::{Front, begin};
 use st_hall_press::queue::EditionWriter;
-use st_hall_press::{AskFault, HallFault, HallName, Press, Unnamed, UnnamedFor};
+use st_hall_press::{AskFault, HallFault, HallName, KeptMark, Press, Unnamed, UnnamedFor};
 use std::alloc::{AllocError, Global};
 use std::marker::PhantomData;
 use std::sync::ledger::Share;
@@ -120,7 +120,7 @@ fn copies<H: HallName, R: Wait + Drop>(
     requires share { (share.parts ≡ number) × (share.amount ≡ 0) × (0 < number) }
     ensures directory { IfOk result (λ t. t.0 ≡ H.start.directory) }
     ensures agrees { IfOk result (λ t. Agrees H.start t.1.desk.shown.value) }
-    ensures shown { IfOk result (λ t. t.1.desk.shown.value.list ≡ []) }
+    ensures published { IfOk result (λ t. t.1.desk.shown.value.list ≡ []) }
     ensures queued { IfOk result (λ t. drop t.1.behind t.1.log.items ≡ []) }
     ensures desks { IfOk result (λ t. t.2.items ≡ replicate number (opening_seat [])) }
 {
@@ -161,13 +161,18 @@ impl<H: HallName> Hall<H> {
         second: Store,
         workers: u16,
     ) -> Result<(Clerk<H, R>, Vec<Desk<H>>), HallFault>
-        requires named { (name.seen.book ≡ H.book) × (name.blank.name ≡ H.name) }
+        requires named { (name.seen.book ≡ H.book) × (name.blank.name ≡ H.name) × (name.mark.name ≡ H.mark) }
         requires workers { (name.blank.parts ≡ workers) × (H.parts ≡ workers) × (0 < workers) }
         requires alike { (first ≡ H.start) × (second ≡ H.start) }
-        ensures clerk { IfOk result (λ t. (t.0.list ≡ []) × (t.0.published ≡ [])) }
+        ensures clerk { IfOk result (λ t. (t.0.list ≡ []) × (t.0.published ≡ []) × (t.0.kept ≡ 0)) }
         ensures desks { IfOk result (λ t. t.1.items ≡ replicate workers (opening_seat [])) }
     {
-        let UnnamedFor { head, seen, blank } = name;
+        let UnnamedFor {
+            head,
+            seen,
+            blank,
+            mark,
+        } = name;
         let (head, front) = begin::<H>(head, seen);
         let (book, share) = blank.open::<H>();
         let (directory, writer, desks) = copies(
@@ -180,7 +185,7 @@ impl<H: HallName> Hall<H> {
         )?;
         let scribe = Scribe::new(head, front.again(), directory, book);
         let press = Press::new(writer, front, rt);
-        Ok((Clerk::new(scribe, press), desks))
+        Ok((Clerk::new(scribe, press, KeptMark::begin(mark)), desks))
     }
 
     /// Opens a hall over two stores of one state, with two desks. `NoPlace` where a reader's place was refused.
@@ -191,13 +196,23 @@ impl<H: HallName> Hall<H> {
         first: Store,
         second: Store,
     ) -> Result<(Clerk<H, R>, Desk<H>, Desk<H>), HallFault>
-        requires named { (name.seen.book ≡ H.book) × (name.blank.name ≡ H.name) × (H.parts ≡ 2) }
+        requires named { (name.seen.book ≡ H.book) × (name.blank.name ≡ H.name) × (name.mark.name ≡ H.mark) × (H.parts ≡ 2) }
         requires alike { (first ≡ H.start) × (second ≡ H.start) }
-        ensures clerk { IfOk result (λ t. (t.0.list ≡ []) × (t.0.published ≡ [])) }
+        ensures clerk { IfOk result (λ t. (t.0.list ≡ []) × (t.0.published ≡ []) × (t.0.kept ≡ 0)) }
         ensures desks { IfOk result (λ t. (t.1.seen ≡ []) × (t.1.made ≡ 0) × (t.2.seen ≡ []) × (t.2.made ≡ 0)) }
     {
-        let Unnamed { head, seen, blank } = name;
-        let name = UnnamedFor { head, seen, blank };
+        let Unnamed {
+            head,
+            seen,
+            blank,
+            mark,
+        } = name;
+        let name = UnnamedFor {
+            head,
+            seen,
+            blank,
+            mark,
+        };
         let (clerk, desks) = Hall::open_for(rt, alloc, name, first, second, 2)?;
         let (one, two) = two_of(desks);
         Ok((clerk, one, two))

@@ -9,7 +9,7 @@ mod commits;
 mod hall;
 pub mod law;
 mod receipt;
-mod settled;
+mod synced;
 mod worker;
 
 pub use clerk::Clerk;
@@ -18,7 +18,7 @@ pub use hall::Hall;
 pub use receipt::Receipt;
 pub use st_hall_desk::{Desk, Scribe};
 pub use st_hall_press::{
-    Agreeing, AskFault, Consistent, Edition, Front, HallFault, HallName, Press, Queued, Unnamed,
-    UnnamedFor,
+    Agreeing, AskFault, Consistent, Edition, Front, HallFault, HallName, KeptFront, KeptMark,
+    Press, Queued, Unnamed, UnnamedFor,
 };
 pub use worker::{Gate, Worker};

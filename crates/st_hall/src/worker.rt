@@ -1,7 +1,7 @@
 //! A worker, who answers requests one after the other at a desk.
 //!
 //! What a gate is told is no clause, since a gate has no state in contracts.
-ghost use Rattle.std.specs.Prelude.{◌≡◌, ◌+◌, ◌-◌, ◌^◌, true, false, min, Some, is_some, Err, IfOk, OnErr, OnOk, MatchResult};
+ghost use Rattle.std.specs.Prelude.{◌≡◌, ◌+◌, ◌-◌, ◌^◌, true, false, min, Some, is_some, Err, IfOk, IfSome, OnErr, OnOk, MatchResult};
 ghost use mathlib.Core.List.{IsPrefix};
 ghost use Rattle.st_core.specs.Step.{asker_of, asks_for_change};
 ghost use Rattle.st_hall_press.specs.Steps.{reply_of, state_after};
@@ -11,11 +11,12 @@ ghost use Rattle.st_hall.specs.Decisions.{Decides, counted};
 ghost use Rattle.st_hall.specs.declared.commits.Undecided.TheVariants.{Lost as WasLost};
 
 use crate::commits::{Commits, Lost, Outcome, Undecided};
-use crate::settled::Settled;
+use crate::synced::Synced;
 use st_core::{Asked, Reply, Token};
 use st_hall_desk::Desk;
 use st_hall_press::HallName;
 use st_hall_press::front::Front;
+use st_hall_press::kept::KeptFront;
 use st_http::message::Message;
 use std::alloc::AllocError;
 use std::marker::Model;
@@ -36,16 +37,16 @@ pub trait Gate {
     fn gave_up(&self, worker: u64, call: u64);
 }
 
-/// A worker at a desk, with what makes the changes of the hall and a gate. Contracts see its post, the same as it was when all that
-/// it had seen was last kept, and whether a settling failed.
+/// A worker at a desk, with what makes the changes of the hall and a gate. Contracts see its post, the same at its last sync, and
+/// whether a sync failed.
 pub struct Worker<'a, H: HallName, M: Commits<H>, G: Gate> {
     number: u64,
     calls: u64,
     learnt: Front<H>,
     desk: Desk<H>,
-    settled: Settled<H>,
+    synced: Synced<H>,
     // Whether all that was learnt is published.
-    is_shown: bool,
+    is_published: bool,
     // Whether a change may be made that was not answered.
     is_lost: bool,
     has_failed: bool,
@@ -61,8 +62,8 @@ impl<'a, H: HallName, M: Commits<H>, G: Gate> Drop for Worker<'a, H, M, G> {
             calls: _calls,
             learnt: _learnt,
             desk: _desk,
-            settled: _settled,
-            is_shown: _is_shown,
+            synced: _synced,
+            is_published: _is_published,
             is_lost: _is_lost,
             has_failed: _has_failed,
             hall: _hall,
@@ -80,12 +81,11 @@ impl<'a, H: HallName, M: Commits<H>, G: Gate> Model for Worker<'a, H, M, G> {
 
     ghost view = { λ s. record {
       post = record { number = s.number; calls = s.calls; learnt = s.learnt; seat = s.desk };
-      settled = s.settled;
+      synced = s.synced;
       has_failed = s.has_failed;
     } };
 
-    ghost invariant = { λ s. IsPrefix s.learnt s.desk.seen × M.keeps s.settled.seat.seen
-        × (s.has_failed ≡ true → M.may_lose) × (s.is_lost ≡ true → M.may_lose) };
+    ghost invariant = { λ s. IsPrefix s.learnt s.desk.seen × (s.has_failed ≡ true → M.may_lose) × (s.is_lost ≡ true → M.may_lose) };
 }
 
 // Asks the gate until it lets the read pass, or often enough.
@@ -126,20 +126,26 @@ fn learn<H: HallName>(desk: &mut Desk<H>, front: &Front<H>)
 
 impl<'a, H: HallName, M: Commits<H>, G: Gate> Worker<'a, H, M, G> {
     /// A worker of this number at a desk, of which all that it has seen is kept. What it has seen counts as learnt.
-    pub fn new(number: u64, desk: Desk<H>, hall: &'a M, gate: &'a G) -> Worker<'a, H, M, G>
-        requires { M.keeps desk.seen }
+    pub fn new(
+        number: u64,
+        desk: Desk<H>,
+        kept: KeptFront<H>,
+        hall: &'a M,
+        gate: &'a G,
+    ) -> Worker<'a, H, M, G>
+        requires { kept ≡ desk.seen }
         ensures post { result.post ≡ record { number = number; calls = 0; learnt = desk.seen; seat = desk } }
-        ensures settled { result.settled ≡ result.post }
+        ensures synced { result.synced ≡ result.post }
         ensures sound { result.has_failed ≡ false }
     {
         let learnt = desk.front();
         Worker {
             number,
             calls: 0,
-            settled: Settled::of(number, 0, &learnt, &desk),
+            synced: Synced::of(number, 0, &learnt, &desk, kept),
             learnt,
             desk,
-            is_shown: true,
+            is_published: true,
             is_lost: false,
             has_failed: false,
             hall,
@@ -154,10 +160,9 @@ impl<'a, H: HallName, M: Commits<H>, G: Gate> Worker<'a, H, M, G> {
         self.desk.made()
     }
 
-    /// What it had seen when it was last settled was kept. Whether a settling failed, after which nothing more may be kept.
+    /// Whether a sync failed, after which nothing more may be kept.
     pub fn has_failed(&self) -> bool
         ensures is { result ≡ self.now.has_failed }
-        ensures kept { M.keeps self.now.settled.seat.seen }
         ensures lost { self.now.has_failed ≡ true → M.may_lose }
     {
         self.has_failed
@@ -180,7 +185,7 @@ impl<'a, H: HallName, M: Commits<H>, G: Gate> Worker<'a, H, M, G> {
 
     /// Whether a token holds after the changes that are then seen.
     pub fn knows(&mut self, token: Option<Token>) -> Result<bool, AllocError>
-        ensures same { (self.new.settled ≡ self.old.settled) × (self.new.has_failed ≡ self.old.has_failed) }
+        ensures same { (self.new.synced ≡ self.old.synced) × (self.new.has_failed ≡ self.old.has_failed) }
         ensures number { self.new.post.number ≡ self.old.post.number }
         ensures calls { self.new.post.calls ≡ self.old.post.calls }
         ensures learnt { self.new.post.learnt ≡ self.old.post.learnt }
@@ -194,7 +199,7 @@ impl<'a, H: HallName, M: Commits<H>, G: Gate> Worker<'a, H, M, G> {
 
     /// Begins a call, which is counted.
     pub fn begin(&mut self)
-        ensures same { (self.new.settled ≡ self.old.settled) × (self.new.has_failed ≡ self.old.has_failed) }
+        ensures same { (self.new.synced ≡ self.old.synced) × (self.new.has_failed ≡ self.old.has_failed) }
         ensures number { self.new.post.number ≡ self.old.post.number }
         ensures calls { self.new.post.calls ≡ min (self.old.post.calls + 1) (2 ^ 64 - 1) }
         ensures learnt { self.new.post.learnt ≡ self.old.post.learnt }
@@ -211,7 +216,7 @@ impl<'a, H: HallName, M: Commits<H>, G: Gate> Worker<'a, H, M, G> {
     // Learns what a change came to, and gives its reply.
     fn take(&mut self, outcome: Outcome<H>) -> Option<Reply>
         requires { IsPrefix self.old.post.seat.seen outcome.front }
-        ensures same { (self.new.settled ≡ self.old.settled) × (self.new.has_failed ≡ self.old.has_failed) }
+        ensures same { (self.new.synced ≡ self.old.synced) × (self.new.has_failed ≡ self.old.has_failed) }
         ensures reply { result ≡ outcome.reply }
         ensures number { self.new.post.number ≡ self.old.post.number }
         ensures calls { self.new.post.calls ≡ self.old.post.calls }
@@ -222,11 +227,11 @@ impl<'a, H: HallName, M: Commits<H>, G: Gate> Worker<'a, H, M, G> {
         let Outcome {
             reply,
             front,
-            is_settled,
+            is_published,
         } = outcome;
         learn(&mut self.desk, &front);
         self.learnt = front;
-        self.is_shown = is_settled;
+        self.is_published = is_published;
         reply
     }
 
@@ -240,7 +245,7 @@ impl<'a, H: HallName, M: Commits<H>, G: Gate> Worker<'a, H, M, G> {
         requires found { IsFound message.now }
         requires asks { AsksBy message.now asked.now }
         requires change { asks_for_change asked.now ≡ true }
-        ensures same { (self.new.settled ≡ self.old.settled) × (self.new.has_failed ≡ self.old.has_failed) }
+        ensures same { (self.new.synced ≡ self.old.synced) × (self.new.has_failed ≡ self.old.has_failed) }
         ensures number { self.new.post.number ≡ self.old.post.number }
         ensures calls { self.new.post.calls ≡ self.old.post.calls }
         ensures made { MatchResult result (λ told. self.new.post.seat.made ≡ self.old.post.seat.made + counted told)
@@ -261,12 +266,14 @@ impl<'a, H: HallName, M: Commits<H>, G: Gate> Worker<'a, H, M, G> {
     }
 
     // Publishes all that was learnt, where it is not published yet and there is memory.
-    fn show<W: Wait>(&mut self, rt: &W) -> Result<(), Lost>
+    fn publish<W: Wait>(&mut self, rt: &W) -> Result<(), Lost>
         ensures same { self.new ≡ self.old }
         ensures lost { OnErr result M.may_lose }
     {
-        if !self.is_shown {
-            self.is_shown = self.hall.settle(rt, &self.learnt)?;
+        if !self.is_published {
+            let synced = self.hall.sync(rt, &self.learnt)?;
+            let (_kept, is_published) = synced;
+            self.is_published = is_published;
         }
         Ok(())
     }
@@ -274,16 +281,16 @@ impl<'a, H: HallName, M: Commits<H>, G: Gate> Worker<'a, H, M, G> {
     // Publishes all that was learnt, where it is not published yet, and answers a read.
     fn read<W: Wait>(&mut self, rt: &W, asked: &Asked) -> Result<Reply, Undecided>
         requires { asks_for_change asked.now ≡ false }
-        ensures same { (self.new.settled ≡ self.old.settled) × (self.new.has_failed ≡ self.old.has_failed) }
+        ensures same { (self.new.synced ≡ self.old.synced) × (self.new.has_failed ≡ self.old.has_failed) }
         ensures number { self.new.post.number ≡ self.old.post.number }
         ensures calls { self.new.post.calls ≡ self.old.post.calls }
         ensures learnt { self.new.post.learnt ≡ self.old.post.learnt }
         ensures made { self.new.post.seat.made ≡ self.old.post.seat.made }
         ensures seen { IsPrefix self.old.post.seat.seen self.new.post.seat.seen }
-        ensures shown { IfOk result (λ r. r ≡ reply_of (state_after H.start self.new.post.seat.seen) asked.now) }
+        ensures reply { IfOk result (λ r. r ≡ reply_of (state_after H.start self.new.post.seat.seen) asked.now) }
         ensures lost { result ≡ Err WasLost → M.may_lose }
     {
-        if self.show(rt).is_err() {
+        if self.publish(rt).is_err() {
             return Err(Undecided::Lost);
         }
         match read(self.gate, self.number, self.calls, &mut self.desk, asked) {
@@ -303,7 +310,7 @@ impl<'a, H: HallName, M: Commits<H>, G: Gate> Worker<'a, H, M, G> {
     ) -> Result<Option<Reply>, Undecided>
         requires found { IsFound message.now }
         requires asks { AsksBy message.now asked.now }
-        ensures same { (self.new.settled ≡ self.old.settled) × (self.new.has_failed ≡ self.old.has_failed) }
+        ensures same { (self.new.synced ≡ self.old.synced) × (self.new.has_failed ≡ self.old.has_failed) }
         ensures number { self.new.post.number ≡ self.old.post.number }
         ensures calls { self.new.post.calls ≡ self.old.post.calls }
         ensures seen { IsPrefix self.old.post.seat.seen self.new.post.seat.seen }
@@ -314,7 +321,7 @@ impl<'a, H: HallName, M: Commits<H>, G: Gate> Worker<'a, H, M, G> {
         ensures decided { asks_for_change asked.now ≡ true
             → IfOk result (λ told. Decides H.start self.old.post.seat.seen asked.now told self.new.post.seat.seen) }
         ensures read { asks_for_change asked.now ≡ false → self.new.post.seat.made ≡ self.old.post.seat.made }
-        ensures shown { asks_for_change asked.now ≡ false
+        ensures reply { asks_for_change asked.now ≡ false
             → IfOk result (λ told. told ≡ Some (reply_of (state_after H.start self.new.post.seat.seen) asked.now)) }
         ensures lost { result ≡ Err WasLost → M.may_lose }
     {
@@ -327,53 +334,74 @@ impl<'a, H: HallName, M: Commits<H>, G: Gate> Worker<'a, H, M, G> {
         }
     }
 
-    // Sees that all that was seen is kept, and that all that was learnt is published where there is memory.
-    fn keep<W: Wait>(&mut self, rt: &W) -> Result<(), Lost>
+    // A front as one that is kept, where it is known to be.
+    fn find_kept<W: Wait>(&self, rt: &W, front: &Front<H>) -> Option<KeptFront<H>>
+        ensures { IfSome result (λ kept. kept ≡ front.now) }
+    {
+        match self.synced.find(front) {
+            Some(kept) => Some(kept),
+            None => self.hall.find_kept(rt, front),
+        }
+    }
+
+    // Sees that all that was seen is kept, and that all that was learnt is published where there is memory: what was seen, as kept.
+    fn keep<W: Wait>(&mut self, rt: &W) -> Result<KeptFront<H>, Lost>
         ensures same { self.new ≡ self.old }
-        ensures kept { OnOk result (M.keeps self.new.post.seat.seen) }
+        ensures kept { IfOk result (λ kept. kept ≡ self.new.post.seat.seen) }
         ensures lost { OnErr result M.may_lose }
     {
         let front = self.desk.front();
-        let is_known = self.settled.has_seen(&front) || self.hall.has_kept(rt, &front);
-        if is_known && self.is_shown {
-            return Ok(());
+        if self.is_published {
+            if let Some(kept) = self.find_kept(rt, &front) {
+                return Ok(kept);
+            }
         }
-        self.is_shown = self.hall.settle(rt, &front)?;
-        Ok(())
+        let synced = self.hall.sync(rt, &front)?;
+        let (kept, is_published) = synced;
+        self.is_published = is_published;
+        Ok(kept)
     }
 
-    /// Its desk, and what it had seen when it was last settled, once it works no more.
-    pub fn apart(self) -> (Desk<H>, Front<H>)
+    /// Its desk, and what it had seen when it was last synced, which is kept, once it works no more.
+    pub fn apart(self) -> (Desk<H>, KeptFront<H>)
         ensures desk { result.0 ≡ self.entry.post.seat }
-        ensures settled { result.1 ≡ self.entry.settled.seat.seen }
+        ensures synced { result.1 ≡ self.entry.synced.seat.seen }
     {
         let Self {
             number: _number,
             calls: _calls,
             learnt: _learnt,
             desk,
-            settled,
-            is_shown: _is_shown,
+            synced,
+            is_published: _is_published,
             is_lost: _is_lost,
             has_failed: _has_failed,
             hall: _hall,
             gate: _gate,
         } = self;
-        (desk, settled.into_seen())
+        (desk, synced.into_seen())
     }
 
     /// Sees that all that was seen so far is kept. Once nothing more is kept, or where it fails, it has failed for good.
-    pub fn settle<W: Wait>(&mut self, rt: &W) -> Result<(), Lost>
+    pub fn sync<W: Wait>(&mut self, rt: &W) -> Result<(), Lost>
         ensures post { self.new.post ≡ self.old.post }
-        ensures ok { OnOk result ((self.new.settled ≡ self.new.post) × (self.new.has_failed ≡ self.old.has_failed)) }
-        ensures err { OnErr result ((self.new.settled ≡ self.old.settled) × (self.new.has_failed ≡ true)) }
+        ensures ok { OnOk result ((self.new.synced ≡ self.new.post) × (self.new.has_failed ≡ self.old.has_failed)) }
+        ensures err { OnErr result ((self.new.synced ≡ self.old.synced) × (self.new.has_failed ≡ true)) }
         ensures lost { OnErr result M.may_lose }
     {
-        if self.is_lost() || self.keep(rt).is_err() {
+        if self.is_lost() {
             self.has_failed = true;
             return Err(Lost);
         }
-        self.settled = Settled::of(self.number, self.calls, &self.learnt, &self.desk);
-        Ok(())
+        match self.keep(rt) {
+            Ok(kept) => {
+                self.synced = Synced::of(self.number, self.calls, &self.learnt, &self.desk, kept);
+                Ok(())
+            }
+            Err(Lost) => {
+                self.has_failed = true;
+                Err(Lost)
+            }
+        }
     }
 }

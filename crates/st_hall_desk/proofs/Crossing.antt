@@ -1,6 +1,5 @@
 -- A desk, a scribe and a press may go to another thread. Rattle makes no such lemma for a tree's nodes, which hold each other, so none for what holds them.
 use denote.RattleType.{RattleType}
-use denote.Ref.{NamedLft}
 use denote.Param.Send.{IsSend, IsSync, sendable}
 use denote.Model.Marks.{tied_send, tied_sync}
 use denote.Model.Local.{Frame, Parts, rows}
@@ -26,11 +25,15 @@ use Rattle.st_ubtree.specs.declared.node.Node.TheDeep.{the_members, member-Node}
 use Rattle.st_hall_press.specs.contracts.edition.Edition as Edition
 use Rattle.st_hall_press.specs.contracts.edition.Queued as Queued
 use Rattle.st_hall_press.specs.contracts.front.Front as Front
+use Rattle.st_hall_press.specs.contracts.kept.KeptFront as KeptFront
+use Rattle.st_hall_press.specs.contracts.kept.KeptMark as KeptMark
 use Rattle.st_hall_desk.specs.contracts.desk.Desk as Desk
 use Rattle.st_hall_press.specs.contracts.press.Press as Press
 use Rattle.st_hall_desk.specs.contracts.scribe.Scribe as Scribe
 use Rattle.st_hall_press.specs.declared.name.HallName as hall
 use Rattle.st_hall_press.proofs.front.Front.TheSendSync as FrontCross
+use Rattle.st_hall_press.proofs.kept.KeptFront.TheSendSync as KeptFrontCross
+use Rattle.st_hall_press.proofs.kept.KeptMark.TheSendSync as KeptMarkCross
 use Rattle.st_hall_press.proofs.history.Head.TheSendSync as HeadCross
 use Rattle.st_hall_press.proofs.edition.Queued.TheSendSync as QueuedCross
 use Rattle.core.specs.declared.ledger.Ledger as ledger
@@ -160,6 +163,12 @@ held_front H h l = front H h l
 
 held_front_sync : (H : RattleType) (h : hall.Ghosts H.Denot) (l : ledger.Ghosts H.Denot) → IsSync (Front.the_field H h l).row
 held_front_sync H h l = FrontCross.the_sync H h l
+
+pub held_kept : (H : RattleType) (h : hall.Ghosts H.Denot) (l : ledger.Ghosts H.Denot) → IsSend (KeptFront.the_field H h l).row
+held_kept H h l = KeptFrontCross.the_send H h l
+
+pub held_mark : (H : RattleType) (h : hall.Ghosts H.Denot) (l : ledger.Ghosts H.Denot) → IsSend (KeptMark.the_field H h l).row
+held_mark H h l = KeptMarkCross.the_send H h l
 
 edition : (H : RattleType) (h : hall.Ghosts H.Denot) (l : ledger.Ghosts H.Denot) → IsSend (Edition.the_row H h l)
 edition H h l = search (sendable, crosses, store, held_front) depth 60 fits 100000

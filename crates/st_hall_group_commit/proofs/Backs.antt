@@ -20,7 +20,7 @@ module _ {J : Type 0} (list_of : J → List Record) (misreads : J → ℕ) (is_r
   read_back was alive s fewer ready same crash =
       let clean_then : misreads new ≡ 0 → misreads old ≡ 0 = λ clean. omega (arith, fewer, clean) in
       record {
-        shown = s.shown;
+        published_kept = s.published_kept;
         begins = s.begins;
         ready = ready;
         stands = λ goes_on clean.

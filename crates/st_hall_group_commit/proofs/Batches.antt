@@ -89,7 +89,7 @@ module _ {J : Type 0} (list_of : J → List Record) (misreads : J → ℕ) (is_r
     pub lost : (misreads new ≡ 0 → (left : List Record) → may_leave new left → (left ≡ list_of old) ⊎ (left ≡ list_of old ++ batch))
         → Sound batch (roll list kept published new true)
     lost crash = record {
-      shown = s.shown;
+      published_kept = s.published_kept;
       begins = s.begins;
       ready = λ e. absurd (let f : true ≡ false = e in cc);
       stands = λ e clean. absurd (let f : true ≡ false = e in cc);
@@ -118,12 +118,12 @@ module _ {J : Type 0} (list_of : J → List Record) (misreads : J → ℕ) (is_r
       left_one list kept published old new batch (subst (λ (b : Bool). Sound batch (roll list kept published old b)) is s) fewer clean left
       (crash clean left leaves)
 
-  module _ (settled : (journal : J) (left : List Record) → misreads journal ≡ 0 → is_ready journal → may_leave journal left → left ≡ list_of journal) where
+  module _ (leaves_list : (journal : J) (left : List Record) → misreads journal ≡ 0 → is_ready journal → may_leave journal left → left ≡ list_of journal) where
     -- all is kept, in a journal that takes records
     pub whole : (list published : List Ask) (journal : J) → IsPrefix published list → is_ready journal
         → (misreads journal ≡ 0 → Replays Applies first (list_of journal) (state_after start list)) → Sound [] (roll list list published journal false)
-    whole list published journal shown ready stands = record {
-      shown = shown;
+    whole list published journal published_kept ready stands = record {
+      published_kept = published_kept;
       begins = prefix_self list;
       ready = λ _. ready;
       stands = λ _. stands;
@@ -132,7 +132,7 @@ module _ {J : Type 0} (list_of : J → List Record) (misreads : J → ℕ) (is_r
         front = list;
         past = prefix_self list;
         begins = prefix_self list;
-        made = subst (λ (l : List Record). Replays Applies first l (state_after start list)) (sym (settled journal left clean ready leaves)) (stands clean);
+        made = subst (λ (l : List Record). Replays Applies first l (state_after start list)) (sym (leaves_list journal left clean ready leaves)) (stands clean);
       };
     }
 
@@ -155,6 +155,6 @@ module _ {J : Type 0} (list_of : J → List Record) (misreads : J → ℕ) (is_r
         subst (λ (b : Bool). Sound batch' (roll list kept' published new b)) (sym is)
         (subst (λ (b : List Record). Sound b (roll list kept' published new false)) (sym none)
         (subst (λ (k : List Ask). Sound [] (roll list k published new false)) (sym same)
-        (whole list published new (prefix_trans published kept list t.shown t.begins) ready
+        (whole list published new (prefix_trans published kept list t.published_kept t.begins) ready
         (λ clean. subst (λ (l : List Record). Replays Applies first l (state_after start list)) (sym (appended clean))
         (made list kept published old new batch t fewer clean)))))

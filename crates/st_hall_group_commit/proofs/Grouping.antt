@@ -1,5 +1,5 @@
 -- A draft and a publisher, before and after changes are added, kept and published.
-use Rattle.std.proofs.Common.{◌≡◌, ◌⊎◌, ◌≤◌, ℕ, Bool, true, false, List, [], ◌∷◌, ◌++◌, Option, refl, sym, ap, subst, ◌∙◌}
+use Rattle.std.proofs.Common.{arith, ◌≡◌, ◌⊎◌, ◌≤◌, ℕ, Bool, true, false, List, [], ◌∷◌, ◌++◌, Option, length, refl, sym, ap, subst, ◌∙◌}
 use Rattle.std.specs.Prelude.{option_to_list}
 use mathlib.Core.List.{IsPrefix}
 use Rattle.std.specs.declared.alloc.Global.{Global}
@@ -7,16 +7,17 @@ use Rattle.st_dir.specs.Directory.{Directory}
 use Rattle.st_journal.specs.declared.record.Record.{Record}
 use Rattle.st_journal.specs.Replays.{Replays}
 use Rattle.st_journal_store.specs.Applying.{Applies, Notes}
+use Rattle.st_core.specs.declared.judged.Judged.{Judged}
 use Rattle.st_core.specs.Step.{judge}
-use Rattle.st_hall_press.specs.Steps.{Ask, State, Verdict, judged_in, state_after}
+use Rattle.st_hall_press.specs.Steps.{Ask, State, judged_in, state_after}
 use Rattle.st_hall_press.proofs.Following.{after_none}
-use Rattle.st_hall_press.proofs.Fronts.{prefix_self, prefix_trans}
-use Rattle.st_hall_group_commit.specs.Rolls.{KeptRoll, LeadPast, LeadToOne, WasKept}
+use Rattle.st_hall_press.proofs.Fronts.{prefix_length, prefix_self, prefix_trans}
+use Rattle.st_hall_group_commit.specs.Rolls.{KeptRoll, LeadPast, LeadToOne}
 use Rattle.st_hall_group_commit.specs.inner.Sound.{IsSound}
-use Rattle.st_hall_group_commit.proofs.Batches.{kept_all, left_by_all, lost_all, notes_more, opened, roll, whole}
+use Rattle.st_hall_group_commit.proofs.Batches.{kept_all, left_by_all, lost_all, notes_more, opened, roll}
 
 -- the record of a change that was judged after a list
-pub noted_after : (start : State) (list : List Ask) (a : Ask) (judged : Verdict) (written : Option Record) → judged ≡ judged_in (state_after start list) a
+pub noted_after : (start : State) (list : List Ask) (a : Ask) (judged : Judged Global) (written : Option Record) → judged ≡ judged_in (state_after start list) a
     → ((d : Directory Global) → judged ≡ judge d a → Notes d a written) → Notes (state_after start list).directory a written
 unfolding judged_in
 noted_after start list a judged written is noted = noted (state_after start list).directory is
@@ -54,18 +55,16 @@ module _ {J : Type 0} (list_of : J → List Record) (misreads : J → ℕ) (is_r
   abbrev pub Sound : List Record → KeptRoll J → Type 0
   Sound batch k = IsSound list_of misreads is_ready may_leave first start batch k
 
-  abbrev pub Was : List Ask → Type 0
-  Was kept = WasKept list_of misreads first start kept
-
   -- a publisher's invariant
-  abbrev pub Keeps : (pushed tried kept published : List Ask) → J → Bool → Type 0
-  Keeps pushed tried kept published journal lost = IsPrefix pushed kept × Was kept × Sound [] (roll tried kept published journal lost)
+  abbrev pub Keeps : (pushed tried kept published : List Ask) → J → Bool → (mark : ℕ) → Type 0
+  Keeps pushed tried kept published journal lost mark =
+      IsPrefix pushed kept × (mark ≡ length kept) × Sound [] (roll tried kept published journal lost)
 
   -- where an append failed, the batch is of no use
   emptied : (tried kept published : List Ask) (journal : J) (batch : List Record) → Sound batch (roll tried kept published journal true)
       → Sound [] (roll tried kept published journal true)
   emptied tried kept published journal batch s = record {
-    shown = s.shown;
+    published_kept = s.published_kept;
     begins = s.begins;
     ready = λ e. absurd (let f : true ≡ false = e in cc);
     stands = λ e clean. absurd (let f : true ≡ false = e in cc);
@@ -74,13 +73,14 @@ module _ {J : Type 0} (list_of : J → List Record) (misreads : J → ℕ) (is_r
   }
 
   -- published more, of what is kept
-  pub published_more : (pushed tried kept published published' : List Ask) (journal : J) (lost : Bool) → Keeps pushed tried kept published journal lost
-      → (pushed' : List Ask) → IsPrefix pushed' kept → IsPrefix published' pushed' → Keeps pushed' tried kept published' journal lost
-  published_more pushed tried kept published published' journal lost (p, was, s) pushed' on shown = (
+  pub published_more : (pushed tried kept published published' : List Ask) (journal : J) (lost : Bool) (mark : ℕ)
+      → Keeps pushed tried kept published journal lost mark
+      → (pushed' : List Ask) → IsPrefix pushed' kept → IsPrefix published' pushed' → Keeps pushed' tried kept published' journal lost mark
+  published_more pushed tried kept published published' journal lost mark (p, so_long, s) pushed' on published_kept = (
     on,
-    was,
+    so_long,
     record {
-      shown = prefix_trans published' pushed' kept shown on;
+      published_kept = prefix_trans published' pushed' kept published_kept on;
       begins = s.begins;
       ready = s.ready;
       stands = s.stands;
@@ -89,13 +89,13 @@ module _ {J : Type 0} (list_of : J → List Record) (misreads : J → ℕ) (is_r
     },
   )
 
-  module _ (settled : (journal : J) (left : List Record) → misreads journal ≡ 0 → is_ready journal → may_leave journal left → left ≡ list_of journal) where
+  module _ (leaves_list : (journal : J) (left : List Record) → misreads journal ≡ 0 → is_ready journal → may_leave journal left → left ≡ list_of journal) where
     -- a batch that goes on what is kept
     given : (tried kept published to : List Ask) (journal : J) (records : List Record) → Sound [] (roll tried kept published journal false)
         → IsPrefix kept to → Replays Applies (state_after start kept) records (state_after start to)
         → Sound records (roll to kept published journal false)
     given tried kept published to journal records s on leads = record {
-      shown = s.shown;
+      published_kept = s.published_kept;
       begins = on;
       ready = s.ready;
       stands = s.stands;
@@ -104,12 +104,12 @@ module _ {J : Type 0} (list_of : J → List Record) (misreads : J → ℕ) (is_r
         front = kept;
         past = prefix_self kept;
         begins = on;
-        made = subst (λ (l : List Record). Replays Applies first l (state_after start kept)) (sym (settled journal left clean (s.ready refl) leaves)) (s.stands refl clean);
+        made = subst (λ (l : List Record). Replays Applies first l (state_after start kept)) (sym (leaves_list journal left clean (s.ready refl) leaves)) (s.stands refl clean);
       };
     }
 
-    module _ (pushed tried kept published from to : List Ask) (old new : J) (lost : Bool) (records : List Record)
-        (k : Keeps pushed tried kept published old lost) (is : lost ≡ false) (at_end : from ≡ kept) (goes_on : IsPrefix from to)
+    module _ (pushed tried kept published from to : List Ask) (old new : J) (lost : Bool) (mark : ℕ) (records : List Record)
+        (k : Keeps pushed tried kept published old lost mark) (is : lost ≡ false) (at_end : from ≡ kept) (goes_on : IsPrefix from to)
         (leads : Replays Applies (state_after start from) records (state_after start to)) (fewer : misreads old ≤ misreads new) where
       on : IsPrefix kept to
       on = subst (λ (l : List Ask). IsPrefix l to) at_end goes_on
@@ -119,16 +119,22 @@ module _ {J : Type 0} (list_of : J → List Record) (misreads : J → ℕ) (is_r
           given tried kept published to old records (subst (λ (b : Bool). Sound [] (roll tried kept published old b)) is k.2) on
           (subst (λ (l : List Ask). Replays Applies (state_after start l) records (state_after start to)) at_end leads)
 
-      pub kept_batch : is_ready new → (misreads new ≡ 0 → list_of new ≡ list_of old ++ records) → Keeps pushed to to published new lost
-      kept_batch ready appended =
-          let s = kept_all list_of misreads is_ready may_leave first start settled to kept to published old new false records [] batch refl fewer ready appended refl refl in (
+      pub kept_batch : (tried' kept' : List Ask) (mark' : ℕ) → tried' ≡ to → kept' ≡ to → mark' ≡ length to → is_ready new
+          → (misreads new ≡ 0 → list_of new ≡ list_of old ++ records) → Keeps pushed tried' kept' published new lost mark'
+      kept_batch tried' kept' mark' is_tried is_kept is_mark ready appended =
+          let s = kept_all list_of misreads is_ready may_leave first start leaves_list to kept to published old new false records [] batch refl fewer ready appended refl refl in
+          subst (λ (l : List Ask). Keeps pushed l kept' published new lost mark') (sym is_tried)
+          (subst (λ (l : List Ask). Keeps pushed to l published new lost mark') (sym is_kept) (
             prefix_trans pushed kept to k.0 on,
-            record { journal = new; front = to; has = prefix_self to; stands = s.stands refl },
+            is_mark,
             subst (λ (b : Bool). Sound [] (roll to to published new b)) (sym is) s,
-          )
+          ))
+
+      pub no_shorter : mark ≤ length to
+      no_shorter = omega (arith, k.1, prefix_length kept to on)
 
       pub lost_batch : (misreads new ≡ 0 → (left : List Record) → may_leave new left → (left ≡ list_of old) ⊎ (left ≡ list_of old ++ records))
-          → Keeps pushed to kept published new true
+          → Keeps pushed to kept published new true mark
       lost_batch crash = (
         k.0,
         k.1,
@@ -139,12 +145,12 @@ module _ {J : Type 0} (list_of : J → List Record) (misreads : J → ℕ) (is_r
           → misreads new ≡ 0 → (left : List Record) → may_leave new left → LeadToOne first start kept to left
       left_one crash = left_by_all list_of misreads is_ready may_leave first start to kept published old new false records batch refl fewer crash
 
-    pub publisher_opened : (pushed tried kept published : List Ask) (journal : J) → pushed ≡ [] → published ≡ [] → tried ≡ pushed → kept ≡ pushed
-        → is_ready journal → (misreads journal ≡ 0 → Replays Applies first (list_of journal) start)
-        → Keeps pushed tried kept published journal false
-    publisher_opened pushed tried kept published journal none hidden is_tried is_kept ready stands =
-        let s = opened list_of misreads is_ready may_leave first start settled tried kept published journal [] (is_tried ∙ none) (is_kept ∙ sym is_tried) hidden refl ready stands in (
+    pub publisher_opened : (pushed tried kept published : List Ask) (journal : J) (mark : ℕ) → pushed ≡ [] → published ≡ [] → tried ≡ pushed
+        → kept ≡ pushed → mark ≡ 0 → is_ready journal → (misreads journal ≡ 0 → Replays Applies first (list_of journal) start)
+        → Keeps pushed tried kept published journal false mark
+    publisher_opened pushed tried kept published journal mark none hidden is_tried is_kept unmarked ready stands =
+        let s = opened list_of misreads is_ready may_leave first start leaves_list tried kept published journal [] (is_tried ∙ none) (is_kept ∙ sym is_tried) hidden refl ready stands in (
           subst (λ (l : List Ask). IsPrefix pushed l) (sym is_kept) (prefix_self pushed),
-          record { journal = journal; front = kept; has = prefix_self kept; stands = s.stands refl },
+          unmarked ∙ sym (ap length (is_kept ∙ none)),
           s,
         )

@@ -3,7 +3,7 @@ use Rattle.std.specs.Prelude.{◌≡◌, ◌⊎◌, ℕ, Bool, List, drop, take}
 use mathlib.Core.List.{IsPrefix}
 use Rattle.st_journal.specs.declared.record.Record.{Record}
 use Rattle.st_journal.specs.Replays.{Replays}
-use Rattle.st_journal.specs.Faults.{Rises}
+use Rattle.st_journal.specs.Faults.{FaultsRise}
 use Rattle.st_journal_store.specs.Applying.{Applies}
 use Rattle.st_hall_press.specs.Steps.{Ask, State, state_after}
 
@@ -24,7 +24,8 @@ pub record LeadPast (first start : State) (kept list : List Ask) (records : List
   pub made : Replays Applies first records (state_after start front)
 
 -- Whatever a journal may leave, if the process ends at some moment, leads so.
-pub record Leaves {J : Type 0} (misreads : J → ℕ) (may_leave : J → List Record → Type 0) (first start : State) (kept list : List Ask) : Type 0 where
+pub record Leaves {J : Type 0} (misreads : J → ℕ) (may_leave : J → List Record → Type 0) (first start : State) (kept list : List Ask) :
+    Type 0 where
   pub journal : J
   pub leads : misreads journal ≡ 0 → (left : List Record) → may_leave journal left → LeadPast first start kept list left
 
@@ -33,18 +34,11 @@ abbrev pub LeadToOne : (first start : State) (one other : List Ask) (records : L
 LeadToOne first start one other records =
     Replays Applies first records (state_after start one) ⊎ Replays Applies first records (state_after start other)
 
--- These changes were kept: at some moment the journal's list led from the first state to the state after a list that begins with them.
-pub record WasKept {J : Type 0} (list_of : J → List Record) (misreads : J → ℕ) (first start : State) (changes : List Ask) : Type 0 where
-  pub journal : J
-  pub front : List Ask
-  pub has : IsPrefix changes front
-  pub stands : misreads journal ≡ 0 → Replays Applies first (list_of journal) (state_after start front)
-
 -- During some call the disk of a journal failed or refused.
 pub record Failing {J : Type 0} (misreads faults : J → ℕ) : Type 0 where
   pub old : J
   pub new : J
-  pub rose : misreads new ≡ 0 → Rises (faults old) (faults new)
+  pub rose : misreads new ≡ 0 → FaultsRise (faults old) (faults new)
 
 abbrev pub HasFailed : {J : Type 0} → (misreads faults : J → ℕ) → Type 0
 HasFailed misreads faults = ∥ Failing misreads faults ∥₁

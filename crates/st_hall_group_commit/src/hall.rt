@@ -1,8 +1,8 @@
 //! A hall with three locks: one for deciding, one for what keeps and publishes, and a short one for waiting.
-ghost use Rattle.std.specs.Prelude.{◌≡◌, [], true, IfOk};
+ghost use Rattle.std.specs.Prelude.{◌≡◌, [], IfOk, IfSome};
 ghost use Rattle.st_journal.specs.Replays.{Replays};
 ghost use Rattle.st_journal_store.specs.Applying.{Applies};
-ghost use Rattle.st_hall_group_commit.specs.Rolls.{WasKept, WasRead};
+ghost use Rattle.st_hall_group_commit.specs.Rolls.{WasRead};
 
 use crate::board::Board;
 use crate::draft::Draft;
@@ -10,7 +10,7 @@ use crate::fault::ChangeError;
 use crate::publisher::Publisher;
 use crate::reading::Reading;
 use st_core::Asked;
-use st_hall::{Clerk, Commits, Desk, Front, HallName, Lost, Outcome, Undecided};
+use st_hall::{Clerk, Commits, Desk, Front, HallName, KeptFront, Lost, Outcome, Undecided};
 use st_http::message::Message;
 use st_journal::{Journal, ReadBack, ReadError};
 use st_journal_store::Beginning;
@@ -28,7 +28,7 @@ pub struct DurableHall<B: Beginning, H: HallName, R: Wait + Clock + Drop, J: Jou
     draft: Mutex<Draft<H>>,
     publisher: Mutex<Publisher<B, H, R, J>>,
     // Whoever has this lock takes no other one.
-    board: Mutex<Board<B, H, J>>,
+    board: Mutex<Board<H>>,
     // The thread that led leads no more.
     ended: Condvar,
     // A change was lost.
@@ -38,12 +38,12 @@ pub struct DurableHall<B: Beginning, H: HallName, R: Wait + Clock + Drop, J: Jou
 impl<B: Beginning, H: HallName, R: Wait + Clock + Drop, J: Journal + Drop> DurableHall<B, H, R, J> {
     /// The hall of a clerk that was just opened over two stores of the state to which the journal's list leads.
     pub fn new(alloc: Global, clock: R, clerk: Clerk<H, R>, journal: J) -> DurableHall<B, H, R, J>
-        requires empty { (clerk.list ≡ []) × (clerk.published ≡ []) }
+        requires empty { (clerk.list ≡ []) × (clerk.published ≡ []) × (clerk.kept ≡ 0) }
         requires ready { J.is_ready journal }
         requires stands { J.misreads journal ≡ 0 → Replays Applies B.first (J.list journal) H.start }
     {
-        let (scribe, press) = clerk.apart();
-        let publisher = Publisher::new(press, journal);
+        let (scribe, press, mark) = clerk.apart();
+        let publisher = Publisher::new(press, mark, journal);
         let board = Board::new(publisher.kept(), publisher.published());
         DurableHall {
             clock,
@@ -65,49 +65,39 @@ impl<B: Beginning, H: HallName, R: Wait + Clock + Drop, J: Journal + Drop> Durab
         (draft.into_inner(), publisher.into_inner())
     }
 
-    /// What is known to be kept by now. It waits for no change.
-    pub fn kept<W: Wait>(&self, rt: &W) -> Front<H>
-        ensures { WasKept J.list J.misreads B.first H.start result }
-    {
-        self.board.lock(rt).kept()
-    }
-
     // Tells all threads that a change was lost.
     fn lose(&self) {
         self.alarm.store(true, Ordering::SeqCst);
     }
 
     // Keeps and publishes a front with all that is decided by now, for which others may wait, and tells them how far it came. That it
-    // is kept they may know before it is published. Whether it is kept.
-    fn lead<W: Wait>(&self, rt: &W, front: &Front<H>) -> bool
-        ensures { result ≡ true → WasKept J.list J.misreads B.first H.start front.now }
+    // is kept they may know before it is published. The front as one that is kept, where it is.
+    fn lead<W: Wait>(&self, rt: &W, front: &Front<H>) -> Option<KeptFront<H>>
+        ensures { IfSome result (λ kept. kept ≡ front.now) }
     {
         let mut publisher = self.publisher.lock(rt);
-        let is_kept = publisher.keep_front(rt, &self.draft, front);
+        let found = publisher.keep_front(rt, &self.draft, front);
         self.board.lock(rt).note(publisher.kept());
-        if is_kept {
-            publisher.show_front(rt, &self.draft, front);
+        if found.is_some() {
+            publisher.publish_front(rt, &self.draft, front);
         }
         let kept = publisher.kept();
-        let shown = publisher.published();
+        let published = publisher.published();
         drop(publisher);
-        self.board.lock(rt).end(kept, shown, !is_kept);
+        self.board.lock(rt).end(kept, published, found.is_none());
         self.ended.notify_all();
-        is_kept
+        found
     }
 }
 
 impl<B: Beginning, H: HallName, R: Wait + Clock + Drop, J: Journal + Drop> Commits<H>
     for DurableHall<B, H, R, J> {
     ghost use Rattle.std.specs.Prelude.{⊤};
-    ghost use Rattle.st_hall_group_commit.specs.Rolls.{HasFailed, Leaves, WasKept};
-    ghost use Rattle.st_hall_group_commit.specs.inner.Boards.{kept_before};
+    ghost use Rattle.st_hall_group_commit.specs.Rolls.{HasFailed, Leaves};
 
     ghost HOLD = { 16384 };
 
     const HOLD: usize = 16_384;
-
-    ghost keeps = { WasKept J.list J.misreads B.first H.start };
 
     // An append may fail, or find no memory.
     ghost may_lose = { ⊤ };
@@ -115,8 +105,6 @@ impl<B: Beginning, H: HallName, R: Wait + Clock + Drop, J: Journal + Drop> Commi
     ghost fails = { HasFailed J.misreads J.faults };
 
     ghost leaves = { Leaves J.misreads J.may_leave B.first H.start };
-
-    ghost begins = { kept_before J.list J.misreads B.first H.start };
 
     // Decides a change, and adds it to the list, which is neither kept nor published then. `Lost` comes once an append failed.
     fn change<W: Wait>(
@@ -126,18 +114,18 @@ impl<B: Beginning, H: HallName, R: Wait + Clock + Drop, J: Journal + Drop> Commi
         message: &Message<'_>,
         asked: &Asked,
     ) -> Result<Outcome<H>, Undecided> {
-        let is_settled = false;
+        let is_published = false;
         let mut draft = self.draft.lock(rt);
         match draft.add(&self.clock, desk, message, asked) {
             Ok((reply, front)) => Ok(Outcome {
                 reply: Some(reply),
                 front,
-                is_settled,
+                is_published,
             }),
             Err(ChangeError::Stranger) => Ok(Outcome {
                 reply: None,
                 front: draft.front(),
-                is_settled,
+                is_published,
             }),
             Err(ChangeError::NoMemory) => Err(Undecided::NoMemory),
             Err(ChangeError::Lost) => {
@@ -149,12 +137,12 @@ impl<B: Beginning, H: HallName, R: Wait + Clock + Drop, J: Journal + Drop> Commi
 
     // All that is decided meanwhile is kept with it, and nothing is appended where another thread has kept it already. At an error it
     // may be kept: the next opening can tell.
-    fn settle<W: Wait>(&self, rt: &W, front: &Front<H>) -> Result<bool, Lost> {
+    fn sync<W: Wait>(&self, rt: &W, front: &Front<H>) -> Result<(KeptFront<H>, bool), Lost> {
         let mut board = self
             .ended
             .wait_while(rt, self.board.lock(rt), |board| board.is_awaited(front));
-        if board.is_settled(front) {
-            return Ok(board.shows(front));
+        if let Some(kept) = board.find_done(front) {
+            return Ok((kept, board.has_published(front)));
         }
         if board.is_lost() {
             self.lose();
@@ -162,15 +150,15 @@ impl<B: Beginning, H: HallName, R: Wait + Clock + Drop, J: Journal + Drop> Commi
         }
         board.begin();
         drop(board);
-        if self.lead(rt, front) {
-            return Ok(self.board.lock(rt).shows(front));
+        if let Some(kept) = self.lead(rt, front) {
+            return Ok((kept, self.board.lock(rt).has_published(front)));
         }
         self.lose();
         Err(Lost)
     }
 
-    fn has_kept<W: Wait>(&self, rt: &W, front: &Front<H>) -> bool {
-        self.board.lock(rt).is_sure(front)
+    fn find_kept<W: Wait>(&self, rt: &W, front: &Front<H>) -> Option<KeptFront<H>> {
+        self.board.lock(rt).find_sure(front)
     }
 
     fn is_lost(&self) -> bool {
@@ -185,8 +173,8 @@ impl<B: Beginning, H: HallName, R: Wait + Clock + Drop, J: Journal + Drop> Commi
         self.draft.lock(rt).whole(desks)
     }
 
-    fn left<W: Wait>(&self, rt: &W, list: &Front<H>) -> Option<Front<H>> {
-        self.publisher.lock(rt).left(list)
+    fn left<W: Wait>(&self, rt: &W, list: &Front<H>, known: &KeptFront<H>) -> Option<Front<H>> {
+        self.publisher.lock(rt).left(list, known)
     }
 }
 

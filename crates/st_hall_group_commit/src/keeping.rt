@@ -1,5 +1,6 @@
 //! What is put into the journal, and read back.
-ghost use Rattle.std.specs.Prelude.{◌≡◌, ◌≢◌, ◌<◌, ◌≤◌, ◌⊎◌, ◌++◌, Err, List, IfOk, OnOk, drop, take, option_to_list, vec_capacity, vec_len};
+ghost use Rattle.std.specs.Prelude.{◌≡◌, ◌≢◌, ◌<◌, ◌≤◌, ◌⊎◌, ◌++◌, Err, List, IfOk, OnOk, drop, take, option_to_list, vec_capacity};
+ghost use Rattle.std.specs.Prelude.{vec_len};
 ghost use Rattle.st_journal.specs.declared.record.Record.{Record};
 ghost use Rattle.st_journal.specs.declared.read_back.ReadError.TheVariants as ends;
 ghost use Rattle.st_hall_group_commit.specs.Rolls.{HasFailed};
@@ -15,9 +16,9 @@ pub(crate) struct Failure<J: Journal> {
 }
 
 impl<J: Journal> Failure<J> {
-    // It shows it.
-    pub(crate) fn is_shown(&self) -> bool
-        ensures shown { HasFailed J.misreads J.faults }
+    // The journal failed.
+    pub(crate) fn is_certain(&self) -> bool
+        ensures failed { HasFailed J.misreads J.faults }
     {
         true
     }

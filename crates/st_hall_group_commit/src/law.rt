@@ -8,8 +8,12 @@ ghost use Rattle.st_hall.specs.Steps.{Ask, State, state_after};
 ghost use Rattle.st_hall.specs.Views.{Beside};
 ghost use Rattle.st_hall_group_commit.specs.Rolls.{LeadPast};
 
+use crate::publisher::Publisher;
 use crate::reading::Reading;
-use st_hall::HallName;
+use st_hall::{HallName, KeptFront};
+use st_journal::Journal;
+use st_journal_store::Beginning;
+use std::sync::Wait;
 
 /// What is made again from what was left is the state after a beginning of the list of changes, with at least all that was kept.
 pub fn opens_again()
@@ -18,11 +22,25 @@ pub fn opens_again()
         → (front : List Ask) × IsPrefix kept front × IsPrefix front list × (again ≡ state_after start front) }
 {}
 
+/// Nothing that is known to be kept is lost: whatever the journal of a hall may leave, if the process ends now, leads to the state after
+/// a beginning of the one list that has all of it. It does nothing.
+pub fn nothing_is_lost<B: Beginning, H: HallName, R: Wait + Drop, J: Journal + Drop>(
+    publisher: &mut Publisher<B, H, R, J>,
+    known: &KeptFront<H>,
+)
+    ensures leaves { J.misreads publisher.old.journal ≡ 0 → (left : List Record) → J.may_leave publisher.old.journal left
+        → LeadPast B.first H.start known.now publisher.old.list left }
+    ensures same { publisher.new ≡ publisher.old }
+{
+    publisher.laws();
+    publisher.laws_of(known);
+}
+
 /// Two readings of a hall are of lists of which one begins the other.
 pub fn two_readings<H: HallName>(one: &Reading<H>, other: &Reading<H>)
     ensures { Beside one.now.kept other.now.kept }
 {
-    one.kept.compare(&other.kept);
+    one.kept.front().compare(other.kept.front());
 }
 
 /// Changes after that are changes of one list, which goes on that beginning.

@@ -1,17 +1,17 @@
 //! What keeps the changes that are decided, and publishes them.
-ghost use Rattle.std.specs.Prelude.{◌≡◌, ◌≢◌, ◌<◌, [], length, true, false, List, Err, IfOk, IfSome, OnOk, MatchResult};
+ghost use Rattle.std.specs.Prelude.{◌≡◌, ◌≢◌, ◌<◌, [], length, true, false, List, Err, IfNone, IfOk, IfSome, OnOk, MatchResult};
 ghost use mathlib.Core.List.{IsPrefix};
 ghost use Rattle.st_journal.specs.declared.record.Record.{Record};
 ghost use Rattle.st_journal.specs.declared.read_back.ReadError.TheVariants as ends;
 ghost use Rattle.st_journal.specs.Replays.{Replays};
 ghost use Rattle.st_journal_store.specs.Applying.{Applies};
 ghost use Rattle.st_hall_press.specs.Steps.{state_after};
-ghost use Rattle.st_hall_group_commit.specs.Rolls.{HasFailed, LeadPast, LeadToOne, Leaves, WasKept, WasRead};
+ghost use Rattle.st_hall_group_commit.specs.Rolls.{HasFailed, LeadPast, LeadToOne, Leaves, WasRead};
 
 use crate::draft::{Batch, Draft};
 use crate::keeping::{Failure, append_all, read_from};
 use st_hall::Lost;
-use st_hall_press::{Front, HallName, Press};
+use st_hall_press::{Front, HallName, KeptFront, KeptMark, Press};
 use st_journal::{Journal, ReadBack, ReadError, Record};
 use st_journal_store::Beginning;
 use std::marker::{Model, PhantomData};
@@ -25,7 +25,9 @@ pub struct Publisher<B: Beginning, H: HallName, R: Wait + Drop, J: Journal + Dro
     journal: J,
     // As far as an append was given the list.
     tried: Front<H>,
-    kept: Front<H>,
+    kept: KeptFront<H>,
+    // It says how long that is.
+    mark: KeptMark<H>,
     is_lost: bool,
     failure: Option<Failure<J>>,
     beginning: PhantomData<B>,
@@ -39,6 +41,7 @@ impl<B: Beginning, H: HallName, R: Wait + Drop, J: Journal + Drop> Drop for Publ
             journal: _journal,
             tried: _tried,
             kept: _kept,
+            mark: _mark,
             is_lost: _is_lost,
             failure: _failure,
             beginning: _beginning,
@@ -47,9 +50,9 @@ impl<B: Beginning, H: HallName, R: Wait + Drop, J: Journal + Drop> Drop for Publ
 }
 
 impl<B: Beginning, H: HallName, R: Wait + Drop, J: Journal + Drop> Model for Publisher<B, H, R, J> {
-    ghost use Rattle.std.specs.Prelude.{[]};
+    ghost use Rattle.std.specs.Prelude.{◌≡◌, [], length};
     ghost use mathlib.Core.List.{IsPrefix};
-    ghost use Rattle.st_hall_group_commit.specs.Rolls.{KeptRoll, WasKept};
+    ghost use Rattle.st_hall_group_commit.specs.Rolls.{KeptRoll};
     ghost use Rattle.st_hall_group_commit.specs.inner.Sound.{IsSound};
 
     ghost Value = { KeptRoll J };
@@ -62,7 +65,7 @@ impl<B: Beginning, H: HallName, R: Wait + Drop, J: Journal + Drop> Model for Pub
       is_lost = k.is_lost;
     } };
 
-    ghost invariant = { λ k. IsPrefix k.press.pushed k.kept × WasKept J.list J.misreads B.first H.start k.kept
+    ghost invariant = { λ k. IsPrefix k.press.pushed k.kept × (k.mark ≡ length k.kept)
         × IsSound J.list J.misreads J.is_ready J.may_leave B.first H.start [] (record {
           list = k.tried;
           kept = k.kept;
@@ -82,19 +85,20 @@ fn are_equal<H: HallName>(one: &Front<H>, other: &Front<H>) -> bool
 
 impl<B: Beginning, H: HallName, R: Wait + Drop, J: Journal + Drop> Publisher<B, H, R, J> {
     /// The publisher of a hall that was just opened over two stores of the state to which the journal's list leads.
-    pub fn new(press: Press<H, R>, journal: J) -> Publisher<B, H, R, J>
-        requires empty { (press.pushed ≡ []) × (press.published ≡ []) }
+    pub fn new(press: Press<H, R>, mut mark: KeptMark<H>, journal: J) -> Publisher<B, H, R, J>
+        requires empty { (press.pushed ≡ []) × (press.published ≡ []) × (mark ≡ 0) }
         requires ready { J.is_ready journal }
         requires stands { J.misreads journal ≡ 0 → Replays Applies B.first (J.list journal) H.start }
         ensures { result ≡ record { list = []; kept = []; published = []; journal = journal; is_lost = false } }
     {
         let tried = press.front();
-        let kept = press.front();
+        let kept = mark.token(press.front());
         Publisher {
             press,
             journal,
             tried,
             kept,
+            mark,
             is_lost: false,
             failure: None,
             beginning: PhantomData,
@@ -104,8 +108,8 @@ impl<B: Beginning, H: HallName, R: Wait + Drop, J: Journal + Drop> Publisher<B, 
     /// What is published begins what is kept, and that begins the list. Unless an append failed, the journal's list leads to the
     /// state after what is kept. Whatever the journal may leave if the process ends now leads to the state after a beginning of the
     /// list, with at least all that is kept. It does nothing.
-    pub fn show(&self)
-        ensures shown { IsPrefix self.now.published self.now.kept }
+    pub fn laws(&self)
+        ensures published { IsPrefix self.now.published self.now.kept }
         ensures begins { IsPrefix self.now.kept self.now.list }
         ensures stands { self.now.is_lost ≡ false → J.misreads self.now.journal ≡ 0
             → Replays Applies B.first (J.list self.now.journal) (state_after H.start self.now.kept) }
@@ -115,20 +119,32 @@ impl<B: Beginning, H: HallName, R: Wait + Drop, J: Journal + Drop> Publisher<B, 
         let _lost = self.is_lost;
     }
 
-    /// Whether a front is kept.
-    pub fn keeps(&self, front: &Front<H>) -> bool
-        ensures yes { result ≡ true → IsPrefix front.now self.now.kept }
-        ensures no { result ≡ false → length self.now.kept < length front.now }
-        ensures was { result ≡ true → WasKept J.list J.misreads B.first H.start front.now }
+    /// What is kept has each front of the hall that is known to be kept, wherever that is known. It does nothing.
+    pub fn laws_of(&mut self, known: &KeptFront<H>)
+        ensures has { IsPrefix known.now self.old.kept }
+        ensures same { self.new ≡ self.old }
     {
-        let _both = self.kept.longer(front);
-        front.len() <= self.kept.len()
+        self.kept.front().compare(known.front());
+        self.mark.bounds(known);
+    }
+
+    /// A front as one that is kept, where it is.
+    pub fn find(&self, front: &Front<H>) -> Option<KeptFront<H>>
+        ensures is { IfSome result (λ kept. kept ≡ front.now) }
+        ensures some { IfSome result (λ kept. IsPrefix kept self.now.kept) }
+        ensures none { IfNone result (length self.now.kept < length front.now) }
+    {
+        self.kept.front().compare(front);
+        if front.len() <= self.kept.front().len() {
+            Some(self.kept.as_kept(front))
+        } else {
+            None
+        }
     }
 
     /// What is kept.
-    pub fn kept(&self) -> Front<H>
-        ensures is { result ≡ self.now.kept }
-        ensures was { WasKept J.list J.misreads B.first H.start result }
+    pub fn kept(&self) -> KeptFront<H>
+        ensures { result ≡ self.now.kept }
     {
         self.kept.again()
     }
@@ -137,21 +153,24 @@ impl<B: Beginning, H: HallName, R: Wait + Drop, J: Journal + Drop> Publisher<B, 
     pub fn published(&self) -> Front<H>
         ensures { result ≡ self.now.published }
     {
-        self.press.shown()
+        self.press.published_front()
     }
 
-    /// What is kept: also what is left, if the process ends now, has that, and nothing beyond a list. There is none where an append was
-    /// given more than the list.
-    pub fn left(&self, list: &Front<H>) -> Option<Front<H>>
-        ensures { IfSome result (λ kept. Leaves J.misreads J.may_leave B.first H.start kept list.now) }
+    /// What is kept, with all that is known to be: also what is left, if the process ends now, has that, and nothing beyond a list. There
+    /// is none where an append was given more than the list.
+    pub fn left(&mut self, list: &Front<H>, known: &KeptFront<H>) -> Option<Front<H>>
+        ensures leaves { IfSome result (λ kept. Leaves J.misreads J.may_leave B.first H.start kept list.now) }
+        ensures has { IfSome result (λ kept. IsPrefix known.now kept) }
+        ensures begins { IfSome result (λ kept. IsPrefix kept list.now) }
+        ensures same { self.new ≡ self.old }
     {
-        self.show();
+        self.laws();
+        self.laws_of(known);
         list.compare(&self.tried);
-        if self.tried.len() <= list.len() {
-            Some(self.kept())
-        } else {
-            None
+        if list.len() < self.tried.len() {
+            return None;
         }
+        Some(self.kept.front().again())
     }
 
     /// The journal.
@@ -166,18 +185,18 @@ impl<B: Beginning, H: HallName, R: Wait + Drop, J: Journal + Drop> Publisher<B, 
         ensures { result ≡ true → HasFailed J.misreads J.faults }
     {
         match &self.failure {
-            Some(failure) => failure.is_shown(),
+            Some(failure) => failure.is_certain(),
             None => false,
         }
     }
 
     // Whether a front is published.
-    fn shows(&self, front: &Front<H>) -> bool
+    fn has_published(&self, front: &Front<H>) -> bool
         ensures { result ≡ true → IsPrefix front.now self.now.published }
     {
-        let shown = self.press.shown();
-        let _both = shown.longer(front);
-        front.len() <= shown.len()
+        let published = self.press.published_front();
+        let _both = published.longer(front);
+        front.len() <= published.len()
     }
 
     /// Keeps a batch by one append. At an error the journal takes no more: it has all of these records or none of them, and only the
@@ -196,13 +215,14 @@ impl<B: Beginning, H: HallName, R: Wait + Drop, J: Journal + Drop> Publisher<B, 
     {
         let Batch { from, records, to } = batch;
         // A batch that goes on another list than the kept one never comes.
-        if self.is_lost || !are_equal(&from, &self.kept) {
+        if self.is_lost || !are_equal(&from, self.kept.front()) {
             return Err(Lost);
         }
         match append_all(&mut self.journal, records.as_slice()) {
             Ok(()) => {
                 self.tried = to.again();
-                self.kept = to;
+                self.mark.rise(to.len());
+                self.kept = self.mark.token(to);
                 Ok(())
             }
             Err(failure) => {
@@ -228,31 +248,41 @@ impl<B: Beginning, H: HallName, R: Wait + Drop, J: Journal + Drop> Publisher<B, 
         kept
     }
 
-    /// Keeps a front, with all that is decided by now, unless another thread has kept it already. Whether it is kept, which it may not
-    /// be once an append failed.
-    pub fn keep_front<W: Wait>(&mut self, rt: &W, draft: &Mutex<Draft<H>>, front: &Front<H>) -> bool
-        ensures kept { result ≡ true → IsPrefix front.now self.new.kept }
-        ensures was { result ≡ true → WasKept J.list J.misreads B.first H.start front.now }
+    /// Keeps a front, with all that is decided by now, unless another thread has kept it already. The front as one that is kept; there
+    /// is none where it is not, which may be once an append failed.
+    pub fn keep_front<W: Wait>(
+        &mut self,
+        rt: &W,
+        draft: &Mutex<Draft<H>>,
+        front: &Front<H>,
+    ) -> Option<KeptFront<H>>
+        ensures is { IfSome result (λ kept. kept ≡ front.now) }
+        ensures some { IfSome result (λ kept. IsPrefix kept self.new.kept) }
         ensures grows { IsPrefix self.old.kept self.new.kept }
         ensures published { self.new.published ≡ self.old.published }
     {
-        if !self.keeps(front) {
+        if self.find(front).is_none() {
             let _kept = self.keep_draft(rt, draft);
         }
-        self.keeps(front)
+        self.find(front)
     }
 
     /// Publishes a front with all that is kept, unless it is published already. Whether it is published, for which there may be no
     /// memory.
-    pub fn show_front<W: Wait>(&mut self, rt: &W, draft: &Mutex<Draft<H>>, front: &Front<H>) -> bool
+    pub fn publish_front<W: Wait>(
+        &mut self,
+        rt: &W,
+        draft: &Mutex<Draft<H>>,
+        front: &Front<H>,
+    ) -> bool
         ensures same { self.new.kept ≡ self.old.kept }
-        ensures shown { result ≡ true → IsPrefix front.now self.new.published }
+        ensures published { result ≡ true → IsPrefix front.now self.new.published }
         ensures grows { IsPrefix self.old.published self.new.published }
     {
-        if !self.shows(front) {
+        if !self.has_published(front) {
             self.publish(rt, draft);
         }
-        self.shows(front)
+        self.has_published(front)
     }
 
     // Publishes what is kept, as far as there is memory.
@@ -261,7 +291,7 @@ impl<B: Beginning, H: HallName, R: Wait + Drop, J: Journal + Drop> Publisher<B, 
         ensures journal { (self.new.journal ≡ self.old.journal) × (self.new.is_lost ≡ self.old.is_lost) }
         ensures grows { IsPrefix self.old.published self.new.published }
     {
-        draft.lock(rt).hand_over(&mut self.press, &self.kept);
+        draft.lock(rt).hand_over(&mut self.press, self.kept.front());
         drop(self.press.publish(rt));
     }
 }

@@ -1,11 +1,12 @@
 -- What follows from queued changes that follow each other.
-use Rattle.std.proofs.Common.{◌≡◌, ◌+◌, subst, List, [], ◌∷◌, ◌++◌, length, fold, refl, ap, sym, ◌∙◌, arith, length-append, append_assoc, Option, None, Some, Result, Ok, Err, MatchOption, MatchResult, IfOk, IfSome, OnOk, true, false, is_none}
+use Rattle.std.proofs.Common.{◌≡◌, ◌+◌, subst, List, [], ◌∷◌, ◌++◌, length, fold, refl, ap, sym, ◌∙◌, arith, length-append, append_assoc, Option}
+use Rattle.std.proofs.Common.{None, Some, Result, Ok, Err, MatchOption, MatchResult, IfOk, IfSome, OnOk, true, false, is_none}
 use Rattle.std.proofs.lemmas.List.{append-nil, same_from_push}
 use mathlib.Core.List.{IsPrefix}
 use Rattle.std.specs.declared.alloc.Global.{Global}
 use Rattle.st_core.specs.Judging.{JudgesChange}
 use Rattle.st_core.specs.Step.{after, step, asks_for_change}
-use Rattle.st_hall_press.specs.Steps.{Ask, State, Said, judged_in, settled, next, state_after, reply_of}
+use Rattle.st_hall_press.specs.Steps.{Ask, State, Response, judged_in, settled, next, state_after, reply_of}
 use Rattle.st_hall_press.specs.Views.{EndsAfter, EndsWith, IsNext, QueuedValue}
 use Rattle.st_dir.specs.Directory.{Directory}
 use Rattle.st_hall_press.specs.inner.Editions.{EditionValue, IsJudged, absorbed, Agrees, Follows, waiting_list}
@@ -100,18 +101,18 @@ follows_snoc start xs [] ys q f is = (subst (λ (l : List Ask). IsNext start l q
 follows_snoc start xs (d ∷ qs) ys q f is = (f.0, follows_snoc start d.list qs ys q f.1 is)
 
 -- a reply after some list that goes on what was seen is the last of the run of a list that ends with the change
-pub ends : {A E : Type 0} (start : State) (seen before : List Ask) (a : Ask) (reply : A → Said) (r : Result A E)
+pub ends : {A E : Type 0} (start : State) (seen before : List Ask) (a : Ask) (reply : A → Response) (r : Result A E)
     → OnOk r (IsPrefix seen before) → IfOk r (λ x. reply x ≡ reply_of (state_after start before) a)
     → IfOk r (λ x. (list : List Ask) × EndsAfter start seen list a (reply x))
 ends start seen before a reply (Ok x) on h = (before ++ a ∷ [], (before, on, refl, h))
 ends start seen before a reply (Err e) on h = tt
 
 -- whatever was seen
-pub ended : (start : State) (seen : List Ask) (a : Ask) (reply : Said) → ((list : List Ask) × EndsAfter start seen list a reply)
+pub ended : (start : State) (seen : List Ask) (a : Ask) (reply : Response) → ((list : List Ask) × EndsAfter start seen list a reply)
     → (list : List Ask) × EndsWith start list a reply
 ended start seen a reply (list, (before, on, is, told)) = (list, (before, is, told))
 
-pub all_ended : {E : Type 0} (start : State) (seen : List Ask) (a : Ask) (r : Result Said E) → IfOk r (λ x. (list : List Ask) × EndsAfter start seen list a x)
+pub all_ended : {E : Type 0} (start : State) (seen : List Ask) (a : Ask) (r : Result Response E) → IfOk r (λ x. (list : List Ask) × EndsAfter start seen list a x)
     → IfOk r (λ x. (list : List Ask) × EndsWith start list a x)
 all_ended start seen a (Ok x) h = ended start seen a x h
 all_ended start seen a (Err e) h = tt
@@ -156,7 +157,7 @@ at_state P directory s (Ok d) is h = h s (sym is)
 at_state P directory s (Err e) is h = tt
 
 -- a front that is the list after a change goes on what was seen
-pub front_ends : {A E : Type 0} (start : State) (seen before list published published' : List Ask) (a : Ask) (reply : A → Said) (front : A → Option (List Ask))
+pub front_ends : {A E : Type 0} (start : State) (seen before list published published' : List Ask) (a : Ask) (reply : A → Response) (front : A → Option (List Ask))
     (r : Result A E) → OnOk r (IsPrefix seen before) → MatchResult r (λ _. list ≡ before ++ a ∷ []) (λ _. list ≡ before)
     → IfOk r (λ x. reply x ≡ reply_of (state_after start before) a)
     → IfOk r (λ x. MatchOption (front x) (published' ≡ published) (λ f. (f ≡ list) × (published' ≡ list)))

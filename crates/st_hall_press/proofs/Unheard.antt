@@ -11,7 +11,7 @@ use Rattle.st_core.specs.declared.asked.Token.{Token}
 use Rattle.st_core.specs.declared.judged.Judged.{Judged}
 use Rattle.st_dir.specs.Directory.{Directory}
 use Rattle.st_core.specs.Step.{asker_of, asks_for_change, calls_for_change, judge, judge_call, settle}
-use Rattle.st_hall_press.specs.Steps.{Ask, State, Said, reply_of, state_after}
+use Rattle.st_hall_press.specs.Steps.{Ask, State, Response, reply_of, state_after}
 
 abbrev pub is_heard : {A : Type 0} → Judged A → Bool
 is_heard (Judged.Unheard refusal) = false
@@ -34,7 +34,7 @@ is_nobody None is = refl
 is_nobody (Some x) is = cc
 
 -- what is told to a call that is no JSON object
-abbrev pub told_bad : Option Text → Said
+abbrev pub told_bad : Option Text → Response
 told_bad None = Reply.Refused (Refusal.Denied Denial.Token)
 told_bad (Some asker) = Reply.Refused Refusal.Json
 
@@ -62,7 +62,7 @@ an_asker : (asker : Option Text) → (Reply.Refused (Refusal.Denied Denial.Token
 an_asker None other = absurd (other refl)
 an_asker (Some asker) other = refl
 
-pub told_otherwise : (s : State) (asked : Ask) (told : Said) → asked.call ≡ Call.Bad Refusal.Json → told ≡ reply_of s asked
+pub told_otherwise : (s : State) (asked : Ask) (told : Response) → asked.call ≡ Call.Bad Refusal.Json → told ≡ reply_of s asked
     → (told ≡ Reply.Refused (Refusal.Denied Denial.Token) → ⊥) → true ≡ is_some (asker_of s.directory asked.token)
 told_otherwise s asked told is reply other =
     an_asker (asker_of s.directory asked.token) (λ e. other (reply ∙ (reply_to_bad s asked is ∙ sym e)))

@@ -10,25 +10,22 @@ use Rattle.st_core.specs.Step.{judge, settle, step, after}
 abbrev pub Ask : Type 0
 Ask = Asked Global
 
-abbrev pub Verdict : Type 0
-Verdict = Judged Global
-
 abbrev pub State : Type 0
 State = StateOver Global
 
-abbrev pub Said : Type 0
-Said = Reply Global
+abbrev pub Response : Type 0
+Response = Reply Global
 
 -- how a request is judged in a state
-unfoldable pub judged_in : State → Ask → Verdict
+unfoldable pub judged_in : State → Ask → Judged Global
 judged_in s asked = judge s.directory asked
 
 -- the state after a judged change
-unfoldable pub settled : State → Verdict → State
+unfoldable pub settled : State → Judged Global → State
 settled s judged = (settle s judged).state
 
 -- the reply to one request in a state
-unfoldable pub reply_of : State → Ask → Said
+unfoldable pub reply_of : State → Ask → Response
 reply_of s asked = (step s asked).reply
 
 -- the state after one request

@@ -1,9 +1,11 @@
 -- What contracts see of a desk, a worker, a clerk, and its two halves.
 use Rattle.std.specs.Prelude.{ℕ, Bool, true, ◌≡◌, ◌≤◌, ◌⊎◌, List, [], ◌∷◌, ◌++◌, length, sum_by, Option, None}
 use mathlib.Core.List.{IsPrefix}
+use Rattle.std.specs.declared.alloc.Global.{Global}
 use Rattle.st_core.specs.declared.asked.Token.{Token}
+use Rattle.st_core.specs.declared.judged.Judged.{Judged}
 use Rattle.st_core.specs.Step.{asker_of, asks_for_change}
-use Rattle.st_hall_press.specs.Steps.{Ask, State, Said, Verdict, judged_in, reply_of, state_after}
+use Rattle.st_hall_press.specs.Steps.{Ask, State, Response, judged_in, reply_of, state_after}
 
 -- the changes that a desk has seen, and how many receipts were got with it
 pub record Seat : Type 0 where
@@ -30,14 +32,15 @@ pub record Post : Type 0 where
 abbrev pub Learns : Post → Post → Type 0
 Learns s t = (t.learnt ≡ s.learnt) ⊎ (IsPrefix s.seat.seen t.learnt × IsPrefix t.learnt t.seat.seen)
 
--- the one list of changes, and the part of it that is published
+-- the one list of changes, the part of it that is published, and how many of its changes are said to be kept
 pub record Roll : Type 0 where
   pub list : List Ask
   pub published : List Ask
+  pub kept : ℕ
 
 -- a judged change, and the list that ends with it
 pub record QueuedValue : Type 0 where
-  pub judged : Verdict
+  pub judged : Judged Global
   pub list : List Ask
 
 -- the list goes on by one change, judged by the directory after the list before it
@@ -52,12 +55,12 @@ pub record Printed : Type 0 where
   pub has_room : Bool
 
 -- the list ends with the change, and the reply is the last of its run
-abbrev pub EndsWith : State → List Ask → Ask → Said → Type 0
+abbrev pub EndsWith : State → List Ask → Ask → Response → Type 0
 EndsWith start list asked reply =
     (before : List Ask) × (list ≡ before ++ asked ∷ []) × (reply ≡ reply_of (state_after start before) asked)
 
 -- the list goes on what was seen and ends with the change, and the reply is the last of its run
-abbrev pub EndsAfter : State → (seen list : List Ask) → Ask → Said → Type 0
+abbrev pub EndsAfter : State → (seen list : List Ask) → Ask → Response → Type 0
 EndsAfter start seen list asked reply =
     (before : List Ask) × IsPrefix seen before × (list ≡ before ++ asked ∷ []) × (reply ≡ reply_of (state_after start before) asked)
 

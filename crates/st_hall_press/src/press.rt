@@ -8,7 +8,7 @@ ghost use Rattle.st_hall_press.specs.inner.Editions.{Agrees};
 use crate::edition::{Edition, Queued};
 use crate::front::Front;
 use crate::name::HallName;
-use crate::queue::{EditionWriter, hold, queue, show};
+use crate::queue::{EditionWriter, hold, publish_queued, queue};
 use core::mem::replace_with;
 use left_right::Absorb;
 use st_core::Store;
@@ -105,7 +105,7 @@ impl<H: HallName, R: Wait + Drop> Press<H, R> {
         if !self.writer.has_pending_operations() {
             return Ok(());
         }
-        replace_with(&mut self.writer, rt, show::<H, W>)
+        replace_with(&mut self.writer, rt, publish_queued::<H, W>)
     }
 
     /// The changes that were taken, as a front.
@@ -116,7 +116,7 @@ impl<H: HallName, R: Wait + Drop> Press<H, R> {
     }
 
     /// The changes that are published, as a front.
-    pub fn shown(&self) -> Front<H>
+    pub fn published_front(&self) -> Front<H>
         ensures { result ≡ self.now.published }
     {
         self.writer.published().front.again()

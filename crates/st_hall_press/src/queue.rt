@@ -97,7 +97,7 @@ pub fn enter<H: HallName>(
 }
 
 /// Publishes what is queued.
-pub fn show<H: HallName, R: Wait>(
+pub fn publish_queued<H: HallName, R: Wait>(
     writer: EditionWriter<H>,
     rt: &R,
 ) -> (EditionWriter<H>, Result<(), AllocError>)

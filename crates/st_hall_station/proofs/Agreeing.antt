@@ -11,7 +11,7 @@ use Rattle.st_core.specs.Worlds.{moments, Sight, ever, NeverSystem, names, stays
 use Rattle.st_core.proofs.Kept.{told_the_same}
 use Rattle.st_core.proofs.Sieves.{or_false}
 use Rattle.st_core.proofs.Steps.{read_leaves}
-use Rattle.st_hall.specs.Steps.{Ask, State, Said, reply_of, state_after}
+use Rattle.st_hall.specs.Steps.{Ask, State, Response, reply_of, state_after}
 use Rattle.st_hall.specs.Views.{EndsAfter}
 use Rattle.st_hall_station.specs.Seats.{no_token}
 
@@ -96,7 +96,7 @@ module _ (user : Text) (a : Ask) (own : names a.token user ≡ true) where
       keeps_more zs = ap (λ sight. kept user sight start (zs ++ a ∷ [])) (ever_after a still user start zs) ∙ kept_more (ever user start zs) start zs
 
   -- and a change that ends both
-  pub same_change : (start : State) (before other xs ys : List Ask) (reply told : Said) → EndsAfter start before xs a reply → EndsAfter start other ys a told
+  pub same_change : (start : State) (before other xs ys : List Ask) (reply told : Response) → EndsAfter start before xs a reply → EndsAfter start other ys a told
       → NeverSystem user start xs → NeverSystem user start ys → keep user start xs ≡ keep user start ys → reply ≡ told
   same_change start before other xs ys reply told (front, on, ends, is) (second, on_too, ends_too, is_too) never never_too same =
       is ∙ (same_last start front second (subst (NeverSystem user start) ends never) (subst (NeverSystem user start) ends_too never_too)

@@ -9,12 +9,12 @@ use Rattle.st_http.specs.Token.{token_of}
 use Rattle.st_core.specs.declared.asked.Token.{Token}
 use Rattle.st_core.specs.Step.{asks_for_change}
 use Rattle.st_core.specs.Worlds.{NeverSystem, names, keep}
-use Rattle.st_connection.specs.Connection.{Told}
+use Rattle.st_connection.specs.Connection.{WithInterim}
 use Rattle.st_connection.specs.Render.{fault_text, busy_text, interim}
 use Rattle.st_service.specs.Answers.{ForItems, IsBusy, IsUnrouted, close_of, parsed, reply_text, token_from, unrouted_text}
 use Rattle.st_service.specs.Worlds.{ItemAsks, is_of}
 use Rattle.st_service.proofs.Histories.{asks_one, whose}
-use Rattle.st_hall.specs.Steps.{Ask, State, Said, reply_of, state_after}
+use Rattle.st_hall.specs.Steps.{Ask, State, Response, reply_of, state_after}
 use Rattle.st_hall.specs.Views.{Seat, Post, EndsAfter}
 use Rattle.st_hall_station.specs.Seats.{IsStrange, Moves, SeatAnswers, no_token, read, made, stranger, untold, busy, unrouted}
 use Rattle.st_hall_station.specs.Posts.{StationAnswers}
@@ -31,7 +31,7 @@ token_at (fault reason bare) = None
 token_at (more waits) = None
 
 -- the answer to an item by its reply, if it asks something
-abbrev text_at : First → Option Said → List ℕ
+abbrev text_at : First → Option Response → List ℕ
 text_at (message h body bare) (Some reply) = reply_text reply (close_of h) bare
 text_at (message h body bare) None = unrouted_text (routed h.method h.target) (close_of h) bare
 text_at (fault reason bare) reply = fault_text reason bare
@@ -41,17 +41,17 @@ abbrev AsksNothing : First → Type 0
 AsksNothing item = ItemAsks {A = Global} item None
 
 -- the ways to a reply at a seat
-data Comes (start : State) (item : First) (s t : Seat) (reply : Option Said) : Type 0 where
+data Comes (start : State) (item : First) (s t : Seat) (reply : Option Response) : Type 0 where
   by_read : (asked : Ask) → ItemAsks item (Some asked) → asks_for_change asked ≡ false
       → reply ≡ Some (reply_of (state_after start t.seen) asked) → Comes start item s t reply
-  by_change : (asked : Ask) (told : Said) → ItemAsks item (Some asked) → asks_for_change asked ≡ true
+  by_change : (asked : Ask) (told : Response) → ItemAsks item (Some asked) → asks_for_change asked ≡ true
       → EndsAfter start s.seen t.seen asked told → Moves 1 s t → reply ≡ Some told → Comes start item s t reply
   by_stranger : (AsksNothing item → ⊥) → IsStrange start t.seen (token_at item) → Moves 0 s t
       → reply ≡ Some no_token → Comes start item s t reply
   by_nobody : AsksNothing item → reply ≡ None → Comes start item s t reply
 
 record Says (start : State) (item : First) (s t : Seat) (answer : List ℕ) : Type 0 where
-  pub reply : Option Said
+  pub reply : Option Response
   pub comes : Comes start item s t reply
   pub text : answer ≡ text_at item reply
 
@@ -118,13 +118,13 @@ module _ (start : State) (user : Text) (item : First) (own : is_of user item ≡
       → reply_of (state_after start t.seen) a ≡ reply_of (state_after start v.seen) a
   reads_alike a of_a still = same_read user a (owner a of_a) still start t.seen v.seen never never_too same
 
-  changes_alike : (a b : Ask) (told other : Said) → ItemAsks item (Some a) → ItemAsks item (Some b) → EndsAfter start s.seen t.seen a told
+  changes_alike : (a b : Ask) (told other : Response) → ItemAsks item (Some a) → ItemAsks item (Some b) → EndsAfter start s.seen t.seen a told
       → EndsAfter start u.seen v.seen b other → told ≡ other
   changes_alike a b told other of_a of_b ends ends_too =
       same_change user a (owner a of_a) start s.seen u.seen t.seen v.seen told other ends
       (subst (λ c. EndsAfter start u.seen v.seen c other) (sym (same_asked item a b of_a of_b)) ends_too) never never_too same
 
-  alike : (reply other : Option Said) → Comes start item s t reply → Comes start item u v other → reply ≡ other
+  alike : (reply other : Option Response) → Comes start item s t reply → Comes start item u v other → reply ≡ other
   alike reply other (by_read a of_a still is) (by_read b of_b also is_too) =
       is ∙ (ap Some (reads_alike a of_a still) ∙ (ap (λ c. Some (reply_of (state_after start v.seen) c)) (same_asked item a b of_a of_b) ∙ sym is_too))
   alike reply other (by_read a of_a still is) (by_change b told of_b change ends moves is_too) =
@@ -177,7 +177,7 @@ at_seat start (more waits) s t answer one = one
 
 -- each behind its interim response
 pub equal_told : (start : State) (user : Text) (item : First) (got : ℕ) (s t u v : Post) (text other : List ℕ) → is_of user item ≡ true
-    → Told (StationAnswers start) s item text t → Told (StationAnswers start) u item other v → (IsBusy text → ⊥) → (IsBusy other → ⊥)
+    → WithInterim (StationAnswers start) s item text t → WithInterim (StationAnswers start) u item other v → (IsBusy text → ⊥) → (IsBusy other → ⊥)
     → Moves got s.seat t.seat → Moves got u.seat v.seat → NeverSystem user start t.seat.seen → NeverSystem user start v.seat.seen
     → keep user start t.seat.seen ≡ keep user start v.seat.seen → text ≡ other
 equal_told start user item got s t u v text other own (answer, is, one) (reply, is_too, another) some some_too here there never never_too same =
@@ -188,7 +188,7 @@ equal_told start user item got s t u v text other own (answer, is, one) (reply, 
 
 -- ---- an item that asks nothing
 
-none_comes : (start : State) (item : First) (s t : Seat) (reply : Option Said) → AsksNothing item → Comes start item s t reply → reply ≡ None
+none_comes : (start : State) (item : First) (s t : Seat) (reply : Option Response) → AsksNothing item → Comes start item s t reply → reply ≡ None
 none_comes start item s t reply nothing (by_read a of_a still is) = absurd (asks_some item a of_a nothing)
 none_comes start item s t reply nothing (by_change a told of_a change ends moves is) = absurd (asks_some item a of_a nothing)
 none_comes start item s t reply nothing (by_stranger asks none moves is) = absurd (asks nothing)

@@ -5,7 +5,7 @@ use Rattle.std.proofs.lemmas.List.Elements.{All-head, All-tail}
 use Rattle.st_text.specs.Texts.{Text}
 use Rattle.st_http.specs.First.{First}
 use Rattle.st_core.specs.Worlds.{NeverSystem, keep}
-use Rattle.st_connection.specs.Connection.{Run, Told}
+use Rattle.st_connection.specs.Connection.{Run, WithInterim}
 use Rattle.st_service.specs.Answers.{IsBusy}
 use Rattle.st_service.specs.Worlds.{is_of, answers_to}
 use Rattle.st_hall.specs.Steps.{Ask, State}
@@ -36,13 +36,13 @@ abbrev NoneBusy : List (List ℕ) → Type 0
 NoneBusy texts = All (λ text. IsBusy text → ⊥) texts
 
 module _ (start : State) (user : Text) where
-  moves_by : (s t : Post) (item : First) (text : List ℕ) → Told (StationAnswers start) s item text t → Moves (t.seat.made - s.seat.made) s.seat t.seat
+  moves_by : (s t : Post) (item : First) (text : List ℕ) → WithInterim (StationAnswers start) s item text t → Moves (t.seat.made - s.seat.made) s.seat t.seat
   moves_by s t item text one =
       let grows = run_grows start s t (item ∷ []) (text ∷ []) (t, one, refl) in
       record { seen = grows.0; made = omega (arith, grows.1) }
 
-  one_equal : (item : First) (s t u v : Post) (text other : List ℕ) → is_of user item ≡ true → Told (StationAnswers start) s item text t
-      → Told (StationAnswers start) u item other v → (IsBusy text → ⊥) → (IsBusy other → ⊥) → NeverSystem user start t.seat.seen
+  one_equal : (item : First) (s t u v : Post) (text other : List ℕ) → is_of user item ≡ true → WithInterim (StationAnswers start) s item text t
+      → WithInterim (StationAnswers start) u item other v → (IsBusy text → ⊥) → (IsBusy other → ⊥) → NeverSystem user start t.seat.seen
       → NeverSystem user start v.seat.seen → keep user start t.seat.seen ≡ keep user start v.seat.seen
       → t.seat.made - s.seat.made ≡ v.seat.made - u.seat.made → text ≡ other
   one_equal item s t u v text other own one another some some_too never never_too same counted =
@@ -50,8 +50,8 @@ module _ (start : State) (user : Text) where
       let there = subst (λ k. Moves k u.seat v.seat) (sym counted) (moves_by u v item other another) in
       equal_told start user item (t.seat.made - s.seat.made) s t u v text other own one another some some_too here there never never_too same
 
-  pub equal_runs : (items : List First) (s t u v : Post) (texts others : List (List ℕ)) (run : Run (Told (StationAnswers start)) s items texts t)
-      (other : Run (Told (StationAnswers start)) u items others v) → NoneBusy texts → NoneBusy others
+  pub equal_runs : (items : List First) (s t u v : Post) (texts others : List (List ℕ)) (run : Run (WithInterim (StationAnswers start)) s items texts t)
+      (other : Run (WithInterim (StationAnswers start)) u items others v) → NoneBusy texts → NoneBusy others
       → NeverSystem user start t.seat.seen → NeverSystem user start v.seat.seen
       → sights user start s t items texts run ≡ sights user start u v items others other → answers_to user items texts ≡ answers_to user items others
   equal_runs [] s t u v [] [] run other some some_too never never_too same = refl

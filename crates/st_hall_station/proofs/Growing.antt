@@ -4,7 +4,7 @@ use Rattle.std.specs.Prelude.{Result}
 use Rattle.std.proofs.lemmas.List.{append-nil}
 use mathlib.Core.List.{IsPrefix}
 use Rattle.st_http.specs.First.{First, message, fault, more}
-use Rattle.st_connection.specs.Connection.{KeptPast, KeptUnlessLost, Run, Served, ServedWithin, Told}
+use Rattle.st_connection.specs.Connection.{KeptPast, KeptUnlessLost, Run, Served, ServedWithin, WithInterim}
 use Rattle.st_connection.specs.Streams.{Streams}
 use Rattle.st_connection.specs.declared.connection.Ended.{Ended}
 use Rattle.st_connection.specs.declared.connection.IoFault.{IoFault}
@@ -40,7 +40,7 @@ one_grows start s t (fault reason bare) answer (is, same) = subst (λ (u : Post)
 one_grows start s t (more waits) answer one = absurd one
 
 -- each item makes the seat grow, and so do all of them
-pub run_grows : (start : State) (s t : Post) (items : List First) (answers : List (List ℕ)) → Run (Told (StationAnswers start)) s items answers t
+pub run_grows : (start : State) (s t : Post) (items : List First) (answers : List (List ℕ)) → Run (WithInterim (StationAnswers start)) s items answers t
     → Grows s.seat t.seat
 run_grows start s t [] [] same = subst (λ (u : Post). Grows s.seat u.seat) (sym same) (stays s.seat)
 run_grows start s t [] (a ∷ answers) h = absurd h
@@ -66,7 +66,7 @@ one_remembers start s t (fault reason bare) answer (is, same) begins =
     subst (λ (u : Post). IsPrefix s.learnt u.learnt × IsPrefix u.learnt u.seat.seen) (sym same) (prefix_self s.learnt, begins)
 one_remembers start s t (more waits) answer one begins = absurd one
 
-pub run_remembers : (start : State) (s t : Post) (items : List First) (answers : List (List ℕ)) → Run (Told (StationAnswers start)) s items answers t
+pub run_remembers : (start : State) (s t : Post) (items : List First) (answers : List (List ℕ)) → Run (WithInterim (StationAnswers start)) s items answers t
     → IsPrefix s.learnt s.seat.seen → IsPrefix s.learnt t.learnt × IsPrefix t.learnt t.seat.seen
 run_remembers start s t [] [] same begins =
     subst (λ (u : Post). IsPrefix s.learnt u.learnt × IsPrefix u.learnt u.seat.seen) (sym same) (prefix_self s.learnt, begins)
@@ -77,23 +77,23 @@ run_remembers start s t (i ∷ items) (a ∷ answers) (m, (answer, is, one), res
     let later = run_remembers start m t items answers rest first.1 in
     (prefix_trans _ _ _ first.0 later.0, later.1)
 
-module _ (start : State) (keeps : List Ask → Type 0) (begins : (front list : List Ask) → IsPrefix front list → keeps list → keeps front) where
-  -- where what is seen in the end was kept, so was what was seen on the way
-  pub run_kept : (s t : Post) (items : List First) (answers : List (List ℕ)) → keeps t.seat.seen → Run (Told (StationAnswers start)) s items answers t
-      → Run (Told (KeptAnswers start keeps)) s items answers t
-  run_kept s t [] [] kept same = same
-  run_kept s t [] (a ∷ answers) kept h = absurd h
-  run_kept s t (i ∷ items) [] kept h = absurd h
-  run_kept s t (i ∷ items) (a ∷ answers) kept (m, (answer, is, one), rest) = (
+module _ (start : State) (kept : List Ask) where
+  -- where what is seen in the end begins what is kept, so does what was seen on the way
+  pub run_kept : (s t : Post) (items : List First) (answers : List (List ℕ)) → IsPrefix t.seat.seen kept → Run (WithInterim (StationAnswers start)) s items answers t
+      → Run (WithInterim (KeptAnswers start kept)) s items answers t
+  run_kept s t [] [] has same = same
+  run_kept s t [] (a ∷ answers) has h = absurd h
+  run_kept s t (i ∷ items) [] has h = absurd h
+  run_kept s t (i ∷ items) (a ∷ answers) has (m, (answer, is, one), rest) = (
     m,
-    (answer, is, record { told = one; kept = begins m.seat.seen t.seat.seen (run_grows start m t items answers rest).0 kept }),
-    run_kept m t items answers kept rest,
+    (answer, is, record { told = one; has = prefix_trans m.seat.seen t.seat.seen kept (run_grows start m t items answers rest).0 has }),
+    run_kept m t items answers has rest,
   )
 
   -- what is out of a connection that ended as lost
-  pub out_kept : (s kept t : Post) (items : List First) (answers : List (List ℕ)) (sent : List ℕ) → keeps kept.seat.seen
-      → KeptPast (Told (StationAnswers start)) s kept t items answers sent → OutKept start keeps s items answers sent
-  out_kept s kept t items answers sent h past = (
+  pub out_kept : (s synced t : Post) (items : List First) (answers : List (List ℕ)) (sent : List ℕ) → IsPrefix synced.seat.seen kept
+      → KeptPast (WithInterim (StationAnswers start)) s synced t items answers sent → OutKept start kept s items answers sent
+  out_kept s synced t items answers sent has past = (
     past.mid,
     record {
       done = past.front.done;
@@ -106,27 +106,26 @@ module _ (start : State) (keeps : List Ask → Type 0) (begins : (front list : L
       hears = past.front.hears;
       sent_is = past.front.sent_is;
       run = run_kept s past.mid past.front.done past.front.out
-          (begins past.mid.seat.seen kept.seat.seen (run_grows start past.mid kept past.amid.first past.amid.told past.amid.before).0 h) past.front.run;
+          (prefix_trans past.mid.seat.seen synced.seat.seen kept (run_grows start past.mid synced past.amid.first past.amid.told past.amid.before).0 has) past.front.run;
     },
   )
 
-module _ (start : State) (keeps : List Ask → Type 0) (hold : ℕ) where
+module _ (start : State) (hold : ℕ) where
   pub serves_kept : (size : ℕ) (s t : Standing) (streams : Streams) (result : Result Ended IoFault) → s.has_failed ≡ false → size ≡ hold
-      → ServedWithin (StationAnswers start) size s.post t.post t.settled streams result
-      → KeptUnlessLost t.settled t.post t.has_failed result → keeps t.settled.seat.seen
-      → ServesKept start keeps hold s t streams result
-  serves_kept size s t streams result here is served settled kept = (
+      → ServedWithin (StationAnswers start) size s.post t.post t.synced streams result
+      → KeptUnlessLost t.synced t.post t.has_failed result
+      → ServesKept start hold s t streams result
+  serves_kept size s t streams result here is served synced = (
     λ _. record {
-      within = subst (λ (n : ℕ). ServedWithin (StationAnswers start) n s.post t.post t.settled streams result) is served;
-      unless_lost = settled;
-      kept = kept;
+      within = subst (λ (n : ℕ). ServedWithin (StationAnswers start) n s.post t.post t.synced streams result) is served;
+      unless_lost = synced;
     },
     λ lost. absurd (let f : false ≡ true = sym here ∙ lost in cc),
   )
 
   -- a station has seen all that it had seen
   pub goes_on : (s t : Standing) (streams : Streams) (result : Result Ended IoFault)
-      → ServesKept start keeps hold s t streams result → Grows s.post.seat t.post.seat
+      → ServesKept start hold s t streams result → Grows s.post.seat t.post.seat
   goes_on s t streams result serves = by_case s.has_failed refl
     where
       by_case : (b : Bool) → s.has_failed ≡ b → Grows s.post.seat t.post.seat
@@ -134,9 +133,9 @@ module _ (start : State) (keeps : List Ask → Type 0) (hold : ℕ) where
       by_case false was = let within = (serves.0 was).within in run_grows start s.post t.post within.items within.answers within.run
 
 -- where nothing is held back and nothing is lost, each answer was written at once
-pub serves_at_once : (start : State) (keeps : List Ask → Type 0) (s t : Standing) (streams : Streams) (result : Result Ended IoFault) → s.has_failed ≡ false → (t.has_failed ≡ true → ⊥)
-    → ServesKept start keeps 0 s t streams result
+pub serves_at_once : (start : State) (s t : Standing) (streams : Streams) (result : Result Ended IoFault) → s.has_failed ≡ false → (t.has_failed ≡ true → ⊥)
+    → ServesKept start 0 s t streams result
     → Served (StationAnswers start) s.post t.post streams result
-serves_at_once start keeps s t streams result here never serves =
+serves_at_once start s t streams result here never serves =
     let sound = serves.0 here in
-    record { kept = t.settled; within = sound.within; not_lost = λ lost. never (sound.unless_lost.lost lost) }
+    record { kept = t.synced; within = sound.within; not_lost = λ lost. never (sound.unless_lost.lost lost) }

@@ -17,11 +17,11 @@ use Rattle.st_core.specs.declared.judged.Judged.TheVariants.{Heard}
 use Rattle.st_connection.specs.Render.{busy_text}
 use Rattle.st_http.specs.declared.routes.Route.{Route}
 use Rattle.st_http.specs.declared.routes.Route.TheVariants as routes
-use Rattle.st_http.specs.Routes.{Routed, ShowsRoute, found}
+use Rattle.st_http.specs.Routes.{Routed, RepresentsRoute, found}
 use Rattle.st_service.specs.Answers as service
-use Rattle.st_service.specs.Answers.{AsksBy, IsFound, IsUnrouted, RepliesTo, StateAnswers, TellsOrBusy, parsed_in, reply_text, route_in, token_from, token_in}
-use Rattle.st_service.specs.inner.Shown.{asks_in, route_shown}
-use Rattle.st_hall.specs.Steps.{Ask, State, Said, reply_of, state_after}
+use Rattle.st_service.specs.Answers.{AsksBy, IsFound, IsUnrouted, RepliesTo, StateAnswers, RendersOrBusy, parsed_in, reply_text, route_in, token_from, token_in}
+use Rattle.st_service.specs.inner.Represented.{asks_in, route_is}
+use Rattle.st_hall.specs.Steps.{Ask, State, Response, reply_of, state_after}
 use Rattle.st_hall.specs.Views.{Seat, Post, EndsAfter, Learns}
 use Rattle.st_hall.specs.Decisions.{Decides, counted}
 use Rattle.st_hall.specs.declared.commits.Undecided.{Undecided}
@@ -50,16 +50,16 @@ change_told s asked e = judged_change s (asker_of s.directory asked.token) asked
 
 -- a stranger is refused, or no memory was found for the text
 pub seated_stranger : (start : State) (s t : Seat) (m : Message) (bytes : List ℕ) → IsFound m
-    → IsStrange start t.seen (option_map token_from (token_in m)) → Moves 0 s t → TellsOrBusy no_token m.close m.bare bytes → SeatAnswers start s (parsed_in m) bytes t
+    → IsStrange start t.seen (option_map token_from (token_in m)) → Moves 0 s t → RendersOrBusy no_token m.close m.bare bytes → SeatAnswers start s (parsed_in m) bytes t
 seated_stranger start s t m bytes is_found none moves (inl is) =
-    stranger (sym (route_shown m.route (found is_found.0 is_found.1) is_found.2)) none moves is
+    stranger (sym (route_is m.route (found is_found.0 is_found.1) is_found.2)) none moves is
 seated_stranger start s t m bytes is_found none moves (inr (is, other)) = busy moves is
 
 -- what was seen before is seen still
 moved_on : (more : ℕ) (s u t : Seat) → Moves 0 s u → Moves more u t → Moves more s t
 moved_on more s u t before m = record { seen = prefix_trans s.seen u.seen t.seen before.seen m.seen; made = omega (arith, before.made, m.made) }
 
-ended_on : (start : State) (s u t : Seat) (asked : Ask) (reply : Said) → Moves 0 s u → EndsAfter start u.seen t.seen asked reply
+ended_on : (start : State) (s u t : Seat) (asked : Ask) (reply : Response) → Moves 0 s u → EndsAfter start u.seen t.seen asked reply
     → EndsAfter start s.seen t.seen asked reply
 ended_on start s u t asked reply before (front, on, ends, told) = (front, prefix_trans s.seen u.seen front before.seen on, ends, told)
 
@@ -74,20 +74,20 @@ seated_later start s u t m bytes is_found before (untold {asked} {refusal} asks 
     untold {refusal = refusal} asks changes (ended_on start s u t asked (Reply.Refused refusal) before ends) (moved_on 1 s u t before moves) is
 seated_later start s u t m bytes is_found before (busy moves is) = busy (moved_on 0 s u t before moves) is
 seated_later start s u t m bytes (e, name, at) before (unrouted none same is) =
-    absurd (subst IsUnrouted (sym (route_shown m.route (found e name) at)) none)
+    absurd (subst IsUnrouted (sym (route_is m.route (found e name) at)) none)
 
-shows_route : (route : Route) (r : Routed) → route_in route ≡ r → ShowsRoute route r
-shows_route (routes.Found l n) r is = sym is
-shows_route routes.NoRoute r is = sym is
-shows_route (routes.BadMethod allow) r is = sym is
+represents_route : (route : Route) (r : Routed) → route_in route ≡ r → RepresentsRoute route r
+represents_route (routes.Found l n) r is = sym is
+represents_route routes.NoRoute r is = sym is
+represents_route (routes.BadMethod allow) r is = sym is
 
 -- a message without an endpoint is answered as by a service
 nobody : (start : State) (s : Seat) (m : Message) (bytes : List ℕ) → (IsFound m → ⊥) → StateAnswers start (parsed_in m) bytes start
     → SeatAnswers start s (parsed_in m) bytes s
-nobody start s m bytes none (service.told asks after is) = absurd (none (asks.endpoint, asks.name, shows_route m.route (found asks.endpoint asks.name) asks.route))
+nobody start s m bytes none (service.told asks after is) = absurd (none (asks.endpoint, asks.name, represents_route m.route (found asks.endpoint asks.name) asks.route))
 nobody start s m bytes none (service.busy same is) = busy (record { seen = ([], append-nil s.seen); made = omega arith }) is
 nobody start s m bytes none (service.untold asks after refused is) =
-    absurd (none (asks.endpoint, asks.name, shows_route m.route (found asks.endpoint asks.name) asks.route))
+    absurd (none (asks.endpoint, asks.name, represents_route m.route (found asks.endpoint asks.name) asks.route))
 nobody start s m bytes none (service.unrouted at same is) = unrouted at refl is
 
 pub seated_nobody : (start : State) (s : Seat) (m : Message) (bytes : List ℕ) → (IsFound m → ⊥) → ((state : State) → RepliesTo state m bytes state)
@@ -113,14 +113,14 @@ module _ (start : State) (s t : Seat) (m : Message) (bytes : List ℕ) (asked : 
   seated_wanting is seen changed kept = busy (unmade seen changed kept) is
 
   module _ (is_found : IsFound m) (asks : AsksBy m asked) where
-    seated_read : (reply : Said) → asks_for_change asked ≡ false → Moves 0 s t → reply ≡ reply_of (state_after start t.seen) asked
-        → TellsOrBusy reply m.close m.bare bytes → SeatAnswers start s (parsed_in m) bytes t
+    seated_read : (reply : Response) → asks_for_change asked ≡ false → Moves 0 s t → reply ≡ reply_of (state_after start t.seen) asked
+        → RendersOrBusy reply m.close m.bare bytes → SeatAnswers start s (parsed_in m) bytes t
     seated_read reply is_read moves told (inl is) =
-        read (asks_in m asked is_found asks) is_read moves (is ∙ ap (λ (r : Said). reply_text r m.close m.bare) told)
+        read (asks_in m asked is_found asks) is_read moves (is ∙ ap (λ (r : Response). reply_text r m.close m.bare) told)
     seated_read reply is_read moves told (inr (is, other)) = busy moves is
 
-    seated_change : (reply : Said) → asks_for_change asked ≡ true → Moves 1 s t → EndsAfter start s.seen t.seen asked reply
-        → TellsOrBusy reply m.close m.bare bytes → SeatAnswers start s (parsed_in m) bytes t
+    seated_change : (reply : Response) → asks_for_change asked ≡ true → Moves 1 s t → EndsAfter start s.seen t.seen asked reply
+        → RendersOrBusy reply m.close m.bare bytes → SeatAnswers start s (parsed_in m) bytes t
     seated_change reply changes moves ends (inl is) = made (asks_in m asked is_found asks) changes ends moves is
     seated_change reply changes moves (before, goes_on, ends, told) (inr (is, other)) =
         elim (change_told (state_after start before) asked changes) [
@@ -129,11 +129,11 @@ module _ (start : State) (s t : Seat) (m : Message) (bytes : List ℕ) (asked : 
         ]
 
     -- what was asked is told, be it a read or a change
-    seated_told : (reply : Said) → IsPrefix s.seen t.seen → (asks_for_change asked ≡ true → t.made ≡ s.made + 1)
+    seated_told : (reply : Response) → IsPrefix s.seen t.seen → (asks_for_change asked ≡ true → t.made ≡ s.made + 1)
         → (asks_for_change asked ≡ true → EndsAfter start s.seen t.seen asked reply)
         → (asks_for_change asked ≡ false → t.made ≡ s.made)
         → (asks_for_change asked ≡ false → reply ≡ reply_of (state_after start t.seen) asked)
-        → TellsOrBusy reply m.close m.bare bytes → SeatAnswers start s (parsed_in m) bytes t
+        → RendersOrBusy reply m.close m.bare bytes → SeatAnswers start s (parsed_in m) bytes t
     seated_told reply seen counted ends kept told text = go (asks_for_change asked) refl
       where
         go : (b : Bool) → asks_for_change asked ≡ b → SeatAnswers start s (parsed_in m) bytes t
@@ -142,12 +142,12 @@ module _ (start : State) (s t : Seat) (m : Message) (bytes : List ℕ) (asked : 
 
 -- what is asked is told, or no memory was found for it, or nobody asks
 pub seated : (start : State) (s t : Seat) (m : Message) (bytes : List ℕ) (asked : Ask) → IsFound m → AsksBy m asked
-    → asked.token ≡ option_map token_from (token_in m) → (result : Result (Option Said) Undecided) → IsPrefix s.seen t.seen
+    → asked.token ≡ option_map token_from (token_in m) → (result : Result (Option Response) Undecided) → IsPrefix s.seen t.seen
     → (asks_for_change asked ≡ true → MatchResult result (λ told. t.made ≡ s.made + counted told) (λ _. t.made ≡ s.made))
     → (asks_for_change asked ≡ true → IfOk result (λ told. Decides start s.seen asked told t.seen))
     → (asks_for_change asked ≡ false → t.made ≡ s.made)
     → (asks_for_change asked ≡ false → IfOk result (λ told. told ≡ Some (reply_of (state_after start t.seen) asked)))
-    → IfOk result (λ told. IfSome told (λ r. TellsOrBusy r m.close m.bare bytes)) → (result ≡ Ok None → TellsOrBusy no_token m.close m.bare bytes)
+    → IfOk result (λ told. IfSome told (λ r. RendersOrBusy r m.close m.bare bytes)) → (result ≡ Ok None → RendersOrBusy no_token m.close m.bare bytes)
     → OnErr result (bytes ≡ busy_text m.close m.bare) → SeatAnswers start s (parsed_in m) bytes t
 seated start s t m bytes asked is_found asks token (Ok (Some reply)) seen got decided kept shown text refused busy_is =
     seated_told start s t m bytes asked is_found asks reply seen got decided kept (λ e. let f = shown e in cc) text

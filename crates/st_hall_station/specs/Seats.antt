@@ -10,7 +10,7 @@ use Rattle.st_core.specs.declared.asked.Token.{Token}
 use Rattle.st_core.specs.Step.{asker_of, asks_for_change}
 use Rattle.st_connection.specs.Render.{busy_text}
 use Rattle.st_service.specs.Answers.{AsksIn, IsUnrouted, Parsed, reply_text, token_from, unrouted_text}
-use Rattle.st_hall.specs.Steps.{Ask, State, Said, reply_of, state_after}
+use Rattle.st_hall.specs.Steps.{Ask, State, Response, reply_of, state_after}
 use Rattle.st_hall.specs.Views.{Seat, EndsAfter}
 
 -- what was seen is seen still, and so many receipts more were got
@@ -23,7 +23,7 @@ abbrev pub IsStrange : State → List Ask → Option Token → Type 0
 IsStrange start seen token = asker_of (state_after start seen).directory token ≡ None
 
 -- what a stranger is told
-abbrev pub no_token : Said
+abbrev pub no_token : Response
 no_token = Reply.Refused (Refusal.Denied Denial.Token)
 
 -- At a seat a message may get this answer, and leave this seat.
@@ -32,7 +32,8 @@ pub data SeatAnswers (start : State) (s : Seat) (p : Parsed) (answer : List ℕ)
   read : {asked : Ask} → AsksIn p asked → asks_for_change asked ≡ false → Moves 0 s t
       → answer ≡ reply_text (reply_of (state_after start t.seen) asked) p.close p.bare → SeatAnswers start s p answer t
   -- a change is told the last reply of what is seen then, which goes on what was seen before and ends with it, and is counted
-  made : {asked : Ask} {reply : Said} → AsksIn p asked → asks_for_change asked ≡ true → EndsAfter start s.seen t.seen asked reply → Moves 1 s t
+  made : {asked : Ask} {reply : Response} → AsksIn p asked → asks_for_change asked ≡ true → EndsAfter start s.seen t.seen asked reply
+      → Moves 1 s t
       → answer ≡ reply_text reply p.close p.bare → SeatAnswers start s p answer t
   -- a stranger is told so, whatever the body: the token does not hold after what is seen then; it is no change, and is not counted
   stranger : {endpoint : Endpoint} {name : List ℕ} → p.route ≡ found endpoint name → IsStrange start t.seen (option_map token_from p.token)

@@ -11,7 +11,7 @@ impl<H: HallName, M: Commits<H>, G: Gate, W: Wait> Attend for Station<'_, H, M, 
     ghost use Rattle.st_hall_station.specs.Standing.{ServesKept};
     ghost use Rattle.st_hall_station.specs.inner.Growing.{same_seat};
 
-    ghost serves = { λ s t streams result. ServesKept H.start M.keeps M.HOLD s t streams result };
+    ghost serves = { λ s t streams result. ServesKept H.start M.HOLD s t streams result };
 
     ghost grows = { λ s t. IsPrefix s.post.seat.seen t.post.seat.seen × (s.post.seat.made ≤ t.post.seat.made) };
 

@@ -5,20 +5,18 @@ ghost use mathlib.Core.List.{IsPrefix};
 ghost use Rattle.st_text.specs.Texts.{Text};
 ghost use Rattle.st_http.specs.First.{First};
 ghost use Rattle.st_core.specs.Worlds.{NeverSystem, keep};
-ghost use Rattle.st_connection.specs.Connection.{KeptPast, Run, Served, Told};
+ghost use Rattle.st_connection.specs.Connection.{KeptPast, Run, Served, WithInterim};
 ghost use Rattle.st_connection.specs.Streams.{Streams};
 ghost use Rattle.st_connection.specs.declared.connection.Ended.{Ended};
 ghost use Rattle.st_connection.specs.declared.connection.IoFault.{IoFault};
 ghost use Rattle.st_service.specs.Answers.{ForItems, IsBusy};
 ghost use Rattle.st_service.specs.Worlds.{ItemAsks, answers_to, is_of};
-ghost use Rattle.st_hall.specs.Steps.{State};
+ghost use Rattle.st_hall.specs.Steps.{Ask, State};
 ghost use Rattle.st_hall.specs.Views.{Post, Seat};
 ghost use Rattle.st_hall_station.specs.Posts.{StationAnswers};
 ghost use Rattle.st_hall_station.specs.Seats.{Moves, SeatAnswers};
 ghost use Rattle.st_hall_station.specs.Sights.{sights};
 ghost use Rattle.st_hall_station.specs.Standing.{KeptAnswers, OutKept};
-
-use st_hall::{Commits, HallName};
 
 /// What a station has seen it sees still, and its receipts are not fewer, after each connection that it served. What it sees begins
 /// with each front that it learnt.
@@ -29,16 +27,18 @@ pub fn only_grows()
         × (IsPrefix s.learnt s.seat.seen → IsPrefix s.learnt t.learnt × IsPrefix t.learnt t.seat.seen) }
 {}
 
-/// In each hall: where what is seen in the end was kept, so was all that was seen for each answer on the way.
-pub fn all_were_kept<H: HallName, M: Commits<H>>()
-    ensures { (s t : Post) (items : List First) (answers : List (List ℕ)) → M.keeps t.seat.seen
-        → Run (Told (StationAnswers H.start)) s items answers t → Run (Told (KeptAnswers H.start M.keeps)) s items answers t }
+/// Where what is seen in the end begins what is kept, so does all that was seen for each answer on the way.
+pub fn all_is_kept()
+    ensures { (start : State) (kept : List Ask) (s t : Post) (items : List First) (answers : List (List ℕ)) → IsPrefix t.seat.seen kept
+        → Run (WithInterim (StationAnswers start)) s items answers t → Run (WithInterim (KeptAnswers start kept)) s items answers t }
 {}
 
-/// In each hall: of a connection that ended as lost, what is out are answers for which all that was seen was kept.
-pub fn what_is_out_was_kept<H: HallName, M: Commits<H>>()
-    ensures { (s kept t : Post) (items : List First) (answers : List (List ℕ)) (sent : List ℕ) → M.keeps kept.seat.seen
-        → KeptPast (Told (StationAnswers H.start)) s kept t items answers sent → OutKept H.start M.keeps s items answers sent }
+/// Of a connection that ended as lost, what is out are answers for which all that was seen begins what is kept, where what was synced
+/// there does.
+pub fn what_is_out_is_kept()
+    ensures { (start : State) (kept : List Ask) (s synced t : Post) (items : List First) (answers : List (List ℕ)) (sent : List ℕ)
+        → IsPrefix synced.seat.seen kept → KeptPast (WithInterim (StationAnswers start)) s synced t items answers sent
+        → OutKept start kept s items answers sent }
 {}
 
 /// What a user may ever see decides, byte for byte, what stations tell that user. Two seats answer an item of the user by equal bytes
@@ -60,7 +60,7 @@ pub fn equal_stations()
 /// each item the same is kept of what both see then, and both have counted as many receipts for it.
 pub fn equal_runs()
     ensures { (start : State) (user : Text) (s t u v : Post) (items : List First) (texts others : List (List ℕ))
-        (run : Run (Told (StationAnswers start)) s items texts t) (other : Run (Told (StationAnswers start)) u items others v)
+        (run : Run (WithInterim (StationAnswers start)) s items texts t) (other : Run (WithInterim (StationAnswers start)) u items others v)
         → All (λ text. IsBusy text → ⊥) texts → All (λ text. IsBusy text → ⊥) others
         → NeverSystem user start t.seat.seen → NeverSystem user start v.seat.seen
         → sights user start s t items texts run ≡ sights user start u v items others other

@@ -7,9 +7,9 @@ ghost use Rattle.st_connection.specs.Connection.{EndsOn, Served};
 ghost use Rattle.st_connection.specs.Streams.{streams};
 ghost use Rattle.st_connection.specs.Render.{busy_text};
 ghost use Rattle.st_hall.specs.Views.{Learns};
-ghost use Rattle.st_service.specs.Answers.{IsFound, TellsOrBusy, parsed_in, token_from, token_in};
+ghost use Rattle.st_service.specs.Answers.{IsFound, RendersOrBusy, parsed_in, token_from, token_in};
 ghost use Rattle.st_service.specs.Bytes.{bytes_of};
-ghost use Rattle.st_service.specs.inner.Shown.{shown};
+ghost use Rattle.st_service.specs.inner.Represented.{is_replied};
 ghost use Rattle.st_hall_station.specs.Posts.{PostAnswers, StationAnswers, StationReplies};
 ghost use Rattle.st_hall_station.specs.Seats.{IsStrange, Moves, SeatAnswers, no_token};
 ghost use Rattle.st_hall_station.specs.Standing.{ServesKept};
@@ -19,7 +19,7 @@ use st_connection::connection::{Ended, IoFault, MAX_READS, ROOM, serve_connectio
 use st_connection::replies::Replies;
 use st_connection::streams::{Sink, Source};
 use st_core::{Reply, Token, copy_token};
-use st_hall::{Clerk, Commits, Desk, Front, Gate, HallName, Lost, Undecided, Worker};
+use st_hall::{Clerk, Commits, Desk, Gate, HallName, KeptFront, Lost, Undecided, Worker};
 use st_http::message::Message;
 use st_http::routes::Routes;
 use st_service::{Answer, asked_with, is_long, to_stranger, token_of};
@@ -28,14 +28,14 @@ use std::marker::Model;
 use std::sync::{Mutex, Wait};
 
 // What answers messages by a worker.
-struct Answerer<'a, H: HallName, M: Commits<H>, G: Gate, W: Wait> {
+struct WorkerAnswerer<'a, H: HallName, M: Commits<H>, G: Gate, W: Wait> {
     alloc: Global,
     worker: Worker<'a, H, M, G>,
     rt: &'a W,
 }
 
 // Written out, and not derived, as that of a station is.
-impl<'a, H: HallName, M: Commits<H>, G: Gate, W: Wait> Drop for Answerer<'a, H, M, G, W> {
+impl<'a, H: HallName, M: Commits<H>, G: Gate, W: Wait> Drop for WorkerAnswerer<'a, H, M, G, W> {
     fn drop(self) {
         let Self {
             alloc: _alloc,
@@ -45,7 +45,7 @@ impl<'a, H: HallName, M: Commits<H>, G: Gate, W: Wait> Drop for Answerer<'a, H, 
     }
 }
 
-impl<'a, H: HallName, M: Commits<H>, G: Gate, W: Wait> Model for Answerer<'a, H, M, G, W> {
+impl<'a, H: HallName, M: Commits<H>, G: Gate, W: Wait> Model for WorkerAnswerer<'a, H, M, G, W> {
     ghost use Rattle.st_hall.specs.Decisions.{Standing};
 
     ghost Value = { Standing };
@@ -53,9 +53,9 @@ impl<'a, H: HallName, M: Commits<H>, G: Gate, W: Wait> Model for Answerer<'a, H,
     ghost view = { λ a. a.worker };
 }
 
-// The answer that tells a reply.
+// The answer that has a reply.
 fn say(alloc: Global, message: &Message<'_>, reply: Reply) -> Answer
-    ensures { TellsOrBusy reply message.now.close message.now.bare (bytes_of result) }
+    ensures { RendersOrBusy reply message.now.close message.now.bare (bytes_of result) }
 {
     let told = Ok(reply);
     let answer = Answer::of(alloc, &told, message.close, message.bare);
@@ -74,9 +74,9 @@ fn busy(message: &Message<'_>) -> Answer
 }
 
 // The answer to what a message asked.
-fn tell(alloc: Global, message: &Message<'_>, told: Result<Option<Reply>, Undecided>) -> Answer
-    ensures ok { IfOk told (λ t. IfSome t (λ reply. TellsOrBusy reply message.now.close message.now.bare (bytes_of result))) }
-    ensures stranger { told ≡ Ok None → TellsOrBusy no_token message.now.close message.now.bare (bytes_of result) }
+fn answer_of(alloc: Global, message: &Message<'_>, told: Result<Option<Reply>, Undecided>) -> Answer
+    ensures ok { IfOk told (λ t. IfSome t (λ reply. RendersOrBusy reply message.now.close message.now.bare (bytes_of result))) }
+    ensures stranger { told ≡ Ok None → RendersOrBusy no_token message.now.close message.now.bare (bytes_of result) }
     ensures busy { OnErr told (bytes_of result ≡ busy_text message.now.close message.now.bare) }
 {
     match told {
@@ -86,7 +86,7 @@ fn tell(alloc: Global, message: &Message<'_>, told: Result<Option<Reply>, Undeci
     }
 }
 
-impl<'a, H: HallName, M: Commits<H>, G: Gate, W: Wait> Answerer<'a, H, M, G, W> {
+impl<'a, H: HallName, M: Commits<H>, G: Gate, W: Wait> WorkerAnswerer<'a, H, M, G, W> {
     // How many receipts were got at the desk.
     fn made(&self) -> u64
         ensures { result ≡ self.now.post.seat.made }
@@ -94,10 +94,10 @@ impl<'a, H: HallName, M: Commits<H>, G: Gate, W: Wait> Answerer<'a, H, M, G, W> 
         self.worker.made()
     }
 
-    // The desk, and what it had seen when the worker was last settled, once that works no more.
-    fn apart(self) -> (Desk<H>, Front<H>)
+    // The desk, and what it had seen when the worker was last synced, once that works no more.
+    fn apart(self) -> (Desk<H>, KeptFront<H>)
         ensures desk { result.0 ≡ self.entry.post.seat }
-        ensures settled { result.1 ≡ self.entry.settled.seat.seen }
+        ensures synced { result.1 ≡ self.entry.synced.seat.seen }
     {
         let Self {
             alloc: _alloc,
@@ -107,10 +107,9 @@ impl<'a, H: HallName, M: Commits<H>, G: Gate, W: Wait> Answerer<'a, H, M, G, W> 
         worker.apart()
     }
 
-    // Whether a settling failed. What had been seen when it was last settled was kept.
+    // Whether a sync failed.
     fn has_failed(&self) -> bool
         ensures is { result ≡ self.now.has_failed }
-        ensures kept { M.keeps self.now.settled.seat.seen }
         ensures lost { self.now.has_failed ≡ true → M.may_lose }
     {
         self.worker.has_failed()
@@ -119,17 +118,17 @@ impl<'a, H: HallName, M: Commits<H>, G: Gate, W: Wait> Answerer<'a, H, M, G, W> 
     // Sees that all that was seen so far is kept.
     fn keep(&mut self) -> Result<(), Lost>
         ensures post { self.new.post ≡ self.old.post }
-        ensures ok { OnOk result ((self.new.settled ≡ self.new.post) × (self.new.has_failed ≡ self.old.has_failed)) }
-        ensures err { OnErr result ((self.new.settled ≡ self.old.settled) × (self.new.has_failed ≡ true)) }
+        ensures ok { OnOk result ((self.new.synced ≡ self.new.post) × (self.new.has_failed ≡ self.old.has_failed)) }
+        ensures err { OnErr result ((self.new.synced ≡ self.old.synced) × (self.new.has_failed ≡ true)) }
         ensures lost { OnErr result M.may_lose }
     {
-        self.worker.settle(self.rt)
+        self.worker.sync(self.rt)
     }
 
     // Whether a message is refused before its body is read: the body is long, and the token does not hold after the changes that are
     // then seen. When out of memory the body is read.
     fn is_stranger(&mut self, message: &Message<'_>, token: &Option<Token>) -> bool
-        ensures same { (self.new.settled ≡ self.old.settled) × (self.new.has_failed ≡ self.old.has_failed) }
+        ensures same { (self.new.synced ≡ self.old.synced) × (self.new.has_failed ≡ self.old.has_failed) }
         ensures number { self.new.post.number ≡ self.old.post.number }
         ensures calls { self.new.post.calls ≡ self.old.post.calls }
         ensures learnt { self.new.post.learnt ≡ self.old.post.learnt }
@@ -149,7 +148,7 @@ impl<'a, H: HallName, M: Commits<H>, G: Gate, W: Wait> Answerer<'a, H, M, G, W> 
     fn answer_asked(&mut self, message: &Message<'_>, token: Option<Token>) -> Answer
         requires found { IsFound message.now }
         requires token { token ≡ option_map token_from (token_in message.now) }
-        ensures same { (self.new.settled ≡ self.old.settled) × (self.new.has_failed ≡ self.old.has_failed) }
+        ensures same { (self.new.synced ≡ self.old.synced) × (self.new.has_failed ≡ self.old.has_failed) }
         ensures number { self.new.post.number ≡ self.old.post.number }
         ensures calls { self.new.post.calls ≡ self.old.post.calls }
         ensures learns { Learns self.old.post self.new.post }
@@ -160,13 +159,13 @@ impl<'a, H: HallName, M: Commits<H>, G: Gate, W: Wait> Answerer<'a, H, M, G, W> 
         };
         let told = self.worker.ask(self.rt, message, &asked);
         drop(asked);
-        tell(self.alloc, message, told)
+        answer_of(self.alloc, message, told)
     }
 
     // Answers a message whose route is an endpoint, in the call that began last.
     fn answer_found(&mut self, message: &Message<'_>) -> Answer
         requires { IsFound message.now }
-        ensures same { (self.new.settled ≡ self.old.settled) × (self.new.has_failed ≡ self.old.has_failed) }
+        ensures same { (self.new.synced ≡ self.old.synced) × (self.new.has_failed ≡ self.old.has_failed) }
         ensures number { self.new.post.number ≡ self.old.post.number }
         ensures calls { self.new.post.calls ≡ self.old.post.calls }
         ensures learns { Learns self.old.post self.new.post }
@@ -181,7 +180,7 @@ impl<'a, H: HallName, M: Commits<H>, G: Gate, W: Wait> Answerer<'a, H, M, G, W> 
 
     // Answers a message, in the call that began last. Once nothing more is kept no request is answered: no answer goes out then.
     fn answer(&mut self, message: &Message<'_>) -> Answer
-        ensures same { (self.new.settled ≡ self.old.settled) × (self.new.has_failed ≡ self.old.has_failed) }
+        ensures same { (self.new.synced ≡ self.old.synced) × (self.new.has_failed ≡ self.old.has_failed) }
         ensures number { self.new.post.number ≡ self.old.post.number }
         ensures calls { self.new.post.calls ≡ self.old.post.calls }
         ensures learns { Learns self.old.post self.new.post }
@@ -197,7 +196,7 @@ impl<'a, H: HallName, M: Commits<H>, G: Gate, W: Wait> Answerer<'a, H, M, G, W> 
     }
 }
 
-impl<'a, H: HallName, M: Commits<H>, G: Gate, W: Wait> Replies for Answerer<'a, H, M, G, W> {
+impl<'a, H: HallName, M: Commits<H>, G: Gate, W: Wait> Replies for WorkerAnswerer<'a, H, M, G, W> {
     ghost use Rattle.st_hall.specs.Views.{Post};
 
     type Reply = Answer;
@@ -206,7 +205,7 @@ impl<'a, H: HallName, M: Commits<H>, G: Gate, W: Wait> Replies for Answerer<'a, 
 
     ghost now = { λ a. a.post };
 
-    ghost kept = { λ a. a.settled };
+    ghost kept = { λ a. a.synced };
 
     ghost has_failed = { λ a. a.has_failed };
 
@@ -214,7 +213,7 @@ impl<'a, H: HallName, M: Commits<H>, G: Gate, W: Wait> Replies for Answerer<'a, 
 
     ghost replies = { StationReplies H.start };
 
-    ghost shown = { shown (PostAnswers H.start) };
+    ghost replied = { is_replied (PostAnswers H.start) };
 
     ghost faults = { λ s reason bare. (refl, refl) };
 
@@ -225,7 +224,7 @@ impl<'a, H: HallName, M: Commits<H>, G: Gate, W: Wait> Replies for Answerer<'a, 
         answer
     }
 
-    fn settle(&mut self) -> Result<(), Failed> {
+    fn sync(&mut self) -> Result<(), Failed> {
         match self.keep() {
             Ok(()) => Ok(()),
             Err(Lost) => Err(Failed),
@@ -233,7 +232,13 @@ impl<'a, H: HallName, M: Commits<H>, G: Gate, W: Wait> Replies for Answerer<'a, 
     }
 }
 
-impl<'a, H: HallName, C: Wait + Drop, G: Gate, W: Wait> Answerer<'a, H, Mutex<Clerk<H, C>>, G, W> {
+impl<'a, H: HallName, C: Wait + Drop, G: Gate, W: Wait> WorkerAnswerer<
+    'a,
+    H,
+    Mutex<Clerk<H, C>>,
+    G,
+    W,
+> {
     // A hall in memory loses nothing.
     fn is_sound(&self)
         ensures { self.now.has_failed ≡ false }
@@ -243,10 +248,10 @@ impl<'a, H: HallName, C: Wait + Drop, G: Gate, W: Wait> Answerer<'a, H, Mutex<Cl
         }
     }
 
-    // Nor does a settling fail there.
+    // Nor does a sync fail there.
     fn rest(&mut self)
         ensures post { self.new.post ≡ self.old.post }
-        ensures settled { self.new.settled ≡ self.new.post }
+        ensures synced { self.new.synced ≡ self.new.post }
         ensures sound { self.new.has_failed ≡ self.old.has_failed }
     {
         if self.keep().is_err() {
@@ -256,9 +261,9 @@ impl<'a, H: HallName, C: Wait + Drop, G: Gate, W: Wait> Answerer<'a, H, Mutex<Cl
 }
 
 /// A worker who serves connections, one after another. Contracts see it as its post (its number, how many messages it was asked, the
-/// longest front that it learnt, and its desk), the same as it was when it was last settled, and whether a settling failed.
+/// longest front that it learnt, and its desk), the same at its last sync, and whether a sync failed.
 pub struct Station<'a, H: HallName, M: Commits<H>, G: Gate, W: Wait> {
-    answerer: Answerer<'a, H, M, G, W>,
+    answerer: WorkerAnswerer<'a, H, M, G, W>,
     routes: Routes,
     buffer: Vec<u8>,
     block: Vec<u8>,
@@ -286,7 +291,7 @@ impl<'a, H: HallName, M: Commits<H>, G: Gate, W: Wait> Model for Station<'a, H, 
     ghost view = { λ s. s.answerer };
 
     ghost invariant = { λ s. (ROOM ≤ length s.buffer.items) × (length s.block.items ≡ M.HOLD)
-        × (s.answerer.has_failed ≡ false → s.answerer.settled ≡ s.answerer.post) };
+        × (s.answerer.has_failed ≡ false → s.answerer.synced ≡ s.answerer.post) };
 }
 
 impl<'a, H: HallName, M: Commits<H>, G: Gate, W: Wait> Station<'a, H, M, G, W> {
@@ -296,19 +301,20 @@ impl<'a, H: HallName, M: Commits<H>, G: Gate, W: Wait> Station<'a, H, M, G, W> {
         alloc: Global,
         number: u64,
         desk: Desk<H>,
+        kept: KeptFront<H>,
         hall: &'a M,
         gate: &'a G,
     ) -> Result<Station<'a, H, M, G, W>, AllocError>
-        requires { M.keeps desk.seen }
+        requires { kept ≡ desk.seen }
         ensures post { IfOk result (λ station. station.post ≡ record { number = number; calls = 0; learnt = desk.seen; seat = desk }) }
-        ensures settled { IfOk result (λ station. (station.settled ≡ station.post) × (station.has_failed ≡ false)) }
+        ensures synced { IfOk result (λ station. (station.synced ≡ station.post) × (station.has_failed ≡ false)) }
     {
-        let worker = Worker::new(number, desk, hall, gate);
+        let worker = Worker::new(number, desk, kept, hall, gate);
         let routes = Routes::new(alloc)?;
         let buffer = vec![in alloc; 0u8; ROOM]?;
         let block = vec![in alloc; 0u8; M::HOLD]?;
         Ok(Station {
-            answerer: Answerer { alloc, worker, rt },
+            answerer: WorkerAnswerer { alloc, worker, rt },
             routes,
             buffer,
             block,
@@ -322,10 +328,10 @@ impl<'a, H: HallName, M: Commits<H>, G: Gate, W: Wait> Station<'a, H, M, G, W> {
         self.answerer.made()
     }
 
-    /// Its desk, and what had been seen there when it was last settled, once it serves no more.
-    pub fn apart(self) -> (Desk<H>, Front<H>)
+    /// Its desk, and what had been seen there when it was last synced, which is kept, once it serves no more.
+    pub fn apart(self) -> (Desk<H>, KeptFront<H>)
         ensures desk { result.0 ≡ self.entry.post.seat }
-        ensures settled { result.1 ≡ self.entry.settled.seat.seen }
+        ensures synced { result.1 ≡ self.entry.synced.seat.seen }
     {
         let Self {
             answerer,
@@ -346,7 +352,7 @@ impl<'a, H: HallName, M: Commits<H>, G: Gate, W: Wait> Station<'a, H, M, G, W> {
     ) -> Result<Ended, IoFault>
         requires reader_sound { S.has_failed reader.old ≡ false }
         requires writer_sound { K.has_failed writer.old ≡ false }
-        ensures served { ServesKept H.start M.keeps M.HOLD self.old self.new
+        ensures served { ServesKept H.start M.HOLD self.old self.new
             (streams S.left S.reads S.has_ended S.has_failed K.held K.has_failed reader.old reader.new writer.old writer.new) result }
         ensures lost { self.new.has_failed ≡ true → M.may_lose }
         ensures ends { EndsOn MAX_READS

@@ -2,10 +2,11 @@
 use Rattle.std.proofs.Common.{◌≡◌, ◌∙◌, ℕ, ◌≤◌, inl, inr, Bool, true, false, lit<, List, [], ◌∷◌, ◌++◌, length, get_or, refl, sym, ap, subst, arith, append_assoc, length-append}
 use Rattle.std.specs.Prelude.{codes}
 use Rattle.std.proofs.lemmas.List.Elements.{All-cons, All-nil}
-use Rattle.httparse.specs.Grammar.{IsToken, is_token_byte, is_uri_byte, LineEnd, crlf, lf, print_end, print_blank, print_version, print_section, RequestHead, ReadsRequest, HasNoRequest, MayBecomeRequest}
+use Rattle.httparse.specs.Grammar.{IsToken, is_token_byte, is_uri_byte, LineEnd, crlf, lf, print_end, print_blank, print_version, print_section}
+use Rattle.httparse.specs.Grammar.{RequestHead, ReadsRequest, HasNoRequest, MayBecomeRequest}
 use Rattle.httparse.proofs.GrammarLemmas.{print_request-append, ReadsRequest-append}
 use Rattle.httparse.proofs.PieceLemmas.{Stops_token}
-use Rattle.st_http.specs.Head.{window, IsBare, TellsBare}
+use Rattle.st_http.specs.Head.{window, IsBare, DecidesBare}
 use Rattle.st_http.specs.inner.Windows.{StartsInLine}
 use Rattle.st_http.proofs.TargetLemmas.{blank_parts, method_unique}
 use Rattle.st_http.proofs.WindowLemmas.{fronts, window_grows, window_full, target_open}
@@ -46,33 +47,41 @@ bare_less p w never (blank, rest, e) =
 -- the flag of a text is that of a longer one, where no text between them ends with the word and the space
 kept_both_ways : (text after : List ℕ) (bare : Bool)
     → ((m : List ℕ) (blank : List LineEnd) → window text ++ m ≡ print_blank blank ++ codes "HEAD " → ⊥)
-    → TellsBare text bare → TellsBare (text ++ after) bare
-unfolding TellsBare
-kept_both_ways text after bare never tells =
+    → DecidesBare text bare → DecidesBare (text ++ after) bare
+unfolding DecidesBare
+kept_both_ways text after bare never decides =
     let grown = window_grows text after in (
-      λ holds. subst IsBare (sym grown.1) (bare_more (window text) grown.0 (tells.0 holds)),
-      λ is. tells.1 (bare_less (window text) grown.0 never (subst IsBare grown.1 is)),
+      λ holds. subst IsBare (sym grown.1) (bare_more (window text) grown.0 (decides.0 holds)),
+      λ is. decides.1 (bare_less (window text) grown.0 never (subst IsBare grown.1 is)),
     )
 
 pub bare_by_head : (text after rest : List ℕ) (h : RequestHead) (bare : Bool) → ReadsRequest (window text) h rest
-    → TellsBare text bare → TellsBare (text ++ after) bare
+    → DecidesBare text bare → DecidesBare (text ++ after) bare
 bare_by_head text after rest h bare reads =
     kept_both_ways text after bare (λ m blank e. no_head_yet (window text ++ m) blank e h (rest ++ m) (ReadsRequest-append (window text) h rest m reads))
 
-pub bare_by_length : (text after : List ℕ) (bare : Bool) → 8192 ≤ length text → TellsBare text bare → TellsBare (text ++ after) bare
-unfolding TellsBare
-bare_by_length text after bare long tells =
+pub bare_by_length : (text after : List ℕ) (bare : Bool) → 8192 ≤ length text → DecidesBare text bare → DecidesBare (text ++ after) bare
+unfolding DecidesBare
+bare_by_length text after bare long decides =
     let same = window_full text after long in
-    (λ holds. subst IsBare (sym same) (tells.0 holds), λ is. tells.1 (subst IsBare same is))
+    (λ holds. subst IsBare (sym same) (decides.0 holds), λ is. decides.1 (subst IsBare same is))
 
 pub bare_by_garbage : (text after : List ℕ) (bare : Bool) → ¬ (MayBecomeRequest (window text))
-    → TellsBare text bare → TellsBare (text ++ after) bare
+    → DecidesBare text bare → DecidesBare (text ++ after) bare
 bare_by_garbage text after bare never =
-    kept_both_ways text after bare (λ m blank e. never (target_open (window text) m (blank, codes "HEAD", [], head_is_token, All-nil (λ v. is_uri_byte v ≡ true), e ∙ sym (append_assoc (print_blank blank) (codes "HEAD") (32 ∷ [])))))
+    kept_both_ways text after bare
+    (λ m blank e. never (target_open (window text) m (
+      blank,
+      codes "HEAD",
+      [],
+      head_is_token,
+      All-nil (λ v. is_uri_byte v ≡ true),
+      e ∙ sym (append_assoc (print_blank blank) (codes "HEAD") (32 ∷ [])),
+    )))
 
 -- a text has one flag
-pub bare_unique : (text : List ℕ) (a b : Bool) → TellsBare text a → TellsBare text b → a ≡ b
-unfolding TellsBare
+pub bare_unique : (text : List ℕ) (a b : Bool) → DecidesBare text a → DecidesBare text b → a ≡ b
+unfolding DecidesBare
 bare_unique text true true x y = refl
 bare_unique text true false x y = sym (y.1 (x.0 refl))
 bare_unique text false true x y = x.1 (y.0 refl)

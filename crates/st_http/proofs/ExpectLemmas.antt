@@ -40,19 +40,19 @@ first_expects text after h bare is = go (nat_lt 64 (length h.fields)) is
     go false e = body_expects h (drop (length (print_request h)) text) (drop (length (print_request h)) after) bare (body_length_of h.minor (fields_of h)) e
 
 pub awaited : (text after : List ℕ) (first : First) → IsFirst text (more true) → IsFirst (text ++ after) first → expects first ≡ true
-awaited text after first (whole h, bare, reads, tells, is) longer =
+awaited text after first (whole h, bare, reads, decides, is) longer =
     let grown = window_grows text after in
     let still : IsFirst (text ++ after) (first_by (text ++ after) bare (whole h)) = (
       whole h,
       bare,
       (reads.0 ++ grown.0, subst (λ (t : List ℕ). ReadsRequest t h (reads.0 ++ grown.0)) (sym grown.1) (ReadsRequest-append (window text) h reads.0 grown.0 reads.1)),
-      bare_by_head text after reads.0 h bare reads.1 tells,
+      bare_by_head text after reads.0 h bare reads.1 decides,
       refl,
     ) in
     ap expects (first_unique (text ++ after) first (first_by (text ++ after) bare (whole h)) longer still) ∙ first_expects text (text ++ after) h bare is
-awaited text after first (begun, bare, reads, tells, is) longer = go (nat_lt (length text) 8192) is
+awaited text after first (begun, bare, reads, decides, is) longer = go (nat_lt (length text) 8192) is
   where
     go : (t : Bool) → more true ≡ cond t (more false) (fault reasons.Headers bare) → expects first ≡ true
     go true e = absurd (let w : true ≡ false = cc in cc)
     go false e = absurd (cc)
-awaited text after first (hopeless, bare, reads, tells, is) longer = absurd (cc)
+awaited text after first (hopeless, bare, reads, decides, is) longer = absurd (cc)

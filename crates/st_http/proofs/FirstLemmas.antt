@@ -1,5 +1,6 @@
 -- A text has one first item, and keeps it.
-use Rattle.std.proofs.Common.{◌≡◌, ◌∙◌, ℕ, ◌+◌, ◌-◌, ◌<◌, ◌≤◌, Bool, true, false, not, cond, List, [], ◌∷◌, ◌++◌, length, drop, take, refl, sym, ap, subst, arith, length-append, length-drop, Result, Ok, Err}
+use Rattle.std.proofs.Common.{◌≡◌, ◌∙◌, ℕ, ◌+◌, ◌-◌, ◌<◌, ◌≤◌, Bool, true, false, not, cond, List, [], ◌∷◌, ◌++◌, length, drop, take, refl, sym, ap}
+use Rattle.std.proofs.Common.{subst, arith, length-append, length-drop, Result, Ok, Err}
 use Rattle.std.specs.Prelude.{codes, nat_lt, nat_le}
 use Rattle.std.specs.Str.Parse.{digits_value}
 use Rattle.std.proofs.lemmas.Bool.{ltb-true, ltb-false, le-ltb}
@@ -10,7 +11,7 @@ use Rattle.httparse.proofs.GrammarLemmas.{request_unique, ReadsRequest-append}
 use Rattle.st_http.specs.declared.fields.Reason.{Reason}
 use Rattle.st_http.specs.declared.fields.Reason.TheVariants as reasons
 use Rattle.st_http.specs.Head.{window, Reading, whole, begun, hopeless, HasReading}
-use Rattle.st_http.specs.Fields.{Fields, body_length_of, length_by, is_number, breaks_host, has_coding, values_of}
+use Rattle.st_http.specs.Fields.{Fields, body_length_of, length_by, is_number, breaks_host, values_of}
 use Rattle.st_http.specs.First.{First, IsItem, message, fault, more, with_body, waits_with, fields_of, first_by, IsFirst}
 use Rattle.st_http.proofs.WindowLemmas.{window_grows, window_full, window-length, window_short, hopeless_stays}
 use Rattle.st_http.proofs.BareLemmas.{bare_by_head, bare_by_length, bare_by_garbage, bare_unique}
@@ -64,34 +65,34 @@ whole_stays text after rest h bare reads some = go (nat_lt 64 (length h.fields))
         ∙ ap (λ (t : List ℕ). with_body h t bare (body_length_of h.minor (fields_of h))) (sym (drop-append-le (length (print_request h)) text after (head_fits text rest h reads)))
 
 pub first_kept : (text after : List ℕ) (first : First) → IsItem first → IsFirst text first → IsFirst (text ++ after) first
-first_kept text after first some (whole h, bare, reads, tells, is) =
+first_kept text after first some (whole h, bare, reads, decides, is) =
     let grown = window_grows text after in
     let longer = ReadsRequest-append (window text) h reads.0 grown.0 reads.1 in (
       whole h,
       bare,
       (reads.0 ++ grown.0, subst (λ (t : List ℕ). ReadsRequest t h (reads.0 ++ grown.0)) (sym grown.1) longer),
-      bare_by_head text after reads.0 h bare reads.1 tells,
+      bare_by_head text after reads.0 h bare reads.1 decides,
       is ∙ whole_stays text after reads.0 h bare reads.1 (subst IsItem is some),
     )
-first_kept text after first some (begun, bare, reads, tells, is) = go (nat_lt (length text) 8192) refl is
+first_kept text after first some (begun, bare, reads, decides, is) = go (nat_lt (length text) 8192) refl is
   where
     go : (t : Bool) → nat_lt (length text) 8192 ≡ t → first ≡ cond t (more false) (fault reasons.Headers bare) → IsFirst (text ++ after) first
     go true e here = absurd (subst IsItem here some)
     go false e here =
         let full : 8192 ≤ length text = ltb-false _ _ e in
         let test : nat_lt (length (text ++ after)) 8192 ≡ false = le-ltb _ _ (omega (arith, length-append text after)) in
-        (begun, bare, subst (λ (t : List ℕ). HasReading t begun) (sym (window_full text after full)) reads, bare_by_length text after bare full tells, here ∙ rw test refl)
-first_kept text after first some (hopeless, bare, reads, tells, is) = go (nat_lt (length text) 8192) refl
+        (begun, bare, subst (λ (t : List ℕ). HasReading t begun) (sym (window_full text after full)) reads, bare_by_length text after bare full decides, here ∙ rw test refl)
+first_kept text after first some (hopeless, bare, reads, decides, is) = go (nat_lt (length text) 8192) refl
   where
     go : (t : Bool) → nat_lt (length text) 8192 ≡ t → IsFirst (text ++ after) first
     go true e =
         let short : length text < 8192 = ltb-true _ _ e in
         let grown = window_grows text after in
         let stays = hopeless_stays (window text) grown.0 reads in
-        (hopeless, bare, subst (λ (t : List ℕ). HasReading t hopeless) (sym grown.1) stays, bare_by_garbage text after bare reads.1 tells, is)
+        (hopeless, bare, subst (λ (t : List ℕ). HasReading t hopeless) (sym grown.1) stays, bare_by_garbage text after bare reads.1 decides, is)
     go false e =
         let full : 8192 ≤ length text = ltb-false _ _ e in
-        (hopeless, bare, subst (λ (t : List ℕ). HasReading t hopeless) (sym (window_full text after full)) reads, bare_by_length text after bare full tells, is)
+        (hopeless, bare, subst (λ (t : List ℕ). HasReading t hopeless) (sym (window_full text after full)) reads, bare_by_length text after bare full decides, is)
 
 -- a body that is awaited has at most 65,536 bytes
 length_by_fits : (values : List (List ℕ)) (n : ℕ) → length_by values ≡ Ok n → n ≤ 65536
@@ -111,7 +112,7 @@ length_by_fits (value ∷ other ∷ values) n e = absurd (cc)
 body_fits : (minor n : ℕ) (fields : Fields) → body_length_of minor fields ≡ Ok n → n ≤ 65536
 unfolding body_length_of
 body_fits minor n fields e =
-    go (breaks_host minor (values_of (codes "host") fields)) (has_coding (values_of (codes "transfer-encoding") fields)) e
+    go (breaks_host minor (values_of (codes "host") fields)) (nat_lt 0 (length (values_of (codes "transfer-encoding") fields))) e
   where
     go : (a b : Bool) → cond a (Err reasons.Host) (cond b (Err reasons.Length) (length_by (values_of (codes "content-length") fields))) ≡ Ok n
         → n ≤ 65536
@@ -121,7 +122,7 @@ body_fits minor n fields e =
 
 -- a text that waits for more is short
 pub more_short : (text : List ℕ) (waits : Bool) → IsFirst text (more waits) → length text < 8192 + 65536
-more_short text waits (whole h, bare, reads, tells, is) = go (nat_lt 64 (length h.fields)) is
+more_short text waits (whole h, bare, reads, decides, is) = go (nat_lt 64 (length h.fields)) is
   where
     after : List ℕ
     after = drop (length (print_request h)) text
@@ -145,10 +146,10 @@ more_short text waits (whole h, bare, reads, tells, is) = go (nat_lt 64 (length 
         → length text < 8192 + 65536
     go true e = absurd (cc)
     go false e = by_rule (body_length_of h.minor (fields_of h)) refl e
-more_short text waits (begun, bare, reads, tells, is) = go (nat_lt (length text) 8192) refl is
+more_short text waits (begun, bare, reads, decides, is) = go (nat_lt (length text) 8192) refl is
   where
     go : (t : Bool) → nat_lt (length text) 8192 ≡ t → more waits ≡ cond t (more false) (fault reasons.Headers bare) → length text < 8192 + 65536
     go true e here =
         let short : length text < 8192 = ltb-true _ _ e in omega (short, arith)
     go false e here = absurd (cc)
-more_short text waits (hopeless, bare, reads, tells, is) = absurd (cc)
+more_short text waits (hopeless, bare, reads, decides, is) = absurd (cc)

@@ -1,5 +1,6 @@
 -- A message in the words of the grammar, and the one list of items.
-use Rattle.std.proofs.Common.{◌≡◌, ◌∙◌, ℕ, ◌+◌, ◌-◌, ◌<◌, ◌≤◌, Bool, true, false, cond, List, [], ◌∷◌, ◌++◌, length, take, drop, refl, sym, ap, subst, arith, append_assoc, length-append, length-take, take-append-drop, Result, Ok, Err}
+use Rattle.std.proofs.Common.{◌≡◌, ◌∙◌, ℕ, ◌+◌, ◌-◌, ◌<◌, ◌≤◌, Bool, true, false, cond, List, [], ◌∷◌, ◌++◌, length, take, drop, refl, sym, ap, subst}
+use Rattle.std.proofs.Common.{arith, append_assoc, length-append, length-take, take-append-drop, Result, Ok, Err}
 use Rattle.std.specs.Prelude.{nat_lt, nat_le}
 use Rattle.std.proofs.lemmas.Bool.{le-ltb, ltb-false}
 use Rattle.std.proofs.lemmas.Bool.Decides.{nat_tests}
@@ -7,10 +8,11 @@ use Rattle.std.proofs.Math.Seq.{take-append_seam, take-append-add, drop-append_s
 use Rattle.httparse.specs.Grammar.{RequestHead, print_request, ReadsRequest}
 use Rattle.st_http.specs.declared.fields.Reason.{Reason}
 use Rattle.st_http.specs.declared.fields.Reason.TheVariants as reasons
-use Rattle.st_http.specs.Head.{window, TellsBare, whole, begun, hopeless}
+use Rattle.st_http.specs.Head.{window, DecidesBare, whole, begun, hopeless}
 use Rattle.st_http.specs.Fields.{body_length_of, closes_after}
 use Rattle.st_http.specs.First.{First, message, fault, more, with_body, waits_with, fields_of, IsFirst, size_of}
-use Rattle.st_http.specs.Items.{IsMessage, after_message, Items, none, faulty, last, next}
+use Rattle.st_http.specs.Items.{after_message, Items, none, faulty, last, next}
+use Rattle.st_http.specs.inner.Messages.{IsMessage}
 use Rattle.st_http.proofs.WindowLemmas.{window_short}
 use Rattle.st_http.proofs.FirstLemmas.{first_unique, first_kept}
 use Rattle.st_http.proofs.LengthLemmas.{head_length}
@@ -26,11 +28,11 @@ whole_text text rest h reads =
     (reads.0, sym (take-append-drop 8192 text) ∙ ap (λ (t : List ℕ). t ++ drop 8192 text) reads.1 ∙ append_assoc (print_request h) rest (drop 8192 text))
 
 -- a body of the length that the head says
-with_length : (text rest : List ℕ) (h : RequestHead) (n : ℕ) (bare : Bool) → TellsBare text bare → ReadsRequest (window text) h rest
+with_length : (text rest : List ℕ) (h : RequestHead) (n : ℕ) (bare : Bool) → DecidesBare text bare → ReadsRequest (window text) h rest
     → length h.fields ≤ 64
     → body_length_of h.minor (fields_of h) ≡ Ok n → n ≤ length (drop (length (print_request h)) text)
     → IsMessage text h (take n (drop (length (print_request h)) text)) bare
-with_length text rest h n bare tells reads few says fits =
+with_length text rest h n bare decides reads few says fits =
     let here = whole_text text rest h reads in
     let tail : drop (length (print_request h)) text ≡ rest ++ drop 8192 text
     = ap (drop (length (print_request h))) here.1 ∙ drop-append_seam (print_request h) (rest ++ drop 8192 text) in
@@ -42,12 +44,12 @@ with_length text rest h n bare tells reads few says fits =
       in_window = omega (arith, window_short text, ap length reads.1, length-append (print_request h) rest);
       few = few;
       length_is = says ∙ ap Ok (sym long);
-      tells = tells;
+      decides = decides;
     }
 
 pub message_from_first : (text : List ℕ) (h : RequestHead) (body : List ℕ) (bare : Bool) → IsFirst text (message h body bare)
     → IsMessage text h body bare
-message_from_first text h body bare (whole k, flag, reads, tells, is) = go (nat_lt 64 (length k.fields)) refl is
+message_from_first text h body bare (whole k, flag, reads, decides, is) = go (nat_lt 64 (length k.fields)) refl is
   where
     after : List ℕ
     after = drop (length (print_request k)) text
@@ -61,7 +63,7 @@ message_from_first text h body bare (whole k, flag, reads, tells, is) = go (nat_
         let flags : flag ≡ bare = cc in
         subst (λ (g : RequestHead). IsMessage text g body bare) heads
         (subst (λ (b : List ℕ). IsMessage text k b bare) bodies
-        (subst (λ (t : Bool). IsMessage text k (take n after) t) flags (with_length text reads.0 k n flag tells reads.1 few says fits)))
+        (subst (λ (t : Bool). IsMessage text k (take n after) t) flags (with_length text reads.0 k n flag decides reads.1 few says fits)))
     by_length n false few says test e = absurd (cc)
 
     by_rule : (r : Result ℕ Reason) → length k.fields ≤ 64 → body_length_of k.minor (fields_of k) ≡ r
@@ -74,12 +76,12 @@ message_from_first text h body bare (whole k, flag, reads, tells, is) = go (nat_
         → IsMessage text h body bare
     go true test e = absurd (cc)
     go false test e = by_rule (body_length_of k.minor (fields_of k)) (ltb-false _ _ test) refl e
-message_from_first text h body bare (begun, flag, reads, tells, is) = go (nat_lt (length text) 8192) is
+message_from_first text h body bare (begun, flag, reads, decides, is) = go (nat_lt (length text) 8192) is
   where
     go : (t : Bool) → message h body bare ≡ cond t (more false) (fault reasons.Headers flag) → IsMessage text h body bare
     go true e = absurd (cc)
     go false e = absurd (cc)
-message_from_first text h body bare (hopeless, flag, reads, tells, is) = absurd (cc)
+message_from_first text h body bare (hopeless, flag, reads, decides, is) = absurd (cc)
 
 window_of_head : (text front after : List ℕ) → text ≡ front ++ after → length front ≤ 8192
     → (rest : List ℕ) × (window text ≡ front ++ rest)
@@ -101,7 +103,7 @@ first_from_message text h body bare m =
       whole h,
       bare,
       (seen.0, (m.reads.0, seen.1)),
-      m.tells,
+      m.decides,
       rw (room, m.length_is, tail, fits) (ap (λ (b : List ℕ). message h b bare) (sym (take-append_seam body m.rest))),
     )
 
@@ -178,10 +180,10 @@ message_size text h body bare first =
     )
 
 pub takes_within : (text : List ℕ) (taken : Take) → Takes text taken → FitsIn (length text) taken
-takes_within text (takes.Message m used) (message h body bare, first, shows) =
-    let long = message_size text h body bare first in rw shows.1 long
-takes_within text (takes.Message m used) (fault reason bare, first, shows) = absurd shows
-takes_within text (takes.Message m used) (more waits, first, shows) = absurd shows
+takes_within text (takes.Message m used) (message h body bare, first, represents) =
+    let long = message_size text h body bare first in rw represents.1 long
+takes_within text (takes.Message m used) (fault reason bare, first, represents) = absurd represents
+takes_within text (takes.Message m used) (more waits, first, represents) = absurd represents
 takes_within text (takes.More flag) t = tt
 takes_within text (takes.Fault f) t = tt
 

@@ -1,7 +1,8 @@
 -- Where the first slash of a text stands.
-use Rattle.std.proofs.Common.{◌≡◌, ◌≢◌, List, [], ◌∷◌, ℕ, zero, suc, ◌<◌, ◌≤◌, ◌==◌, true, false, length, get_or, drop, refl, arith, nat_lt}
+use Rattle.std.proofs.Common.{◌≡◌, ◌≢◌, List, [], ◌∷◌, ℕ, zero, suc, ◌<◌, ◌≤◌, ◌==◌, true, false, ◌+◌, ◌∙◌, length, get_or, drop, refl, sym, ap, arith}
 use Rattle.std.specs.List.{position_or_len}
-use Rattle.std.proofs.lemmas.Bool.{lt-ltb, le-ltb, ne_eqb}
+use Rattle.std.proofs.lemmas.Bool.{ne_eqb}
+use Rattle.std.proofs.lemmas.List.{drop_more, drop_all}
 use Rattle.st_http.specs.Routes.{from_slash}
 
 -- where the first slash stands, and that there is none
@@ -20,11 +21,9 @@ pub slash_at : (text : List ℕ) (i : ℕ) → i < length text → get_or text i
     → drop i text ≡ from_slash text
 slash_at text i within here before =
     let place = first_slash text i (omega arith) (λ _. here) before in
-    let test : nat_lt i (length text) ≡ true = lt-ltb _ _ within in
-    rw (place, test) refl
+    rw place (drop_more text i 0 within ∙ ap (λ b. b ∷ drop (i + 1) text) here)
 
 pub no_slash : (text : List ℕ) → ((k : ℕ) → k < length text → get_or text k 0 ≢ 47) → 47 ∷ [] ≡ from_slash text
 no_slash text none =
     let place = first_slash text (length text) (omega arith) (λ h. absurd (omega arith)) none in
-    let test : nat_lt (length text) (length text) ≡ false = le-ltb _ _ (omega arith) in
-    rw (place, test) refl
+    rw place (ap (λ more. 47 ∷ more) (sym (drop_all (length text + 1) text (omega arith))))

@@ -104,7 +104,9 @@ pub hopeless_stays : (text after : List ℕ) → HasReading text hopeless → Ha
 hopeless_stays text after (none, never) = (
   λ h rest reads. elim (whole_or_open text after rest h reads) [ inl (r, there) ↦ none h r there | inr may ↦ never may ],
   λ may. elim may [
-    | inl (front, h, reads) ↦ elim (whole_or_open text (after ++ front) [] h (subst (λ (t : List ℕ). ReadsRequest t h []) (append_assoc text after front) reads)) [ inl (r, there) ↦ none h r there | inr may_be ↦ never may_be ]
+    | inl (front, h, reads) ↦
+        elim (whole_or_open text (after ++ front) [] h (subst (λ (t : List ℕ). ReadsRequest t h []) (append_assoc text after front) reads))
+        [ inl (r, there) ↦ none h r there | inr may_be ↦ never may_be ]
     | inr ends ↦ never (target_open text after ends)
   ],
 )

@@ -41,16 +41,12 @@ breaks_host minor [] = minor == 1
 breaks_host minor (host ∷ []) = false
 breaks_host minor (host ∷ other ∷ hosts) = true
 
--- there is a Transfer-Encoding field (RFC 9112, "Transfer-Encoding"), which the server does not support
-abbrev pub has_coding : List (List ℕ) → Bool
-has_coding [] = false
-has_coding (coding ∷ codings) = true
-
--- the length of a message's body, or the first rule that the fields of its head break (RFC 9112, "Message Body Length")
+-- the length of a message's body, or the first rule that the fields of its head break (RFC 9112, "Message Body Length"); the server
+-- supports no Transfer-Encoding (RFC 9112, "Transfer-Encoding")
 unfoldable pub body_length_of : ℕ → Fields → Result ℕ Reason
 body_length_of minor fields =
     if breaks_host minor (values_of (codes "host") fields) then Err reasons.Host else
-    if has_coding (values_of (codes "transfer-encoding") fields) then Err reasons.Length else
+    if nat_lt 0 (length (values_of (codes "transfer-encoding") fields)) then Err reasons.Length else
     length_by (values_of (codes "content-length") fields)
 
 -- an item of a list without the white space around it is the word
@@ -76,11 +72,10 @@ expects_continue minor fields size =
 
 -- the status code of the reply to a text that is not a message (RFC 9110, "Status Codes", and RFC 6585 for 431)
 abbrev pub reason_status : Reason → ℕ
-reason_status reasons.Head = 400
-reason_status reasons.Host = 400
 reason_status reasons.Length = 411
 reason_status reasons.Size = 413
 reason_status reasons.Headers = 431
+reason_status _ = 400
 
 -- the word by which that reply names the reason
 abbrev pub reason_name : Reason → List ℕ

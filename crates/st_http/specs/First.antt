@@ -4,7 +4,7 @@ use Rattle.httparse.specs.Grammar.{RequestHead, print_request}
 use Rattle.httparse.specs.Spans.{name_and_value}
 use Rattle.st_http.specs.declared.fields.Reason.{Reason}
 use Rattle.st_http.specs.declared.fields.Reason.TheVariants as reasons
-use Rattle.st_http.specs.Head.{window, TellsBare, Reading, whole, begun, hopeless, HasReading}
+use Rattle.st_http.specs.Head.{window, DecidesBare, Reading, whole, begun, hopeless, HasReading}
 use Rattle.st_http.specs.Fields.{Fields, body_length_of, expects_continue}
 
 pub data First : Type 0 where
@@ -43,7 +43,7 @@ first_by text bare hopeless = fault reasons.Head bare
 
 abbrev pub IsFirst : List ℕ → First → Type 0
 IsFirst text first =
-    (reading : Reading) × (bare : Bool) × HasReading (window text) reading × TellsBare text bare × (first ≡ first_by text bare reading)
+    (reading : Reading) × (bare : Bool) × HasReading (window text) reading × DecidesBare text bare × (first ≡ first_by text bare reading)
 
 -- whether the client may wait to hear that the body of the item is awaited, whether or not it came already
 abbrev pub expects : First → Bool

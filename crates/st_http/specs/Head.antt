@@ -26,5 +26,5 @@ abbrev pub IsBare : List ℕ → Type 0
 IsBare p = (blank : List LineEnd) × (rest : List ℕ) × (p ≡ print_blank blank ++ (codes "HEAD " ++ rest))
 
 -- the flag says whether a HEAD request stands first in the text
-unfoldable pub TellsBare : List ℕ → Bool → Type 0
-TellsBare text bare = IsTrue bare ↔ IsBare (window text)
+unfoldable pub DecidesBare : List ℕ → Bool → Type 0
+DecidesBare text bare = IsTrue bare ↔ IsBare (window text)

@@ -1,19 +1,9 @@
--- The items of a text, and a message in the words of the grammar.
-use Rattle.std.specs.Prelude.{◌≡◌, ℕ, ◌≤◌, Bool, true, false, List, [], ◌∷◌, ◌++◌, length, drop, Ok}
-use Rattle.httparse.specs.Grammar.{RequestHead, print_request, ReadsRequest}
+-- The items of a text.
+use Rattle.std.specs.Prelude.{◌≡◌, ℕ, Bool, true, false, List, [], ◌∷◌, drop}
+use Rattle.httparse.specs.Grammar.{RequestHead}
 use Rattle.st_http.specs.declared.fields.Reason.{Reason}
-use Rattle.st_http.specs.Head.{TellsBare}
-use Rattle.st_http.specs.Fields.{body_length_of, closes_after}
+use Rattle.st_http.specs.Fields.{closes_after}
 use Rattle.st_http.specs.First.{First, message, fault, more, IsFirst, fields_of, size_of}
-
--- the text begins with this head and this body
-pub record IsMessage (text : List ℕ) (h : RequestHead) (body : List ℕ) (bare : Bool) : Type 0 where
-  pub rest : List ℕ
-  pub reads : ReadsRequest text h (body ++ rest)
-  pub in_window : length (print_request h) ≤ 8192
-  pub few : length h.fields ≤ 64
-  pub length_is : body_length_of h.minor (fields_of h) ≡ Ok (length body)
-  pub tells : TellsBare text bare
 
 -- the text after a message
 abbrev pub after_message : List ℕ → RequestHead → List ℕ → List ℕ

@@ -1,7 +1,7 @@
 -- Routing: the endpoint that a method and a target name.
-use Rattle.std.specs.Prelude.{◌≡◌, ℕ, Bool, ◌==◌, if◌then◌else◌, List, [], length, take, drop, fold}
-use Rattle.std.specs.Prelude.{codes, nat_lt, option_map, Option, Some, None, Result, Ok, Err}
-use Rattle.std.specs.List.{before_first, after_first, position_or_len}
+use Rattle.std.specs.Prelude.{◌≡◌, ℕ, Bool, ◌==◌, if◌then◌else◌, List, [], ◌++◌, take, fold, codes, option_map, Option, Result, Ok, Err}
+use Rattle.std.specs.List.{before_first, after_first}
+use Rattle.std.specs.Option.{option_map_or}
 use Rattle.std.specs.Str.{str_eq_ignore_ascii_case}
 use Rattle.matchit.specs.Rows.{RowsOf}
 use Rattle.matchit.specs.Seek.{first}
@@ -16,37 +16,27 @@ use Rattle.st_http.specs.declared.routes.Route.TheVariants as answers
 use Rattle.st_http.specs.Paths.{pattern_of, all_paths, endpoints_of, allow_of, endpoint_of}
 
 -- `/`
-abbrev pub slash : ℕ
-slash = 47
-
--- `?`
-abbrev pub question : ℕ
-question = 63
+abbrev pub is_slash : ℕ → Bool
+is_slash b = b == 47
 
 -- the text from its first slash on, or a slash where it has none
 abbrev pub from_slash : List ℕ → List ℕ
-from_slash text =
-    if nat_lt (position_or_len (λ b. b == slash) text) (length text)
-    then drop (position_or_len (λ b. b == slash) text) text else codes "/"
+from_slash text = codes "/" ++ after_first is_slash text
 
 -- the text begins with `http://`, in any case
 abbrev pub is_absolute : List ℕ → Bool
 is_absolute text = str_eq_ignore_ascii_case (take 7 text) (codes "http://")
 
--- what stands behind the two slashes of a scheme
-abbrev pub after_scheme : List ℕ → List ℕ
-after_scheme text = after_first (λ b. b == slash) (after_first (λ b. b == slash) text)
-
--- the path of a target: what stands before its query, and in the absolute form after its authority
+-- the path of a target: what stands before its query (63 is `?`), and in the absolute form after its authority
 -- (RFC 9112, "Request Target"; RFC 3986, "Syntax Components")
 unfoldable pub path_of : List ℕ → List ℕ
 path_of target =
-    let front = before_first (λ b. b == question) target in
-    if is_absolute front then from_slash (after_scheme front) else front
+    let front = before_first (λ b. b == 63) target in
+    if is_absolute front then from_slash (after_first is_slash (after_first is_slash front)) else front
 
 -- the name in a path: what stands between its second slash and its third, and nothing where there is no second one
 abbrev pub name_in : List ℕ → List ℕ
-name_in path = before_first (λ b. b == slash) (after_first (λ b. b == slash) (after_first (λ b. b == slash) path))
+name_in path = before_first is_slash (after_first is_slash (after_first is_slash path))
 
 abbrev pub Rows : Type 0
 Rows = RowsOf (RouteOf Path)
@@ -75,19 +65,16 @@ pub data Routed : Type 0 where
   -- the path has other methods, those of this text
   bad_method : List ℕ → Routed
 
-abbrev pub with_endpoint : Path → List ℕ → Option Endpoint → Routed
-with_endpoint path name (Some endpoint) = found endpoint name
-with_endpoint path name None = bad_method (allow_of (endpoints_of path))
-
-abbrev pub at_path : Option Path → List ℕ → List ℕ → Routed
-at_path None method name = no_route
-at_path (Some path) method name = with_endpoint path name (endpoint_of method (endpoints_of path))
+-- what a method names at a path in which this name stands
+abbrev pub at_path : List ℕ → List ℕ → Path → Routed
+at_path method name path =
+    option_map_or (λ endpoint. found endpoint name) (endpoint_of method (endpoints_of path)) (bad_method (allow_of (endpoints_of path)))
 
 unfoldable pub routed : List ℕ → List ℕ → Routed
-routed method target = at_path (path_at (path_of target)) method (name_in (path_of target))
+routed method target = option_map_or (at_path method (name_in (path_of target))) (path_at (path_of target)) no_route
 
 -- the code's answer is this
-abbrev pub ShowsRoute : Route → Routed → Type 0
-ShowsRoute (answers.Found endpoint name) r = r ≡ found endpoint name.now
-ShowsRoute answers.NoRoute r = r ≡ no_route
-ShowsRoute (answers.BadMethod allow) r = r ≡ bad_method allow.now
+abbrev pub RepresentsRoute : Route → Routed → Type 0
+RepresentsRoute (answers.Found endpoint name) r = r ≡ found endpoint name.now
+RepresentsRoute answers.NoRoute r = r ≡ no_route
+RepresentsRoute (answers.BadMethod allow) r = r ≡ bad_method allow.now

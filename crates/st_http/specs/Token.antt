@@ -1,6 +1,6 @@
 -- The user and the secret that a head's Authorization field names (RFC 6750, "Authorization Request Header Field").
 use Rattle.std.specs.Prelude.{ℕ, Bool, ◌&&◌, ◌==◌, if◌then◌else◌, List, [], ◌∷◌, take, drop}
-use Rattle.std.specs.Prelude.{codes, slice_index, Option, Some, None, option_map}
+use Rattle.std.specs.Prelude.{codes, slice_index, Option, None, option_map}
 use Rattle.std.specs.List.{before_first, after_first}
 use Rattle.std.specs.Result.{result_ok}
 use Rattle.std.specs.Str.{str_eq_ignore_ascii_case}
@@ -35,9 +35,8 @@ credentials_in value = if is_bearer value then credentials_of (skip_spaces (drop
 
 -- those of the one Authorization field
 abbrev pub credentials_by : List (List ℕ) → Option UserAndSecret
-credentials_by [] = None
 credentials_by (value ∷ []) = credentials_in value
-credentials_by (value ∷ other ∷ values) = None
+credentials_by _ = None
 
 unfoldable pub token_of : Fields → Option UserAndSecret
 token_of fields = credentials_by (values_of (codes "authorization") fields)

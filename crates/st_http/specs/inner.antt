@@ -1,4 +1,5 @@
--- Stages of the code, which no reader has to believe: no clause of a public function cites them.
+-- Stages of the code, and what only a law says: no reader has to believe them.
 pub mod Values
 pub mod Windows
 pub mod Growth
+pub mod Messages

@@ -1,7 +1,8 @@
 //! Laws of the definitions, for every text.
 ghost use Rattle.std.specs.Prelude.{◌≡◌, ◌<◌, ◌≤◌, ◌+◌, ◌∷◌, false, true, Bool, ◌↔◌, ◌++◌, List, ℕ, length, Some};
 ghost use Rattle.st_http.specs.First.{First, IsItem, message, more, IsFirst, expects, fields_of, size_of};
-ghost use Rattle.st_http.specs.Items.{IsMessage, Items, after_message};
+ghost use Rattle.st_http.specs.Items.{Items, after_message};
+ghost use Rattle.st_http.specs.inner.Messages.{IsMessage};
 ghost use Rattle.st_http.specs.Fields.{Fields, closes_after};
 ghost use Rattle.st_http.specs.Token.{token_of};
 ghost use Rattle.st_text.specs.Names.{is_name};

@@ -5,7 +5,7 @@ ghost use Rattle.httparse.specs.Spans.{IsRequestWithin, IsRequestOf, IsRequestAt
 ghost use Rattle.st_http.specs.Head.{window as window_of};
 ghost use Rattle.st_http.specs.Fields.{body_length_of};
 ghost use Rattle.st_http.specs.First.{First, expects, with_body, fields_of};
-ghost use Rattle.st_http.specs.Message.{Shows, Takes, FitsIn};
+ghost use Rattle.st_http.specs.Message.{Represents, Takes, FitsIn};
 
 use crate::close::{closes, expects};
 use crate::fields::{Reason, body_length};
@@ -56,7 +56,7 @@ pub enum Take<'a> {
 impl Take<'_> {
     /// Whether the client of what stands there may wait with its body to hear `100 Continue`, whether or not the body came.
     pub fn expects(&self) -> bool
-        ensures { (first : First) → Shows first self.now → result ≡ expects first }
+        ensures { (first : First) → Represents first self.now → result ≡ expects first }
     {
         match self {
             Take::Message(message, _) => message.expects,
@@ -102,7 +102,7 @@ fn item<'a>(
     requires whole { IsRequestOf window.now headers.now head }
     requires text { head.len ≤ length text.now }
     ensures { (h : RequestHead) → IsRequestAt window.now headers.now head h
-        → Shows (with_body h (drop (length (print_request h)) text.now) bare (body_length_of h.minor (fields_of h))) result }
+        → Represents (with_body h (drop (length (print_request h)) text.now) bare (body_length_of h.minor (fields_of h))) result }
 {
     let fields = &headers[..head.headers];
     let length = match body_length(head.version, window, fields) {

@@ -1,7 +1,10 @@
 //! Routing: the endpoint that a method and a target name.
+//!
+//! Methods are texts in the table of paths. An `http::Method` may own the memory of a long name, so a constant table cannot hold
+//! one (`borrow-e0716`).
 ghost use Rattle.std.specs.Prelude.{◌≡◌, ◌==◌, ◌<◌, IfOk, OnOk};
 ghost use Rattle.std.specs.List.{before_first, after_first};
-ghost use Rattle.st_http.specs.Routes.{from_slash, path_of, is_absolute, name_in, routes, path_at, with_path, routed, ShowsRoute};
+ghost use Rattle.st_http.specs.Routes.{from_slash, path_of, is_absolute, name_in, routes, path_at, with_path, routed, RepresentsRoute};
 
 use crate::path::{ALL, Path};
 use matchit::Router;
@@ -123,7 +126,7 @@ impl Routes {
     #[tactic(auto, unfolding(crate::specs::Routes::routed))]
     // What a method and a target name.
     pub(crate) fn find<'a>(&self, method: &[u8], target: &'a str) -> Route<'a>
-        ensures { ShowsRoute result (routed method.now target.now) }
+        ensures { RepresentsRoute result (routed method.now target.now) }
     {
         let path = target_path(target);
         let Some(found) = self.at(path) else {

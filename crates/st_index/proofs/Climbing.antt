@@ -61,8 +61,11 @@ module _ {X K : Type 0} {R : K → K → Ordering} (o : IsTotalOrder R) (key : X
 
   pub climbs_drop : (xs : List X) (z : X) (ys : List X) → Climbs R key (xs ++ z ∷ ys) → Climbs R key (xs ++ ys)
   climbs_drop [] z ys h = h.1
-  climbs_drop (x ∷ xs) z ys h =
-      (All-append (λ y. R (key x) (key y) ≡ Less) xs ys (all_left (λ y. R (key x) (key y) ≡ Less) xs (z ∷ ys) h.0) (All-tail (λ y. R (key x) (key y) ≡ Less) z ys (all_right (λ y. R (key x) (key y) ≡ Less) xs (z ∷ ys) h.0)), climbs_drop xs z ys h.1)
+  climbs_drop (x ∷ xs) z ys h = (
+    All-append (λ y. R (key x) (key y) ≡ Less) xs ys (all_left (λ y. R (key x) (key y) ≡ Less) xs (z ∷ ys) h.0)
+        (All-tail (λ y. R (key x) (key y) ≡ Less) z ys (all_right (λ y. R (key x) (key y) ≡ Less) xs (z ∷ ys) h.0)),
+    climbs_drop xs z ys h.1,
+  )
 
   -- another element of the same key in its place
   pub climbs_swap : (xs : List X) (z w : X) (ys : List X) → key z ≡ key w → Climbs R key (xs ++ z ∷ ys) → Climbs R key (xs ++ w ∷ ys)

@@ -16,7 +16,8 @@ use Rattle.st_index.specs.KeyPoints.{point_of_key}
 use Rattle.st_index.specs.inner.KeyPoints.{IsPointKey}
 
 -- the rank of a row's key, by the key's parts
-pub ranked : {A : Type 0} (period : Period) (r : Row A) (b a : ℕ) → b ≡ r.point.t / seconds_of period → a ≡ address_of r.point.x r.point.y (r.point.t % seconds_of period) → b * 2 ^ 63 + a ≡ rank_of period r
+pub ranked : {A : Type 0} (period : Period) (r : Row A) (b a : ℕ) → b ≡ r.point.t / seconds_of period
+    → a ≡ address_of r.point.x r.point.y (r.point.t % seconds_of period) → b * 2 ^ 63 + a ≡ rank_of period r
 unfolding rank_of
 ranked period r b a p q = ap (λ n. n * 2 ^ 63 + a) p ∙ ap (λ n. r.point.t / seconds_of period * 2 ^ 63 + n) q
 

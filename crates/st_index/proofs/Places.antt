@@ -1,5 +1,6 @@
 -- Rows that come to a place, and that go.
-use Rattle.std.proofs.Common.{◌≡◌, ℕ, zero, suc, ◌+◌, ◌*◌, ◌^◌, ◌<◌, ◌&&◌, Bool, true, false, not, eqb, eqb-true, List, [], ◌∷◌, ◌++◌, length, get_or, set, Vec, refl, sym, ap, ◌∙◌, arith, length-append}
+use Rattle.std.proofs.Common.{◌≡◌, ℕ, zero, suc, ◌+◌, ◌*◌, ◌^◌, ◌<◌, ◌&&◌, Bool, true, false, not, eqb, eqb-true, List, [], ◌∷◌, ◌++◌, length, get_or}
+use Rattle.std.proofs.Common.{set, Vec, refl, sym, ap, ◌∙◌, arith, length-append}
 use Rattle.st_key.specs.declared.key.Key.{Key}
 use Rattle.st_key.specs.declared.period.Period.{Period}
 use Rattle.st_key.specs.Key.{rank}

@@ -7,7 +7,7 @@ use Rattle.std.specs.List.{All}
 use Rattle.st_key.specs.declared.period.Period.{Period}
 use Rattle.st_index.specs.declared.row.Row.{Row}
 use Rattle.st_index.specs.Rows.{rank_of}
-use Rattle.st_index.specs.Index.{rows_between, rows_from}
+use Rattle.st_index.specs.inner.Index.{rows_between, rows_from}
 
 module _ {X : Type 0} (p : X → Bool) where
   picks_all : (xs : List X) → All (λ x. p x ≡ true) xs → filter p xs ≡ xs

@@ -37,7 +37,8 @@ module _ {A : Type 0} (period : Period) where
       record { low = omega (arith, h.0, r.low); front = (h.0, h.1, r.front); entry = r.entry; back = r.back }
 
   -- the parts on both sides of a key
-  pub rises_cut : (lo k hi : ℕ) (xs ys : List (EntryValue A)) → Rises period lo hi (xs ++ ys) → lo ≤ k → k ≤ hi → All (λ e. e.at < k) xs → All (λ e. k ≤ e.at) ys → Rises period lo k xs × Rises period k hi ys
+  pub rises_cut : (lo k hi : ℕ) (xs ys : List (EntryValue A)) → Rises period lo hi (xs ++ ys) → lo ≤ k → k ≤ hi → All (λ e. e.at < k) xs
+      → All (λ e. k ≤ e.at) ys → Rises period lo k xs × Rises period k hi ys
   rises_cut lo k hi [] [] h a b p q = (a, b)
   rises_cut lo k hi [] (y ∷ ys) h a b p q = (a, (All-head (λ e. k ≤ e.at) y ys q, h.1, h.2))
   rises_cut lo k hi (x ∷ xs) ys h a b p q =

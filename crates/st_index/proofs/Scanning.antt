@@ -24,7 +24,7 @@ use Rattle.st_key.proofs.PointLemmas.{before_by_rank, one_point, same_rank}
 use Rattle.st_text.specs.Texts.{comes_before}
 use Rattle.st_index.specs.declared.row.Row.{Row}
 use Rattle.st_index.specs.Rows.{EntryValue, NamesRise, Rises, name_cmp, name_of, rank_of, rows_of}
-use Rattle.st_index.specs.Index.{IsAbsent}
+use Rattle.st_index.specs.inner.Index.{IsAbsent}
 use Rattle.st_index.proofs.Climbing.{all_right}
 use Rattle.st_index.specs.Order.{InScanOrder, scan_key}
 use Rattle.st_index.proofs.Taking.{rows_from}
@@ -95,7 +95,8 @@ module _ {A : Type 0} (period : Period) where
       then_same _ _ (ap (λ d. slice_cmp nat_cmp d (digits_of period s.point)) (digits_same r s h) ∙ tied_itself nat_list_cmp_total (digits_of period s.point))
       (then_named (slice_cmp nat_cmp r.id s.id) (slice_cmp nat_cmp r.label s.label) n)
 
-  scan_rows : (k : ℕ) (rows more : List (Row A)) → NamesRise rows → All (λ r. rank_of period r ≡ k) rows → All (λ r. k + 1 ≤ rank_of period r) more → InScanOrder period more → InScanOrder period (rows ++ more)
+  scan_rows : (k : ℕ) (rows more : List (Row A)) → NamesRise rows → All (λ r. rank_of period r ≡ k) rows → All (λ r. k + 1 ≤ rank_of period r) more
+      → InScanOrder period more → InScanOrder period (rows ++ more)
   scan_rows k [] more named placed later h = h
   scan_rows k (r ∷ rs) more named placed later h =
       let at : rank_of period r ≡ k = All-head (λ s. rank_of period s ≡ k) r rs placed in

@@ -9,7 +9,7 @@ use Rattle.std.specs.declared.cmp.Ordering.TheVariants.{Less, Equal, Greater}
 use Rattle.std.specs.Ordering.{nat_cmp, ordering_index}
 use Rattle.std.specs.Cmp.{tied_itself}
 use Rattle.st_index.specs.Rows.{Name, name_of, EntryValue, IsEntry, Rises, NamesRise, name_cmp, rank_of, rows_of}
-use Rattle.st_index.specs.Index.{Adds, Swaps, IsAbsent, Holds}
+use Rattle.st_index.specs.inner.Index.{Adds, Swaps, IsAbsent, Holds}
 use Rattle.st_index.proofs.Climbing.{all_left, all_right, within_take, within_drop, climbs_search, climbs_drop, climbs_swap}
 use Rattle.st_index.proofs.Rising.{rises_bounds, rises_from, rises_join, rises_around, rises_all, Around}
 use Rattle.st_index.proofs.Names.{name_equal, name_total}
@@ -32,12 +32,17 @@ module _ {A : Type 0} where
   names_found n [] i low found gone = absurd (omega (arith, low))
   names_found n (r ∷ rows) i low found gone = gone i r low (name_equal _ _ (found r))
 
-  pub names_missing : (n : Name) (rows : List (Row A)) (i : ℕ) → (IsNonDecreasingBy (λ (r : Row A). ordering_index (name_cmp (name_of r) n)) rows → IsPartitionPoint (λ (r : Row A). name_cmp (name_of r) n ≡ Less) (λ (r : Row A). name_cmp (name_of r) n ≡ Greater) rows i) → NamesRise rows → All (λ (r : Row A). (name_of r) ≡ n → ⊥) rows
+  pub names_missing : (n : Name) (rows : List (Row A)) (i : ℕ)
+      → (IsNonDecreasingBy (λ (r : Row A). ordering_index (name_cmp (name_of r) n)) rows
+      → IsPartitionPoint (λ (r : Row A). name_cmp (name_of r) n ≡ Less) (λ (r : Row A). name_cmp (name_of r) n ≡ Greater) rows i) → NamesRise rows
+      → All (λ (r : Row A). (name_of r) ≡ n → ⊥) rows
   names_missing n rows i found h =
       let at = found (climbs_search name_total name_of rows h n) in
       let P : Row A → Type 0 = λ r. (name_of r) ≡ n → ⊥ in
-      let low = All-weaker (λ (r : Row A). name_cmp (name_of r) n ≡ Less) P (λ r p. not_less n (name_of r) Less p (λ q. cc)) (take i rows) (within_take (λ (r : Row A). name_cmp (name_of r) n ≡ Less) i rows at.0) in
-      let high = All-weaker (λ (r : Row A). name_cmp (name_of r) n ≡ Greater) P (λ r p. not_less n (name_of r) Greater p (λ q. cc)) (drop i rows) (within_drop (λ (r : Row A). name_cmp (name_of r) n ≡ Greater) i rows at.1) in
+      let low = All-weaker (λ (r : Row A). name_cmp (name_of r) n ≡ Less) P (λ r p. not_less n (name_of r) Less p (λ q. cc)) (take i rows)
+      (within_take (λ (r : Row A). name_cmp (name_of r) n ≡ Less) i rows at.0) in
+      let high = All-weaker (λ (r : Row A). name_cmp (name_of r) n ≡ Greater) P (λ r p. not_less n (name_of r) Greater p (λ q. cc)) (drop i rows)
+      (within_drop (λ (r : Row A). name_cmp (name_of r) n ≡ Greater) i rows at.1) in
       subst (All P) (take-append-drop i rows) (All-append P (take i rows) (drop i rows) low high)
 
   pub swapped : (rows : List (Row A)) (i : ℕ) (out row : Row A) → i < length rows → out ≡ get_or rows i out → Swaps out row rows (set rows i row)
@@ -112,7 +117,10 @@ module _ {A : Type 0} (period : Period) where
       (absent_entries k n es (e.at + 1) hi h.2 (All-tail (λ (f : EntryValue A). f.at ≡ k → ⊥) e es a))
 
   -- where a search finds no entry, no entry has the key
-  pub missing_key : (k : ℕ) (es : List (EntryValue A)) (i : ℕ) (lo hi : ℕ) → Rises period lo hi es → (IsNonDecreasingBy (λ (e : EntryValue A). ordering_index (nat_cmp e.at k)) es → IsPartitionPoint (λ (e : EntryValue A). nat_cmp e.at k ≡ Less) (λ (e : EntryValue A). nat_cmp e.at k ≡ Greater) es i) → All (λ (e : EntryValue A). e.at ≡ k → ⊥) es
+  pub missing_key : (k : ℕ) (es : List (EntryValue A)) (i : ℕ) (lo hi : ℕ) → Rises period lo hi es
+      → (IsNonDecreasingBy (λ (e : EntryValue A). ordering_index (nat_cmp e.at k)) es
+      → IsPartitionPoint (λ (e : EntryValue A). nat_cmp e.at k ≡ Less) (λ (e : EntryValue A). nat_cmp e.at k ≡ Greater) es i)
+      → All (λ (e : EntryValue A). e.at ≡ k → ⊥) es
   missing_key k es i lo hi h found =
       let m = missing period k es i lo hi h found in
       let P : EntryValue A → Type 0 = λ e. e.at ≡ k → ⊥ in
@@ -120,7 +128,10 @@ module _ {A : Type 0} (period : Period) where
       subst (All P) (take-append-drop i es) all
 
   -- where a search finds no entry, no row has the key
-  pub missing_absent : (k : ℕ) (n : Name) (es : List (EntryValue A)) (i : ℕ) (lo hi : ℕ) → Rises period lo hi es → (IsNonDecreasingBy (λ (e : EntryValue A). ordering_index (nat_cmp e.at k)) es → IsPartitionPoint (λ (e : EntryValue A). nat_cmp e.at k ≡ Less) (λ (e : EntryValue A). nat_cmp e.at k ≡ Greater) es i) → IsAbsent period k n (rows_of es)
+  pub missing_absent : (k : ℕ) (n : Name) (es : List (EntryValue A)) (i : ℕ) (lo hi : ℕ) → Rises period lo hi es
+      → (IsNonDecreasingBy (λ (e : EntryValue A). ordering_index (nat_cmp e.at k)) es
+      → IsPartitionPoint (λ (e : EntryValue A). nat_cmp e.at k ≡ Less) (λ (e : EntryValue A). nat_cmp e.at k ≡ Greater) es i)
+      → IsAbsent period k n (rows_of es)
   missing_absent k n es i lo hi h found =
       absent_entries k n es lo hi h (missing_key k es i lo hi h found)
 
@@ -167,7 +178,8 @@ module _ {A : Type 0} (period : Period) where
       let P : Row A → Type 0 = λ r. rank_of period r ≡ e.at in
       All-head P out h.back (all_right P h.front (out ∷ h.back) (subst (All P) h.old_is entry.placed))
 
-  pub swapped_entry : (e f : EntryValue A) (out row : Row A) → Swaps out row e.rows f.rows → f.at ≡ e.at → rank_of period row ≡ e.at → (NamesRise e.rows → NamesRise f.rows) → IsEntry period e → IsEntry period f
+  pub swapped_entry : (e f : EntryValue A) (out row : Row A) → Swaps out row e.rows f.rows → f.at ≡ e.at → rank_of period row ≡ e.at
+      → (NamesRise e.rows → NamesRise f.rows) → IsEntry period e → IsEntry period f
   swapped_entry e f out row h same at named entry =
       let P : Row A → Type 0 = λ r. rank_of period r ≡ e.at in
       let placed = subst (All P) h.old_is entry.placed in
@@ -178,9 +190,6 @@ module _ {A : Type 0} (period : Period) where
         named = named entry.named;
       }
 
-  entries_from : (lo hi : ℕ) (es : List (EntryValue A)) → Rises period lo hi es → All (λ e. lo ≤ e.at) es
-  entries_from = rises_all period
-
   entries_below : (lo hi : ℕ) (es : List (EntryValue A)) → Rises period lo hi es → All (λ (e : EntryValue A). e.at < hi) es
   entries_below lo hi [] h = λ k d l. absurd (omega (arith, l))
   entries_below lo hi (e ∷ es) h =
@@ -188,15 +197,19 @@ module _ {A : Type 0} (period : Period) where
       All-cons (λ (f : EntryValue A). f.at < hi) e es (omega (arith, b)) (entries_below (e.at + 1) hi es h.2)
 
   -- the rows of a key are those of its one entry
-  pub only_at : (k : ℕ) (es : List (EntryValue A)) (i : ℕ) (e : EntryValue A) → i < length es → e ≡ get_or es i e → e.at ≡ k → (lo hi : ℕ) → Rises period lo hi es → All (λ (f : EntryValue A). f.at ≡ k → length f.rows ≡ length e.rows) es
+  pub only_at : (k : ℕ) (es : List (EntryValue A)) (i : ℕ) (e : EntryValue A) → i < length es → e ≡ get_or es i e → e.at ≡ k → (lo hi : ℕ)
+      → Rises period lo hi es → All (λ (f : EntryValue A). f.at ≡ k → length f.rows ≡ length e.rows) es
   only_at k es i e l read at lo hi h =
       let a = around es i e e l read lo hi h in
       let P : EntryValue A → Type 0 = λ f. f.at ≡ k → length f.rows ≡ length e.rows in
       let front : All P (take i es) = λ j d b p. let q = entries_below lo e.at (take i es) a.front j d b in absurd (omega (arith, p, q, at)) in
-      let back : All P (drop (suc i) es) = λ j d b p. let q = entries_from (e.at + 1) hi (drop (suc i) es) a.back j d b in absurd (omega (arith, p, q, at)) in
+      let back : All P (drop (suc i) es) = λ j d b p. let q = rises_all period (e.at + 1) hi (drop (suc i) es) a.back j d b in absurd (omega (arith, p, q, at)) in
       subst (All P) (sym (split_read es i e l read)) (All-append P (take i es) (e ∷ drop (suc i) es) front (All-cons P e (drop (suc i) es) (λ p. refl) back))
 
-  pub none_at : (k n : ℕ) (es : List (EntryValue A)) (i : ℕ) (lo hi : ℕ) → Rises period lo hi es → (IsNonDecreasingBy (λ (e : EntryValue A). ordering_index (nat_cmp e.at k)) es → IsPartitionPoint (λ (e : EntryValue A). nat_cmp e.at k ≡ Less) (λ (e : EntryValue A). nat_cmp e.at k ≡ Greater) es i) → All (λ (f : EntryValue A). f.at ≡ k → length f.rows ≡ n) es
+  pub none_at : (k n : ℕ) (es : List (EntryValue A)) (i : ℕ) (lo hi : ℕ) → Rises period lo hi es
+      → (IsNonDecreasingBy (λ (e : EntryValue A). ordering_index (nat_cmp e.at k)) es
+      → IsPartitionPoint (λ (e : EntryValue A). nat_cmp e.at k ≡ Less) (λ (e : EntryValue A). nat_cmp e.at k ≡ Greater) es i)
+      → All (λ (f : EntryValue A). f.at ≡ k → length f.rows ≡ n) es
   none_at k n es i lo hi h found =
       let m = missing period k es i lo hi h found in
       let P : EntryValue A → Type 0 = λ f. f.at ≡ k → length f.rows ≡ n in

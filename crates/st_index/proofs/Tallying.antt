@@ -12,8 +12,8 @@ use Rattle.st_key.specs.declared.point.Point.{Point}
 use Rattle.st_box.specs.declared.query.Query.{Query}
 use Rattle.st_text.specs.Texts.{Text}
 use Rattle.st_index.specs.declared.row.Row.{Row}
-use Rattle.st_index.specs.Counting.{count_of, is_counted}
-use Rattle.st_index.specs.Fields.{CanAdd, Counts, count_in}
+use Rattle.st_index.specs.inner.Counting.{count_of, is_counted}
+use Rattle.st_index.specs.inner.Fields.{CanAdd, Counts, count_in}
 use Rattle.st_index.proofs.Sums.{sum_all, sum_by-flat_map, sum_one_more}
 
 -- a number of a list that is made larger

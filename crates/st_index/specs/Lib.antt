@@ -2,10 +2,6 @@ pub mod Texts
 pub mod Notes
 pub mod Rows
 pub mod Order
-pub mod Index
-pub mod Counting
-pub mod Fields
-pub mod ListValue
 pub mod KeyPoints
 pub mod RowViews
 pub mod inner

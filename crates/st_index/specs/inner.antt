@@ -3,3 +3,7 @@ pub mod Changes
 pub mod Lists
 pub mod KeyPoints
 pub mod Storages
+pub mod Counting
+pub mod Fields
+pub mod ListValue
+pub mod Index

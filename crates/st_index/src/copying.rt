@@ -17,7 +17,7 @@ fn copy_rows<A: Allocator + Copy>(alloc: A, rows: &[Row<A>]) -> Result<Vec<Row<A
     Ok(copies)
 }
 
-/// Equal rows at the same key, or an error if memory runs out.
+// Equal rows at the same key, or an error if memory runs out.
 pub(crate) fn copy_storage<A: Allocator + Copy>(
     place: &Storage<A>,
 ) -> Result<Storage<A>, AllocError>

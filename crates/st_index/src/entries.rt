@@ -1,5 +1,6 @@
 //! Lists of entries, in the order of their keys.
-ghost use Rattle.std.specs.Prelude.{◌≡◌, ◌+◌, ◌<◌, ◌≤◌, ◌^◌, [], length, ltb, not, vec_len, vec_capacity, IfSome, IfNone, IfOk, IsOk, OnErr};
+ghost use Rattle.std.specs.Prelude.{◌≡◌, ◌+◌, ◌<◌, ◌≤◌, ◌^◌, [], length, ltb, not, vec_len, vec_capacity, IfSome, IfNone, IfOk, IsOk};
+ghost use Rattle.std.specs.Prelude.{OnErr};
 ghost use Rattle.std.specs.List.{All, position};
 ghost use Rattle.std.specs.List.Sorted.{IsSearchInRange, IsBinarySearchResult};
 ghost use Rattle.std.specs.Ordering.{nat_cmp};
@@ -7,7 +8,7 @@ ghost use Rattle.st_key.specs.declared.period.Period.{Period};
 ghost use Rattle.st_index.specs.declared.row.Row.{Row};
 ghost use Rattle.st_key.specs.Key.{rank};
 ghost use Rattle.st_index.specs.Rows.{EntryValue, name_of, Rises, rows_of, rank_of};
-ghost use Rattle.st_index.specs.Index.{Adds, Swaps, IsAbsent};
+ghost use Rattle.st_index.specs.inner.Index.{Adds, Swaps, IsAbsent};
 ghost use Rattle.st_index.specs.inner.Changes.{IsChange};
 
 use crate::entry::Entry;

@@ -1,5 +1,10 @@
 //! The rows of one key.
-ghost use Rattle.std.specs.Prelude.{◌≡◌, ◌+◌, ◌<◌, ◌≤◌, ◌==◌, ◌^◌, [], ◌∷◌, true, false, length, get_or, set, vec_capacity, IfSome, IfNone, IfOk, OnErr};
+//!
+//! The entry has a variant for a row without a note and one with a box, so a note costs 8 bytes and no tag. The label of a noted
+//! row lies in the note's box. A list that shrinks to one row gives it back to the entry. `RowView` gives its key without computing
+//! the point.
+ghost use Rattle.std.specs.Prelude.{◌≡◌, ◌+◌, ◌<◌, ◌≤◌, ◌==◌, ◌^◌, [], ◌∷◌, true, false, length, get_or, set, vec_capacity, IfSome};
+ghost use Rattle.std.specs.Prelude.{IfNone, IfOk, OnErr};
 ghost use Rattle.std.specs.List.{All, insert, remove};
 ghost use Rattle.std.specs.List.Sorted.{IsSearchInRange, IsBinarySearchResult};
 ghost use Rattle.st_key.specs.declared.period.Period.{Period};
@@ -7,7 +12,7 @@ ghost use Rattle.st_index.specs.declared.row.Row.{Row};
 ghost use Rattle.st_key.specs.Key.{rank};
 ghost use Rattle.st_index.specs.RowViews.{viewed};
 ghost use Rattle.st_index.specs.Rows.{name_cmp, name_of, NamesRise, rank_of};
-ghost use Rattle.st_index.specs.Index.{Adds, Swaps, IsAbsent};
+ghost use Rattle.st_index.specs.inner.Index.{Adds, Swaps, IsAbsent};
 
 use crate::copying::copy_storage;
 use crate::placing;

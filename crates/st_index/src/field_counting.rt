@@ -1,7 +1,7 @@
 //! How many rows of entries are in each field, of those inside a query that have a label that is found true.
 ghost use Rattle.std.specs.Prelude.{◌≡◌, ℕ, ◌+◌, ◌<◌, ◌^◌, [], ◌∷◌, cond, get_or, length, nat_eq};
-ghost use Rattle.st_index.specs.Fields.{CanAdd, Counts};
-ghost use Rattle.st_index.specs.RowViews.{row_of_view, viewed};
+ghost use Rattle.st_index.specs.inner.Fields.{CanAdd, Counts};
+ghost use Rattle.st_index.specs.RowViews.{row_of_view};
 ghost use Rattle.st_index.specs.Rows.{rows_of};
 
 use crate::entry::Entry;
@@ -30,7 +30,8 @@ fn count_row<A: Allocator + Copy, J: Judge<A>, F: Fields>(
 )
     requires long { length counts.old ≡ F.count fields.now }
     requires fits { CanAdd 1 counts.old }
-    ensures counts { Counts (F.query fields.now) (J.judges judge.old) (F.field_of fields.now) (row_of_view row.entry ∷ []) counts.old counts.new }
+    ensures counts { Counts (F.query fields.now) (J.judges judge.old) (F.field_of fields.now) (row_of_view row.entry ∷ []) counts.old
+        counts.new }
     ensures same { J.judges judge.new ≡ J.judges judge.old }
 {
     let point = row.point();

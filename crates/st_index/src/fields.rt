@@ -3,7 +3,7 @@ ghost use Rattle.std.specs.Prelude.{◌≡◌, ℕ, ◌<◌, IfSome, IsTrue};
 ghost use Rattle.st_key.specs.declared.point.Point.{Point as PointValue};
 ghost use Rattle.st_box.specs.declared.query.Query.{Query as QueryValue};
 ghost use Rattle.st_box.specs.Query.{is_inside};
-ghost use Rattle.st_index.specs.Fields.{IsBetween};
+ghost use Rattle.st_index.specs.inner.Fields.{IsBetween};
 
 use st_box::Query;
 use st_key::Point;

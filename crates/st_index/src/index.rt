@@ -5,10 +5,10 @@ ghost use Rattle.st_key.specs.declared.period.Period.{Period};
 ghost use Rattle.st_index.specs.declared.row.Row.{Row};
 ghost use Rattle.st_index.specs.Rows.{key_end, name_of, rank_of};
 ghost use Rattle.st_key.specs.Key.{rank};
-ghost use Rattle.st_index.specs.Counting.{count_of};
-ghost use Rattle.st_index.specs.Fields.{CanAdd, Counts};
+ghost use Rattle.st_index.specs.inner.Counting.{count_of};
+ghost use Rattle.st_index.specs.inner.Fields.{CanAdd, Counts};
 ghost use Rattle.st_index.specs.RowViews.{row_of_view};
-ghost use Rattle.st_index.specs.Index.{Adds, Swaps, IsAbsent, Holds, Region, region, IsLawful, IsLeafAt, rows_between, rows_from};
+ghost use Rattle.st_index.specs.inner.Index.{Adds, Swaps, IsAbsent, Holds, Region, region, IsLawful, IsLeafAt, rows_between, rows_from};
 
 use crate::entry::Entry;
 use crate::fields::Fields;

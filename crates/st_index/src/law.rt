@@ -3,7 +3,7 @@ ghost use Rattle.std.specs.Prelude.{◌≡◌, ◌<◌, ◌∷◌, Bool, List, f
 ghost use Rattle.st_key.specs.declared.period.Period.{Period};
 ghost use Rattle.st_text.specs.Texts.{in_order};
 ghost use Rattle.st_index.specs.declared.row.Row.{Row};
-ghost use Rattle.st_index.specs.Index.{Adds};
+ghost use Rattle.st_index.specs.inner.Index.{Adds};
 ghost use Rattle.st_index.specs.Order.{InScanOrder, scan_key};
 ghost use Rattle.st_index.specs.Rows.{key_end, rank_of};
 

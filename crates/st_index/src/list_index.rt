@@ -1,7 +1,7 @@
 //! An index of one region, which keeps its entries in one list.
 ghost use Rattle.std.specs.Prelude.{◌≡◌, ◌-◌, [], ◌∷◌};
 ghost use Rattle.st_index.specs.Rows.{key_end, rows_of};
-ghost use Rattle.st_index.specs.Index.{region};
+ghost use Rattle.st_index.specs.inner.Index.{region};
 
 use crate::entries::Change;
 use crate::entry::Entry;
@@ -26,7 +26,7 @@ pub struct ListIndex<A: Allocator = Global> {
 impl<A: Allocator> Model for ListIndex<A> {
     ghost use Rattle.std.specs.Prelude.{◌≡◌, ◌<◌, ◌^◌, length};
     ghost use Rattle.st_index.specs.Rows.{Rises, key_end, rows_of};
-    ghost use Rattle.st_index.specs.ListValue.{ListValue};
+    ghost use Rattle.st_index.specs.inner.ListValue.{ListValue};
 
     ghost Value = { ListValue A };
 

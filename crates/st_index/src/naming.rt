@@ -11,7 +11,7 @@ use st_label::Label;
 use std::alloc::Allocator;
 use std::cmp::Ordering;
 
-/// The order of a row's name and that of an id and a label: by the id's bytes, then by the label's.
+// The order of a row's name and that of an id and a label: by the id's bytes, then by the label's.
 pub(crate) fn cmp_names<A: Allocator + Copy>(
     row_id: &Id<A>,
     row_label: &Label<A>,
@@ -26,7 +26,7 @@ pub(crate) fn cmp_names<A: Allocator + Copy>(
     }
 }
 
-/// The index of the row of this name, or the index where it would stand.
+// The index of the row of this name, or the index where it would stand.
 pub(crate) fn find_name<A: Allocator + Copy>(
     rows: &[Row<A>],
     id: &str,
@@ -42,7 +42,7 @@ pub(crate) fn find_name<A: Allocator + Copy>(
     )
 }
 
-/// The index of a row alone if it has this name, or the index beside it where a row of this name would stand.
+// The index of a row alone if it has this name, or the index beside it where a row of this name would stand.
 pub(crate) fn find_beside<A: Allocator + Copy>(
     row_id: &Id<A>,
     row_label: &Label<A>,

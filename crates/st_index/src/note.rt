@@ -113,7 +113,7 @@ impl<A: Allocator + Copy> Note<A> {
         Ok(Some(Note::fitting(alloc, text)?))
     }
 
-    /// The note of a text that is not too long, or an error if memory runs out.
+    // The note of a text that is not too long, or an error if memory runs out.
     pub(crate) fn fitting(alloc: A, text: &str) -> Result<Note<A>, AllocError>
         requires { IsNote text.now }
         ensures { IfOk result (λ note. note ≡ text.now) }
@@ -145,7 +145,7 @@ fn boxed<A: Allocator + Copy>(
     Ok(Some(Box::new(alloc, NoteText { text, label: None })?))
 }
 
-/// The text that is lent, which is empty where none is.
+// The text that is lent, which is empty where none is.
 pub(crate) fn lent_text<'a, A: Allocator>(lent: Option<&'a NoteText<A>>) -> &'a str
     ensures value { result.now ≡ lent_bytes lent.entry }
     ensures fits { IsNote result.now }
@@ -157,21 +157,21 @@ pub(crate) fn lent_text<'a, A: Allocator>(lent: Option<&'a NoteText<A>>) -> &'a 
 }
 
 impl<A: Allocator> Note<A> {
-    /// The note of a text that lies in a box. The empty one has none.
+    // The note of a text that lies in a box. The empty one has none.
     pub(crate) fn of(alloc: A, text: Option<Box<NoteText<A>, A>>) -> Note<A>
         ensures { result ≡ noted_bytes text }
     {
         Note { alloc, text }
     }
 
-    /// The box of the text.
+    // The box of the text.
     pub(crate) fn into_text(self) -> Option<Box<NoteText<A>, A>>
         ensures { noted_bytes result ≡ self }
     {
         self.text
     }
 
-    /// The text, lent where there is any.
+    // The text, lent where there is any.
     pub(crate) fn lend(&self) -> Option<&NoteText<A>>
         ensures { lent_bytes result ≡ self.now }
     {

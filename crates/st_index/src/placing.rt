@@ -12,8 +12,8 @@ use st_key::{Key, Period};
 use std::alloc::Allocator;
 use std::mem;
 
-/// The place of the rows of a place and of a row at an index. Where their list is full, the new list takes all of them without
-/// more memory.
+// The place of the rows of a place and of a row at an index. Where their list is full, the new list takes all of them without
+// more memory.
 pub(crate) fn with_row<A: Allocator + Copy>(
     place: Storage<A>,
     index: usize,
@@ -37,7 +37,7 @@ pub(crate) fn with_row<A: Allocator + Copy>(
     listed(period, key, rows)
 }
 
-/// The row at an index of a place, and the place of the others.
+// The row at an index of a place, and the place of the others.
 pub(crate) fn without_row<A: Allocator + Copy>(
     place: Storage<A>,
     index: usize,
@@ -54,13 +54,13 @@ pub(crate) fn without_row<A: Allocator + Copy>(
         OwnedRows::One(row) => (row, vacant(period, key)),
         OwnedRows::Many(mut rows) => {
             let row = rows.remove(index);
-            (row, settled(period, key, rows))
+            (row, storage_of(period, key, rows))
         }
     }
 }
 
 // The place of rows that lie in a list: a single one that belongs to the key lies there no more.
-fn settled<A: Allocator + Copy>(period: Period, key: Key, mut rows: Vec<Row<A>, A>) -> Storage<A>
+fn storage_of<A: Allocator + Copy>(period: Period, key: Key, mut rows: Vec<Row<A>, A>) -> Storage<A>
     ensures stored { IsStored result }
     ensures at { stored_at result ≡ rank key }
     ensures rows { stored_rows result ≡ rows.items }
@@ -74,7 +74,7 @@ fn settled<A: Allocator + Copy>(period: Period, key: Key, mut rows: Vec<Row<A>, 
     }
 }
 
-/// Puts a row of the key in the place of the one at an index.
+// Puts a row of the key in the place of the one at an index.
 pub(crate) fn replace<A: Allocator + Copy>(
     place: &mut Storage<A>,
     index: usize,

@@ -1,4 +1,7 @@
 //! Putting in values of any type: into lists that have room for them, and in the place of others.
+//!
+//! Each put of a further row of a key allocates a list, since `prepare` may not grow one that is held. The rows move into it only
+//! if theirs is full.
 ghost use Rattle.std.specs.Prelude.{◌≡◌, ◌+◌, ◌<◌, ◌≤◌, [], ◌∷◌, length, vec_len, vec_capacity};
 ghost use Rattle.std.specs.List.{insert};
 

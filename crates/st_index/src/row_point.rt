@@ -47,7 +47,7 @@ impl KeyPoint {
 impl RowPoint {
     ghost use Rattle.st_index.specs.RowViews.{point_in};
 
-    /// The point that the parts of a key tell.
+    // The point that the parts of a key tell.
     pub(crate) fn keyed(period: Period, bin: u32, address: u64) -> RowPoint
         requires key { IsKey bin address }
         requires point { IsPointKey period bin address }
@@ -60,7 +60,7 @@ impl RowPoint {
         })
     }
 
-    /// The point.
+    // The point.
     pub(crate) fn point(self) -> Point
         ensures { result ≡ point_in self }
     {
@@ -70,7 +70,7 @@ impl RowPoint {
         }
     }
 
-    /// Its key in a period. The key of the period that it is kept by is not computed.
+    // Its key in a period. The key of the period that it is kept by is not computed.
     pub(crate) fn key(self, period: Period) -> Key
         ensures { IsKeyOf period (point_in self) result }
     {

@@ -60,14 +60,14 @@ pub enum OwnedRows<A: Allocator> {
     Many(Vec<Row<A>, A>),
 }
 
-/// No rows at the first key.
+// No rows at the first key.
 pub(crate) fn nothing<A: Allocator>() -> Storage<A>
     ensures { IsStored result }
 {
     vacant(Period::Day, Key::FIRST)
 }
 
-/// No rows at a key.
+// No rows at a key.
 pub(crate) fn vacant<A: Allocator>(period: Period, key: Key) -> Storage<A>
     ensures stored { IsStored result }
     ensures at { stored_at result ≡ rank key }
@@ -81,7 +81,7 @@ pub(crate) fn vacant<A: Allocator>(period: Period, key: Key) -> Storage<A>
     }
 }
 
-/// The rows of a key in a list.
+// The rows of a key in a list.
 pub(crate) fn listed<A: Allocator>(period: Period, key: Key, rows: Vec<Row<A>, A>) -> Storage<A>
     ensures stored { IsStored result }
     ensures at { stored_at result ≡ rank key }
@@ -96,7 +96,7 @@ pub(crate) fn listed<A: Allocator>(period: Period, key: Key, rows: Vec<Row<A>, A
     }
 }
 
-/// The one row of its key in a period.
+// The one row of its key in a period.
 pub(crate) fn alone<A: Allocator>(period: Period, key: Key, row: Row<A>) -> Storage<A>
     requires { rank key ≡ rank_of period row }
     ensures stored { IsStored result }
@@ -131,7 +131,7 @@ pub(crate) fn alone<A: Allocator>(period: Period, key: Key, row: Row<A>) -> Stor
     }
 }
 
-/// The key.
+// The key.
 pub(crate) fn key_of<A: Allocator>(place: &Storage<A>) -> Key
     requires { IsStored place.now }
     ensures { rank result ≡ stored_at place.now }
@@ -166,7 +166,7 @@ fn lone<A: Allocator + Copy>(
     }
 }
 
-/// The period, the key and the rows of a place that has rows.
+// The period, the key and the rows of a place that has rows.
 pub(crate) fn into_rows<A: Allocator + Copy>(place: Storage<A>) -> (Period, Key, OwnedRows<A>)
     requires stored { IsStored place }
     requires some { 0 < length (stored_rows place) }
@@ -205,7 +205,7 @@ pub(crate) fn into_rows<A: Allocator + Copy>(place: Storage<A>) -> (Period, Key,
     }
 }
 
-/// The rows, in order.
+// The rows, in order.
 pub(crate) fn rows_in<A: Allocator>(place: &Storage<A>) -> RowsView<'_, A>
     requires { IsStored place.now }
     ensures { viewed result ≡ stored_rows place.now }
@@ -236,7 +236,7 @@ pub(crate) fn rows_in<A: Allocator>(place: &Storage<A>) -> RowsView<'_, A>
     }
 }
 
-/// How many rows there are.
+// How many rows there are.
 pub(crate) fn count<A: Allocator>(place: &Storage<A>) -> usize
     ensures value { result ≡ length (stored_rows place.now) }
     ensures in_range { result + 1 < 2 ^ 64 }
@@ -249,7 +249,7 @@ pub(crate) fn count<A: Allocator>(place: &Storage<A>) -> usize
     }
 }
 
-/// The index of the row of this name, or the index where it would stand. No point is computed.
+// The index of the row of this name, or the index where it would stand. No point is computed.
 pub(crate) fn find<A: Allocator + Copy>(
     place: &Storage<A>,
     id: &str,

@@ -1,19 +1,23 @@
 //! What keeps the records.
 ghost use Rattle.std.specs.Prelude.{◌≡◌, ◌≢◌, ◌⊎◌, ◌≤◌, ◌++◌, ℕ, List, Err, OnOk, OnErr};
 ghost use Rattle.st_journal.specs.declared.record.Record.{Record};
-ghost use Rattle.st_journal.specs.Faults.{Rises};
+ghost use Rattle.st_journal.specs.Faults.{FaultsRise};
 
 use crate::record::Record;
+use thiserror::Error;
 
 /// Why records were not appended.
-#[derive(Clone, Copy, Debug, PartialEq, Eq)]
+#[derive(Clone, Copy, Debug, PartialEq, Eq, Error)]
 pub enum AppendError {
     /// Memory ran out, or the records are more or longer than the journal takes. None of them is kept, and none ever will be. The
     /// journal goes on.
+    #[error("out of memory")]
     NoMemory,
     /// The disk failed or refused. None of them is kept, and none ever will be. The journal goes on.
+    #[error("the disk failed or refused")]
     NotKept,
     /// Either all of them are kept or none is: only the next opening can tell. The journal takes no more.
+    #[error("unknown until the journal is opened again")]
     Unknown,
 }
 
@@ -42,13 +46,13 @@ pub trait Journal {
         ensures counts { faults self.old ≤ faults self.new }
         ensures kept { misreads self.new ≡ 0 → OnOk result (list self.new ≡ list self.old ++ records.now) }
         ensures not_kept { misreads self.new ≡ 0 → result ≢ Err AppendError.Unknown → OnErr result (list self.new ≡ list self.old) }
-        ensures refused { misreads self.new ≡ 0 → result ≡ Err AppendError.NotKept → Rises (faults self.old) (faults self.new) }
-        ensures unknown { misreads self.new ≡ 0 → result ≡ Err AppendError.Unknown → Rises (faults self.old) (faults self.new) }
+        ensures refused { misreads self.new ≡ 0 → result ≡ Err AppendError.NotKept → FaultsRise (faults self.old) (faults self.new) }
+        ensures unknown { misreads self.new ≡ 0 → result ≡ Err AppendError.Unknown → FaultsRise (faults self.old) (faults self.new) }
         // A crash inside the call is a disk that fails from some moment on, so that the call ends as `Unknown`.
         ensures crash { misreads self.new ≡ 0 → (left : List Record) → may_leave self.new left
             → (left ≡ list self.old) ⊎ (left ≡ list self.old ++ records.now) };
 
     // A journal that takes records leaves its list and nothing else.
-    ghost settled: { (journal : Self) (left : List Record) → misreads journal ≡ 0 → is_ready journal → may_leave journal left
+    ghost leaves_list: { (journal : Self) (left : List Record) → misreads journal ≡ 0 → is_ready journal → may_leave journal left
         → left ≡ list journal };
 }

@@ -74,7 +74,7 @@ impl Journal for MemoryJournal {
 
     ghost may_leave = { λ _ _. ⊥ };
 
-    ghost settled = { λ _ _ _ _ leaves. absurd leaves };
+    ghost leaves_list = { λ _ _ _ _ leaves. absurd leaves };
 
     fn append(&mut self, records: &[Record]) -> Result<(), AppendError> {
         let before = self.records.len();

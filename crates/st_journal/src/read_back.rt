@@ -1,17 +1,20 @@
 //! The records that a journal keeps, read back.
 ghost use Rattle.std.specs.Prelude.{◌≡◌, ◌≢◌, ◌≤◌, List, Err, IfOk, drop, take};
 ghost use Rattle.st_journal.specs.declared.record.Record.{Record};
-ghost use Rattle.st_journal.specs.Faults.{Rises};
+ghost use Rattle.st_journal.specs.Faults.{FaultsRise};
 
 use crate::journal::Journal;
 use crate::record::Record;
+use thiserror::Error;
 
 /// Why records were not read back.
-#[derive(Clone, Copy, Debug, PartialEq, Eq)]
+#[derive(Clone, Copy, Debug, PartialEq, Eq, Error)]
 pub enum ReadError {
     /// Memory ran out, or the disk failed to read. The journal goes on.
+    #[error("not read")]
     NotRead,
     /// The journal takes no more: only the next opening can tell what it holds.
+    #[error("the journal takes no more")]
     Lost,
 }
 
@@ -28,7 +31,7 @@ pub trait ReadBack: Journal {
         ensures same { Self.Journal.misreads self.new ≡ 0 → result ≢ Err ReadError.Lost
             → Self.Journal.list self.new ≡ Self.Journal.list self.old }
         ensures lost { Self.Journal.misreads self.new ≡ 0 → result ≡ Err ReadError.Lost
-            → Rises (Self.Journal.faults self.old) (Self.Journal.faults self.new) }
+            → FaultsRise (Self.Journal.faults self.old) (Self.Journal.faults self.new) }
         ensures crash { Self.Journal.misreads self.new ≡ 0 → (left : List Record) → Self.Journal.may_leave self.new left
             → left ≡ Self.Journal.list self.old };
 }

@@ -3,13 +3,16 @@ ghost use Rattle.std.specs.Prelude.{◌≡◌, Err, OnOk, OnErr};
 ghost use Rattle.st_journal.specs.declared.record.Record.{Record};
 
 use crate::record::Record;
+use thiserror::Error;
 
 /// Why a record was not applied.
-#[derive(Clone, Copy, Debug, PartialEq, Eq)]
+#[derive(Clone, Copy, Debug, PartialEq, Eq, Error)]
 pub enum ReplayError {
     /// Memory ran out.
+    #[error("out of memory")]
     NoMemory,
     /// The record is not that of a change which could be made here.
+    #[error("the record does not apply")]
     Invalid,
 }
 

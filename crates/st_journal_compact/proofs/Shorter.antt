@@ -1,5 +1,6 @@
 -- The short list leads to the same state.
-use Rattle.std.proofs.Common.{◌≡◌, ℕ, suc, ◌-◌, ◌≤◌, List, [], ◌∷◌, ◌++◌, length, Bool, true, false, not, ◌&&◌, ◌||◌, if◌then◌else◌, is_none, nat_le, Option, Some, None, Ok, refl, sym, ap, subst, ◌∙◌, arith, le_refl, leb→le, le→leb, eqb→eq, nat_eq, T}
+use Rattle.std.proofs.Common.{◌≡◌, ℕ, suc, ◌-◌, ◌≤◌, List, [], ◌∷◌, ◌++◌, length, Bool, true, false, not, ◌&&◌, ◌||◌, if◌then◌else◌, is_none, nat_le}
+use Rattle.std.proofs.Common.{Option, Some, None, Ok, refl, sym, ap, subst, ◌∙◌, arith, le_refl, leb→le, le→leb, eqb→eq, nat_eq, T}
 use Rattle.circular_buffer.specs.Buffer.{keep_last}
 use Rattle.st_text.specs.Texts.{Text, in_order}
 use Rattle.st_policy.specs.declared.entry.Entry.{Entry}
@@ -187,7 +188,9 @@ module _ {A : Type 0} where
       bare = λ far.
           short_all.rows
           ∙ ap (rows_with c.accepted c.request) (b.bare (omega (arith, far)))
-          ∙ bare_with c.accepted c.request (kind_of c.request) rest s.rows (ap (λ z. z && (not c.accepted || is_undone c.request (is_decided rest))) (sym (told (nat_le 1024 (length rest)) (le→leb 1024 (length rest) far))) ∙ e)
+          ∙ bare_with c.accepted c.request (kind_of c.request) rest s.rows
+          (ap (λ z. z && (not c.accepted || is_undone c.request (is_decided rest)))
+          (sym (told (nat_le 1024 (length rest)) (le→leb 1024 (length rest) far))) ∙ e)
           ∙ ap (living rest) (sym all.rows);
     }
 

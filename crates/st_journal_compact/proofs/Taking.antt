@@ -1,5 +1,6 @@
 -- What is known once one change more was looked at.
-use Rattle.std.proofs.Common.{◌≡◌, ◌+◌, List, [], ◌∷◌, ◌++◌, length, reverse, map, Bool, true, false, not, ◌&&◌, ◌||◌, if◌then◌else◌, nat_le, Result, Ok, Err, OnOk, Global, refl, sym, ap, ◌∙◌, arith, append_assoc}
+use Rattle.std.proofs.Common.{◌≡◌, ◌+◌, List, [], ◌∷◌, ◌++◌, length, reverse, map, Bool, true, false, not, ◌&&◌, ◌||◌, if◌then◌else◌, nat_le, Result}
+use Rattle.std.proofs.Common.{Ok, Err, OnOk, Global, refl, sym, ap, ◌∙◌, arith, append_assoc}
 use Rattle.std.proofs.lemmas.List.{reverse-append}
 use Rattle.st_policy.specs.declared.request.Request.{Request}
 use Rattle.st_table.specs.Rows.{Held}

@@ -1,5 +1,6 @@
 -- Which recorded changes a short list leaves out.
 use Rattle.std.specs.Prelude.{◌≡◌, List, [], ◌∷◌, length, map, Bool, true, false, not, ◌&&◌, ◌||◌, nat_le, if◌then◌else◌, is_none, Ok, ⊤}
+use Rattle.std.specs.List.{list_any}
 use Rattle.st_dir.specs.Directory.{Directory}
 use Rattle.st_policy.specs.declared.request.Request.{Request}
 use Rattle.st_policy.specs.declared.request.Request.TheVariants.{Put, Delete, DropTable}
@@ -25,8 +26,7 @@ decides _ held = false
 
 -- whether one of these changes decides what becomes of the row
 abbrev pub is_decided : {A : Type 0} → List (Noted A) → Held A → Bool
-is_decided [] held = false
-is_decided (c ∷ rest) held = (c.accepted && decides c.request held) || is_decided rest held
+is_decided rest held = list_any (λ c. c.accepted && decides c.request held) rest
 
 -- whether the change leaves nothing in the rows, where later changes decide of these: it takes a row away, or puts one of them
 abbrev pub is_undone : {A : Type 0} → Request A → (Held A → Bool) → Bool

@@ -43,7 +43,8 @@ impl Sieve {
 
     // Whether the list does without a change.
     fn leaves_out(&self, request: &Request, accepted: bool) -> Result<bool, ReplayError>
-        ensures { IfOk result (λ told. told ≡ (nat_le 1024 self.now.behind && (not accepted || is_undone request.now (knows self.now.decided)))) }
+        ensures { IfOk result (λ told. told
+            ≡ (nat_le 1024 self.now.behind && (not accepted || is_undone request.now (knows self.now.decided)))) }
     {
         if self.behind < SHOWN {
             Ok(false)

@@ -5,7 +5,7 @@ ghost use Rattle.st_journal_copy.specs.Following.{IsGiven};
 
 use crate::fault::CopyFault;
 use crate::follow::CHUNK;
-use crate::source::Source;
+use crate::source::RecordSource;
 use st_journal::{ReadBack, Record};
 
 // Whether two records are equal.
@@ -36,7 +36,7 @@ fn are_same(ours: &[Record], theirs: &[Record]) -> bool
 }
 
 // Reads records of a copy, and compares them with those of the list: how many there were.
-fn compare_some<S: Source, J: ReadBack>(
+fn compare_some<S: RecordSource, J: ReadBack>(
     source: &mut S,
     copy: &mut J,
     from: u64,
@@ -68,7 +68,7 @@ fn compare_some<S: Source, J: ReadBack>(
 }
 
 /// Compares a copy, which has so many records, with the list: at `OtherHistory` it is no beginning of it. Neither is changed.
-pub fn compare<S: Source, J: ReadBack>(
+pub fn compare<S: RecordSource, J: ReadBack>(
     source: &mut S,
     copy: &mut J,
     count: u64,

@@ -5,14 +5,14 @@ ghost use Rattle.st_journal_copy.specs.Following.{GoesOn, IsAtEnd, IsGiven};
 
 use crate::comparing::compare;
 use crate::fault::CopyFault;
-use crate::source::Source;
+use crate::source::RecordSource;
 use st_journal::{Journal, ReadBack};
 
 // How many records are read and appended at a time.
 pub(crate) const CHUNK: usize = 1024;
 
 /// Whether a list has more than so many records.
-pub fn has_more<S: Source>(source: &mut S, count: u64) -> Result<bool, CopyFault>
+pub fn has_more<S: RecordSource>(source: &mut S, count: u64) -> Result<bool, CopyFault>
     ensures none { IfOk result (λ has_more. has_more ≡ false → S.gives source.new count 1 []) }
     ensures stays { (from most : ℕ) (piece : List Record) → S.gives source.old from most piece → S.gives source.new from most piece }
 {
@@ -23,7 +23,7 @@ pub fn has_more<S: Source>(source: &mut S, count: u64) -> Result<bool, CopyFault
 }
 
 // Appends the next records of the list to a copy that has so many, by one append: how many there were.
-fn append_some<S: Source, J: Journal>(
+fn append_some<S: RecordSource, J: Journal>(
     source: &mut S,
     copy: &mut J,
     count: u64,
@@ -51,7 +51,11 @@ fn append_some<S: Source, J: Journal>(
 }
 
 // Appends what the list has beyond the copy, which has so many records: how many it has then.
-fn follow<S: Source, J: Journal>(source: &mut S, copy: &mut J, count: u64) -> Result<u64, CopyFault>
+fn follow<S: RecordSource, J: Journal>(
+    source: &mut S,
+    copy: &mut J,
+    count: u64,
+) -> Result<u64, CopyFault>
     requires ready { J.is_ready copy.old }
     ensures misreads { J.misreads copy.old ≤ J.misreads copy.new }
     ensures goes_on { IfOk result (λ now. J.misreads copy.new ≡ 0 → count ≡ length (J.list copy.old)
@@ -78,7 +82,7 @@ fn follow<S: Source, J: Journal>(source: &mut S, copy: &mut J, count: u64) -> Re
 /// Brings a copy, which has so many records, up to the list: how many it has then. Unless the copy is known to be a beginning of the
 /// list, it is compared with it first, and left as it is where it is not. Whatever the copy's journal leaves if the process ends
 /// meanwhile goes on what it had.
-pub fn bring_up<S: Source, J: ReadBack>(
+pub fn bring_up<S: RecordSource, J: ReadBack>(
     source: &mut S,
     copy: &mut J,
     count: u64,

@@ -12,4 +12,4 @@ pub use comparing::compare;
 pub use counting::Counting;
 pub use fault::CopyFault;
 pub use follow::{bring_up, has_more};
-pub use source::{Copier, Source};
+pub use source::{Copier, RecordSource};

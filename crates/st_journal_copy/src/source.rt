@@ -6,7 +6,7 @@ use crate::fault::CopyFault;
 use st_journal::{ReadError, Record};
 
 /// A list of records that others may make longer while it is read.
-pub trait Source {
+pub trait RecordSource {
     // What stood behind the first so many records, at most so many, at a moment when it was read, was this.
     ghost gives: { Self → (from most : ℕ) → List Record → Type 0 };
 
@@ -20,7 +20,7 @@ pub trait Source {
 pub trait Copier {
     /// Brings the copy at a path up to a list, of a store that was opened with `opening`. A copy that is missing is made. Between
     /// two turns the file is closed.
-    fn take_turn<S: Source>(
+    fn take_turn<S: RecordSource>(
         &mut self,
         path: &str,
         opening: &str,

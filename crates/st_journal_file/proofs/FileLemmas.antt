@@ -20,7 +20,7 @@ use Rattle.sqlite_store.specs.FileStore.{view, schema_of, IsReady}
 use Rattle.sqlite_store.specs.FileStore as store
 use Rattle.st_journal_rows.specs.Table.{schema}
 use Rattle.st_journal_file.specs.Files.{HoldTrees}
-use Rattle.st_journal_rows.specs.Begins.{IsAtRest}
+use Rattle.st_journal_rows.specs.OpenedTable.{IsAtRest}
 
 pub same_pages : (size : ℕ) (image : Image) (p q : PageMap) → Recovers size image p → Recovers size image q → p ≡ q
 same_pages size image p q a b =
@@ -44,7 +44,7 @@ module _ {D : Type 0} {g : Ghosts D} where
     sound = ready.sound clean;
     numbered = numbered;
     listed = rw (clean_of (view it).is_clean clean) (catalog_rows _ it.schema.items _ ∙ ap (listed_from 0) schema_is);
-    settled = ready.clean;
+    is_committed = ready.clean;
     shapes = sym (ap (λ saved. all_shapes (kept_schema saved it.schema.items)) ready.unaltered);
   }
 
@@ -58,7 +58,9 @@ module _ {D : Type 0} {g : Ghosts D} where
         ∥∥₁_map (it.stored (ready.is_open clean)) (λ stored.
             let ours : IsOurs (store.state it).page_size it.is_numbered (kept_schema it.saved it.schema.items) (store.state it).committed = stored.ours in
             rw (size, kept, numbered) at ours),
-        rw (clean_of (view it).is_clean clean) (ap (λ n. file_trees n (kept_schema it.saved it.schema.items) (store.state it).committed) size ∙ ap (λ s. file_trees 4096 s (store.state it).committed) kept),
+        rw (clean_of (view it).is_clean clean)
+            (ap (λ n. file_trees n (kept_schema it.saved it.schema.items) (store.state it).committed) size
+            ∙ ap (λ s. file_trees 4096 s (store.state it).committed) kept),
       )
 
 pub if_one : {X E : Type 0} {P R : X → Type 0} (r : Result X E) → ((x : X) → P x → R x) → IfOk r P → IfOk r R

@@ -4,12 +4,12 @@ use Rattle.sqlite_wal.specs.Recovery.{Image}
 use Rattle.sqlite_trees.specs.View.{View}
 use Rattle.st_journal.specs.declared.record.Record.{Record}
 use Rattle.st_journal_rows.specs.Table.{table_tree, record_in, records_in, changes_in, opening_record}
-use Rattle.st_journal_file.specs.Files.{Finds}
+use Rattle.st_journal_file.specs.inner.Finding.{Finds}
 use Rattle.st_journal_file.specs.Opening.{HoldJournal, HoldNoJournal, Opens}
-use Rattle.st_journal_rows.specs.Begins.{Begins}
+use Rattle.st_journal_rows.specs.OpenedTable.{OpensTable}
 
 pub opened : {S : Type 0} (applies : S → Record → S → Type 0) (opening : List ℕ) (image : Image) (old new : View) (count : ℕ) (before after : S)
-    → Finds image old.committed → Begins applies opening old new count before after
+    → Finds image old.committed → OpensTable applies opening old new count before after
     → Opens applies image opening (changes_in new.committed) before after
 opened {S} applies opening image old new count before after finds begins =
     let changes : changes_in new.committed ≡ begins.changes = ap (drop 1) begins.records_are in

@@ -1,5 +1,6 @@
 -- What a crash leaves is what the next opening finds.
-use Rattle.std.proofs.Common.{◌≡◌, inl, inr, ℕ, ◌≤◌, ◌+◌, ◌*◌, pos, Bool, true, false, ◌&&◌, if◌then◌else◌, IsTrue, Some, List, [], ◌∷◌, ◌++◌, map, drop, length, get_or, codes, refl, sym, ap, ap₂, subst, ◌∙◌, arith}
+use Rattle.std.proofs.Common.{◌≡◌, inl, inr, ℕ, ◌≤◌, ◌+◌, ◌*◌, pos, Bool, true, false, ◌&&◌, if◌then◌else◌, IsTrue, Some, List, [], ◌∷◌, ◌++◌, map}
+use Rattle.std.proofs.Common.{drop, length, get_or, codes, refl, sym, ap, ap₂, subst, ◌∙◌, arith}
 use Rattle.std.proofs.Math.Logic.{∥∥₁_elim, ∥∥₁_map}
 use Rattle.std.proofs.lemmas.Bool.{cases_eq}
 use Rattle.std.proofs.lemmas.Grind.{not_there}
@@ -35,7 +36,7 @@ use Rattle.st_journal_rows.specs.Table.{table_tree, record_in, changes_in}
 use Rattle.st_journal_rows.specs.Table.{table_text, schema}
 use Rattle.st_journal_file.specs.Files.{HoldNothing}
 use Rattle.st_journal_file.specs.Opening.{HoldNoJournal, Opens}
-use Rattle.st_journal_rows.specs.Ready.{HasTable}
+use Rattle.st_journal_rows.specs.inner.Putting.{HasTable}
 
 -- ---- one image has one page size
 

@@ -9,7 +9,7 @@ use Rattle.sqlite_trees.specs.declared.store.Shape.TheVariants.{Table}
 use Rattle.sqlite_trees.specs.Tree.{Trees}
 use Rattle.sqlite_store.specs.Db.{rows_at}
 use Rattle.sqlite_store.specs.Listing.{IsOurs, file_trees}
-use Rattle.st_journal_rows.specs.Table.{schema, table_tree}
+use Rattle.st_journal_rows.specs.Table.{schema}
 
 -- the files recover to a database of this schema, with pages of 4,096 bytes, which reads as these trees
 abbrev pub HoldTrees : Image → Trees → Type 0
@@ -21,7 +21,3 @@ abbrev pub HoldNothing : Image → Type 0
 HoldNothing image =
     IsBlankFile 4096 image
     ⊎ ((pages : PageMap) × Recovers 4096 image pages × ∥ IsSoundFile 4096 pages ∥₁ × (rows_at 4096 (in_use 4096 pages) Table 1 ≡ []))
-
--- what an opening finds in the files
-abbrev pub Finds : Image → Trees → Type 0
-Finds image trees = HoldTrees image trees ⊎ (HoldNothing image × (trees table_tree ≡ []))

@@ -18,8 +18,12 @@ pub record HoldJournal (image : Image) (opening : List ℕ) (changes : List Reco
 abbrev pub HoldNoJournal : Image → Type 0
 HoldNoJournal image = HoldNothing image ⊎ ((trees : Trees) × HoldTrees image trees × (trees table_tree ≡ []))
 
--- The changes are those of the journal that the files hold, or none where they hold no journal. They were applied to the state.
+-- the files hold a journal of these changes, of a store that was opened so; or no journal, and there are no changes
+abbrev pub HoldStore : Image → List ℕ → List Record → Type 0
+HoldStore image opening changes = HoldJournal image opening changes ⊎ (HoldNoJournal image × (changes ≡ []))
+
+-- The changes are those that the files hold. They were applied to the state.
 pub record Opens {S : Type 0} (applies : S → Record → S → Type 0) (image : Image) (opening : List ℕ) (changes : List Record)
     (before after : S) : Type 0 where
-  pub found : HoldJournal image opening changes ⊎ (HoldNoJournal image × (changes ≡ []))
+  pub found : HoldStore image opening changes
   pub made : Replays applies before changes after

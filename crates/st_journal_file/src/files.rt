@@ -7,8 +7,9 @@ ghost use Rattle.sqlite_store.specs.FileStore.{view};
 ghost use Rattle.sqlite_store.specs.Unopened.{state_of, wanted_by, files_of, image, AreUsable};
 ghost use Rattle.st_journal_rows.specs.Table.{table_tree};
 ghost use Rattle.st_journal_rows.specs.Table.{schema};
-ghost use Rattle.st_journal_file.specs.Files.{HoldTrees, Finds};
-ghost use Rattle.st_journal_rows.specs.Begins.{IsAtRest};
+ghost use Rattle.st_journal_file.specs.Files.{HoldTrees};
+ghost use Rattle.st_journal_file.specs.inner.Finding.{Finds};
+ghost use Rattle.st_journal_rows.specs.OpenedTable.{IsAtRest};
 
 use sqlite_disk::{Disk, Files};
 use sqlite_pager::{Options, Pager};

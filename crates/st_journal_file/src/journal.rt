@@ -6,7 +6,8 @@ ghost use Rattle.sqlite_trees.specs.Tree.{Trees};
 ghost use Rattle.sqlite_trees.specs.View.{doubt, IsClean};
 ghost use Rattle.sqlite_store.specs.FileStore.{view, recovers};
 ghost use Rattle.st_journal_rows.specs.Table.{changes_in};
-ghost use Rattle.st_journal_rows.specs.Ready.{HasTable, IsReady};
+ghost use Rattle.st_journal_rows.specs.Ready.{IsReady};
+ghost use Rattle.st_journal_rows.specs.inner.Putting.{HasTable};
 
 use crate::rows::put_behind;
 use sqlite_disk::Disk;
@@ -43,9 +44,9 @@ impl<D: Disk + Drop> Journal for FileJournal<D> {
     ghost may_leave = { λ j left. (db : Trees) × recovers j.store db × (left ≡ changes_in db) };
 
     ghost use Rattle.sqlite_store.specs.Laws as laws;
-    ghost use Rattle.st_journal_file.specs.Laws.{settled_at};
+    ghost use Rattle.st_journal_file.specs.inner.Laws.{left_at};
 
-    ghost settled = { λ j left clean ready leaves. settled_at (view j.store).committed leaves.0 left
+    ghost leaves_list = { λ j left clean ready leaves. left_at (view j.store).committed leaves.0 left
         (laws.settled_at j.store D.Disk.seen_may_stay leaves.0 (ready clean).is_open leaves.1) leaves.2 };
 
     fn append(&mut self, records: &[Record]) -> Result<(), AppendError> {

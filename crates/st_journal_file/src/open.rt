@@ -5,7 +5,7 @@ ghost use Rattle.sqlite_wal.specs.Files.{image_at};
 ghost use Rattle.sqlite_trees.specs.View.{doubt, IsClean};
 ghost use Rattle.sqlite_store.specs.FileStore.{view};
 ghost use Rattle.st_journal_file.specs.Opening.{Opens};
-ghost use Rattle.st_journal_rows.specs.Begins.{IsAtRest, Begins};
+ghost use Rattle.st_journal_rows.specs.OpenedTable.{IsAtRest, OpensTable};
 
 use crate::files::open_store;
 use crate::journal::FileJournal;
@@ -52,7 +52,7 @@ fn journal_of<D: Disk + Drop, R: Replay, P: Progress>(
     requires rest { IsClean (view store) → IsTrue (view store).is_open → IsAtRest (view store) }
     ensures clean { IfOk result (λ journal. doubt (view store).is_clean ≤ doubt (view journal.store).is_clean) }
     ensures ok { IfOk result (λ journal. IsClean (view journal.store)
-        → Begins R.applies opening.now (view store) (view journal.store) journal.count state.old state.new) }
+        → OpensTable R.applies opening.now (view store) (view journal.store) journal.count state.old state.new) }
 {
     let count = begin(&mut store, alloc, opening, time, state, progress)?;
     Ok(FileJournal {

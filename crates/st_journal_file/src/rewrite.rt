@@ -2,7 +2,7 @@
 //! since the numbers shift.
 ghost use Rattle.std.specs.Prelude.{◌≡◌, ◌≢◌, ◌⊎◌, ◌≤◌, Err, List, OnOk, OnErr};
 ghost use Rattle.st_journal.specs.declared.record.Record.{Record};
-ghost use Rattle.st_journal.specs.Faults.{Rises};
+ghost use Rattle.st_journal.specs.Faults.{FaultsRise};
 
 use crate::journal::FileJournal;
 use crate::rows::put_behind;
@@ -23,9 +23,9 @@ impl<D: Disk + Drop> FileJournal<D> {
         ensures not_kept { ⟦<FileJournal<D> as Journal>⟧.misreads self.new ≡ 0 → result ≢ Err AppendError.Unknown
             → OnErr result (⟦<FileJournal<D> as Journal>⟧.list self.new ≡ ⟦<FileJournal<D> as Journal>⟧.list self.old) }
         ensures refused { ⟦<FileJournal<D> as Journal>⟧.misreads self.new ≡ 0 → result ≡ Err AppendError.NotKept
-            → Rises (⟦<FileJournal<D> as Journal>⟧.faults self.old) (⟦<FileJournal<D> as Journal>⟧.faults self.new) }
+            → FaultsRise (⟦<FileJournal<D> as Journal>⟧.faults self.old) (⟦<FileJournal<D> as Journal>⟧.faults self.new) }
         ensures unknown { ⟦<FileJournal<D> as Journal>⟧.misreads self.new ≡ 0 → result ≡ Err AppendError.Unknown
-            → Rises (⟦<FileJournal<D> as Journal>⟧.faults self.old) (⟦<FileJournal<D> as Journal>⟧.faults self.new) }
+            → FaultsRise (⟦<FileJournal<D> as Journal>⟧.faults self.old) (⟦<FileJournal<D> as Journal>⟧.faults self.new) }
         // A crash inside the call is a disk that fails from some moment on, so that the call ends as `Unknown`.
         ensures crash { ⟦<FileJournal<D> as Journal>⟧.misreads self.new ≡ 0 → (left : List Record)
             → ⟦<FileJournal<D> as Journal>⟧.may_leave self.new left

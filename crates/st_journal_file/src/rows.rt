@@ -2,7 +2,8 @@
 ghost use Rattle.std.specs.Prelude.{◌≤◌, ◌<◌, ◌+◌, ◌^◌, length};
 ghost use Rattle.sqlite_trees.specs.View.{IsClean};
 ghost use Rattle.sqlite_store.specs.FileStore.{view, faults, recovers};
-ghost use Rattle.st_journal_rows.specs.Ready.{IsReady, PutsBehind};
+ghost use Rattle.st_journal_rows.specs.Ready.{IsReady};
+ghost use Rattle.st_journal_rows.specs.inner.Putting.{PutsBehind};
 
 use sqlite_disk::Disk;
 use sqlite_store::FileStore;

@@ -7,4 +7,4 @@ mod read;
 mod write;
 
 pub use read::request_in;
-pub use write::{Source, record_of};
+pub use write::{RequestParts, record_of};

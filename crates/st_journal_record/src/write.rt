@@ -13,7 +13,7 @@ use std::str::from_utf8;
 
 /// Who asked, and what a request was made of.
 #[derive(Clone, Copy)]
-pub struct Source<'a> {
+pub struct RequestParts<'a> {
     /// The name of the user who asked.
     pub user: &'a str,
     pub endpoint: Endpoint,
@@ -42,19 +42,19 @@ fn kept_body<'a>(endpoint: Endpoint, body: &'a [u8]) -> &'a str
 pub fn record_of(
     alloc: Global,
     time: i64,
-    source: Source<'_>,
+    parts: RequestParts<'_>,
     reply: &str,
 ) -> Result<Record, AllocError>
-    requires { has_body source.endpoint ≡ true → IsUtf8 source.body.now }
+    requires { has_body parts.endpoint ≡ true → IsUtf8 parts.body.now }
     ensures made { IfOk result (λ it.
-        IsRecordOf it source.entry.user.now source.entry.endpoint source.entry.name.now source.entry.body.now) }
+        IsRecordOf it parts.entry.user.now parts.entry.endpoint parts.entry.name.now parts.entry.body.now) }
     ensures time { IfOk result (λ it. it.time ≡ time) }
     ensures told { IfOk result (λ it. it.result ≡ reply.now) }
 {
-    let user = Words::new(alloc, source.user)?;
-    let request = Words::new(alloc, request_of(source.endpoint))?;
-    let name = Words::new(alloc, source.name)?;
-    let body = Words::new(alloc, kept_body(source.endpoint, source.body))?;
+    let user = Words::new(alloc, parts.user)?;
+    let request = Words::new(alloc, request_of(parts.endpoint))?;
+    let name = Words::new(alloc, parts.name)?;
+    let body = Words::new(alloc, kept_body(parts.endpoint, parts.body))?;
     let result = Words::new(alloc, reply)?;
     Ok(Record {
         time,

@@ -1,5 +1,6 @@
 -- Rows of the table, read one by one by their numbers.
-use Rattle.std.proofs.Common.{◌≡◌, ◌<◌, ◌≤◌, ◌+◌, ℕ, zero, suc, pos, true, false, List, [], ◌∷◌, ◌++◌, Some, None, map, filter, drop, take, slice_get, get_or, length, refl, sym, ap, ◌∙◌, arith, Equal, Greater}
+use Rattle.std.proofs.Common.{◌≡◌, ◌<◌, ◌≤◌, ◌+◌, ℕ, zero, suc, pos, true, false, List, [], ◌∷◌, ◌++◌, Some, None, map, filter, drop, take, slice_get}
+use Rattle.std.proofs.Common.{get_or, length, refl, sym, ap, ◌∙◌, arith, Equal, Greater}
 use Rattle.std.specs.Prelude.{Option}
 use Rattle.std.proofs.lemmas.Int.{ints}
 use Rattle.std.proofs.lemmas.List.{take_more}

@@ -4,7 +4,7 @@ use Rattle.std.specs.Prelude.{⊤, Result, IfErr}
 use Rattle.sqlite_trees.specs.declared.error.StoreError.{StoreError}
 use Rattle.sqlite_trees.specs.declared.error.StoreError.TheVariants.{OutOfMemory, Io, Corrupt, Full, Broken, Unstorable}
 use Rattle.sqlite_trees.specs.View.{View, HasCause, IsRolledBack}
-use Rattle.st_journal.specs.Faults.{Rises}
+use Rattle.st_journal.specs.Faults.{FaultsRise}
 use Rattle.st_journal.proofs.Rising.{rises_after, rises_before}
 use Rattle.st_journal_rows.specs.inner.Writes.{Wrote}
 
@@ -31,11 +31,11 @@ of_memory f u old e is = subst (λ x. HasCause old f u x) (sym is) tt
 
 -- an error of the writing or of the commit, where only a fault can be the cause
 pub refused_by : (sound old : View) (before mid after : ℕ) (written : Result (Unit {0}) StoreError) (e : StoreError)
-    → ((v : View) (from to : ℕ) → v.is_broken ≡ false → HasCause v (Rises from to) ⊤ e → Rises from to)
+    → ((v : View) (from to : ℕ) → v.is_broken ≡ false → HasCause v (FaultsRise from to) ⊤ e → FaultsRise from to)
     → Wrote sound old before mid written → before ≤ mid → mid ≤ after
-    → (written ≡ Err e) ⊎ ((written ≡ Ok tt) × HasCause old (Rises mid after) ⊥ e) → Rises before after
+    → (written ≡ Err e) ⊎ ((written ≡ Ok tt) × HasCause old (FaultsRise mid after) ⊥ e) → FaultsRise before after
 refused_by sound old before mid after written e fault wrote grown more (inl is) =
-    rises_before before mid after (fault sound before mid wrote.sound (known_of (HasCause sound (Rises before mid) ⊤) written e is wrote.failed)) more
+    rises_before before mid after (fault sound before mid wrote.sound (known_of (HasCause sound (FaultsRise before mid) ⊤) written e is wrote.failed)) more
 refused_by sound old before mid after written e fault wrote grown more (inr (is, why)) =
     fault old before after (subst (λ r. OnOk r (old.is_broken ≡ false)) is wrote.went)
     (carried ⊥ old old e refl (rises_after before mid after grown) why)

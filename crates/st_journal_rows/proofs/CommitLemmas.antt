@@ -9,7 +9,8 @@ use Rattle.st_journal.specs.declared.record.Record.{Record}
 use Rattle.st_journal.specs.declared.journal.AppendError.{AppendError}
 use Rattle.st_journal.specs.declared.journal.AppendError.TheVariants.{Unknown}
 use Rattle.st_journal_rows.specs.Table.{table_tree, numbered_rows, record_in, records_in}
-use Rattle.st_journal_rows.specs.Ready.{ListsTable, HasTable, HasRows, IsReady}
+use Rattle.st_journal_rows.specs.Ready.{ListsTable, HasRows, IsReady}
+use Rattle.st_journal_rows.specs.inner.Putting.{HasTable}
 use Rattle.st_journal_rows.specs.inner.Writes.{Adds}
 use Rattle.st_journal_rows.proofs.RowLemmas.{listed}
 
@@ -29,7 +30,7 @@ committed mid new records count has counted some law commits =
     let same : records_in new.trees ≡ records = ap (map record_in) rows ∙ listed 0 records in
     record {
       is_open = open_of new.is_open new.is_broken law sound;
-      settled = trees ∙ sym (ap (λ (v : View). v.committed) commits.is);
+      is_committed = trees ∙ sym (ap (λ (v : View). v.committed) commits.is);
       shapes = ap (λ (v : View). v.shape) commits.is ∙ sym (ap (λ (v : View). v.committed_shape) commits.is);
       rows = record {
         sound = sound;
@@ -69,7 +70,7 @@ has_table trees (r ∷ records) listed rows some = record { listed = listed; som
 
 pub ready_table : (v : View) (count : ℕ) → IsReady v count → HasTable v.committed
 ready_table v count ready =
-    subst HasTable ready.settled (has_table v.trees (records_in v.trees) ready.rows.listed ready.rows.rows (omega (arith, ready.counted, ready.some)))
+    subst HasTable ready.is_committed (has_table v.trees (records_in v.trees) ready.rows.listed ready.rows.rows (omega (arith, ready.counted, ready.some)))
 
 pub on_ok : {X E P Q : Type 0} (r : Result X E) → (P → Q) → OnOk r P → OnOk r Q
 on_ok (Ok x) so h = so h
@@ -89,11 +90,11 @@ pub rolled_back : (old mid new : View) (count : ℕ) → IsReady old count → K
 rolled_back old mid new count ready kept rolled clean open' =
     let back = rolled.kept clean in
     let undone = rolled.undone open' in
-    let trees : new.trees ≡ old.trees = undone.0 ∙ kept.committed (back.was_open open') ∙ sym ready.settled in
+    let trees : new.trees ≡ old.trees = undone.0 ∙ kept.committed (back.was_open open') ∙ sym ready.is_committed in
     let shapes : mid.shape ≡ mid.committed_shape = kept.shape ∙ ready.shapes ∙ sym kept.committed_shape in
     record {
       is_open = open';
-      settled = undone.0 ∙ sym (back.committed open');
+      is_committed = undone.0 ∙ sym (back.committed open');
       shapes = rolled.shape shapes ∙ shapes ∙ sym rolled.committed_shape;
       rows = record {
         sound = undone.1;

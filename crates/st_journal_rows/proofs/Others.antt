@@ -9,8 +9,8 @@ use Rattle.st_journal_rows.specs.declared.error.OpenError.TheVariants.{OtherOwne
 use Rattle.st_journal_rows.specs.declared.error.OpenError.TheVariants.{Damaged, Interrupted, Io, NoMemory}
 use Rattle.st_journal_rows.specs.Table.{table_tree, row_of, numbered_rows, record_in, records_in, opening_record}
 use Rattle.st_journal_rows.specs.Openings.{AreOf, AreRefused}
-use Rattle.st_journal_rows.specs.inner.Telling.{TellsNoOther}
-use Rattle.st_journal_rows.specs.Begins.{IsAtRest}
+use Rattle.st_journal_rows.specs.inner.NoOther.{IsNoOther}
+use Rattle.st_journal_rows.specs.OpenedTable.{IsAtRest}
 use Rattle.st_journal_rows.proofs.Reading.{HasRead}
 
 -- what other records are, these are too
@@ -26,7 +26,7 @@ carried opening some all Interrupted more why = tt
 carried opening some all Io more why = tt
 carried opening some all NoMemory more why = tt
 
-pub told_none : (opening : List ℕ) (records : List Record) (error : OpenError) → TellsNoOther error → AreRefused opening records error
+pub told_none : (opening : List ℕ) (records : List Record) (error : OpenError) → IsNoOther error → AreRefused opening records error
 told_none opening records OtherOwner none = absurd none
 told_none opening records OtherOpening none = absurd none
 told_none opening records InUse none = tt
@@ -43,7 +43,7 @@ same_first change other more others is = cc
 -- a record that is not taken tells why the table is refused
 pub refused : {S : Type 0} (applies : S → Record → S → Type 0) (opening : List ℕ) (old mid new : View) (change : Record) (count : ℕ) (before m : S)
     (row : Row) (error : OpenError) → HasRead applies opening old mid count before m → Advances mid new 0 row true → row ≡ row_of count change
-    → AreRefused opening (change ∷ []) error → (0 < count → TellsNoOther error) → AreRefused opening (records_in old.trees) error
+    → AreRefused opening (change ∷ []) error → (0 < count → IsNoOther error) → AreRefused opening (records_in old.trees) error
 refused applies opening old mid new change count before m row error had moves is first later = go had.done refl
   where
     go : (done : List Record) → had.done ≡ done → AreRefused opening (records_in old.trees) error
@@ -62,4 +62,4 @@ refused applies opening old mid new change count before m row error had moves is
 
 pub refused_at_rest : (opening : List ℕ) (old : View) (error : OpenError) → IsAtRest old → AreRefused opening (records_in old.trees) error
     → AreRefused opening (records_in old.committed) error
-refused_at_rest opening old error rest = subst (λ (t : Trees). AreRefused opening (records_in t) error) rest.settled
+refused_at_rest opening old error rest = subst (λ (t : Trees). AreRefused opening (records_in t) error) rest.is_committed

@@ -1,5 +1,6 @@
 -- The rows of the table, read one after another.
-use Rattle.std.proofs.Common.{◌≡◌, inl, inr, ◌<◌, ◌+◌, ℕ, ℤ, pos, true, false, IsTrue, IfOk, OnOk, Ok, Err, Result, List, [], ◌∷◌, ◌++◌, map, length, Some, refl, sym, ap, subst, ◌∙◌, arith, length-append}
+use Rattle.std.proofs.Common.{◌≡◌, inl, inr, ◌<◌, ◌+◌, ℕ, ℤ, pos, true, false, IsTrue, IfOk, OnOk, Ok, Err, Result, List, [], ◌∷◌, ◌++◌, map, length}
+use Rattle.std.proofs.Common.{Some, refl, sym, ap, subst, ◌∙◌, arith, length-append}
 use Rattle.sqlite_value.specs.declared.value.Value.TheVariants.{Null, Int, Text}
 use Rattle.sqlite_value.specs.Order.{Row, column}
 use Rattle.sqlite_value.specs.Keys.{plain}
@@ -13,7 +14,7 @@ use Rattle.st_journal.specs.Replays.{Replays}
 use Rattle.st_journal_rows.specs.Table.{table_tree, row_of, numbered_rows, opening_record}
 use Rattle.st_journal_rows.specs.Table.{record_in, records_in}
 use Rattle.st_journal_rows.specs.Ready.{HasRows, IsReady}
-use Rattle.st_journal_rows.specs.Begins.{IsAtRest, Begins}
+use Rattle.st_journal_rows.specs.OpenedTable.{IsAtRest, OpensTable}
 use Rattle.st_journal_rows.specs.inner.Taking.{Takes, AreTaken, Reads}
 use Rattle.st_journal_rows.proofs.RowLemmas.{listed}
 use Rattle.st_journal_rows.proofs.CommitLemmas.{open_of}
@@ -137,10 +138,10 @@ module _ {S : Type 0} (applies : S → Record → S → Type 0) where
 
   -- a table with records is a journal
   pub resumed : (opening : List ℕ) (old new : View) (count : ℕ) (before after : S) → Reads applies opening old new count before after → 0 < count
-      → IsAtRest old → old.shape table_tree ≡ Table → (old.is_open ≡ false → IsTrue old.is_broken) → Begins applies opening old new count before after
+      → IsAtRest old → old.shape table_tree ≡ Table → (old.is_open ≡ false → IsTrue old.is_broken) → OpensTable applies opening old new count before after
   resumed opening old new count before after read some rest table law = go read.records refl
     where
-      go : (records : List Record) → read.records ≡ records → Begins applies opening old new count before after
+      go : (records : List Record) → read.records ≡ records → OpensTable applies opening old new count before after
       go [] none = absurd (omega (arith, some, read.counted, ap length none))
       go (first ∷ changes) is =
           let taken : AreTaken applies opening (first ∷ changes) before after = rw is at read.taken in
@@ -151,7 +152,7 @@ module _ {S : Type 0} (applies : S → Record → S → Type 0) where
           record {
             ready = record {
               is_open = subst IsTrue (sym (ap (λ (v : View). v.is_open) read.same)) (open_of old.is_open old.is_broken law rest.sound);
-              settled = trees ∙ rest.settled ∙ sym committed;
+              is_committed = trees ∙ rest.is_committed ∙ sym committed;
               shapes = ap (λ (v : View). v.shape) read.same ∙ rest.shapes ∙ sym (ap (λ (v : View). v.committed_shape) read.same);
               rows = record {
                 sound = ap (λ (v : View). v.is_broken) read.same ∙ rest.sound;
@@ -165,17 +166,17 @@ module _ {S : Type 0} (applies : S → Record → S → Type 0) where
             };
             time = taken.0;
             changes = changes;
-            records_are = ap records_in (committed ∙ sym rest.settled) ∙ found ∙ is ∙ ap (λ r. r ∷ changes) taken.1;
+            records_are = ap records_in (committed ∙ sym rest.is_committed) ∙ found ∙ is ∙ ap (λ r. r ∷ changes) taken.1;
             made = taken.2;
             found = inl (ap (λ t. t table_tree) committed);
           }
 
   -- an empty table gets a journal
   pub begun : (opening : List ℕ) (time : ℤ) (old mid new : View) (count : ℕ) (before after : S) → Reads applies opening old mid 0 before after
-      → IsAtRest old → IsReady new count → records_in new.committed ≡ opening_record time opening ∷ [] → Begins applies opening old new count before after
+      → IsAtRest old → IsReady new count → records_in new.committed ≡ opening_record time opening ∷ [] → OpensTable applies opening old new count before after
   begun opening time old mid new count before after read rest ready list = go read.records refl
     where
-      go : (records : List Record) → read.records ≡ records → Begins applies opening old new count before after
+      go : (records : List Record) → read.records ≡ records → OpensTable applies opening old new count before after
       go (first ∷ changes) is = absurd (omega (arith, read.counted, ap length is))
       go [] none = record {
         ready = ready;
@@ -183,7 +184,7 @@ module _ {S : Type 0} (applies : S → Record → S → Type 0) where
         changes = [];
         records_are = list;
         made = rw none at read.taken;
-        found = inr (ap (λ t. t table_tree) (sym rest.settled) ∙ read.rows ∙ ap (numbered_rows 0) none, refl);
+        found = inr (ap (λ t. t table_tree) (sym rest.is_committed) ∙ read.rows ∙ ap (numbered_rows 0) none, refl);
       }
 
   -- the table of which no record was read is empty

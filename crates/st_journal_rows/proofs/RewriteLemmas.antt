@@ -1,5 +1,6 @@
 -- A list of records in place of another.
-use Rattle.std.proofs.Common.{◌≡◌, ◌≢◌, if◌then◌else◌, ◌==◌, ◌<◌, ◌≤◌, ◌+◌, ◌-◌, ℕ, suc, zero, pos, false, List, [], ◌∷◌, ◌++◌, length, take, drop, IsTrue, refl, sym, ap, subst, ◌∙◌, arith, Equal, length-append}
+use Rattle.std.proofs.Common.{◌≡◌, ◌≢◌, if◌then◌else◌, ◌==◌, ◌<◌, ◌≤◌, ◌+◌, ◌-◌, ℕ, suc, zero, pos, false, List, [], ◌∷◌, ◌++◌, length, take, drop}
+use Rattle.std.proofs.Common.{IsTrue, refl, sym, ap, subst, ◌∙◌, arith, Equal, length-append}
 use Rattle.std.proofs.lemmas.Bool.Decides.{nat_tests}
 use Rattle.std.proofs.lemmas.List.{length-take-le}
 use Rattle.std.specs.Cmp.{int_cmp_is}
@@ -11,7 +12,8 @@ use Rattle.sqlite_trees.specs.Objects.{catalog_tree}
 use Rattle.sqlite_trees.specs.View.{View, OnlyWrites, SetsTree, Commits}
 use Rattle.st_journal.specs.declared.record.Record.{Record}
 use Rattle.st_journal_rows.specs.Table.{table_tree, row_of, numbered_rows, records_in, changes_in}
-use Rattle.st_journal_rows.specs.Ready.{HasRows, HasTable, IsReady}
+use Rattle.st_journal_rows.specs.Ready.{HasRows, IsReady}
+use Rattle.st_journal_rows.specs.inner.Putting.{HasTable}
 use Rattle.st_journal_rows.specs.inner.Writes.{Adds, Trims, Replaces}
 use Rattle.st_journal_rows.proofs.RowLemmas.{below}
 use Rattle.st_journal_rows.proofs.ViewLemmas.{writes_then}
@@ -92,7 +94,7 @@ length_replaced list more kept fewer = omega (arith, length-append (take kept li
 module _ (old mid new : View) (count kept : ℕ) (more : List Record) (ready : IsReady old count) (fewer : kept ≤ count) (some : 0 < kept) where
   module _ (has : HasRows mid (take kept (records_in old.trees) ++ more)) where
     listed_as : records_in mid.trees ≡ take kept (records_in old.committed) ++ more
-    listed_as = records_of mid _ has ∙ ap (λ (t : Trees). take kept (records_in t) ++ more) ready.settled
+    listed_as = records_of mid _ has ∙ ap (λ (t : Trees). take kept (records_in t) ++ more) ready.is_committed
 
     counted_as : kept + length more ≡ length (take kept (records_in old.trees) ++ more)
     counted_as = length_replaced (records_in old.trees) more kept (omega (arith, ready.counted, fewer))
@@ -117,7 +119,7 @@ drop_first (x ∷ list) more some = refl
 pub changes_replaced : (old : View) (count : ℕ) (more : List Record) (trees : Trees) → IsReady old count
     → records_in trees ≡ take 1 (records_in old.committed) ++ more → changes_in trees ≡ more
 changes_replaced old count more trees ready is =
-    let same = ap (λ (t : Trees). length (records_in t)) ready.settled in
+    let same = ap (λ (t : Trees). length (records_in t)) ready.is_committed in
     ap (drop 1) is ∙ drop_first (records_in old.committed) more (omega (arith, ready.counted, ready.some, same))
 
 drop_all : (list more : List Record) (count : ℕ) → count ≡ length list → 0 < count → drop 1 (take count list ++ more) ≡ drop 1 list ++ more
@@ -127,5 +129,5 @@ drop_all (x ∷ list) more count is some = ap (λ l. drop 1 (l ++ more)) (take_w
 pub changes_added : (old : View) (count : ℕ) (more : List Record) (trees : Trees) → IsReady old count
     → records_in trees ≡ take count (records_in old.committed) ++ more → changes_in trees ≡ changes_in old.committed ++ more
 changes_added old count more trees ready is =
-    let same = ap (λ (t : Trees). length (records_in t)) ready.settled in
+    let same = ap (λ (t : Trees). length (records_in t)) ready.is_committed in
     ap (drop 1) is ∙ drop_all (records_in old.committed) more count (ready.counted ∙ same) ready.some

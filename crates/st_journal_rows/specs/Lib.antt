@@ -1,5 +1,5 @@
 pub mod Table
 pub mod Openings
 pub mod Ready
-pub mod Begins
+pub mod OpenedTable
 pub mod inner

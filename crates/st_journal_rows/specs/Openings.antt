@@ -10,20 +10,16 @@ use Rattle.st_journal_rows.specs.Table.{opening_record}
 abbrev pub owner_in : List ℕ → List ℕ
 owner_in opening = before_first (λ b. b == 32) opening
 
--- what is told to an opening where another one is found
-abbrev pub Refuses : (opening other : List ℕ) → OpenError → Type 0
-Refuses opening other OtherOwner = owner_in other ≢ owner_in opening
-Refuses opening other OtherOpening = (owner_in other ≡ owner_in opening) × (other ≢ opening)
-Refuses opening other _ = ⊥
-
 -- the records are those of a store that was opened so
 pub record AreOf (opening : List ℕ) (records : List Record) : Type 0 where
   pub time : ℤ
   pub changes : List Record
   pub are : records ≡ opening_record time opening ∷ changes
 
--- why records are refused to an opening: that they are of another one is told only where they are
+-- Why records are refused to an opening. That they are of another one is told only where they are: of a store of another owner, or of
+-- another store of this owner.
 abbrev pub AreRefused : List ℕ → List Record → OpenError → Type 0
-AreRefused opening records OtherOwner = (other : List ℕ) × AreOf other records × Refuses opening other OtherOwner
-AreRefused opening records OtherOpening = (other : List ℕ) × AreOf other records × Refuses opening other OtherOpening
+AreRefused opening records OtherOwner = (other : List ℕ) × AreOf other records × (owner_in other ≢ owner_in opening)
+AreRefused opening records OtherOpening =
+    (other : List ℕ) × AreOf other records × ((owner_in other ≡ owner_in opening) × (other ≢ opening))
 AreRefused opening records _ = Unit {0}

@@ -1,4 +1,5 @@
 -- Stages of the code, which no reader has to believe: no clause of a public function cites them.
 pub mod Writes
 pub mod Taking
-pub mod Telling
+pub mod NoOther
+pub mod Putting

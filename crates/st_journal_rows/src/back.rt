@@ -1,7 +1,7 @@
 //! Rows of the table, read back as records.
-ghost use Rattle.std.specs.Prelude.{◌≡◌, ◌≢◌, ◌≤◌, ◌<◌, ◌+◌, ◌^◌, ℕ, false, Err, List, IsTrue, IfOk, OnOk, OnErr, drop, take, slice_get};
+ghost use Rattle.std.specs.Prelude.{◌≡◌, ◌≢◌, ◌≤◌, ◌<◌, ◌+◌, ◌^◌, ℕ, false, Err, List, IsTrue, IfOk, OnOk, drop, take, slice_get};
 ghost use Rattle.st_journal.specs.declared.record.Record.{Record};
-ghost use Rattle.st_journal.specs.Faults.{Rises};
+ghost use Rattle.st_journal.specs.Faults.{FaultsRise};
 ghost use Rattle.st_journal.specs.declared.read_back.ReadError.TheVariants as ends;
 ghost use Rattle.sqlite_trees.specs.View.{IsClean, IsQuiet, IsRolledBack, KeepsCommitted};
 ghost use Rattle.st_journal_rows.specs.Table.{table_tree, numbered_rows};
@@ -72,7 +72,7 @@ fn mend<S: Store>(store: &mut S) -> ReadError
     ensures goes_on { IsClean (S.view store.new) → result ≢ ends.Lost
         → IsTrue (S.view store.new).is_open × ((S.view store.new).is_broken ≡ false) }
     ensures lost { IsClean (S.view store.new) → result ≡ ends.Lost → IsTrue (S.view store.old).is_open
-        → Rises (S.faults store.old) (S.faults store.new) }
+        → FaultsRise (S.faults store.old) (S.faults store.new) }
     ensures quiet { IsQuiet S.view S.faults S.recovers S.is_shielded store.old store.new }
 {
     store.rollback();
@@ -100,7 +100,7 @@ pub fn read_back<S: Store>(
     ensures same { IsClean (S.view store.new) → result ≢ Err ends.Lost → (S.view store.new).committed ≡ (S.view store.old).committed }
     ensures numbered { IsClean (S.view store.new) → (S.view store.new).is_numbered ≡ (S.view store.old).is_numbered }
     ensures lost { IsClean (S.view store.new) → result ≡ Err ends.Lost → IsTrue (S.view store.old).is_open
-        → Rises (S.faults store.old) (S.faults store.new) }
+        → FaultsRise (S.faults store.old) (S.faults store.new) }
     ensures quiet { IsQuiet S.view S.faults S.recovers S.is_shielded store.old store.new }
 {
     match read_from(store, alloc, number, most) {

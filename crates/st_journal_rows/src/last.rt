@@ -6,7 +6,7 @@ ghost use Rattle.sqlite_trees.specs.Tree.{Trees};
 ghost use Rattle.sqlite_trees.specs.View.{doubt, IsClean};
 ghost use Rattle.st_journal.specs.declared.record.Record.{Record};
 ghost use Rattle.st_journal_rows.specs.Table.{table_tree, numbered_rows};
-ghost use Rattle.st_journal_rows.specs.inner.Telling.{TellsNoOther};
+ghost use Rattle.st_journal_rows.specs.inner.NoOther.{IsNoOther};
 
 use crate::error::OpenError;
 use crate::object::TREE;
@@ -34,7 +34,7 @@ pub(crate) fn last_number<S: Store>(store: &mut S, alloc: Global) -> Result<u64,
         → S.view store.new ≡ record (S.view store.old) { cursors = (S.view store.new).cursors }) }
     ensures last { IfOk result (λ last. IsClean (S.view store.new) → (records : List Record)
         → (S.view store.old).trees table_tree ≡ numbered_rows 0 records → last ≡ length records - 1) }
-    ensures err { IfErr result TellsNoOther }
+    ensures err { IfErr result IsNoOther }
 {
     let mut row = Row::new(alloc);
     let key = Row::new(alloc);

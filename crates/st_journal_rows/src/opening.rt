@@ -2,11 +2,11 @@
 ghost use Rattle.std.specs.Prelude.{◌≡◌, ◌≤◌, [], ◌∷◌, IsTrue, IfOk, IfErr, OnOk};
 ghost use Rattle.st_journal.specs.declared.record.Record.{Record};
 ghost use Rattle.sqlite_trees.specs.View.{doubt, IsClean};
-ghost use Rattle.st_journal_rows.specs.Table.{table_tree, opening_record, records_in};
+ghost use Rattle.st_journal_rows.specs.Table.{opening_record, records_in};
 ghost use Rattle.st_journal_rows.specs.Openings.{AreRefused};
-ghost use Rattle.st_journal_rows.specs.inner.Telling.{TellsNoOther};
+ghost use Rattle.st_journal_rows.specs.inner.NoOther.{IsNoOther};
 ghost use Rattle.st_journal_rows.specs.Ready.{HasRows, IsReady};
-ghost use Rattle.st_journal_rows.specs.Begins.{IsAtRest, Begins};
+ghost use Rattle.st_journal_rows.specs.OpenedTable.{IsAtRest, OpensTable};
 
 use crate::commit::finish;
 use crate::error::OpenError;
@@ -62,7 +62,7 @@ fn begin_new<S: Alter>(
     ensures ready { IfOk result (λ count. IsClean (S.Store.view store.new) → IsReady (S.Store.view store.new) count) }
     ensures records { OnOk result (IsClean (S.Store.view store.new)
         → records_in (S.Store.view store.new).committed ≡ opening_record time opening.now ∷ []) }
-    ensures err { IfErr result TellsNoOther }
+    ensures err { IfErr result IsNoOther }
 {
     let Ok(first) = first_record(alloc, time, opening) else {
         return Err(OpenError::NoMemory);
@@ -90,7 +90,7 @@ pub fn begin<S: Alter, R: Replay, P: Progress>(
     requires rest { IsClean (S.Store.view store.old) → IsTrue (S.Store.view store.old).is_open → IsAtRest (S.Store.view store.old) }
     ensures clean { doubt (S.Store.view store.old).is_clean ≤ doubt (S.Store.view store.new).is_clean }
     ensures ok { IfOk result (λ count. IsClean (S.Store.view store.new)
-        → Begins R.applies opening.now (S.Store.view store.old) (S.Store.view store.new) count state.old state.new) }
+        → OpensTable R.applies opening.now (S.Store.view store.old) (S.Store.view store.new) count state.old state.new) }
     ensures err { IfErr result (λ error. IsClean (S.Store.view store.new)
         → AreRefused opening.now (records_in (S.Store.view store.old).committed) error) }
 {

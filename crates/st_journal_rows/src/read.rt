@@ -6,14 +6,14 @@ ghost use Rattle.sqlite_trees.specs.Tree.{Trees};
 ghost use Rattle.sqlite_trees.specs.View.{doubt, IsClean};
 ghost use Rattle.st_journal_rows.specs.Table.{table_tree, row_of, opening_record, records_in};
 ghost use Rattle.st_journal_rows.specs.Openings.{AreRefused};
-ghost use Rattle.st_journal_rows.specs.inner.Telling.{TellsNoOther};
+ghost use Rattle.st_journal_rows.specs.inner.NoOther.{IsNoOther};
 ghost use Rattle.st_journal_rows.specs.inner.Taking.{Takes, Reads};
 
 use crate::error::OpenError;
 use crate::last::last_number;
 use crate::object::{MOST, TREE};
 use crate::other::refusal;
-use crate::progress::{Progress, tell_at_step};
+use crate::progress::{Progress, report_at_step};
 use sqlite_trees::store::{Direction, Shape, Store};
 use sqlite_value::row::Row;
 use sqlite_value::value::ValueRef;
@@ -25,7 +25,7 @@ use std::str::from_utf8;
 // The text in a column.
 fn text_in(alloc: Global, row: &Row, at: usize) -> Result<Words, OpenError>
     ensures ok { IfOk result (λ text. column row.now at ≡ TextValue text) }
-    ensures err { IfErr result TellsNoOther }
+    ensures err { IfErr result IsNoOther }
 {
     let ValueRef::Text(bytes) = row.get(at) else {
         return Err(OpenError::Damaged);
@@ -58,7 +58,7 @@ fn is_numbered(row: &Row, number: u64) -> bool
 pub(crate) fn read_row(alloc: Global, row: &Row, number: u64) -> Result<Record, OpenError>
     requires { number < 2 ^ 63 }
     ensures ok { IfOk result (λ change. row.now ≡ row_of number change) }
-    ensures err { IfErr result TellsNoOther }
+    ensures err { IfErr result IsNoOther }
 {
     if row.len() != 8 || !is_numbered(row, number) {
         return Err(OpenError::Damaged);
@@ -111,7 +111,7 @@ fn take<R: Replay>(
 ) -> Result<(), OpenError>
     ensures ok { OnOk result (Takes R.applies opening.now count change.now state.old state.new) }
     ensures first { IfErr result (AreRefused opening.now (change.now ∷ [])) }
-    ensures later { 0 < count → IfErr result TellsNoOther }
+    ensures later { 0 < count → IfErr result IsNoOther }
 {
     if count == 0 {
         return take_first(change, opening);
@@ -153,7 +153,7 @@ pub(crate) fn read_all<S: Store, R: Replay, P: Progress>(
         }
         let change = read_row(alloc, &row, count)?;
         take(count, &change, opening, state)?;
-        tell_at_step(progress, count, last);
+        report_at_step(progress, count, last);
     }
     Err(OpenError::NoMemory)
 }

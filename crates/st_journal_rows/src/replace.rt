@@ -1,9 +1,10 @@
 //! Other rows in place of those that the table has.
 ghost use Rattle.std.specs.Prelude.{◌≡◌, ◌+◌, ◌<◌, ◌≤◌, ◌^◌, ⊤, length, IfErr, OnOk};
 ghost use Rattle.sqlite_trees.specs.View.{HasCause, IsClean, IsQuiet, KeepsCommitted};
-ghost use Rattle.st_journal.specs.Faults.{Rises};
+ghost use Rattle.st_journal.specs.Faults.{FaultsRise};
 ghost use Rattle.st_journal_rows.specs.Table.{table_tree};
-ghost use Rattle.st_journal_rows.specs.Ready.{IsReady, PutsBehind};
+ghost use Rattle.st_journal_rows.specs.Ready.{IsReady};
+ghost use Rattle.st_journal_rows.specs.inner.Putting.{PutsBehind};
 ghost use Rattle.st_journal_rows.specs.inner.Writes.{Replaces, Trims};
 
 use crate::commit::finish;
@@ -22,7 +23,7 @@ fn trim<S: Store>(store: &mut S, count: u64, kept: u64) -> Result<(), StoreError
     ensures trimmed { OnOk result (IsClean (S.view store.new) → Trims (S.view store.old) (S.view store.new) count kept) }
     ensures kept { IsClean (S.view store.new) → KeepsCommitted (S.view store.old) (S.view store.new) }
     ensures cause { IsClean (S.view store.new)
-        → IfErr result (HasCause (S.view store.old) (Rises (S.faults store.old) (S.faults store.new)) ⊤) }
+        → IfErr result (HasCause (S.view store.old) (FaultsRise (S.faults store.old) (S.faults store.new)) ⊤) }
     ensures quiet { IsQuiet S.view S.faults S.recovers S.is_shielded store.old store.new }
 {
     for done in 0..count - kept {
@@ -48,7 +49,7 @@ fn replace_all<S: Store>(
     ensures replaced { OnOk result (IsClean (S.view store.new) → Replaces (S.view store.old) (S.view store.new) count kept records.now) }
     ensures kept { IsClean (S.view store.new) → KeepsCommitted (S.view store.old) (S.view store.new) }
     ensures cause { IsClean (S.view store.new)
-        → IfErr result (HasCause (S.view store.old) (Rises (S.faults store.old) (S.faults store.new)) ⊤) }
+        → IfErr result (HasCause (S.view store.old) (FaultsRise (S.faults store.old) (S.faults store.new)) ⊤) }
     ensures quiet { IsQuiet S.view S.faults S.recovers S.is_shielded store.old store.new }
 {
     trim(store, count, kept)?;

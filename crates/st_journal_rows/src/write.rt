@@ -1,7 +1,7 @@
 //! Records as rows of the table.
 ghost use Rattle.std.specs.Prelude.{◌≡◌, ◌+◌, ◌<◌, ◌^◌, ℕ, ⊤, length, IfErr, OnOk};
 ghost use Rattle.sqlite_trees.specs.View.{HasCause, IsClean, IsQuiet, KeepsCommitted};
-ghost use Rattle.st_journal.specs.Faults.{Rises};
+ghost use Rattle.st_journal.specs.Faults.{FaultsRise};
 ghost use Rattle.st_journal_rows.specs.Table.{table_tree, row_of};
 ghost use Rattle.st_journal_rows.specs.inner.Writes.{Adds};
 
@@ -42,7 +42,7 @@ pub(crate) fn put_all<S: Store>(
     ensures added { OnOk result (IsClean (S.view store.new) → Adds (S.view store.old) (S.view store.new) count records.now) }
     ensures kept { IsClean (S.view store.new) → KeepsCommitted (S.view store.old) (S.view store.new) }
     ensures cause { IsClean (S.view store.new)
-        → IfErr result (HasCause (S.view store.old) (Rises (S.faults store.old) (S.faults store.new)) ⊤) }
+        → IfErr result (HasCause (S.view store.old) (FaultsRise (S.faults store.old) (S.faults store.new)) ⊤) }
     ensures quiet { IsQuiet S.view S.faults S.recovers S.is_shielded store.old store.new }
 {
     let mut row = Row::new(alloc);

@@ -1,5 +1,5 @@
 pub mod Replaying
 pub mod Noting
-pub mod Settling
+pub mod Syncing
 pub mod Lives
 pub mod Rejudging

@@ -4,7 +4,7 @@ use Rattle.std.specs.Prelude.{Result}
 use Rattle.std.specs.List.{concat}
 use Rattle.std.proofs.lemmas.List.Folds.{concat-append}
 use Rattle.st_http.specs.First.{First, expects}
-use Rattle.st_connection.specs.Connection.{Ahead, Answering, EndsWithin, KeptPast, KeptUnlessLost, MayHear, Run, SaysAll, ServedWithin, Told}
+use Rattle.st_connection.specs.Connection.{Ahead, Answering, EndsWithin, KeptPast, KeptUnlessLost, MayHear, Run, SaysAll, ServedWithin, WithInterim}
 use Rattle.st_connection.specs.Streams.{Streams}
 use Rattle.st_connection.specs.Render.{continue_text, interim}
 use Rattle.st_connection.specs.declared.connection.Ended.{Ended}
@@ -38,7 +38,7 @@ hears_may (item ∷ items) said (inr e) = subst MaySay (sym e) (interim_may (exp
 record Front {S : Type 0} (step : Answering S) (old found : S) (sent : List ℕ) : Type 0 where
   items : List First
   answers : List (List ℕ)
-  run : Run (Told step) old items answers found
+  run : Run (WithInterim step) old items answers found
   said : List ℕ
   may : MaySay said
   missing : List ℕ
@@ -52,7 +52,7 @@ record Behind (answers : List (List ℕ)) (ahead : List ℕ) : Type 0 where
   all : concat answers ++ said ≡ ahead ++ missing
 
 behind_of : {S : Type 0} (step : Answering S) (old new : S) (items others : List First) (answers : List (List ℕ)) (ahead : List ℕ)
-    → Run (Told step) old items answers new → MayHear (items ++ others) ahead → Behind answers ahead
+    → Run (WithInterim step) old items answers new → MayHear (items ++ others) ahead → Behind answers ahead
 behind_of step old new [] others [] ahead run hears =
     record { said = ahead; may = hears_may others ahead hears; missing = []; all = sym (append-nil ahead) }
 behind_of step old new [] others (text ∷ texts) ahead run hears = absurd run
@@ -72,12 +72,12 @@ behind_of step old new (item ∷ items) others (text ∷ texts) ahead (mid, (ans
 }
 
 module _ {S : Type 0} (step : Answering S) (old new kept found : S) (items : List First) (rest : List ℕ) (answers : List (List ℕ))
-    (sent : List ℕ) (run : Run (Told step) old items answers new) where
+    (sent : List ℕ) (run : Run (WithInterim step) old items answers new) where
   to_new : (said missing : List ℕ) → MaySay said → concat answers ++ said ≡ sent ++ missing → found ≡ new → Front step old found sent
   to_new said missing may all is = record {
     items = items;
     answers = answers;
-    run = subst (λ (s : S). Run (Told step) old items answers s) (sym is) run;
+    run = subst (λ (s : S). Run (WithInterim step) old items answers s) (sym is) run;
     said = said;
     may = may;
     missing = missing;
@@ -99,24 +99,24 @@ module _ {S : Type 0} (step : Answering S) (old new kept found : S) (items : Lis
       ∙ ap (λ (l : List ℕ). concat out ++ l) b.all ∙ sym (append_assoc (concat out) ahead b.missing)
       ∙ ap (λ (l : List ℕ). l ++ b.missing) (sym is)
 
-  to_kept : KeptPast (Told step) old kept new items answers sent → found ≡ kept → Front step old found sent
+  to_kept : KeptPast (WithInterim step) old kept new items answers sent → found ≡ kept → Front step old found sent
   to_kept past is =
       let b = behind_of step past.mid kept past.amid.first past.amid.later past.amid.told past.front.said past.amid.before
       (subst (λ (l : List First). MayHear l past.front.said) past.amid.items_are past.front.hears) in
       record {
         items = past.front.done ++ past.amid.first;
         answers = past.front.out ++ past.amid.told;
-        run = subst (λ (s : S). Run (Told step) old (past.front.done ++ past.amid.first) (past.front.out ++ past.amid.told) s) (sym is)
-            (run_join (Told step) old past.mid kept past.front.done past.amid.first past.front.out past.amid.told past.front.run past.amid.before);
+        run = subst (λ (s : S). Run (WithInterim step) old (past.front.done ++ past.amid.first) (past.front.out ++ past.amid.told) s) (sym is)
+            (run_join (WithInterim step) old past.mid kept past.front.done past.amid.first past.front.out past.amid.told past.front.run past.amid.before);
         said = b.said;
         may = b.may;
         missing = b.missing;
         all = joins past.front.out past.amid.told past.front.said past.front.sent_is b;
       }
 
-  past_new : KeptPast (Told step) old kept new items answers sent → found ≡ new → Front step old found sent
+  past_new : KeptPast (WithInterim step) old kept new items answers sent → found ≡ new → Front step old found sent
   past_new past is =
-      let later = run_join (Told step) past.mid kept new past.amid.first past.amid.later past.amid.told past.amid.untold past.amid.before past.amid.behind in
+      let later = run_join (WithInterim step) past.mid kept new past.amid.first past.amid.later past.amid.told past.amid.untold past.amid.before past.amid.behind in
       let b = behind_of step past.mid new (past.amid.first ++ past.amid.later) [] (past.amid.told ++ past.amid.untold) past.front.said later
       (subst (λ (l : List First). MayHear l past.front.said) (past.amid.items_are ∙ sym (append-nil (past.amid.first ++ past.amid.later))) past.front.hears) in
       to_new b.said b.missing b.may
@@ -127,22 +127,22 @@ module _ {S : Type 0} (step : Answering S) (old new kept found : S) (items : Lis
   may_front said (inl e) = inl e
   may_front said (inr ahead) = ahead_may rest said ahead
 
-  front : (result : Result Ended IoFault) (failed : Bool) (given : List ℕ) → EndsWithin (Told step) 0 old new kept result failed given items rest answers sent
+  front : (result : Result Ended IoFault) (failed : Bool) (given : List ℕ) → EndsWithin (WithInterim step) 0 old new kept result failed given items rest answers sent
       → (result ≢ Ok Lost → kept ≡ new) → (found ≡ kept) ⊎ (found ≡ new) → Front step old found sent
-  front (Ok Clean) failed given e settled is = whole e.3 (at_new (settled (λ l. cc)) is)
-  front (Ok Closed) failed given e settled is = whole e.2 (at_new (settled (λ l. cc)) is)
-  front (Ok Cut) failed given (all, stays, some, says) settled is = says_all says (at_new (settled (λ l. cc)) is)
-  front (Ok TurnsSpent) failed given (all, stays, says) settled is = says_all says (at_new (settled (λ l. cc)) is)
-  front (Ok Lost) failed given (begins, past) settled (inl is) = to_kept past is
-  front (Ok Lost) failed given (begins, past) settled (inr is) = past_new past is
-  front (Err broken) failed given (begins, counted, (said, may, (missing, all, few)), read) settled is =
-      to_new said missing (may_front said may) all (at_new (settled (λ l. cc)) is)
+  front (Ok Clean) failed given e synced is = whole e.3 (at_new (synced (λ l. cc)) is)
+  front (Ok Closed) failed given e synced is = whole e.2 (at_new (synced (λ l. cc)) is)
+  front (Ok Cut) failed given (all, stays, some, says) synced is = says_all says (at_new (synced (λ l. cc)) is)
+  front (Ok TurnsSpent) failed given (all, stays, says) synced is = says_all says (at_new (synced (λ l. cc)) is)
+  front (Ok Lost) failed given (begins, past) synced (inl is) = to_kept past is
+  front (Ok Lost) failed given (begins, past) synced (inr is) = past_new past is
+  front (Err broken) failed given (begins, counted, (said, may, (missing, all, few)), read) synced is =
+      to_new said missing (may_front said may) all (at_new (synced (λ l. cc)) is)
 
 pub found_after : {S : Type 0} (step : Answering S) (old new kept found : S) (streams : Streams) (failed : Bool) (result : Result Ended IoFault)
     → ServedWithin step 0 old new kept streams result → KeptUnlessLost kept new failed result
     → (found ≡ kept) ⊎ (found ≡ new) → FoundAfter step old found streams.held_old streams.held_new
 found_after step old new kept found streams failed result s k is =
-    let f = front step old new kept found s.items s.rest s.answers s.sent s.run result streams.read_failed s.given s.ending k.settled is in
+    let f = front step old new kept found s.items s.rest s.answers s.sent s.run result streams.read_failed s.given s.ending k.synced is in
     record {
       items = f.items;
       answers = f.answers;

@@ -6,7 +6,7 @@ use Rattle.st_text.specs.Texts.{Text}
 use Rattle.st_dir.specs.Directory.{Directory, is_user}
 use Rattle.st_http.specs.declared.routes.Endpoint.{Endpoint}
 use Rattle.st_http.specs.declared.message.Message.{Message}
-use Rattle.st_http.specs.Routes.{ShowsRoute, found}
+use Rattle.st_http.specs.Routes.{RepresentsRoute, found}
 use Rattle.st_policy.specs.declared.refusal.Refusal.{Refusal}
 use Rattle.st_policy.specs.declared.request.Request.{Request}
 use Rattle.st_core.specs.declared.asked.Asked.{Asked}
@@ -21,7 +21,8 @@ use Rattle.st_json.specs.Bodies.{Decoded, has_body}
 use Rattle.st_journal.specs.declared.record.Record.{Record}
 use Rattle.st_journal_record.specs.Records.{IsRecordOf}
 use Rattle.st_journal_record.proofs.ReadBack.{same, text}
-use Rattle.st_service.specs.Answers.{AsksBy, IsFound, Calls, call_from}
+use Rattle.st_service.specs.Answers.{AsksBy, IsFound, call_from}
+use Rattle.st_service.specs.inner.Calls.{Calls}
 use Rattle.st_journal_store.specs.Applying.{Applies}
 
 module _ {A : Type 0} where
@@ -42,22 +43,22 @@ module _ {A : Type 0} where
 
   -- the body of a change is a text where it is read
   pub is_text : (m : Message) (asked : Asked A) → AsksBy m asked → asks_for_change asked ≡ true
-      → (e : Endpoint) (name : List ℕ) → ShowsRoute m.route (found e name) → has_body e ≡ true → IsUtf8 m.body.now
-  is_text m asked asks change e name shows has =
+      → (e : Endpoint) (name : List ℕ) → RepresentsRoute m.route (found e name) → has_body e ≡ true → IsUtf8 m.body.now
+  is_text m asked asks change e name represents has =
       let said = decodes asked.call change in
-      text e name m.body.now said.0 (reads e name m.body.now asked.call said.0 (asks e name shows).calls said.1) has
+      text e name m.body.now said.0 (reads e name m.body.now asked.call said.0 (asks e name represents).calls said.1) has
 
   module _ (s : State A) (m : Message) (asked : Asked A) (asks : AsksBy m asked) (asker : Text) (request : Request A) (refusal : Option Refusal)
       (heard : judge s.directory asked ≡ Heard asker request refusal) where
     pub applied : (r : Record) → IsTrue (is_name asker) → IsFound m → asks_for_change asked ≡ true
-        → ((e : Endpoint) (name : List ℕ) → ShowsRoute m.route (found e name) → IsRecordOf r asker e name m.body.now)
+        → ((e : Endpoint) (name : List ℕ) → RepresentsRoute m.route (found e name) → IsRecordOf r asker e name m.body.now)
         → Applies s r (step s asked).state
-    applied r named (e, name, shows) change is =
+    applied r named (e, name, represents) change is =
         let h = heard_by s.directory asked asker request refusal heard in
         let good : asked.call ≡ Call.Good request = h.1 in
-        let kept = is e name shows in
+        let kept = is e name represents in
         let user : r.user ≡ asker = kept.user_is in
-        let decoded = reads e name m.body.now asked.call request (asks e name shows).calls good in
+        let decoded = reads e name m.body.now asked.call request (asks e name represents).calls good in
         record {
           request = request;
           reads = same r asker name m.body.now e (Ok request) kept decoded;

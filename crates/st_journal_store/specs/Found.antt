@@ -3,7 +3,7 @@ use Rattle.std.specs.Prelude.{◌≡◌, ◌⊎◌, ℕ, List, [], ◌++◌, Opt
 use Rattle.std.specs.List.{concat}
 use Rattle.std.specs.Io.KnownBytes.{Appends}
 use Rattle.st_http.specs.First.{First}
-use Rattle.st_connection.specs.Connection.{Answering, Run, Told}
+use Rattle.st_connection.specs.Connection.{Answering, Run, WithInterim}
 use Rattle.st_connection.specs.Render.{continue_text}
 
 -- Items got answers, one after another, and led from the old state to the one that is found. What was written is a front of these
@@ -11,7 +11,7 @@ use Rattle.st_connection.specs.Render.{continue_text}
 pub record FoundAfter {S : Type 0} (step : Answering S) (old found : S) (held_old held_new : Option (List ℕ)) : Type 0 where
   pub items : List First
   pub answers : List (List ℕ)
-  pub run : Run (Told step) old items answers found
+  pub run : Run (WithInterim step) old items answers found
   pub sent : List ℕ
   pub wrote : Appends held_old held_new sent
   pub said : List ℕ

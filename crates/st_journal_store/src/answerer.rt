@@ -2,7 +2,7 @@
 ghost use Rattle.st_journal_store.specs.Keeping.{answered};
 ghost use Rattle.st_journal_store.specs.inner.Sound.{IsSound};
 ghost use Rattle.st_service.specs.Answers.{Answers, RepliesTo, StateAnswers};
-ghost use Rattle.st_service.specs.inner.Shown.{shown};
+ghost use Rattle.st_service.specs.inner.Represented.{is_replied};
 
 use crate::answer::answer;
 use crate::beginning::{Beginning, Since};
@@ -21,7 +21,7 @@ use std::time::Clock;
 
 // A store, the journal of its changes, and the change that was answered last, until it is kept.
 #[derive(Drop)]
-pub(crate) struct Answerer<'a, B: Beginning + Since, J: Journal + Drop, C: Clock> {
+pub(crate) struct DurableAnswerer<'a, B: Beginning + Since, J: Journal + Drop, C: Clock> {
     pub(crate) alloc: Global,
     pub(crate) clock: &'a C,
     pub(crate) store: Store,
@@ -31,7 +31,7 @@ pub(crate) struct Answerer<'a, B: Beginning + Since, J: Journal + Drop, C: Clock
     pub(crate) beginning: PhantomData<B>,
 }
 
-impl<'a, B: Beginning + Since, J: Journal + Drop, C: Clock> Model for Answerer<'a, B, J, C> {
+impl<'a, B: Beginning + Since, J: Journal + Drop, C: Clock> Model for DurableAnswerer<'a, B, J, C> {
     ghost use Rattle.st_journal_store.specs.Keeping.{Keeping};
     ghost use Rattle.st_journal_store.specs.inner.Sound.{IsSound};
 
@@ -43,16 +43,17 @@ impl<'a, B: Beginning + Since, J: Journal + Drop, C: Clock> Model for Answerer<'
         (record { kept = a.store; journal = a.journal; pending = a.pending; loss = a.loss }) };
 }
 
-impl<'a, B: Beginning + Since, J: Journal + Drop, C: Clock> Answerer<'a, B, J, C> {
+impl<'a, B: Beginning + Since, J: Journal + Drop, C: Clock> DurableAnswerer<'a, B, J, C> {
     // What is always true of it.
-    pub(crate) fn show(&self)
+    pub(crate) fn laws(&self)
         ensures { IsSound J.list J.misreads J.faults J.is_ready J.may_leave B.first B.faults self.now }
     {
         let _loss = self.loss;
     }
 }
 
-impl<'a, B: Beginning + Since, J: Journal + Drop, C: Clock> Replies for Answerer<'a, B, J, C> {
+impl<'a, B: Beginning + Since, J: Journal + Drop, C: Clock> Replies
+    for DurableAnswerer<'a, B, J, C> {
     ghost use Rattle.std.specs.declared.alloc.Global.{Global};
     ghost use Rattle.st_core.specs.State.{State};
 
@@ -72,11 +73,11 @@ impl<'a, B: Beginning + Since, J: Journal + Drop, C: Clock> Replies for Answerer
 
     ghost replies = { RepliesTo };
 
-    ghost shown = { shown (StateAnswers {A = Global}) };
+    ghost replied = { is_replied (StateAnswers {A = Global}) };
 
     ghost faults = { λ s reason bare. (refl, refl) };
 
-    // While a change is not kept, no further one is taken. The loop settles each answer before it reads the next message.
+    // While a change is not kept, no further one is taken. The loop syncs each answer before it reads the next message.
     fn reply(&mut self, message: &Message<'_>) -> Answer {
         if self.pending.is_some() {
             return Answer::Busy {
@@ -92,7 +93,7 @@ impl<'a, B: Beginning + Since, J: Journal + Drop, C: Clock> Replies for Answerer
         answer
     }
 
-    fn settle(&mut self) -> Result<(), Failed> {
+    fn sync(&mut self) -> Result<(), Failed> {
         let Some(pending) = &self.pending else {
             return Ok(());
         };

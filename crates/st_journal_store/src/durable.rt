@@ -1,7 +1,7 @@
 //! A service whose changes are kept before they are answered.
 ghost use Rattle.std.specs.Prelude.{◌≡◌, ◌≢◌, ◌≤◌, false, None, Some, Ok, List, IfOk, is_some};
 ghost use Rattle.st_journal.specs.declared.record.Record.{Record};
-ghost use Rattle.st_journal.specs.Faults.{Rises};
+ghost use Rattle.st_journal.specs.Faults.{FaultsRise};
 ghost use Rattle.st_journal.specs.Replays.{Replays};
 ghost use Rattle.st_service.specs.Answers.{Answers};
 ghost use Rattle.st_connection.specs.Connection.{EndsOn, KeptUnlessLost, ServedWithin};
@@ -9,7 +9,7 @@ ghost use Rattle.st_connection.specs.Streams.{streams};
 ghost use Rattle.st_journal_store.specs.Applying.{Applies};
 ghost use Rattle.st_journal_store.specs.Keeping.{LeadTo, answered};
 
-use crate::answerer::Answerer;
+use crate::answerer::DurableAnswerer;
 use crate::beginning::{Beginning, Since};
 use crate::loss::Loss;
 use st_connection::Server;
@@ -24,7 +24,7 @@ use std::time::Clock;
 /// A store that is asked over connections, one after another, and a journal of its changes. Each change whose token holds, made or
 /// refused, is in the journal before a byte of its answer is written.
 pub struct DurableService<'a, B: Beginning + Since, J: Journal + Drop, C: Clock> {
-    server: Server<Answerer<'a, B, J, C>>,
+    server: Server<DurableAnswerer<'a, B, J, C>>,
 }
 
 // Written out, and not derived: a derived drop is proved anew in each crate that owns such a service.
@@ -55,7 +55,7 @@ impl<'a, B: Beginning + Since, J: Journal + Drop, C: Clock> DurableService<'a, B
         requires counts { B.faults ≤ J.faults journal }
         ensures { IfOk result (λ service. service ≡ record { kept = store; journal = journal; pending = None; loss = None }) }
     {
-        let answerer = Answerer {
+        let answerer = DurableAnswerer {
             alloc,
             clock,
             store,
@@ -76,14 +76,14 @@ impl<'a, B: Beginning + Since, J: Journal + Drop, C: Clock> DurableService<'a, B
         reader: &mut R,
         writer: &mut W,
     ) -> Result<Ended, IoFault>
-        requires settled { self.old.kept ≡ answered self.old }
+        requires synced { self.old.kept ≡ answered self.old }
         requires sound { self.old.loss ≡ None }
         requires reader_sound { R.has_failed reader.old ≡ false }
         requires writer_sound { W.has_failed writer.old ≡ false }
         ensures served { ServedWithin Answers 0 self.old.kept (answered self.new) self.new.kept
             (streams R.left R.reads R.has_ended R.has_failed W.held W.has_failed reader.old reader.new writer.old writer.new) result }
         ensures kept { KeptUnlessLost self.new.kept (answered self.new) (is_some self.new.loss) result }
-        ensures disk { J.misreads self.new.journal ≡ 0 → self.new.loss ≡ Some Loss.Disk → Rises B.faults (J.faults self.new.journal) }
+        ensures disk { J.misreads self.new.journal ≡ 0 → self.new.loss ≡ Some Loss.Disk → FaultsRise B.faults (J.faults self.new.journal) }
         ensures stands { result ≢ Ok Ended.Lost → J.misreads self.new.journal ≡ 0
             → Replays Applies B.first (J.list self.new.journal) self.new.kept }
         // A crash inside the call is a journal, a reader or a writer that fails from some moment on.
@@ -93,7 +93,7 @@ impl<'a, B: Beginning + Since, J: Journal + Drop, C: Clock> DurableService<'a, B
             (streams R.left R.reads R.has_ended R.has_failed W.held W.has_failed reader.old reader.new writer.old writer.new) result }
     {
         let ended = self.server.serve(reader, writer);
-        self.server.answerer().show();
+        self.server.answerer().laws();
         ended
     }
     /// Why a change was lost, if one was.

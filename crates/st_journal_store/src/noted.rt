@@ -1,7 +1,7 @@
 //! What is kept of a change.
 ghost use Rattle.std.specs.Prelude.{◌≡◌, ◌⊎◌, true, ℕ, List, [], IfOk, IsUtf8};
 ghost use Rattle.st_http.specs.declared.routes.Endpoint.{Endpoint as Line};
-ghost use Rattle.st_http.specs.Routes.{ShowsRoute, found};
+ghost use Rattle.st_http.specs.Routes.{RepresentsRoute, found};
 ghost use Rattle.st_json.specs.Bodies.{has_body};
 ghost use Rattle.st_json_reply.specs.Replies.{text_of};
 ghost use Rattle.st_journal_record.specs.Records.{IsRecordOf};
@@ -11,7 +11,7 @@ use st_core::Reply;
 use st_http::message::Message;
 use st_http::routes::Route;
 use st_journal::Record;
-use st_journal_record::{Source, record_of};
+use st_journal_record::{RequestParts, record_of};
 use st_json_reply::encode;
 use std::alloc::{AllocError, Global};
 use std::str::from_utf8;
@@ -34,9 +34,9 @@ pub(crate) fn noted<C: Clock>(
     reply: &Reply,
 ) -> Result<Record, AllocError>
     requires is_found { IsFound message.now }
-    requires text { (endpoint : Line) (name : List ℕ) → ShowsRoute message.now.route (found endpoint name) → has_body endpoint ≡ true
+    requires text { (endpoint : Line) (name : List ℕ) → RepresentsRoute message.now.route (found endpoint name) → has_body endpoint ≡ true
         → IsUtf8 message.now.body.now }
-    ensures made { IfOk result (λ r. (endpoint : Line) (name : List ℕ) → ShowsRoute message.now.route (found endpoint name)
+    ensures made { IfOk result (λ r. (endpoint : Line) (name : List ℕ) → RepresentsRoute message.now.route (found endpoint name)
         → IsRecordOf r user.now endpoint name message.now.body.now) }
     ensures told { IfOk result (λ r. (r.result ≡ text_of reply.now) ⊎ (r.result ≡ [])) }
 {
@@ -45,11 +45,11 @@ pub(crate) fn noted<C: Clock>(
     };
     let text = encode(alloc, reply)?;
     let told = from_utf8(text.as_slice()).unwrap_or("");
-    let source = Source {
+    let parts = RequestParts {
         user,
         endpoint,
         name,
         body: message.body,
     };
-    record_of(alloc, milliseconds(clock), source, told)
+    record_of(alloc, milliseconds(clock), parts, told)
 }

@@ -10,8 +10,8 @@ use Rattle.serde_json.specs.View.{items_of, items_view, view}
 use Rattle.std.specs.Prelude.{IfNone, IfSome}
 use Rattle.st_key.specs.declared.point.Point.{Point}
 use Rattle.st_json.specs.declared.value.Bounds.{Bounds}
-use Rattle.st_json.specs.Fields.{as_natural, numbers_of, six_numbers, texts_of}
-use Rattle.st_json.specs.inner.Parts.{Picks, texts_among, with_text}
+use Rattle.st_json.specs.Fields.{as_natural, six_numbers}
+use Rattle.st_json.specs.inner.Parts.{Picks, numbers_of, texts_of, texts_among, with_text}
 
 -- both a first and the rest were there
 pub record Both (A : Type 0) (o : Option A) (p : Option (List A)) (xs : List A) : Type 0 where
@@ -33,7 +33,8 @@ same_length (d ∷ ds) ns e =
     let b = both (as_natural d) (numbers_of (items_of ds)) ns e in
     ap length b.all ∙ omega (arith, same_length ds b.more b.has_more)
 
-pub one_more : (vs : List Value) (v : Value) (k n : ℕ) (ns : List ℕ) → k < length vs → v ≡ get_or vs k v → as_natural (view v) ≡ Some n → numbers_of (items_view (drop (suc k) vs)) ≡ Some ns → numbers_of (items_view (drop k vs)) ≡ Some (n ∷ ns)
+pub one_more : (vs : List Value) (v : Value) (k n : ℕ) (ns : List ℕ) → k < length vs → v ≡ get_or vs k v → as_natural (view v) ≡ Some n
+    → numbers_of (items_view (drop (suc k) vs)) ≡ Some ns → numbers_of (items_view (drop k vs)) ≡ Some (n ∷ ns)
 one_more vs v k n ns inside is number rest =
     let split : drop k vs ≡ v ∷ drop (suc k) vs = drop-cons vs k v inside ∙ ap (λ w. w ∷ drop (suc k) vs) (sym is) in
     rw (split, number, rest)
@@ -42,11 +43,13 @@ pub no_more : (vs : List Value) (k : ℕ) → length vs ≡ k → numbers_of (it
 no_more vs k e = rw (drop_all k vs (omega arith))
 
 -- no point is at these numbers, so none has them for its own
-pub none_at : (found : Option (List ℕ)) (x y t : ℕ) (o : Option Point) → found ≡ Some (x ∷ y ∷ t ∷ []) → Picks (λ p. (p.x ≡ x) × (p.y ≡ y) × (p.t ≡ t)) o → IfNone o ((p : Point) → found ≡ Some (p.x ∷ p.y ∷ p.t ∷ []) → ⊥)
+pub none_at : (found : Option (List ℕ)) (x y t : ℕ) (o : Option Point) → found ≡ Some (x ∷ y ∷ t ∷ [])
+    → Picks (λ p. (p.x ≡ x) × (p.y ≡ y) × (p.t ≡ t)) o → IfNone o ((p : Point) → found ≡ Some (p.x ∷ p.y ∷ p.t ∷ []) → ⊥)
 none_at found x y t (Some p) e h = tt
 none_at found x y t None e h = λ p f. h p (cc, cc, cc)
 
-pub some_at : (found : Option (List ℕ)) (x y t : ℕ) (o : Option Point) → found ≡ Some (x ∷ y ∷ t ∷ []) → Picks (λ p. (p.x ≡ x) × (p.y ≡ y) × (p.t ≡ t)) o → IfSome o (λ p. found ≡ Some (p.x ∷ p.y ∷ p.t ∷ []))
+pub some_at : (found : Option (List ℕ)) (x y t : ℕ) (o : Option Point) → found ≡ Some (x ∷ y ∷ t ∷ [])
+    → Picks (λ p. (p.x ≡ x) × (p.y ≡ y) × (p.t ≡ t)) o → IfSome o (λ p. found ≡ Some (p.x ∷ p.y ∷ p.t ∷ []))
 some_at found x y t (Some p) e h = let a = h.0 in let b = h.1 in let d = h.2 in cc
 some_at found x y t None e h = tt
 
@@ -61,11 +64,13 @@ not_here (w ∷ vs) v (suc k) ns inside is none all =
     let b = both (as_natural (view w)) (numbers_of (items_view vs)) ns all in
     not_here vs v k b.more (omega (arith, inside)) is none b.has_more
 
-pub not_six : (vs : List Value) (v : Value) (k : ℕ) (o : Option Bounds) → k < length vs → v ≡ get_or vs k v → as_natural (view v) ≡ None → IfNone o ((b : Bounds) → numbers_of (items_view vs) ≡ Some (six_numbers b) → ⊥)
+pub not_six : (vs : List Value) (v : Value) (k : ℕ) (o : Option Bounds) → k < length vs → v ≡ get_or vs k v → as_natural (view v) ≡ None
+    → IfNone o ((b : Bounds) → numbers_of (items_view vs) ≡ Some (six_numbers b) → ⊥)
 not_six vs v k (Some b) inside is none = tt
 not_six vs v k None inside is none = λ b e. not_here vs v k (six_numbers b) inside is none e
 
-pub not_three : (vs : List Value) (v : Value) (k : ℕ) (o : Option Point) → k < length vs → v ≡ get_or vs k v → as_natural (view v) ≡ None → IfNone o ((p : Point) → numbers_of (items_view vs) ≡ Some (p.x ∷ p.y ∷ p.t ∷ []) → ⊥)
+pub not_three : (vs : List Value) (v : Value) (k : ℕ) (o : Option Point) → k < length vs → v ≡ get_or vs k v → as_natural (view v) ≡ None
+    → IfNone o ((p : Point) → numbers_of (items_view vs) ≡ Some (p.x ∷ p.y ∷ p.t ∷ []) → ⊥)
 not_three vs v k (Some p) inside is none = tt
 not_three vs v k None inside is none = λ p e. not_here vs v k (p.x ∷ p.y ∷ p.t ∷ []) inside is none e
 

@@ -18,8 +18,9 @@ use Rattle.st_policy.specs.declared.refusal.Refusal.TheVariants.{BadLabel}
 use Rattle.st_json.specs.declared.value.Bounds.{Bounds}
 use Rattle.st_json.specs.Needs.{Rule, Has, Needs, given, denied}
 use Rattle.st_json.specs.Fields.{HasBox, HasPoint, WritesPlace, HasAfter, text_in, six_numbers}
-use Rattle.st_json.specs.Rules.{RefusesAt, LabelOf, IsQuery, AreAuths, IsObject}
+use Rattle.st_json.specs.Rules.{RefusesAt, LabelOf, IsQuery}
 use Rattle.st_json.specs.Bodies.{ReadBody, has_body, Made, Decoded}
+use Rattle.st_json.proofs.Chosen.{IsObject, AreAuths}
 use Rattle.st_json.proofs.Same.{same_point, same_place, same_query}
 
 abbrev OnlyOne : {B : Type 0} → (B → Type 0) → Type 0
@@ -155,27 +156,73 @@ one_made A endpoints.Grants name d = one_needs _ _ (one_has _ _ (one_table name)
 one_made A endpoints.NamespaceGrants name d = one_needs _ _ (one_has _ _ (one_name name)) (λ namespace. one_equal _)
 one_made A endpoints.Label name d = one_needs _ _ (one_field _ _) (λ text. one_needs _ _ (one_label text) (λ label. one_equal _))
 one_made A endpoints.Audit name d = one_equal _
-one_made A endpoints.Get name d = one_needs _ _ (one_field _ _) (λ id. one_needs _ _ (one_field _ _) (λ texts. one_needs _ _ (one_has _ _ (one_table name)) (λ table. one_needs _ _ (one_has _ _ (one_set texts)) (λ auths. one_equal _))))
-one_made A endpoints.Scan name d = one_needs _ _ (one_has _ _ (one_box d)) (λ bounds. one_needs _ _ (one_field _ _) (λ texts. one_needs _ _ (one_field _ _) (λ limit. one_needs _ _ (one_has _ _ (one_after d)) (λ after. one_needs _ _ (one_has _ _ (one_query bounds)) (λ query. one_needs _ _ (one_has _ _ (one_table name)) (λ table. one_needs _ _ (one_has _ _ (one_set texts)) (λ auths. one_equal _)))))))
-one_made A endpoints.Count name d = one_needs _ _ (one_has _ _ (one_box d)) (λ bounds. one_needs _ _ (one_field _ _) (λ texts. one_needs _ _ (one_has _ _ (one_query bounds)) (λ query. one_needs _ _ (one_has _ _ (one_table name)) (λ table. one_needs _ _ (one_has _ _ (one_set texts)) (λ auths. one_equal _)))))
-one_made A endpoints.Grid name d = one_needs _ _ (one_has _ _ (one_box d)) (λ bounds. one_needs _ _ (one_field _ _) (λ texts. one_needs _ _ (one_field _ _) (λ columns. one_needs _ _ (one_field _ _) (λ rows. one_needs _ _ (one_has _ _ (one_query bounds)) (λ query. one_needs _ _ (one_has _ _ (one_table name)) (λ table. one_needs _ _ (one_has _ _ (one_set texts)) (λ auths. one_equal _)))))))
-one_made A endpoints.Plan name d = one_needs _ _ (one_has _ _ (one_box d)) (λ bounds. one_needs _ _ (one_field _ _) (λ budget. one_needs _ _ (one_has _ _ (one_query bounds)) (λ query. one_needs _ _ (one_has _ _ (one_table name)) (λ table. one_equal _))))
-one_made A endpoints.Put name d = one_needs _ _ (one_field _ _) (λ id. one_needs _ _ (one_has _ _ (one_point d)) (λ point. one_needs _ _ (one_field _ _) (λ text. one_needs _ _ (one_field _ _) (λ note. one_needs _ _ (one_label text) (λ label. one_needs _ _ (one_has _ _ (one_table name)) (λ table. one_equal _))))))
-one_made A endpoints.Delete name d = one_needs _ _ (one_field _ _) (λ id. one_needs _ _ (one_field _ _) (λ text. one_needs _ _ (one_label text) (λ label. one_needs _ _ (one_has _ _ (one_table name)) (λ table. one_equal _))))
+one_made A endpoints.Get name d =
+    one_needs _ _ (one_field _ _)
+    (λ id. one_needs _ _ (one_field _ _)
+    (λ texts. one_needs _ _ (one_has _ _ (one_table name)) (λ table. one_needs _ _ (one_has _ _ (one_set texts)) (λ auths. one_equal _))))
+one_made A endpoints.Scan name d =
+    one_needs _ _ (one_has _ _ (one_box d))
+    (λ bounds. one_needs _ _ (one_field _ _)
+    (λ texts. one_needs _ _ (one_field _ _)
+    (λ limit. one_needs _ _ (one_has _ _ (one_after d))
+    (λ after. one_needs _ _ (one_has _ _ (one_query bounds))
+    (λ query. one_needs _ _ (one_has _ _ (one_table name)) (λ table. one_needs _ _ (one_has _ _ (one_set texts)) (λ auths. one_equal _)))))))
+one_made A endpoints.Count name d =
+    one_needs _ _ (one_has _ _ (one_box d))
+    (λ bounds. one_needs _ _ (one_field _ _)
+    (λ texts. one_needs _ _ (one_has _ _ (one_query bounds))
+    (λ query. one_needs _ _ (one_has _ _ (one_table name)) (λ table. one_needs _ _ (one_has _ _ (one_set texts)) (λ auths. one_equal _)))))
+one_made A endpoints.Grid name d =
+    one_needs _ _ (one_has _ _ (one_box d))
+    (λ bounds. one_needs _ _ (one_field _ _)
+    (λ texts. one_needs _ _ (one_field _ _)
+    (λ columns. one_needs _ _ (one_field _ _)
+    (λ rows. one_needs _ _ (one_has _ _ (one_query bounds))
+    (λ query. one_needs _ _ (one_has _ _ (one_table name)) (λ table. one_needs _ _ (one_has _ _ (one_set texts)) (λ auths. one_equal _)))))))
+one_made A endpoints.Plan name d =
+    one_needs _ _ (one_has _ _ (one_box d))
+    (λ bounds. one_needs _ _ (one_field _ _)
+    (λ budget. one_needs _ _ (one_has _ _ (one_query bounds)) (λ query. one_needs _ _ (one_has _ _ (one_table name)) (λ table. one_equal _))))
+one_made A endpoints.Put name d =
+    one_needs _ _ (one_field _ _)
+    (λ id. one_needs _ _ (one_has _ _ (one_point d))
+    (λ point. one_needs _ _ (one_field _ _)
+    (λ text. one_needs _ _ (one_field _ _)
+    (λ note. one_needs _ _ (one_label text) (λ label. one_needs _ _ (one_has _ _ (one_table name)) (λ table. one_equal _))))))
+one_made A endpoints.Delete name d =
+    one_needs _ _ (one_field _ _)
+    (λ id. one_needs _ _ (one_field _ _)
+    (λ text. one_needs _ _ (one_label text) (λ label. one_needs _ _ (one_has _ _ (one_table name)) (λ table. one_equal _))))
 one_made A endpoints.CreateTable name d = one_needs _ _ (one_field _ _) (λ text. one_needs _ _ (one_field _ _) (λ period. one_needs _ _ (one_has _ _ (one_table text)) (λ table. one_equal _)))
 one_made A endpoints.DropTable name d = one_needs _ _ (one_has _ _ (one_table name)) (λ table. one_equal _)
 one_made A endpoints.Constraint name d = one_needs _ _ (one_field _ _) (λ on. one_needs _ _ (one_has _ _ (one_table name)) (λ table. one_equal _))
 one_made A endpoints.Period name d = one_needs _ _ (one_field _ _) (λ period. one_needs _ _ (one_has _ _ (one_table name)) (λ table. one_equal _))
-one_made A endpoints.CreateUser name d = one_needs _ _ (one_field _ _) (λ text. one_needs _ _ (one_field _ _) (λ digest. one_needs _ _ (one_field _ _) (λ texts. one_needs _ _ (one_has _ _ (one_name text)) (λ user. one_needs _ _ (one_has _ _ (one_set texts)) (λ auths. one_equal _)))))
+one_made A endpoints.CreateUser name d =
+    one_needs _ _ (one_field _ _)
+    (λ text. one_needs _ _ (one_field _ _)
+    (λ digest. one_needs _ _ (one_field _ _)
+    (λ texts. one_needs _ _ (one_has _ _ (one_name text)) (λ user. one_needs _ _ (one_has _ _ (one_set texts)) (λ auths. one_equal _)))))
 one_made A endpoints.DropUser name d = one_needs _ _ (one_has _ _ (one_name name)) (λ user. one_equal _)
 one_made A endpoints.Token name d = one_needs _ _ (one_field _ _) (λ digest. one_needs _ _ (one_has _ _ (one_name name)) (λ user. one_equal _))
 one_made A endpoints.Auths name d = one_needs _ _ (one_field _ _) (λ texts. one_needs _ _ (one_has _ _ (one_name name)) (λ user. one_needs _ _ (one_has _ _ (one_set texts)) (λ auths. one_equal _)))
 one_made A endpoints.GrantSystem name d = one_needs _ _ (one_field _ _) (λ p. one_needs _ _ (one_has _ _ (one_name name)) (λ user. one_equal _))
 one_made A endpoints.RevokeSystem name d = one_needs _ _ (one_field _ _) (λ p. one_needs _ _ (one_has _ _ (one_name name)) (λ user. one_equal _))
-one_made A endpoints.GrantTable name d = one_needs _ _ (one_field _ _) (λ text. one_needs _ _ (one_field _ _) (λ p. one_needs _ _ (one_has _ _ (one_table name)) (λ table. one_needs _ _ (one_has _ _ (one_name text)) (λ user. one_equal _))))
-one_made A endpoints.RevokeTable name d = one_needs _ _ (one_field _ _) (λ text. one_needs _ _ (one_field _ _) (λ p. one_needs _ _ (one_has _ _ (one_table name)) (λ table. one_needs _ _ (one_has _ _ (one_name text)) (λ user. one_equal _))))
-one_made A endpoints.GrantNamespace name d = one_needs _ _ (one_field _ _) (λ text. one_needs _ _ (one_field _ _) (λ p. one_needs _ _ (one_has _ _ (one_name name)) (λ namespace. one_needs _ _ (one_has _ _ (one_name text)) (λ user. one_equal _))))
-one_made A endpoints.RevokeNamespace name d = one_needs _ _ (one_field _ _) (λ text. one_needs _ _ (one_field _ _) (λ p. one_needs _ _ (one_has _ _ (one_name name)) (λ namespace. one_needs _ _ (one_has _ _ (one_name text)) (λ user. one_equal _))))
+one_made A endpoints.GrantTable name d =
+    one_needs _ _ (one_field _ _)
+    (λ text. one_needs _ _ (one_field _ _)
+    (λ p. one_needs _ _ (one_has _ _ (one_table name)) (λ table. one_needs _ _ (one_has _ _ (one_name text)) (λ user. one_equal _))))
+one_made A endpoints.RevokeTable name d =
+    one_needs _ _ (one_field _ _)
+    (λ text. one_needs _ _ (one_field _ _)
+    (λ p. one_needs _ _ (one_has _ _ (one_table name)) (λ table. one_needs _ _ (one_has _ _ (one_name text)) (λ user. one_equal _))))
+one_made A endpoints.GrantNamespace name d =
+    one_needs _ _ (one_field _ _)
+    (λ text. one_needs _ _ (one_field _ _)
+    (λ p. one_needs _ _ (one_has _ _ (one_name name)) (λ namespace. one_needs _ _ (one_has _ _ (one_name text)) (λ user. one_equal _))))
+one_made A endpoints.RevokeNamespace name d =
+    one_needs _ _ (one_field _ _)
+    (λ text. one_needs _ _ (one_field _ _)
+    (λ p. one_needs _ _ (one_has _ _ (one_name name)) (λ namespace. one_needs _ _ (one_has _ _ (one_name text)) (λ user. one_equal _))))
 
 pub one_answer : (A : Type 0) (l : Endpoint) (name body : List ℕ) → OnlyOne (Decoded {A = A} l name body)
 one_answer A l name body = one_needs _ _ (one_body (has_body l) body) (λ d. one_made A l name d)

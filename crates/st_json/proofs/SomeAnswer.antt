@@ -23,9 +23,10 @@ use Rattle.st_policy.specs.declared.refusal.Refusal.{Refusal}
 use Rattle.st_policy.specs.declared.refusal.Refusal.TheVariants.{BadLabel}
 use Rattle.st_json.specs.declared.value.Bounds.{Bounds}
 use Rattle.st_json.specs.Needs.{Rule, Has, Needs, given, denied}
-use Rattle.st_json.specs.Fields.{HasBox, HasPoint, WritesPlace, HasAfter, text_in, six_numbers, numbers_in}
-use Rattle.st_json.specs.Rules.{LabelOf, IsQuery, AreAuths, IsObject}
+use Rattle.st_json.specs.Fields.{HasBox, HasPoint, WritesPlace, HasAfter, text_in, six_numbers, as_natural, list_in}
+use Rattle.st_json.specs.Rules.{LabelOf, IsQuery}
 use Rattle.st_json.specs.Bodies.{ReadBody, has_body, Made, Decoded}
+use Rattle.st_json.proofs.Chosen.{IsObject, AreAuths}
 
 order : (a b : ℕ) → (a < b) ⊎ (b ≤ a)
 order a b = go (leb_tells b a)
@@ -98,7 +99,7 @@ six_or_not (Some (k ∷ l ∷ m ∷ n ∷ o ∷ r ∷ [])) = inl (record { x0 = 
 six_or_not (Some (k ∷ l ∷ m ∷ n ∷ o ∷ r ∷ s ∷ more)) = inr (λ b e. cc)
 
 box_or_not : (d : Data) → SomeOrNone (HasBox d)
-box_or_not d = six_or_not (numbers_in (codes "box") d)
+box_or_not d = six_or_not (list_in as_natural (codes "box") d)
 
 abbrev At : ℕ → ℕ → ℕ → Point → Type 0
 At x y t p = Some (x ∷ y ∷ t ∷ []) ≡ Some (p.x ∷ p.y ∷ p.t ∷ [])
@@ -121,14 +122,31 @@ three_or_not (Some (x ∷ y ∷ t ∷ [])) = at_or_not x y t
 three_or_not (Some (x ∷ y ∷ t ∷ u ∷ more)) = inr (λ p e. cc)
 
 point_or_not : (d : Data) → SomeOrNone (HasPoint d)
-point_or_not d = three_or_not (numbers_in (codes "point") d)
+point_or_not d = three_or_not (list_in as_natural (codes "point") d)
 
 query_or_not : (b : Bounds) → SomeOrNone (IsQuery b)
 query_or_not b = go (order b.x1 b.x0) (order b.y1 b.y0) (order b.t1 b.t0) (order b.x1 (2 ^ 21)) (order b.y1 (2 ^ 21)) (order b.t1 19818086400)
   where
     go : (b.x1 < b.x0) ⊎ (b.x0 ≤ b.x1) → (b.y1 < b.y0) ⊎ (b.y0 ≤ b.y1) → (b.t1 < b.t0) ⊎ (b.t0 ≤ b.t1)
         → (b.x1 < 2 ^ 21) ⊎ (2 ^ 21 ≤ b.x1) → (b.y1 < 2 ^ 21) ⊎ (2 ^ 21 ≤ b.y1) → (b.t1 < 19818086400) ⊎ (19818086400 ≤ b.t1) → SomeOrNone (IsQuery b)
-    go (inr x) (inr y) (inr t) (inl xf) (inl yf) (inl tf) = inl (record { x0 = b.x0; x1 = b.x1; y0 = b.y0; y1 = b.y1; t0 = b.t0; t1 = b.t1; x_ordered = x; y_ordered = y; t_ordered = t; x_in_range = xf; y_in_range = yf; t_in_range = tf }, (refl, refl, refl, refl, refl, refl))
+    go (inr x) (inr y) (inr t) (inl xf) (inl yf) (inl tf) =
+        inl (
+          record {
+            x0 = b.x0;
+            x1 = b.x1;
+            y0 = b.y0;
+            y1 = b.y1;
+            t0 = b.t0;
+            t1 = b.t1;
+            x_ordered = x;
+            y_ordered = y;
+            t_ordered = t;
+            x_in_range = xf;
+            y_in_range = yf;
+            t_in_range = tf;
+          },
+          (refl, refl, refl, refl, refl, refl),
+        )
     go (inl never) y t xf yf tf = inr (λ q m. omega (arith, never, m.0, m.1, q.x_ordered))
     go (inr x) (inl never) t xf yf tf = inr (λ q m. omega (arith, never, m.2, m.3, q.y_ordered))
     go (inr x) (inr y) (inl never) xf yf tf = inr (λ q m. omega (arith, never, m.4, m.5, q.t_ordered))
@@ -216,27 +234,82 @@ some_made A endpoints.Grants name d = some_needs _ _ (some_has _ _ (table_or_not
 some_made A endpoints.NamespaceGrants name d = some_needs _ _ (some_has _ _ (name_or_not name)) (λ namespace. some_equal _)
 some_made A endpoints.Label name d = some_needs _ _ (some_field _ _) (λ text. some_needs _ _ (some_label text) (λ label. some_equal _))
 some_made A endpoints.Audit name d = some_equal _
-some_made A endpoints.Get name d = some_needs _ _ (some_field _ _) (λ id. some_needs _ _ (some_field _ _) (λ texts. some_needs _ _ (some_has _ _ (table_or_not name)) (λ table. some_needs _ _ (some_has _ _ (auths_or_not texts)) (λ auths. some_equal _))))
-some_made A endpoints.Scan name d = some_needs _ _ (some_has _ _ (box_or_not d)) (λ bounds. some_needs _ _ (some_field _ _) (λ texts. some_needs _ _ (some_field _ _) (λ limit. some_needs _ _ (some_has _ _ (after_or_not d)) (λ after. some_needs _ _ (some_has _ _ (query_or_not bounds)) (λ query. some_needs _ _ (some_has _ _ (table_or_not name)) (λ table. some_needs _ _ (some_has _ _ (auths_or_not texts)) (λ auths. some_equal _)))))))
-some_made A endpoints.Count name d = some_needs _ _ (some_has _ _ (box_or_not d)) (λ bounds. some_needs _ _ (some_field _ _) (λ texts. some_needs _ _ (some_has _ _ (query_or_not bounds)) (λ query. some_needs _ _ (some_has _ _ (table_or_not name)) (λ table. some_needs _ _ (some_has _ _ (auths_or_not texts)) (λ auths. some_equal _)))))
-some_made A endpoints.Grid name d = some_needs _ _ (some_has _ _ (box_or_not d)) (λ bounds. some_needs _ _ (some_field _ _) (λ texts. some_needs _ _ (some_field _ _) (λ columns. some_needs _ _ (some_field _ _) (λ rows. some_needs _ _ (some_has _ _ (query_or_not bounds)) (λ query. some_needs _ _ (some_has _ _ (table_or_not name)) (λ table. some_needs _ _ (some_has _ _ (auths_or_not texts)) (λ auths. some_equal _)))))))
-some_made A endpoints.Plan name d = some_needs _ _ (some_has _ _ (box_or_not d)) (λ bounds. some_needs _ _ (some_field _ _) (λ budget. some_needs _ _ (some_has _ _ (query_or_not bounds)) (λ query. some_needs _ _ (some_has _ _ (table_or_not name)) (λ table. some_equal _))))
-some_made A endpoints.Put name d = some_needs _ _ (some_field _ _) (λ id. some_needs _ _ (some_has _ _ (point_or_not d)) (λ point. some_needs _ _ (some_field _ _) (λ text. some_needs _ _ (some_field _ _) (λ note. some_needs _ _ (some_label text) (λ label. some_needs _ _ (some_has _ _ (table_or_not name)) (λ table. some_equal _))))))
-some_made A endpoints.Delete name d = some_needs _ _ (some_field _ _) (λ id. some_needs _ _ (some_field _ _) (λ text. some_needs _ _ (some_label text) (λ label. some_needs _ _ (some_has _ _ (table_or_not name)) (λ table. some_equal _))))
-some_made A endpoints.CreateTable name d = some_needs _ _ (some_field _ _) (λ text. some_needs _ _ (some_field _ _) (λ period. some_needs _ _ (some_has _ _ (table_or_not text)) (λ table. some_equal _)))
+some_made A endpoints.Get name d =
+    some_needs _ _ (some_field _ _)
+    (λ id. some_needs _ _ (some_field _ _)
+    (λ texts. some_needs _ _ (some_has _ _ (table_or_not name))
+    (λ table. some_needs _ _ (some_has _ _ (auths_or_not texts)) (λ auths. some_equal _))))
+some_made A endpoints.Scan name d =
+    some_needs _ _ (some_has _ _ (box_or_not d))
+    (λ bounds. some_needs _ _ (some_field _ _)
+    (λ texts. some_needs _ _ (some_field _ _)
+    (λ limit. some_needs _ _ (some_has _ _ (after_or_not d))
+    (λ after. some_needs _ _ (some_has _ _ (query_or_not bounds))
+    (λ query. some_needs _ _ (some_has _ _ (table_or_not name))
+    (λ table. some_needs _ _ (some_has _ _ (auths_or_not texts)) (λ auths. some_equal _)))))))
+some_made A endpoints.Count name d =
+    some_needs _ _ (some_has _ _ (box_or_not d))
+    (λ bounds. some_needs _ _ (some_field _ _)
+    (λ texts. some_needs _ _ (some_has _ _ (query_or_not bounds))
+    (λ query. some_needs _ _ (some_has _ _ (table_or_not name))
+    (λ table. some_needs _ _ (some_has _ _ (auths_or_not texts)) (λ auths. some_equal _)))))
+some_made A endpoints.Grid name d =
+    some_needs _ _ (some_has _ _ (box_or_not d))
+    (λ bounds. some_needs _ _ (some_field _ _)
+    (λ texts. some_needs _ _ (some_field _ _)
+    (λ columns. some_needs _ _ (some_field _ _)
+    (λ rows. some_needs _ _ (some_has _ _ (query_or_not bounds))
+    (λ query. some_needs _ _ (some_has _ _ (table_or_not name))
+    (λ table. some_needs _ _ (some_has _ _ (auths_or_not texts)) (λ auths. some_equal _)))))))
+some_made A endpoints.Plan name d =
+    some_needs _ _ (some_has _ _ (box_or_not d))
+    (λ bounds. some_needs _ _ (some_field _ _)
+    (λ budget. some_needs _ _ (some_has _ _ (query_or_not bounds))
+    (λ query. some_needs _ _ (some_has _ _ (table_or_not name)) (λ table. some_equal _))))
+some_made A endpoints.Put name d =
+    some_needs _ _ (some_field _ _)
+    (λ id. some_needs _ _ (some_has _ _ (point_or_not d))
+    (λ point. some_needs _ _ (some_field _ _)
+    (λ text. some_needs _ _ (some_field _ _)
+    (λ note. some_needs _ _ (some_label text) (λ label. some_needs _ _ (some_has _ _ (table_or_not name)) (λ table. some_equal _))))))
+some_made A endpoints.Delete name d =
+    some_needs _ _ (some_field _ _)
+    (λ id. some_needs _ _ (some_field _ _)
+    (λ text. some_needs _ _ (some_label text) (λ label. some_needs _ _ (some_has _ _ (table_or_not name)) (λ table. some_equal _))))
+some_made A endpoints.CreateTable name d =
+    some_needs _ _ (some_field _ _)
+    (λ text. some_needs _ _ (some_field _ _) (λ period. some_needs _ _ (some_has _ _ (table_or_not text)) (λ table. some_equal _)))
 some_made A endpoints.DropTable name d = some_needs _ _ (some_has _ _ (table_or_not name)) (λ table. some_equal _)
 some_made A endpoints.Constraint name d = some_needs _ _ (some_field _ _) (λ on. some_needs _ _ (some_has _ _ (table_or_not name)) (λ table. some_equal _))
 some_made A endpoints.Period name d = some_needs _ _ (some_field _ _) (λ period. some_needs _ _ (some_has _ _ (table_or_not name)) (λ table. some_equal _))
-some_made A endpoints.CreateUser name d = some_needs _ _ (some_field _ _) (λ text. some_needs _ _ (some_field _ _) (λ digest. some_needs _ _ (some_field _ _) (λ texts. some_needs _ _ (some_has _ _ (name_or_not text)) (λ user. some_needs _ _ (some_has _ _ (auths_or_not texts)) (λ auths. some_equal _)))))
+some_made A endpoints.CreateUser name d =
+    some_needs _ _ (some_field _ _)
+    (λ text. some_needs _ _ (some_field _ _)
+    (λ digest. some_needs _ _ (some_field _ _)
+    (λ texts. some_needs _ _ (some_has _ _ (name_or_not text)) (λ user. some_needs _ _ (some_has _ _ (auths_or_not texts)) (λ auths. some_equal _)))))
 some_made A endpoints.DropUser name d = some_needs _ _ (some_has _ _ (name_or_not name)) (λ user. some_equal _)
 some_made A endpoints.Token name d = some_needs _ _ (some_field _ _) (λ digest. some_needs _ _ (some_has _ _ (name_or_not name)) (λ user. some_equal _))
-some_made A endpoints.Auths name d = some_needs _ _ (some_field _ _) (λ texts. some_needs _ _ (some_has _ _ (name_or_not name)) (λ user. some_needs _ _ (some_has _ _ (auths_or_not texts)) (λ auths. some_equal _)))
+some_made A endpoints.Auths name d =
+    some_needs _ _ (some_field _ _)
+    (λ texts. some_needs _ _ (some_has _ _ (name_or_not name)) (λ user. some_needs _ _ (some_has _ _ (auths_or_not texts)) (λ auths. some_equal _)))
 some_made A endpoints.GrantSystem name d = some_needs _ _ (some_field _ _) (λ p. some_needs _ _ (some_has _ _ (name_or_not name)) (λ user. some_equal _))
 some_made A endpoints.RevokeSystem name d = some_needs _ _ (some_field _ _) (λ p. some_needs _ _ (some_has _ _ (name_or_not name)) (λ user. some_equal _))
-some_made A endpoints.GrantTable name d = some_needs _ _ (some_field _ _) (λ text. some_needs _ _ (some_field _ _) (λ p. some_needs _ _ (some_has _ _ (table_or_not name)) (λ table. some_needs _ _ (some_has _ _ (name_or_not text)) (λ user. some_equal _))))
-some_made A endpoints.RevokeTable name d = some_needs _ _ (some_field _ _) (λ text. some_needs _ _ (some_field _ _) (λ p. some_needs _ _ (some_has _ _ (table_or_not name)) (λ table. some_needs _ _ (some_has _ _ (name_or_not text)) (λ user. some_equal _))))
-some_made A endpoints.GrantNamespace name d = some_needs _ _ (some_field _ _) (λ text. some_needs _ _ (some_field _ _) (λ p. some_needs _ _ (some_has _ _ (name_or_not name)) (λ namespace. some_needs _ _ (some_has _ _ (name_or_not text)) (λ user. some_equal _))))
-some_made A endpoints.RevokeNamespace name d = some_needs _ _ (some_field _ _) (λ text. some_needs _ _ (some_field _ _) (λ p. some_needs _ _ (some_has _ _ (name_or_not name)) (λ namespace. some_needs _ _ (some_has _ _ (name_or_not text)) (λ user. some_equal _))))
+some_made A endpoints.GrantTable name d =
+    some_needs _ _ (some_field _ _)
+    (λ text. some_needs _ _ (some_field _ _)
+    (λ p. some_needs _ _ (some_has _ _ (table_or_not name)) (λ table. some_needs _ _ (some_has _ _ (name_or_not text)) (λ user. some_equal _))))
+some_made A endpoints.RevokeTable name d =
+    some_needs _ _ (some_field _ _)
+    (λ text. some_needs _ _ (some_field _ _)
+    (λ p. some_needs _ _ (some_has _ _ (table_or_not name)) (λ table. some_needs _ _ (some_has _ _ (name_or_not text)) (λ user. some_equal _))))
+some_made A endpoints.GrantNamespace name d =
+    some_needs _ _ (some_field _ _)
+    (λ text. some_needs _ _ (some_field _ _)
+    (λ p. some_needs _ _ (some_has _ _ (name_or_not name)) (λ namespace. some_needs _ _ (some_has _ _ (name_or_not text)) (λ user. some_equal _))))
+some_made A endpoints.RevokeNamespace name d =
+    some_needs _ _ (some_field _ _)
+    (λ text. some_needs _ _ (some_field _ _)
+    (λ p. some_needs _ _ (some_has _ _ (name_or_not name)) (λ namespace. some_needs _ _ (some_has _ _ (name_or_not text)) (λ user. some_equal _))))
 
 pub some_answer : (A : Type 0) (l : Endpoint) (name body : List ℕ) → HasAnswer (Decoded {A = A} l name body)
 some_answer A l name body = some_needs _ _ (some_body (has_body l) body) (λ d. some_made A l name d)

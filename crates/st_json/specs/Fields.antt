@@ -20,24 +20,14 @@ as_natural d = option_and_then as_u64 (as_number d)
 abbrev pub text_in : Text → Data → Option Text
 text_in name d = option_and_then as_str (get name d)
 
-abbrev pub list_in : Text → Data → Option Items
-list_in name d = option_and_then as_array (get name d)
+-- what each of the items is read as, if each of them is
+abbrev pub each_read : {X : Type 0} → (Data → Option X) → Items → Option (List X)
+each_read reading no_items = Some []
+each_read reading (item d ds) = option_and_then (λ x. option_map (λ more. x ∷ more) (each_read reading ds)) (reading d)
 
--- the texts, if each item is one
-abbrev pub texts_of : Items → Option (List Text)
-texts_of no_items = Some []
-texts_of (item d ds) = option_and_then (λ s. option_map (λ more. s ∷ more) (texts_of ds)) (as_str d)
-
--- the numbers, if each item is one
-abbrev pub numbers_of : Items → Option (List ℕ)
-numbers_of no_items = Some []
-numbers_of (item d ds) = option_and_then (λ n. option_map (λ more. n ∷ more) (numbers_of ds)) (as_natural d)
-
-abbrev pub texts_in : Text → Data → Option (List Text)
-texts_in name d = option_and_then texts_of (list_in name d)
-
-abbrev pub numbers_in : Text → Data → Option (List ℕ)
-numbers_in name d = option_and_then numbers_of (list_in name d)
+-- the list of this name, each of its items read
+abbrev pub list_in : {X : Type 0} → (Data → Option X) → Text → Data → Option (List X)
+list_in reading name d = option_and_then (each_read reading) (option_and_then as_array (get name d))
 
 -- the text, if its length in bytes is in the range
 abbrev pub sized : ℕ → ℕ → Text → Option Text
@@ -58,11 +48,11 @@ six_numbers b = b.x0 ∷ b.x1 ∷ b.y0 ∷ b.y1 ∷ b.t0 ∷ b.t1 ∷ []
 
 -- a list of six numbers
 abbrev pub HasBox : Data → Bounds → Type 0
-HasBox d b = numbers_in (codes "box") d ≡ Some (six_numbers b)
+HasBox d b = list_in as_natural (codes "box") d ≡ Some (six_numbers b)
 
 -- a list of three numbers, those of a point
 abbrev pub HasPoint : Data → Point → Type 0
-HasPoint d p = numbers_in (codes "point") d ≡ Some (p.x ∷ p.y ∷ p.t ∷ [])
+HasPoint d p = list_in as_natural (codes "point") d ≡ Some (p.x ∷ p.y ∷ p.t ∷ [])
 
 -- the 32 bytes that 64 hexadecimal digits of either case write
 abbrev pub digest_of : Text → Option (List ℕ)

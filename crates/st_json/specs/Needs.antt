@@ -18,6 +18,15 @@ pub data Needs {B R : Type 0} (rule : Rule B) (next : B → Rule R) : Result R R
   given : (b : B) (answer : Result R Refusal) → rule (Ok b) → next b answer → Needs rule next answer
   denied : (refusal : Refusal) → rule (Err refusal) → Needs rule next (Err refusal)
 
+-- the same, infix: `rule >>= λ b. ..` goes on with the value b of the rule
+infixr 10 ◌>>=◌
+abbrev pub ◌>>=◌ : {B R : Type 0} → Rule B → (B → Rule R) → Rule R
+rule >>= next = Needs rule next
+
+-- the rule that gives this value and refuses nothing
+abbrev pub Yields : {R : Type 0} → R → Rule R
+Yields value = λ answer. answer ≡ Ok value
+
 -- what the code answers is what the rule says, unless memory ran out
 abbrev pub Obeys : {B : Type 0} → Rule B → Result B DecodeFault → Type 0
 Obeys P (Ok b) = P (Ok b)

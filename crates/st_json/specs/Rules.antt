@@ -1,7 +1,7 @@
 -- The rules of bodies, one by one.
 use Rattle.std.specs.Prelude.{◌≡◌, ◌⊎◌, ℕ, Bool, List, IsTrue, IsUtf8, codes, Option, Some, None, option_and_then, Result, Ok, Err}
 use Rattle.serde_json.specs.Data.{Data, Members, object}
-use Rattle.serde_json.specs.Find.{get}
+use Rattle.serde_json.specs.Find.{get, as_str}
 use Rattle.serde_json.specs.Read.{read}
 use Rattle.st_text.specs.Texts.{Text}
 use Rattle.st_text.specs.Names.{is_name, is_table_name}
@@ -18,15 +18,12 @@ use Rattle.st_policy.specs.declared.field_name.FieldName.TheVariants as names
 use Rattle.st_policy.specs.declared.refusal.Refusal.{Refusal}
 use Rattle.st_policy.specs.declared.refusal.Refusal.TheVariants.{Json, Field, BadBox, BadLabel, BadName}
 use Rattle.st_json.specs.declared.value.Bounds.{Bounds}
-use Rattle.st_json.specs.Fields.{HasBox, text_in, texts_in, number_in, sized}
+use Rattle.st_json.specs.Fields.{HasBox, text_in, list_in, number_in, sized}
 use Rattle.st_json.specs.Needs.{Rule, Has}
 
 -- the body is UTF-8 and reads as this object
-abbrev pub IsObject : List ℕ → Data → Type 0
-IsObject body d = IsUtf8 body × (read body ≡ Some d) × ((ms : Members) × (d ≡ object ms))
-
 abbrev pub ObjectOf : List ℕ → Rule Data
-ObjectOf body = Has Json (IsObject body)
+ObjectOf body = Has Json (λ d. IsUtf8 body × (read body ≡ Some d) × ((ms : Members) × (d ≡ object ms)))
 
 -- ---- the fields of an object, of their types and in their ranges
 
@@ -59,7 +56,7 @@ BoxField d = Has (Field names.Box) (HasBox d)
 
 -- a list of texts
 abbrev pub AuthsField : Data → Rule (List Text)
-AuthsField d = Found names.Auths (texts_in (codes "auths") d)
+AuthsField d = Found names.Auths (list_in as_str (codes "auths") d)
 
 -- ---- what numbers and texts make
 
@@ -96,8 +93,5 @@ abbrev pub NamespaceOf : Text → Rule Text
 NamespaceOf = NameOf names.Namespace is_name
 
 -- the texts are these authorizations, each of them valid
-abbrev pub AreAuths : List Text → List Text → Type 0
-AreAuths texts auths = (auths ≡ texts) × (first_bad texts ≡ None)
-
 abbrev pub AuthsOf : List Text → Rule (List Text)
-AuthsOf texts = Has (BadName names.Auths) (AreAuths texts)
+AuthsOf texts = Has (BadName names.Auths) (λ auths. (auths ≡ texts) × (first_bad texts ≡ None))

@@ -3,7 +3,7 @@ ghost use Rattle.std.specs.Prelude.{◌≡◌};
 ghost use Rattle.serde_json.specs.View.{view};
 ghost use Rattle.st_json.specs.Needs.{Obeys};
 ghost use Rattle.st_json.specs.Bodies.{Made, Decoded, ReadBody, has_body};
-ghost use Rattle.st_json.specs.inner.Parts.{shown};
+ghost use Rattle.st_json.specs.inner.Parts.{viewed};
 
 use crate::fault::DecodeFault;
 use crate::{grants, grids, plans, rows, rule, scans, tables, users};
@@ -51,7 +51,7 @@ pub fn has_body(endpoint: Endpoint) -> bool
 
 // The object in the body, or null if the endpoint reads no body.
 fn read(global: Global, endpoint: Endpoint, body: &[u8]) -> Result<Value, DecodeFault>
-    ensures { Obeys (ReadBody (has_body endpoint) body.now) (shown view result) }
+    ensures { Obeys (ReadBody (has_body endpoint) body.now) (viewed view result) }
 {
     if has_body(endpoint) {
         rule::object(global, body)

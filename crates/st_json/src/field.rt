@@ -10,7 +10,7 @@ ghost use Rattle.st_policy.specs.declared.refusal.Refusal.TheVariants.{Field as 
 ghost use Rattle.st_json.specs.Fields.{HasPoint, as_period, digest_of, period_or_week, sized, text_in};
 ghost use Rattle.st_json.specs.Needs.{Has, Obeys};
 ghost use Rattle.st_json.specs.Rules.{AuthsField, BoxField, Found, IdField, ReadField, TextField, ValueField};
-ghost use Rattle.st_json.specs.inner.Parts.{shown, texts_among};
+ghost use Rattle.st_json.specs.inner.Parts.{viewed, texts_among};
 
 use crate::fault::DecodeFault::{self, Refused};
 use crate::value::{self, Bounds};
@@ -34,7 +34,7 @@ pub(crate) fn required<T: Drop>(name: FieldName, found: Option<T>) -> Result<T, 
 
 // The text in the field of this name.
 pub(crate) fn text<'a>(object: &'a Value, name: FieldName) -> Result<&'a str, DecodeFault>
-    ensures { Obeys (TextField name (view object.now)) (shown (λ s. s.now) result) }
+    ensures { Obeys (TextField name (view object.now)) (viewed (λ s. s.now) result) }
 {
     match value::text(object, name.name()) {
         Some(text) => Ok(text),
@@ -63,7 +63,7 @@ fn id_in(object: &Value) -> Option<&str>
 
 // The field `id`: 1 to 64 bytes.
 pub(crate) fn id(object: &Value) -> Result<&str, DecodeFault>
-    ensures value { Obeys (IdField (view object.now)) (shown (λ s. s.now) result) }
+    ensures value { Obeys (IdField (view object.now)) (viewed (λ s. s.now) result) }
     ensures fits { IfOk result (λ s. IsId s.now) }
 {
     match id_in(object) {
@@ -83,7 +83,7 @@ fn note_in(object: &Value) -> Option<&str>
 
 // The field `note`: at most 4,096 bytes.
 pub(crate) fn note(object: &Value) -> Result<&str, DecodeFault>
-    ensures value { Obeys (ReadField (sized 0 4096) names.Note (view object.now)) (shown (λ s. s.now) result) }
+    ensures value { Obeys (ReadField (sized 0 4096) names.Note (view object.now)) (viewed (λ s. s.now) result) }
     ensures fits { IfOk result (λ s. IsNote s.now) }
 {
     match note_in(object) {
@@ -120,7 +120,7 @@ pub(crate) fn point(object: &Value) -> Result<Point, DecodeFault>
 
 // The field `auths`: a list of texts.
 pub(crate) fn auths(object: &Value) -> Result<&[Value], DecodeFault>
-    ensures { Obeys (AuthsField (view object.now)) (shown (λ v. texts_among (items_view v.now)) result) }
+    ensures { Obeys (AuthsField (view object.now)) (viewed (λ v. texts_among (items_view v.now)) result) }
 {
     match value::texts(object, "auths") {
         Some(items) => Ok(items),

@@ -3,7 +3,7 @@ ghost use Rattle.serde_json.specs.View.{view, items_view};
 ghost use Rattle.st_json.specs.Needs.{Obeys};
 ghost use Rattle.st_json.specs.Rules.{ObjectOf, QueryOf, LabelOf, TableOf, UserOf, NamespaceOf};
 ghost use Rattle.st_json.specs.Rules.{AuthsOf, IsQuery};
-ghost use Rattle.st_json.specs.inner.Parts.{Picks, shown, texts_among};
+ghost use Rattle.st_json.specs.inner.Parts.{Picks, viewed, texts_among};
 
 use crate::fault::DecodeFault::{self, NoMemory, Refused};
 use crate::value::{self, Bounds};
@@ -18,7 +18,7 @@ use std::alloc::{Allocator, Global};
 
 // The object in a body.
 pub(crate) fn object(global: Global, body: &[u8]) -> Result<Value, DecodeFault>
-    ensures { Obeys (ObjectOf body.now) (shown view result) }
+    ensures { Obeys (ObjectOf body.now) (viewed view result) }
 {
     match Value::from_slice(global, body) {
         Ok(value) => {

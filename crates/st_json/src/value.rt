@@ -4,9 +4,9 @@ ghost use Rattle.std.specs.List.{list_all};
 ghost use Rattle.serde_json.specs.Find.{get, as_str};
 ghost use Rattle.serde_json.specs.View.{view, items_view};
 ghost use Rattle.st_key.specs.declared.point.Point.{Point};
-ghost use Rattle.st_json.specs.Fields.{text_in, as_natural, list_in, texts_in, numbers_of, six_numbers, HasBox, HasPoint};
+ghost use Rattle.st_json.specs.Fields.{text_in, as_natural, list_in, six_numbers, HasBox, HasPoint};
 ghost use Rattle.st_json.specs.declared.value.Bounds.{Bounds};
-ghost use Rattle.st_json.specs.inner.Parts.{Picks, texts_among};
+ghost use Rattle.st_json.specs.inner.Parts.{items_in, numbers_of, Picks, texts_among};
 
 use serde_json::Value;
 use st_key::Point;
@@ -38,7 +38,7 @@ pub(crate) fn number(object: &Value, name: &str) -> Option<u64>
 }
 
 fn list<'a>(object: &'a Value, name: &str) -> Option<&'a Vec<Value>>
-    ensures { option_map (λ v. items_view v.now.items) result ≡ list_in name.now (view object.now) }
+    ensures { option_map (λ v. items_view v.now.items) result ≡ items_in name.now (view object.now) }
 {
     object.get(name).and_then(Value::as_array)
 }
@@ -51,7 +51,7 @@ fn are_texts(items: &[Value]) -> bool
 
 // The items of a list of texts.
 pub(crate) fn texts<'a>(object: &'a Value, name: &str) -> Option<&'a [Value]>
-    ensures { option_map (λ v. texts_among (items_view v.now)) result ≡ texts_in name.now (view object.now) }
+    ensures { option_map (λ v. texts_among (items_view v.now)) result ≡ list_in as_str name.now (view object.now) }
 {
     let items = list(object, name)?.as_slice();
     let all = are_texts(items);

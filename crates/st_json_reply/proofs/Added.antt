@@ -20,7 +20,11 @@ pub added_then : (a b c : Written) (ts us : List Token) → Adds a b ts → Adds
 added_then a b c ts us one two = record { before = two.before ∙ one.before; tokens = two.tokens ∙ ap (λ s. s ++ us) one.tokens ∙ append_assoc a.tokens ts us }
 
 pub last_token : {E : Type 0} (r : Result (Unit {0}) E) (a b c : Written) (ts us : List Token) (t : Token) → Adds a b ts → Writes r b c t → ts ++ t ∷ [] ≡ us → OnOk r (Adds a c us)
-last_token (Ok u) a b c ts us t one two is = record { before = two.room.0 ∙ one.before; tokens = two.ok ∙ ap (λ s. s ++ t ∷ []) one.tokens ∙ append_assoc a.tokens ts (t ∷ []) ∙ ap (λ s. a.tokens ++ s) is }
+last_token (Ok u) a b c ts us t one two is =
+    record {
+      before = two.room.0 ∙ one.before;
+      tokens = two.ok ∙ ap (λ s. s ++ t ∷ []) one.tokens ∙ append_assoc a.tokens ts (t ∷ []) ∙ ap (λ s. a.tokens ++ s) is;
+    }
 last_token (Err e) a b c ts us t one two is = tt
 
 pub then_adds : {E : Type 0} (r : Result (Unit {0}) E) (a b c : Written) (ts us : List Token) → Adds a b ts → OnOk r (Adds b c us) → OnOk r (Adds a c (ts ++ us))
@@ -61,16 +65,19 @@ abbrev pub ListBegun : {T : Type 0} → List ℕ → (T → Data) → List T →
 ListBegun name f xs i a b = Adds a b (key name ∷ begin_array ∷ item_tokens (map f (take i xs)))
 
 -- one more item
-pub added_item : {T : Type 0} (name : List ℕ) (f : T → Data) (xs : List T) (i : ℕ) (x : T) (a b c : Written) → i < length xs → x ≡ get_or xs i x → ListBegun name f xs i a b → Adds b c (tokens_of (f x))
+pub added_item : {T : Type 0} (name : List ℕ) (f : T → Data) (xs : List T) (i : ℕ) (x : T) (a b c : Written) → i < length xs → x ≡ get_or xs i x
+    → ListBegun name f xs i a b → Adds b c (tokens_of (f x))
     → ListBegun name f xs (i + 1) a c
 added_item name f xs i x a b c inside is one two =
-    subst (λ s. Adds a c (key name ∷ begin_array ∷ s)) (sym (item_tokens_take f xs i x inside is)) (added_then a b c (key name ∷ begin_array ∷ item_tokens (map f (take i xs))) (tokens_of (f x)) one two)
+    subst (λ s. Adds a c (key name ∷ begin_array ∷ s)) (sym (item_tokens_take f xs i x inside is))
+    (added_then a b c (key name ∷ begin_array ∷ item_tokens (map f (take i xs))) (tokens_of (f x)) one two)
 
 -- the last item, and the bracket
 pub added_list : {T E : Type 0} (name : List ℕ) (f : T → Data) (xs : List T) (i : ℕ) (r : Result (Unit {0}) E) (a b c : Written) → length xs ≤ i → ListBegun name f xs i a b → Writes r b c end_array
     → OnOk r (Adds a c (key name ∷ tokens_of (list (map f xs))))
 added_list name f xs i r a b c past one two =
-    last_token r a b c (key name ∷ begin_array ∷ item_tokens (map f (take i xs))) _ end_array one two (ap (λ s. key name ∷ begin_array ∷ s) (ap (λ ys. item_tokens (map f ys) ++ end_array ∷ []) (take_all i xs past) ∙ list_tokens (map f xs)))
+    last_token r a b c (key name ∷ begin_array ∷ item_tokens (map f (take i xs))) _ end_array one two
+    (ap (λ s. key name ∷ begin_array ∷ s) (ap (λ ys. item_tokens (map f ys) ++ end_array ∷ []) (take_all i xs past) ∙ list_tokens (map f xs)))
 
 -- a last token, behind what was written
 pub then_last : {E : Type 0} (r : Result (Unit {0}) E) (a b c : Written) (us : List Token) (t : Token) → (Adds b c (t ∷ []) → Adds a c us) → Writes r b c t → OnOk r (Adds a c us)

@@ -11,9 +11,10 @@ use Rattle.st_grant.specs.declared.permission.Permission.{Permission}
 use Rattle.st_policy.specs.declared.denial.Denial.{Denial}
 use Rattle.st_policy.specs.declared.refusal.Refusal.{Refusal}
 use Rattle.st_policy.specs.declared.reply.Reply.{Reply}
-use Rattle.st_json_reply.specs.Order.{keys_rise, items_keys_rise}
+use Rattle.st_json_reply.specs.inner.Order.{keys_rise, items_keys_rise}
 use Rattle.st_json_reply.specs.Refusals.{nat, denial_data, refusal_data}
-use Rattle.st_json_reply.specs.Replies.{listing, texts_data, permission_data, permissions_data, account_data, table_data, grantee_data, entry_data, row_data, range_data, part_data, place_data, next_data, page_data, reply_data}
+use Rattle.st_json_reply.specs.Replies.{list, listing, permission_data, permissions_data, account_data, table_data, grantee_data, entry_data}
+use Rattle.st_json_reply.specs.Replies.{row_data, range_data, part_data, place_data, next_data, page_data, reply_data}
 
 denial_in_order : (d : Denial) → keys_rise (denial_data d) ≡ true
 denial_in_order Denial.Token = refl
@@ -45,7 +46,7 @@ all_in_order : {T : Type 0} (f : T → Data) → ((x : T) → keys_rise (f x) �
 all_in_order f each [] = refl
 all_in_order f each (x ∷ xs) = both _ _ (each x) (all_in_order f each xs)
 
-texts_in_order : (texts : List (List ℕ)) → keys_rise (texts_data texts) ≡ true
+texts_in_order : (texts : List (List ℕ)) → keys_rise (list (map string texts)) ≡ true
 texts_in_order texts = all_in_order string (λ s. refl) texts
 
 permissions_in_order : (ps : List Permission) → keys_rise (permissions_data ps) ≡ true

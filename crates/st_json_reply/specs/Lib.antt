@@ -1,4 +1,3 @@
 pub mod Refusals
 pub mod Replies
-pub mod Order
 pub mod inner

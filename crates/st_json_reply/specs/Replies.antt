@@ -29,9 +29,6 @@ listing name items = object_of ((name, list items) ∷ [])
 
 -- ---- users, tables, permissions and changes
 
-abbrev pub texts_data : List Text → Data
-texts_data texts = list (map string texts)
-
 abbrev pub permission_data : Permission → Data
 permission_data p = string (permission_name p)
 
@@ -40,7 +37,7 @@ permissions_data permissions = list (map permission_data permissions)
 
 abbrev pub account_data : {A : Type 0} → Account A → Data
 account_data a =
-    object_of ((codes "auths", texts_data a.auths)
+    object_of ((codes "auths", list (map string a.auths))
     ∷ (codes "permissions", permissions_data a.permissions) ∷ (codes "user", string a.user) ∷ [])
 
 abbrev pub table_data : TableInfo → Data

@@ -1,2 +1,3 @@
--- Stages of the code, which no reader has to believe: no clause of a public function cites them.
+-- Stages of the code, and what only a law says: no reader has to believe them.
 pub mod Adds
+pub mod Order

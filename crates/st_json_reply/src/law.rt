@@ -1,7 +1,7 @@
 //! Laws of the definitions, for every reply.
 ghost use Rattle.std.specs.Prelude.{◌≡◌, true};
 ghost use Rattle.st_policy.specs.declared.reply.Reply.{Reply};
-ghost use Rattle.st_json_reply.specs.Order.{keys_rise};
+ghost use Rattle.st_json_reply.specs.inner.Order.{keys_rise};
 ghost use Rattle.st_json_reply.specs.Replies.{reply_data};
 
 use std::alloc::Allocator;

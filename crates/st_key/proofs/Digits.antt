@@ -13,7 +13,8 @@ use Rattle.st_key.specs.declared.period.Period.{Period}
 use Rattle.st_key.specs.declared.period.Period.TheVariants.{Day, Week}
 use Rattle.st_key.specs.declared.point.Point.{Point}
 use Rattle.st_key.specs.Period.{seconds_of}
-use Rattle.st_key.specs.Order.{Spot, spot_of, bits_below, digits_of, SameAbove, FirstAt, ComesBefore}
+use Rattle.st_key.specs.Order.{Spot, spot_of, bits_below, digits_of}
+use Rattle.st_key.specs.inner.Levels.{SameAbove, FirstAt, ComesBefore}
 
 abbrev pub Lt : List ℕ → List ℕ → Type 0
 Lt xs ys = is_lt (slice_cmp nat_cmp xs ys) ≡ true
@@ -83,11 +84,14 @@ decided (suc n) a b h = at_offset (split (bit_at a.offset n) (bit_at b.offset n)
     at_x eo ey (inr r) ih = later eo ey r.0 (ih r.1)
 
     at_y : bit_at a.offset n ≡ bit_at b.offset n →
-        ((bit_at a.y n < bit_at b.y n) ⊎ ((bit_at a.y n ≡ bit_at b.y n) × Lt (bit_at a.x n ∷ bits_below n a) (bit_at b.x n ∷ bits_below n b))) → (Lt (bits_below n a) (bits_below n b) → Decided n a b) → Decided (suc n) a b
+        ((bit_at a.y n < bit_at b.y n) ⊎ ((bit_at a.y n ≡ bit_at b.y n) × Lt (bit_at a.x n ∷ bits_below n a) (bit_at b.x n ∷ bits_below n b)))
+        → (Lt (bits_below n a) (bits_below n b) → Decided n a b) → Decided (suc n) a b
     at_y eo (inl less) ih = decided_here n a b (inr (eo, inl less))
     at_y eo (inr r) ih = at_x eo r.0 (split (bit_at a.x n) (bit_at b.x n) (bits_below n a) (bits_below n b) r.1) ih
 
-    at_offset : ((bit_at a.offset n < bit_at b.offset n) ⊎ ((bit_at a.offset n ≡ bit_at b.offset n) × Lt (bit_at a.y n ∷ bit_at a.x n ∷ bits_below n a) (bit_at b.y n ∷ bit_at b.x n ∷ bits_below n b))) →
+    at_offset : ((bit_at a.offset n < bit_at b.offset n)
+        ⊎ ((bit_at a.offset n ≡ bit_at b.offset n)
+        × Lt (bit_at a.y n ∷ bit_at a.x n ∷ bits_below n a) (bit_at b.y n ∷ bit_at b.x n ∷ bits_below n b))) →
         (Lt (bits_below n a) (bits_below n b) → Decided n a b) → Decided (suc n) a b
     at_offset (inl less) ih = decided_here n a b (inl less)
     at_offset (inr r) ih = at_y r.0 (split (bit_at a.y n) (bit_at b.y n) (bit_at a.x n ∷ bits_below n a) (bit_at b.x n ∷ bits_below n b) r.1) ih
@@ -186,7 +190,9 @@ digits_by_level period p q = (there, back)
     there : Lt (digits_of period p) (digits_of period q) → ComesBefore period p q
     there h = by_bin (split (p.t / seconds_of period) (q.t / seconds_of period) (bits_below 21 (spot_of period p)) (bits_below 21 (spot_of period q)) h)
       where
-        by_bin : (p.t / seconds_of period < q.t / seconds_of period) ⊎ ((p.t / seconds_of period ≡ q.t / seconds_of period) × Lt (bits_below 21 (spot_of period p)) (bits_below 21 (spot_of period q))) → ComesBefore period p q
+        by_bin : (p.t / seconds_of period < q.t / seconds_of period)
+            ⊎ ((p.t / seconds_of period ≡ q.t / seconds_of period) × Lt (bits_below 21 (spot_of period p)) (bits_below 21 (spot_of period q)))
+            → ComesBefore period p q
         by_bin (inl less) = inl less
         by_bin (inr r) = inr (r.0, by_highest_level (spot_of period p) (spot_of period q) (in_cube period p) (in_cube period q) r.1)
 

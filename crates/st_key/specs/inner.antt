@@ -1,2 +1,3 @@
--- Invariants of representations, machines and stages of the code: no reader has to believe what stands here.
+-- Invariants of representations, machines and stages of the code, and what only a law says: no reader has to believe what stands here.
 pub mod Coordinates
+pub mod Levels

@@ -3,7 +3,8 @@ ghost use Rattle.std.specs.Prelude.{◌≡◌, ◌<◌, ◌↔◌, IsTrue};
 ghost use Rattle.std.specs.Cmp.Lexicographic.{slice_cmp};
 ghost use Rattle.std.specs.Ordering.{nat_cmp, is_lt};
 ghost use Rattle.st_key.specs.Key.{IsBefore, IsKeyOf, rank};
-ghost use Rattle.st_key.specs.Order.{ComesBefore, digits_of};
+ghost use Rattle.st_key.specs.Order.{digits_of};
+ghost use Rattle.st_key.specs.inner.Levels.{ComesBefore};
 ghost use Rattle.st_key.specs.declared.key.Key.{Key};
 ghost use Rattle.st_key.specs.declared.period.Period.{Period};
 ghost use Rattle.st_key.specs.declared.point.Point.{Point};
@@ -18,7 +19,7 @@ pub fn scan_order()
 /// The order of keys is the order of their points in a scan.
 pub fn key_order()
     ensures { (period : Period) (p q : Point) (k l : Key) → IsKeyOf period p k → IsKeyOf period q l
-        → IsBefore k l ↔ ComesBefore period p q }
+        → IsBefore k l ↔ IsTrue (is_lt (slice_cmp nat_cmp (digits_of period p) (digits_of period q))) }
 {}
 
 /// A point has one key, and a key belongs to at most one point.

@@ -1,8 +1,11 @@
 //! Points of space and time.
 ghost use Rattle.std.specs.Prelude.{◌≡◌, ◌↔◌, ◌^◌, ◌<◌, ◌≤◌, IsOk, IfOk};
 
+use thiserror::Error;
+
 /// Not a point: a coordinate is above 2,097,151, or a time above 19,818,086,399.
-#[derive(Clone, Copy, Debug, PartialEq, Eq)]
+#[derive(Clone, Copy, Debug, PartialEq, Eq, Error)]
+#[error("a coordinate or a time is out of range")]
 pub struct OutOfRange;
 
 /// A place in a square of 2^21 units a side, and a second: x and y are 0 to 2,097,151, t is 0 to

@@ -8,7 +8,7 @@ use Rattle.std.proofs.lemmas.Str.{encode_ascii, length-encode, len_utf8_bounds}
 use Rattle.std.proofs.lemmas.List.{append-nil}
 use Rattle.st_label.specs.Tree.{Tree}
 use Rattle.st_label.specs.Grammar.{is_plain}
-use Rattle.st_label.specs.Refusals.{max_depth, Begins, Viable, IsUnfinishedAt}
+use Rattle.st_label.specs.Refusals.{max_depth, BeginsLabel, Viable, IsUnfinishedAt}
 use Rattle.st_label.specs.Reading.{reading, IsLabel}
 use Rattle.st_label.specs.inner.Machine.{Other, class_of, Frame, Mode, Start, Word, Quoted, Escape, Done, State, state, init, step_mode, step, run, tree_of}
 use Rattle.st_label.proofs.Places.{takes, runs_begins, run_append, run_mono, begins_runs}
@@ -47,7 +47,15 @@ plain_high b h = grind (arith, nat_tests)
 class_high : (b : ℕ) → 128 ≤ b → class_of b ≡ Other
 unfolding class_of
 class_high b h =
-    rw (plain_high b h, not_same b 38 (omega arith), not_same b 124 (omega arith), not_same b 34 (omega arith), not_same b 92 (omega arith), not_same b 40 (omega arith), not_same b 41 (omega arith)) refl
+    rw (
+      plain_high b h,
+      not_same b 38 (omega arith),
+      not_same b 124 (omega arith),
+      not_same b 34 (omega arith),
+      not_same b 92 (omega arith),
+      not_same b 40 (omega arith),
+      not_same b 41 (omega arith),
+    ) refl
 
 quoted_high : (bs : List ℕ) (room : ℕ) (st : List Frame) (f : Frame) (n : List ℕ) → AllHigh bs → run room (state st f (Quoted n)) bs ≡ Some (state st f (Quoted (n ++ bs)))
 quoted_high [] room st f n h = rw append-nil refl
@@ -85,7 +93,7 @@ pub record Behind (text : List ℕ) (at : ℕ) (rest : List ℕ) (s : State) : T
   pub runs : run max_depth init front ≡ Some s
 
 -- A character that more room takes.
-pub no_step_within : (p : List ℕ) (b : ℕ) (s : State) → run max_depth init p ≡ Some s → step max_depth s b ≡ None → Begins max_depth (p ++ b ∷ []) → ⊥
+pub no_step_within : (p : List ℕ) (b : ℕ) (s : State) → run max_depth init p ≡ Some s → step max_depth s b ≡ None → BeginsLabel max_depth (p ++ b ∷ []) → ⊥
 no_step_within p b s h none begins =
     let all = begins_runs max_depth (p ++ b ∷ []) begins max_depth (omega arith) in
     let last : option_and_then (λ t. run max_depth t (b ∷ [])) (run max_depth init p) ≡ Some all.0 = sym (run_append p max_depth init (b ∷ [])) ∙ all.1 in

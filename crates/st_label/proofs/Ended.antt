@@ -15,7 +15,8 @@ empty_by xs n e h = grind (arith, common_steps)
 pub some_by : {T : Type 0} (xs : List T) (n : ℕ) → n ≡ length xs → false ≡ (n == 0) → length xs ≡ 0 → ⊥
 some_by xs n e h none = grind (arith, common_steps)
 
-pub ends_empty : {A : Type 0} (outer : List (Level A)) (f : Frame) (u : Mode) (r : Result (Tree A) ReadFault) → outer ≡ [] → Gives tree_view (whole [] f u) r → Gives tree_view (whole (outer_view outer) f u) r
+pub ends_empty : {A : Type 0} (outer : List (Level A)) (f : Frame) (u : Mode) (r : Result (Tree A) ReadFault) → outer ≡ []
+    → Gives tree_view (whole [] f u) r → Gives tree_view (whole (outer_view outer) f u) r
 ends_empty outer f u r e h = rw e h
 
 pub ends_open : (outer : List Frame) (f : Frame) (u : Mode) → (length outer ≡ 0 → ⊥) → whole outer f u ≡ None

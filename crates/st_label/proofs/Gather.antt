@@ -1,6 +1,7 @@
 -- Operands at their places, by their printed forms.
 use lib.Dec.{ltb}
-use Rattle.std.proofs.Common.{◌≡◌, ◌≢◌, ◌+◌, ◌<◌, ◌≤◌, ℕ, zero, suc, List, [], ◌∷◌, ◌++◌, Bool, true, false, not, cond, Option, Some, None, length, map, take, get_or, refl, sym, ap, ap₂, ◌∙◌, arith, string_bytes}
+use Rattle.std.proofs.Common.{◌≡◌, ◌≢◌, ◌+◌, ◌<◌, ◌≤◌, ℕ, zero, suc, List, [], ◌∷◌, ◌++◌, Bool, true, false, not, cond, Option, Some, None, length}
+use Rattle.std.proofs.Common.{map, take, get_or, refl, sym, ap, ap₂, ◌∙◌, arith, string_bytes}
 use Rattle.std.specs.Prelude.{String, Vec}
 use Rattle.std.specs.Cmp.{Equal-is}
 use Rattle.std.specs.Cmp.Lexicographic.{slice_cmp}
@@ -45,8 +46,10 @@ at_end : (r : label.Tree) (xs : List label.Tree) → length xs ≤ prefix_len (b
 at_end r [] h = refl
 at_end r (x ∷ xs) h = at_end_by r x xs _ refl h (at_end r xs)
 
-at_place_by : (r x d : label.Tree) (xs : List label.Tree) (k : ℕ) (c : Ordering) → slice_cmp nat_cmp (operand_text r) (operand_text x) ≡ c → prefix_len (before r) (x ∷ xs) ≡ k → operand_text r ≢ operand_text (get_or (x ∷ xs) k d) →
-    ((j : ℕ) → prefix_len (before r) xs ≡ j → j < length xs → operand_text r ≢ operand_text (get_or xs j d) → insert_operand r xs ≡ insert xs j r) → k < length (x ∷ xs) → insert_operand r (x ∷ xs) ≡ insert (x ∷ xs) k r
+at_place_by : (r x d : label.Tree) (xs : List label.Tree) (k : ℕ) (c : Ordering) → slice_cmp nat_cmp (operand_text r) (operand_text x) ≡ c
+    → prefix_len (before r) (x ∷ xs) ≡ k → operand_text r ≢ operand_text (get_or (x ∷ xs) k d) →
+    ((j : ℕ) → prefix_len (before r) xs ≡ j → j < length xs → operand_text r ≢ operand_text (get_or xs j d) → insert_operand r xs ≡ insert xs j r)
+    → k < length (x ∷ xs) → insert_operand r (x ∷ xs) ≡ insert (x ∷ xs) k r
 at_place_by r x d xs zero Less e p h go less = rw e refl
 at_place_by r x d xs zero Equal e p h go less = absurd (h (texts_equal (operand_text r) (operand_text x) e))
 at_place_by r x d xs zero Greater e p h go less = let k = rw e at p in absurd (omega arith)
@@ -58,7 +61,8 @@ at_place : (r d : label.Tree) (xs : List label.Tree) (k : ℕ) → prefix_len (b
 at_place r d [] k p less h = absurd (omega arith)
 at_place r d (x ∷ xs) k p less h = at_place_by r x d xs k _ refl p h (λ j. at_place r d xs j) less
 
-at_same_by : (r x d : label.Tree) (xs : List label.Tree) (k : ℕ) (c : Ordering) → slice_cmp nat_cmp (operand_text r) (operand_text x) ≡ c → prefix_len (before r) (x ∷ xs) ≡ k → operand_text r ≡ operand_text (get_or (x ∷ xs) k d) →
+at_same_by : (r x d : label.Tree) (xs : List label.Tree) (k : ℕ) (c : Ordering) → slice_cmp nat_cmp (operand_text r) (operand_text x) ≡ c
+    → prefix_len (before r) (x ∷ xs) ≡ k → operand_text r ≡ operand_text (get_or (x ∷ xs) k d) →
     ((j : ℕ) → prefix_len (before r) xs ≡ j → j < length xs → operand_text r ≡ operand_text (get_or xs j d) → insert_operand r xs ≡ xs) → k < length (x ∷ xs) → insert_operand r (x ∷ xs) ≡ x ∷ xs
 at_same_by r x d xs zero Less e p h go less = let both : Less ≡ Equal = sym e ∙ equal_texts (operand_text r) (operand_text x) h in cc
 at_same_by r x d xs zero Equal e p h go less = rw e refl
@@ -107,13 +111,15 @@ map-insert f [] (suc i) x = refl
 map-insert f (y ∷ ys) zero x = refl
 map-insert f (y ∷ ys) (suc i) x = ap (λ l. f y ∷ l) (map-insert f ys i x)
 
-pub printed_end : {A : Type 0} (texts : List (String A)) (trees : List (Tree A)) (text : String A) (tree : Tree A) → Printed texts trees → string_bytes text ≡ operand_text (tree_view tree) → Printed (texts ++ text ∷ []) (trees ++ tree ∷ [])
+pub printed_end : {A : Type 0} (texts : List (String A)) (trees : List (Tree A)) (text : String A) (tree : Tree A) → Printed texts trees
+    → string_bytes text ≡ operand_text (tree_view tree) → Printed (texts ++ text ∷ []) (trees ++ tree ∷ [])
 printed_end texts trees text tree printed is =
     map-append string_bytes texts (text ∷ [])
     ∙ ap₂ (λ (l : List (List ℕ)) (t : List ℕ). l ++ t ∷ []) printed is
     ∙ sym (map-append (λ tree. operand_text (tree_view tree)) trees (tree ∷ []))
 
-pub printed_place : {A : Type 0} (texts : List (String A)) (trees : List (Tree A)) (text : String A) (tree : Tree A) (i : ℕ) → Printed texts trees → string_bytes text ≡ operand_text (tree_view tree) → Printed (insert texts i text) (insert trees i tree)
+pub printed_place : {A : Type 0} (texts : List (String A)) (trees : List (Tree A)) (text : String A) (tree : Tree A) (i : ℕ) → Printed texts trees
+    → string_bytes text ≡ operand_text (tree_view tree) → Printed (insert texts i text) (insert trees i tree)
 printed_place texts trees text tree i printed is =
     map-insert string_bytes texts i text
     ∙ ap₂ (λ (l : List (List ℕ)) (t : List ℕ). insert l i t) printed is
@@ -140,32 +146,38 @@ place_inside texts trees text i printed place =
     omega (arith, found.1, same_length texts trees printed)
 
 -- the text at a place is its tree's
-text_at : {A : Type 0} (texts : List (String A)) (trees : List (Tree A)) (i : ℕ) (d : String A) → Printed texts trees → i < length texts → string_bytes (get_or texts i d) ≡ operand_text (get_or (map tree_view trees) i label.Empty)
+text_at : {A : Type 0} (texts : List (String A)) (trees : List (Tree A)) (i : ℕ) (d : String A) → Printed texts trees → i < length texts
+    → string_bytes (get_or texts i d) ≡ operand_text (get_or (map tree_view trees) i label.Empty)
 text_at texts trees i d printed less =
     sym (get_or-map string_bytes texts i d (string_bytes d) less)
     ∙ ap (λ (l : List (List ℕ)). get_or l i (string_bytes d)) (printed ∙ sym (map-map operand_text tree_view trees))
     ∙ get_or-map operand_text (map tree_view trees) i label.Empty (string_bytes d) (omega (arith, less, same_length texts trees printed, length-map trees tree_view))
 
-pub more_at_place : {A : Type 0} (texts : List (String A)) (trees : List (Tree A)) (tree : Tree A) (i : ℕ) (d : String A) → Printed texts trees → PlaceOf texts (operand_text (tree_view tree)) (Some i) →
+pub more_at_place : {A : Type 0} (texts : List (String A)) (trees : List (Tree A)) (tree : Tree A) (i : ℕ) (d : String A) → Printed texts trees
+    → PlaceOf texts (operand_text (tree_view tree)) (Some i) →
     string_bytes (get_or texts i d) ≢ operand_text (tree_view tree) → map tree_view (insert trees i tree) ≡ insert_operand (tree_view tree) (map tree_view trees)
 more_at_place texts trees tree i d printed place other =
     let n = prefix_len (λ other. not (is_le (slice_cmp nat_cmp (operand_text (tree_view tree)) (string_bytes other)))) texts in
     let found = some_by n (length texts) i (ltb n (length texts)) refl (sym place) in
     let at = text_at texts trees i d printed found.1 in
     map-insert tree_view trees i tree
-    ∙ sym (at_place (tree_view tree) label.Empty (map tree_view trees) i (sym (same_prefix texts trees (tree_view tree) printed) ∙ found.0) (omega (arith, found.1, same_length texts trees printed, length-map trees tree_view)) (λ e. other (at ∙ sym e)))
+    ∙ sym (at_place (tree_view tree) label.Empty (map tree_view trees) i (sym (same_prefix texts trees (tree_view tree) printed) ∙ found.0)
+    (omega (arith, found.1, same_length texts trees printed, length-map trees tree_view)) (λ e. other (at ∙ sym e)))
 
-pub more_at_same : {A : Type 0} (texts : List (String A)) (trees : List (Tree A)) (tree : Tree A) (i : ℕ) (d : String A) → Printed texts trees → PlaceOf texts (operand_text (tree_view tree)) (Some i) →
+pub more_at_same : {A : Type 0} (texts : List (String A)) (trees : List (Tree A)) (tree : Tree A) (i : ℕ) (d : String A) → Printed texts trees
+    → PlaceOf texts (operand_text (tree_view tree)) (Some i) →
     string_bytes (get_or texts i d) ≡ operand_text (tree_view tree) → map tree_view trees ≡ insert_operand (tree_view tree) (map tree_view trees)
 more_at_same texts trees tree i d printed place same =
     let n = prefix_len (λ other. not (is_le (slice_cmp nat_cmp (operand_text (tree_view tree)) (string_bytes other)))) texts in
     let found = some_by n (length texts) i (ltb n (length texts)) refl (sym place) in
     let at = text_at texts trees i d printed found.1 in
-    sym (at_same (tree_view tree) label.Empty (map tree_view trees) i (sym (same_prefix texts trees (tree_view tree) printed) ∙ found.0) (omega (arith, found.1, same_length texts trees printed, length-map trees tree_view)) (sym same ∙ at))
+    sym (at_same (tree_view tree) label.Empty (map tree_view trees) i (sym (same_prefix texts trees (tree_view tree) printed) ∙ found.0)
+    (omega (arith, found.1, same_length texts trees printed, length-map trees tree_view)) (sym same ∙ at))
 
 -- ---- a level
 
-pub one_less : {A : Type 0} (old new : List (Tree A)) (tree : Tree A) (done whole : List label.Tree) → old ≡ new ++ tree ∷ [] → whole ≡ map tree_view old ++ done → whole ≡ map tree_view new ++ tree_view tree ∷ done
+pub one_less : {A : Type 0} (old new : List (Tree A)) (tree : Tree A) (done whole : List label.Tree) → old ≡ new ++ tree ∷ []
+    → whole ≡ map tree_view old ++ done → whole ≡ map tree_view new ++ tree_view tree ∷ done
 one_less old new tree done whole e h =
     h ∙ ap (λ (l : List label.Tree). l ++ done) (ap (map tree_view) e ∙ map-append tree_view new (tree ∷ [])) ∙ append_assoc (map tree_view new) (tree_view tree ∷ []) done
 
@@ -173,7 +185,8 @@ pub level_gathered : (op : Op) (rs : List label.Tree) → gathered op (map norma
 level_gathered op [] = refl
 level_gathered op (r ∷ rs) = ap (insert_all (parts op (normal r))) (level_gathered op rs)
 
-pub one_more_normal : {A : Type 0} (done all : List (Tree A)) (i : ℕ) (item other : Tree A) → i < length all → item ≡ get_or all i item → map tree_view done ≡ map (λ tree. normal (tree_view tree)) (take i all) →
+pub one_more_normal : {A : Type 0} (done all : List (Tree A)) (i : ℕ) (item other : Tree A) → i < length all → item ≡ get_or all i item
+    → map tree_view done ≡ map (λ tree. normal (tree_view tree)) (take i all) →
     tree_view other ≡ normal (tree_view item) → map tree_view (done ++ other ∷ []) ≡ map (λ tree. normal (tree_view tree)) (take (i + 1) all)
 one_more_normal done all i item other h is before same =
     map-append tree_view done (other ∷ [])

@@ -1,5 +1,6 @@
 -- The pass over a whole text.
-use Rattle.std.proofs.Common.{◌≡◌, ◌+◌, ◌≤◌, ◌<◌, ℕ, List, [], ◌∷◌, ◌++◌, length, take, drop, get_or, Bool, Option, Some, None, refl, sym, ap, ◌∙◌, subst, arith, option_map, option_and_then, take-append-drop}
+use Rattle.std.proofs.Common.{◌≡◌, ◌+◌, ◌≤◌, ◌<◌, ℕ, List, [], ◌∷◌, ◌++◌, length, take, drop, get_or, Bool, Option, Some, None, refl, sym, ap, ◌∙◌}
+use Rattle.std.proofs.Common.{subst, arith, option_map, option_and_then, take-append-drop}
 use Rattle.std.proofs.lemmas.List.{take_more, take_all, drop_more, append-nil, length-take-le}
 use Rattle.st_label.specs.Tree.{Tree, holds}
 use Rattle.st_label.specs.Grammar.{Reads}
@@ -36,7 +37,8 @@ both_at has text at g room h r =
     (length-take-le at text (omega (arith, h))) (step_both has text (take at text) (drop (at + 1) text) (get_or text at 0) room g.outer g.level g.unit r.last (parts text at h) r.stands)
 
 -- what the reader does where the pass does it
-goes_on : (has : List ℕ → Bool) (front : List ℕ) (o : Option Stage) (g : Stage) (p : Option State) → o ≡ Some g → Both has front o p → (s : State) × (p ≡ Some s) × Stands has front g.outer g.level g.unit s
+goes_on : (has : List ℕ → Bool) (front : List ℕ) (o : Option Stage) (g : Stage) (p : Option State) → o ≡ Some g → Both has front o p → (s : State)
+    × (p ≡ Some s) × Stands has front g.outer g.level g.unit s
 goes_on has front o g None e h = absurd (rw e at h)
 goes_on has front o g (Some s) e h = (s, refl, rw e at h)
 
@@ -65,11 +67,15 @@ stops_at has text at g h r none = record {
   inside = h;
   before = runs_begins max_depth (take at text) r.last r.runs;
   here =
-      rw (take_more text at 0 h) (no_step max_depth (take at text) (get_or text at 0) r.last r.runs (λ room. halts has (take at text ++ get_or text at 0 ∷ []) _ (step room r.last (get_or text at 0)) (none room) (both_at has text at g room h r)));
+      rw (take_more text at 0 h)
+      (no_step max_depth (take at text) (get_or text at 0) r.last r.runs
+      (λ room. halts has (take at text ++ get_or text at 0 ∷ []) _ (step room r.last (get_or text at 0)) (none room)
+      (both_at has text at g room h r)));
 }
 
 pub deep_at : (has : List ℕ → Bool) (text : List ℕ) (at : ℕ) (g next : Stage) (wide : ℕ) → at < length text → Reached has text at g →
-    pass_step max_depth has text at g.outer g.level g.unit (class_of (get_or text at 0)) ≡ None → pass_step wide has text at g.outer g.level g.unit (class_of (get_or text at 0)) ≡ Some next → TooDeepAt text at
+    pass_step max_depth has text at g.outer g.level g.unit (class_of (get_or text at 0)) ≡ None
+    → pass_step wide has text at g.outer g.level g.unit (class_of (get_or text at 0)) ≡ Some next → TooDeepAt text at
 deep_at has text at g next wide h r none some =
     let on = goes_on has (take at text ++ get_or text at 0 ∷ []) _ next (step wide r.last (get_or text at 0)) some (both_at has text at g wide h r) in
     let off = halts has (take at text ++ get_or text at 0 ∷ []) _ (step max_depth r.last (get_or text at 0)) none (both_at has text at g max_depth h r) in
@@ -107,7 +113,8 @@ no_tree : (has : List ℕ → Bool) (o : Option Tree) → option_map (holds has)
 no_tree has None e = refl
 no_tree has (Some tree) e = cc
 
-pub ends_well : (has : List ℕ → Bool) (text : List ℕ) (at : ℕ) (g : Stage) (t : Bool) → length text ≤ max_len → length text ≤ at → Reached has text at g → pass_truth has text g.outer g.level g.unit ≡ Some t →
+pub ends_well : (has : List ℕ → Bool) (text : List ℕ) (at : ℕ) (g : Stage) (t : Bool) → length text ≤ max_len → length text ≤ at
+    → Reached has text at g → pass_truth has text g.outer g.level g.unit ≡ Some t →
     IsLabel text × (t ≡ is_true has text)
 ends_well has text at g t short h r e =
     let end = at_end has text at g h r in
@@ -115,7 +122,8 @@ ends_well has text at g t short h r e =
     let reads : Reads max_depth text found.0 = runs_reads max_depth text end.last found.0 end.runs found.1 in
     (is_label text found.0 short reads, found.2 ∙ ap (holds has) (sym (reading_is text found.0 reads)))
 
-pub ends_at : (has : List ℕ → Bool) (text : List ℕ) (at : ℕ) (g : Stage) → length text ≤ at → Reached has text at g → pass_truth has text g.outer g.level g.unit ≡ None → IsUnfinishedAt text (length text)
+pub ends_at : (has : List ℕ → Bool) (text : List ℕ) (at : ℕ) (g : Stage) → length text ≤ at → Reached has text at g
+    → pass_truth has text g.outer g.level g.unit ≡ None → IsUnfinishedAt text (length text)
 ends_at has text at g h r e =
     let end = at_end has text at g h r in
     ends text [] (length text) end.last (record { front = text; parts = sym (append-nil text); place = refl; runs = end.runs }) refl (no_tree has (tree_of end.last) (sym end.truth ∙ e))

@@ -1,3 +1,4 @@
+pub mod Placed
 pub mod Complete
 pub mod Sound
 pub mod Places
@@ -15,7 +16,7 @@ pub mod Escapes
 pub mod Terms
 pub mod Limits
 pub mod Shrinks
-pub mod Settled
+pub mod Stable
 pub mod Gather
 pub mod Popped
 pub mod Ended

@@ -15,7 +15,8 @@ pub deep : (outer : List Level) (level : Level) (at : ℕ) (c : Class) → c ≡
 deep outer level at c h full =
     (rw (h, le-ltb (length outer) max_depth full) refl, suc (length outer), stage (level ∷ outer) Level.Free Part.Start, rw (h, lt-ltb (length outer) (suc (length outer)) (omega arith)) refl)
 
-pub done_passes : (has : List ℕ → Bool) (text : List ℕ) (at : ℕ) (outer : List Level) (level : Level) (unit : Part) (t : Bool) (c d : Class) (next : Stage) (r : Result (Unit {0}) Stop) → c ≡ d → unit ≡ Part.Done t →
+pub done_passes : (has : List ℕ → Bool) (text : List ℕ) (at : ℕ) (outer : List Level) (level : Level) (unit : Part) (t : Bool) (c d : Class)
+    (next : Stage) (r : Result (Unit {0}) Stop) → c ≡ d → unit ≡ Part.Done t →
     PassesTo (λ room. pass_done outer level t c) next r → PassesTo (λ room. pass_step room has text at outer level unit d) next r
 done_passes has text at outer level unit t c d next r e h k = rw (h, ← e) k
 
@@ -30,7 +31,8 @@ word_done outer level from t Open h = refl
 word_done outer level from t Close h = refl
 word_done outer level from t Other h = refl
 
-pub word_passes : (has : List ℕ → Bool) (text : List ℕ) (at : ℕ) (outer : List Level) (level : Level) (unit : Part) (from : ℕ) (t : Bool) (c d : Class) (next : Stage) (r : Result (Unit {0}) Stop) → c ≡ d → unit ≡ Part.Word from →
+pub word_passes : (has : List ℕ → Bool) (text : List ℕ) (at : ℕ) (outer : List Level) (level : Level) (unit : Part) (from : ℕ) (t : Bool)
+    (c d : Class) (next : Stage) (r : Result (Unit {0}) Stop) → c ≡ d → unit ≡ Part.Word from →
     t ≡ term_truth has false text from at → c ≢ Plain → PassesTo (λ room. pass_done outer level t c) next r → PassesTo (λ room. pass_step room has text at outer level unit d) next r
 word_passes has text at outer level unit from t c d next r e h s p k = rw (h, ← e, word_done outer level from (term_truth has false text from at) c p, ← s) k
 

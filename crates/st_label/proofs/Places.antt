@@ -4,9 +4,10 @@ use Rattle.std.proofs.lemmas.List.{append-nil}
 use Rattle.std.proofs.lemmas.Bool.{lt-ltb, ltb-true}
 use Rattle.st_label.specs.Tree.{Tree, Or, none as no_operands}
 use Rattle.st_label.specs.Grammar.{Reads, nothing, level}
-use Rattle.st_label.specs.Refusals.{Begins, Viable, max_len, max_depth}
+use Rattle.st_label.specs.Refusals.{BeginsLabel, Viable, max_len, max_depth}
 use Rattle.st_label.specs.Reading.{reading, IsLabel}
-use Rattle.st_label.specs.inner.Machine.{Class, Plain, Sign, Quote, Backslash, Open, Close, Other, class_of, Frame, Free, Mode, Start, Word, Quoted, Escape, Done, State, state, init, step_mode, step_start, step, run, tree_of}
+use Rattle.st_label.specs.inner.Machine.{Class, Plain, Sign, Quote, Backslash, Open, Close, Other, class_of, Frame, Free, Mode, Start, Word, Quoted}
+use Rattle.st_label.specs.inner.Machine.{Escape, Done, State, state, init, step_mode, step_start, step, run, tree_of}
 use Rattle.st_label.proofs.Complete.{level_runs, Ends, whole_after}
 use Rattle.st_label.proofs.Sound.{At, AtNext, init_at, run_at, begins, reads}
 
@@ -43,7 +44,7 @@ run_append (b ∷ p) room s q = run_append_next room q p (step room s b) (λ t. 
     run_append_next room q p (Some t) go = go t
 
 -- A text that begins one of the grammar is read to its end.
-pub begins_runs : (d : ℕ) (p : List ℕ) → Begins d p → (room : ℕ) → d ≤ room → (s : State) × (run room init p ≡ Some s)
+pub begins_runs : (d : ℕ) (p : List ℕ) → BeginsLabel d p → (room : ℕ) → d ≤ room → (s : State) × (run room init p ≡ Some s)
 begins_runs d p h room fits =
     let all = takes h.reads room fits in
     and_then_some (run room init p) (λ t. run room t h.rest) all.last (sym (run_append p room init h.rest) ∙ all.runs)
@@ -55,7 +56,7 @@ at_some room o p s e h = rw e at h
 pub runs_at : (room : ℕ) (p : List ℕ) (s : State) → run room init p ≡ Some s → At room s.stack s.frame s.mode p
 runs_at room p s h = at_some room (run room init p) p s h (run_at p room init [] (init_at room))
 
-pub runs_begins : (room : ℕ) (p : List ℕ) (s : State) → run room init p ≡ Some s → Begins room p
+pub runs_begins : (room : ℕ) (p : List ℕ) (s : State) → run room init p ≡ Some s → BeginsLabel room p
 runs_begins room p s h = begins room s.stack s.frame s.mode p (runs_at room p s h)
 
 pub runs_reads : (room : ℕ) (p : List ℕ) (s : State) (r : Tree) → run room init p ≡ Some s → tree_of s ≡ Some r → Reads room p r
@@ -76,7 +77,8 @@ start_mono room wide st f b Open t h e = open_mono room wide st f t _ h refl e
 start_mono room wide st f b Close t h e = e
 start_mono room wide st f b Other t h e = e
 
-step_mono : (room wide : ℕ) (st : List Frame) (f : Frame) (b : ℕ) (c : Class) (m : Mode) (t : State) → room ≤ wide → step_mode room st f (b ∷ []) c m ≡ Some t → step_mode wide st f (b ∷ []) c m ≡ Some t
+step_mono : (room wide : ℕ) (st : List Frame) (f : Frame) (b : ℕ) (c : Class) (m : Mode) (t : State) → room ≤ wide
+    → step_mode room st f (b ∷ []) c m ≡ Some t → step_mode wide st f (b ∷ []) c m ≡ Some t
 step_mono room wide st f b c Start t h e = start_mono room wide st f b c t h e
 step_mono room wide st f b c (Word w) t h e = e
 step_mono room wide st f b c (Quoted n) t h e = e
@@ -116,11 +118,13 @@ pub reading_none : (text : List ℕ) → ((tree : Tree) → Reads max_depth text
 unfolding reading
 reading_none text h = by_run text (run max_depth init text) refl h
   where
-    by_tree : (text : List ℕ) (s : State) (o : Option Tree) → run max_depth init text ≡ Some s → tree_of s ≡ o → ((tree : Tree) → Reads max_depth text tree → ⊥) → unwrap_or o (Or no_operands) ≡ Or no_operands
+    by_tree : (text : List ℕ) (s : State) (o : Option Tree) → run max_depth init text ≡ Some s → tree_of s ≡ o
+        → ((tree : Tree) → Reads max_depth text tree → ⊥) → unwrap_or o (Or no_operands) ≡ Or no_operands
     by_tree text s None runs e h = refl
     by_tree text s (Some r) runs e h = absurd (h r (runs_reads max_depth text s r runs e))
 
-    by_run : (text : List ℕ) (o : Option State) → run max_depth init text ≡ o → ((tree : Tree) → Reads max_depth text tree → ⊥) → unwrap_or (option_and_then tree_of o) (Or no_operands) ≡ Or no_operands
+    by_run : (text : List ℕ) (o : Option State) → run max_depth init text ≡ o → ((tree : Tree) → Reads max_depth text tree → ⊥)
+        → unwrap_or (option_and_then tree_of o) (Or no_operands) ≡ Or no_operands
     by_run text None runs h = refl
     by_run text (Some s) runs h = by_tree text s (tree_of s) runs refl h
 

@@ -1,14 +1,16 @@
 -- A text is a label, or is refused with one fault and place.
-use Rattle.std.proofs.Common.{◌≡◌, ◌≢◌, ◌⊎◌, inl, inr, ℕ, suc, ◌+◌, ◌<◌, ◌≤◌, List, [], ◌∷◌, ◌++◌, length, take, drop, Bool, true, false, Option, Some, None, refl, sym, ap, ◌∙◌, subst, append_assoc, arith, take-append-drop}
+use Rattle.std.proofs.Common.{◌≡◌, ◌≢◌, ◌⊎◌, inl, inr, ℕ, suc, ◌+◌, ◌<◌, ◌≤◌, List, [], ◌∷◌, ◌++◌, length, take, drop, Bool, true, false, Option}
+use Rattle.std.proofs.Common.{Some, None, refl, sym, ap, ◌∙◌, subst, append_assoc, arith, take-append-drop}
 use lib.Dec.{ltb}
 use Rattle.std.proofs.Math.Seq.{take-append_seam, take-append-add}
 use Rattle.std.proofs.lemmas.Bool.{lt-ltb, ltb-true, ltb-false}
 use Rattle.std.proofs.lemmas.List.{take-take, append-nil, length-append}
 use Rattle.st_label.specs.Tree.{Tree}
 use Rattle.st_label.specs.Grammar.{Reads}
-use Rattle.st_label.specs.inner.Machine.{Class, Plain, Sign, Quote, Backslash, Open, Close, Other, class_of, Frame, Free, Mode, Start, Word, Quoted, Escape, Done, State, state, init, step_start, step_mode, step, run, tree_of}
+use Rattle.st_label.specs.inner.Machine.{Class, Plain, Sign, Quote, Backslash, Open, Close, Other, class_of, Frame, Free, Mode, Start, Word, Quoted}
+use Rattle.st_label.specs.inner.Machine.{Escape, Done, State, state, init, step_start, step_mode, step, run, tree_of}
 use Rattle.st_label.specs.Reading.{reading, IsLabel}
-use Rattle.st_label.specs.Refusals.{max_depth, max_len, Begins, StopsAt, IsUnfinishedAt, TooDeepAt}
+use Rattle.st_label.specs.Refusals.{max_depth, max_len, BeginsLabel, StopsAt, IsUnfinishedAt, TooDeepAt}
 use Rattle.st_label.specs.Faults.{RefusesLabel}
 use Rattle.st_label.specs.declared.label.LabelFault.{LabelFault}
 use Rattle.st_label.specs.declared.label.LabelFault.TheVariants.{BadLabel, TooLong, TooDeep, NoMemory}
@@ -17,22 +19,22 @@ use Rattle.st_label.proofs.Chars.{no_step_within, one_wider, Behind, ends}
 
 -- ---- no two faults
 
-begins_front : (d : ℕ) (text front rest : List ℕ) → text ≡ front ++ rest → Begins d text → Begins d front
+begins_front : (d : ℕ) (text front rest : List ℕ) → text ≡ front ++ rest → BeginsLabel d text → BeginsLabel d front
 begins_front d text front rest e b = record {
   rest = rest ++ b.rest;
   tree = b.tree;
   reads = subst (λ s. Reads d s b.tree) (ap (λ s. s ++ b.rest) e ∙ append_assoc front rest b.rest) b.reads;
 }
 
-begins_take : (d : ℕ) (text : List ℕ) (m k : ℕ) → m ≤ k → Begins d (take k text) → Begins d (take m text)
+begins_take : (d : ℕ) (text : List ℕ) (m k : ℕ) → m ≤ k → BeginsLabel d (take k text) → BeginsLabel d (take m text)
 begins_take d text m k less b =
     begins_front d (take k text) (take m text) (drop m (take k text)) (sym (take-append-drop m (take k text)) ∙ ap (λ s. s ++ drop m (take k text)) (take-take m k text less)) b
 
 -- the first place past which no text begins within the depth
 record Breaks (text : List ℕ) (at : ℕ) : Type 0 where
   inside : at < length text
-  before : Begins max_depth (take at text)
-  past : Begins max_depth (take (at + 1) text) → ⊥
+  before : BeginsLabel max_depth (take at text)
+  past : BeginsLabel max_depth (take (at + 1) text) → ⊥
 
 by_stop : (text : List ℕ) (at : ℕ) → StopsAt text at → Breaks text at
 by_stop text at s = record { inside = s.inside; before = s.before; past = λ b. s.here (max_depth, b) }
@@ -40,7 +42,7 @@ by_stop text at s = record { inside = s.inside; before = s.before; past = λ b. 
 by_depth : (text : List ℕ) (at : ℕ) → TooDeepAt text at → Breaks text at
 by_depth text at d = record { inside = d.inside; before = d.before; past = d.here }
 
-begins_all : (text : List ℕ) (at : ℕ) → Breaks text at → Begins max_depth text → ⊥
+begins_all : (text : List ℕ) (at : ℕ) → Breaks text at → BeginsLabel max_depth text → ⊥
 begins_all text at b all = b.past (begins_front max_depth text (take (at + 1) text) (drop (at + 1) text) (sym (take-append-drop (at + 1) text)) all)
 
 not_below : (text : List ℕ) (a b : ℕ) → Breaks text a → Breaks text b → a < b → ⊥
@@ -78,7 +80,7 @@ one_fault text (TooDeep a) NoMemory h k x y = absurd (k refl)
 
 -- ---- no fault of a label
 
-begins_itself : (text : List ℕ) → IsLabel text → Begins max_depth text
+begins_itself : (text : List ℕ) → IsLabel text → BeginsLabel max_depth text
 begins_itself text is = record { rest = []; tree = reading text; reads = subst (λ s. Reads max_depth s (reading text)) (sym (append-nil text)) is.reads }
 
 pub not_both : (text : List ℕ) (f : LabelFault) → f ≢ NoMemory → IsLabel text → RefusesLabel text f → ⊥
@@ -100,7 +102,8 @@ AtNoDepth steps = (wide : ℕ) → steps wide ≡ None
 AtSomeDepth : (ℕ → Option State) → Type 0
 AtSomeDepth steps = (wide : ℕ) × (t : State) × (steps wide ≡ Some t)
 
-start_fails : (st : List Frame) (f : Frame) (bs : List ℕ) (c : Class) → step_start max_depth st f bs c ≡ None → AtNoDepth (λ room. step_start room st f bs c) ⊎ AtSomeDepth (λ room. step_start room st f bs c)
+start_fails : (st : List Frame) (f : Frame) (bs : List ℕ) (c : Class) → step_start max_depth st f bs c ≡ None
+    → AtNoDepth (λ room. step_start room st f bs c) ⊎ AtSomeDepth (λ room. step_start room st f bs c)
 unfolding AtNoDepth AtSomeDepth
 start_fails st f bs Plain e = cc
 start_fails st f bs (Sign op) e = inl (λ wide. refl)
@@ -110,7 +113,8 @@ start_fails st f bs Open e = inr (suc (length st), state (f ∷ st) Free Start, 
 start_fails st f bs Close e = inl (λ wide. refl)
 start_fails st f bs Other e = inl (λ wide. refl)
 
-mode_fails : (st : List Frame) (f : Frame) (bs : List ℕ) (c : Class) (m : Mode) → step_mode max_depth st f bs c m ≡ None → AtNoDepth (λ room. step_mode room st f bs c m) ⊎ AtSomeDepth (λ room. step_mode room st f bs c m)
+mode_fails : (st : List Frame) (f : Frame) (bs : List ℕ) (c : Class) (m : Mode) → step_mode max_depth st f bs c m ≡ None
+    → AtNoDepth (λ room. step_mode room st f bs c m) ⊎ AtSomeDepth (λ room. step_mode room st f bs c m)
 unfolding AtNoDepth AtSomeDepth
 mode_fails st f bs c Start e = start_fails st f bs c e
 mode_fails st f bs c (Word w) e = inl (λ wide. e)

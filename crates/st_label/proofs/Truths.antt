@@ -1,12 +1,15 @@
 -- The pass over a text stands where the reader does, with the truth of each tree.
-use Rattle.std.proofs.Common.{◌≡◌, ◌+◌, ◌-◌, ◌≤◌, ◌<◌, ◌==◌, ℕ, nat_lt, List, [], ◌∷◌, ◌++◌, length, map, take, drop, Bool, true, false, ◌&&◌, ◌||◌, Option, Some, None, refl, sym, ap, ◌∙◌, arith, append_assoc, slice_range, option_map, if◌then◌else◌}
+use Rattle.std.proofs.Common.{◌≡◌, ◌+◌, ◌-◌, ◌≤◌, ◌<◌, ◌==◌, ℕ, nat_lt, List, [], ◌∷◌, ◌++◌, length, map, take, drop, Bool, true, false, ◌&&◌, ◌||◌}
+use Rattle.std.proofs.Common.{Option, Some, None, refl, sym, ap, ◌∙◌, arith, append_assoc, slice_range, option_map, if◌then◌else◌}
 use Rattle.std.proofs.lemmas.Bool.Decides.{nat_tests}
 use Rattle.std.proofs.lemmas.List.{length-map, length-append, length-drop, drop-append-le, drop_at, drop_all}
 use Rattle.std.proofs.Math.Seq.{take-append_seam}
 use Rattle.st_label.specs.Tree.{Tree, Term, operands, holds, all_hold, one_holds}
 use Rattle.st_label.specs.Grammar.{Op, All, Any, escaped, escaped_byte}
 use Rattle.st_label.specs.inner.Terms.{unescaped_from}
-use Rattle.st_label.specs.inner.Machine.{Class, Plain, Sign, Quote, Backslash, Open, Close, Other, class_of, Frame, Free, Joined, Mode, Start, Word, Quoted, Escape, Done, State, state, with_sign, closed, started, popped, unquoted, step_done, step_start, step_word, step_quoted, step_escape, step_mode, step, whole, tree_of}
+use Rattle.st_label.specs.inner.Machine.{Class, Plain, Sign, Quote, Backslash, Open, Close, Other, class_of, Frame, Free, Joined, Mode, Start, Word}
+use Rattle.st_label.specs.inner.Machine.{Quoted, Escape, Done, State, state, with_sign, closed, started, popped, unquoted, step_done, step_start}
+use Rattle.st_label.specs.inner.Machine.{step_word, step_quoted, step_escape, step_mode, step, whole, tree_of}
 use Rattle.st_label.specs.inner.Truth.{Stage, stage, op_code, sign_truth, level_truth, begun, left, pass_done, pass_start, pass_word, pass_quoted, pass_escape, pass_step, pass_truth, IsPlaced}
 use Rattle.st_label.specs.declared.truth.Level.{Level}
 use Rattle.st_label.specs.declared.truth.Part.{Part}
@@ -45,7 +48,8 @@ Both has front None (Some s) = ⊥
 Both has front (Some g) None = ⊥
 Both has front (Some g) (Some s) = Stands has front g.outer g.level g.unit s
 
-stand : (has : List ℕ → Bool) (front : List ℕ) (st : List Frame) (f : Frame) (level : Level) (unit : Part) (m : Mode) → level ≡ level_of has f → UnitIs has front unit m → Stands has front (map (level_of has) st) level unit (state st f m)
+stand : (has : List ℕ → Bool) (front : List ℕ) (st : List Frame) (f : Frame) (level : Level) (unit : Part) (m : Mode) → level ≡ level_of has f
+    → UnitIs has front unit m → Stands has front (map (level_of has) st) level unit (state st f m)
 stand has front st f level unit m e h = record { around = refl; here = e; part = h }
 
 -- ---- truths
@@ -94,7 +98,8 @@ left_level : (has : List ℕ → Bool) (front : List ℕ) (st : List Frame) (t :
 left_level has front [] t r e = tt
 left_level has front (f ∷ st) t r e = stand has front st f _ (Part.Done t) (Done r) refl e
 
-done_both : (has : List ℕ → Bool) (front : List ℕ) (st : List Frame) (f : Frame) (t : Bool) (r : Tree) (c : Class) → t ≡ holds has r → Both has front (pass_done (map (level_of has) st) (level_of has f) t c) (step_done st f r c)
+done_both : (has : List ℕ → Bool) (front : List ℕ) (st : List Frame) (f : Frame) (t : Bool) (r : Tree) (c : Class) → t ≡ holds has r
+    → Both has front (pass_done (map (level_of has) st) (level_of has f) t c) (step_done st f r c)
 done_both has front st f t r (Sign All) e = rw e (signed has front st All f r)
 done_both has front st f t r (Sign Any) e = rw e (signed has front st Any f r)
 done_both has front st f t r Close e = left_level has front st (level_truth (level_of has f) t) (closed f r) (ap (level_truth (level_of has f)) e ∙ closed_truth has f r)
@@ -174,9 +179,11 @@ end_both has front next st f from t [] h e k =
     rw (same_place from (length front) (omega (arith, none, length-drop from front, h))) tt
 end_both has front next st f from t (x ∷ xs) h e k =
     let some : length (drop from front) ≡ length (escaped_byte x ++ escaped xs) = ap length e in
-    rw (other_place from (length front) (omega (arith, some, length-drop from front, length-append (escaped_byte x) (escaped xs), some_byte x))) (stand has next st f _ (Part.Done t) (Done (Term (x ∷ xs))) refl k)
+    rw (other_place from (length front) (omega (arith, some, length-drop from front, length-append (escaped_byte x) (escaped xs), some_byte x)))
+    (stand has next st f _ (Part.Done t) (Done (Term (x ∷ xs))) refl k)
 
-quoted_both : (has : List ℕ → Bool) (front : List ℕ) (b : ℕ) (st : List Frame) (f : Frame) (from : ℕ) (t : Bool) (n : List ℕ) (c : Class) → Means c b → from ≤ length front → drop from front ≡ escaped n → t ≡ has n →
+quoted_both : (has : List ℕ → Bool) (front : List ℕ) (b : ℕ) (st : List Frame) (f : Frame) (from : ℕ) (t : Bool) (n : List ℕ) (c : Class) → Means c b
+    → from ≤ length front → drop from front ≡ escaped n → t ≡ has n →
     Both has (front ++ b ∷ []) (pass_quoted (map (level_of has) st) (level_of has f) from (length front) t c) (step_quoted st f n (b ∷ []) c)
 quoted_both has front b st f from t n Plain m h e k = name_both has front b st f from n h e (unescaped Plain b m (λ i. cc) (λ i. cc))
 quoted_both has front b st f from t n (Sign op) m h e k = name_both has front b st f from n h e (unescaped (Sign op) b m (λ i. cc) (λ i. cc))
@@ -187,14 +194,16 @@ quoted_both has front b st f from t n Open m h e k = name_both has front b st f 
 quoted_both has front b st f from t n Close m h e k = name_both has front b st f from n h e (unescaped Close b m (λ i. cc) (λ i. cc))
 quoted_both has front b st f from t n Other m h e k = name_both has front b st f from n h e (unescaped Other b m (λ i. cc) (λ i. cc))
 
-escape_grows : (has : List ℕ → Bool) (front : List ℕ) (b : ℕ) (st : List Frame) (f : Frame) (from : ℕ) (n : List ℕ) → escaped_byte b ≡ 92 ∷ b ∷ [] → from ≤ length front → drop from front ≡ escaped n ++ 92 ∷ [] →
+escape_grows : (has : List ℕ → Bool) (front : List ℕ) (b : ℕ) (st : List Frame) (f : Frame) (from : ℕ) (n : List ℕ) → escaped_byte b ≡ 92 ∷ b ∷ []
+    → from ≤ length front → drop from front ≡ escaped n ++ 92 ∷ [] →
     Stands has (front ++ b ∷ []) (map (level_of has) st) (level_of has f) (Part.Quoted from) (state st f (Quoted (n ++ b ∷ [])))
 escape_grows has front b st f from n k h e =
     let more = grows front from b (escaped n ++ 92 ∷ []) h e in
     stand has (front ++ b ∷ []) st f _ (Part.Quoted from) (Quoted (n ++ b ∷ [])) refl
     (more.0, more.1 ∙ append_assoc (escaped n) (92 ∷ []) (b ∷ []) ∙ ap (λ (x : List ℕ). escaped n ++ x) (sym k) ∙ sym (escaped_last n b))
 
-escape_both : (has : List ℕ → Bool) (front : List ℕ) (b : ℕ) (st : List Frame) (f : Frame) (from : ℕ) (n : List ℕ) (c : Class) → Means c b → from ≤ length front → drop from front ≡ escaped n ++ 92 ∷ [] →
+escape_both : (has : List ℕ → Bool) (front : List ℕ) (b : ℕ) (st : List Frame) (f : Frame) (from : ℕ) (n : List ℕ) (c : Class) → Means c b
+    → from ≤ length front → drop from front ≡ escaped n ++ 92 ∷ [] →
     Both has (front ++ b ∷ []) (pass_escape (map (level_of has) st) (level_of has f) from c) (step_escape st f n (b ∷ []) c)
 escape_both has front b st f from n Plain m h e = tt
 escape_both has front b st f from n (Sign op) m h e = tt
@@ -237,16 +246,19 @@ mode_both has text front rest b room st f (Part.Done t) (Quoted n) e h = absurd 
 mode_both has text front rest b room st f (Part.Done t) (Escape n) e h = absurd h
 
 -- behind one more byte
-pub step_both : (has : List ℕ → Bool) (text front rest : List ℕ) (b room : ℕ) (outer : List Level) (level : Level) (unit : Part) (s : State) → text ≡ front ++ b ∷ rest → Stands has front outer level unit s →
+pub step_both : (has : List ℕ → Bool) (text front rest : List ℕ) (b room : ℕ) (outer : List Level) (level : Level) (unit : Part) (s : State)
+    → text ≡ front ++ b ∷ rest → Stands has front outer level unit s →
     Both has (front ++ b ∷ []) (pass_step room has text (length front) outer level unit (class_of b)) (step room s b)
 step_both has text front rest b room outer level unit s e h =
     rw (h.around, h.here) (mode_both has text front (b ∷ rest) b room s.stack s.frame unit s.mode e h.part)
 
 -- at the end
-pub end_truth : (has : List ℕ → Bool) (text : List ℕ) (outer : List Level) (level : Level) (unit : Part) (s : State) → Stands has text outer level unit s → pass_truth has text outer level unit ≡ option_map (holds has) (tree_of s)
+pub end_truth : (has : List ℕ → Bool) (text : List ℕ) (outer : List Level) (level : Level) (unit : Part) (s : State)
+    → Stands has text outer level unit s → pass_truth has text outer level unit ≡ option_map (holds has) (tree_of s)
 end_truth has text outer level unit s h = rw (h.around, h.here) (by_mode has text s.stack s.frame unit s.mode h.part)
   where
-    by_mode : (has : List ℕ → Bool) (text : List ℕ) (st : List Frame) (f : Frame) (u : Part) (m : Mode) → UnitIs has text u m → pass_truth has text (map (level_of has) st) (level_of has f) u ≡ option_map (holds has) (whole st f m)
+    by_mode : (has : List ℕ → Bool) (text : List ℕ) (st : List Frame) (f : Frame) (u : Part) (m : Mode) → UnitIs has text u m
+        → pass_truth has text (map (level_of has) st) (level_of has f) u ≡ option_map (holds has) (whole st f m)
     by_mode has text (g ∷ st) f u m h = refl
     by_mode has text [] Free Part.Start Start h = refl
     by_mode has text [] (Joined op rs) Part.Start Start h = refl

@@ -1,9 +1,12 @@
 //! Labels: their text as written, and what it means.
+//!
+//! Behind a short text its bytes are 0, so two short texts are compared as two numbers of 64 bits. No clause says which texts lie
+//! in the value.
 ghost use Rattle.std.specs.Prelude.{◌≡◌, ◌↔◌, ◌≤◌, IfOk, IfErr, IfSome, IsTrue, length, string_bytes};
 ghost use Rattle.st_label.specs.Reading.{reading, is_true, IsLabel};
 ghost use Rattle.st_label.specs.inner.Views.{tree_view};
 ghost use Rattle.st_label.specs.declared.label.LabelFault.TheVariants.{NoMemory};
-ghost use Rattle.st_label.specs.Normal.{normal as normal_of, normal_text, text_of};
+ghost use Rattle.st_label.specs.Normal.{normal as normal_of, normal_text, tree_text};
 ghost use Rattle.st_label.specs.Faults.{RefusesLabel};
 
 use crate::normal::normal;
@@ -181,7 +184,7 @@ fn normal_tree<A: Allocator + Copy>(alloc: A, label: &str) -> Result<Tree<A>, Al
 
 // The text of a tree.
 fn printed<A: Allocator + Copy>(alloc: A, tree: &Tree<A>) -> Result<String<A>, AllocError>
-    ensures { IfOk result (λ text. string_bytes text ≡ text_of (tree_view tree.now)) }
+    ensures { IfOk result (λ text. string_bytes text ≡ tree_text (tree_view tree.now)) }
 {
     let mut text = String::new(alloc);
     push_tree(&mut text, tree)?;

@@ -32,6 +32,6 @@ pub fn normal_form()
     ensures reading { (label : List ℕ) → IsLabel label → reading (normal_text label) ≡ normal (reading label) }
     ensures truth { (label : List ℕ) (has : List ℕ → Bool) → IsLabel label
         → is_true has (normal_text label) ≡ is_true has label }
-    ensures settled { (label : List ℕ) → IsLabel label → normal_text (normal_text label) ≡ normal_text label }
+    ensures idempotent { (label : List ℕ) → IsLabel label → normal_text (normal_text label) ≡ normal_text label }
     ensures short { (label : List ℕ) → IsLabel label → length (normal_text label) ≤ length label }
 {}

@@ -5,7 +5,7 @@ use Rattle.std.specs.Int.{bit_at}
 use Rattle.std.proofs.lemmas.Bool.{cases_lt, lt-ltb, le-ltb}
 use Rattle.std.proofs.lemmas.Nat.Bits.{bit_at_or}
 use Rattle.st_box.specs.declared.zbox.ZBox.{ZBox}
-use Rattle.st_lanes.specs.Lanes.{IsInBox}
+use Rattle.st_lanes.specs.inner.Lanes.{IsInBox}
 
 abbrev pub bit : Bool → ℕ
 bit t = cond t 1 0

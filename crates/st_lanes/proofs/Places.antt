@@ -7,7 +7,7 @@ use Rattle.st_box.specs.declared.zbox.ZBox.{ZBox}
 use Rattle.st_box.specs.ZBox.{IsInside, first_of, last_of}
 use Rattle.st_box.proofs.Boxes.{inside_at}
 use Rattle.st_box.proofs.Cells.{spot-address}
-use Rattle.st_lanes.specs.Lanes.{IsInBox}
+use Rattle.st_lanes.specs.inner.Lanes.{IsInBox}
 
 pub in_box_by_address : (b : ZBox) (x y offset : ℕ) → x < 2 ^ 21 → y < 2 ^ 21 → offset < 2 ^ 21 → IsInBox b x y offset ↔ IsInside b (address_of x y offset)
 in_box_by_address b x y offset fx fy fo =

@@ -1,7 +1,7 @@
 //! Eight points at a time.
 ghost use Rattle.std.specs.Prelude.{◌≡◌, ◌↔◌, ℕ, ◌<◌, ◌≤◌, ◌+◌, IsTrue, length, slice_index, slice_index_or, false, nat_lt, if◌then◌else◌};
 ghost use Rattle.std.specs.Int.{bit_at};
-ghost use Rattle.st_lanes.specs.Lanes.{IsInBox};
+ghost use Rattle.st_lanes.specs.inner.Lanes.{IsInBox};
 
 use st_box::ZBox;
 use std::simd::prelude::*;

@@ -3,7 +3,7 @@ ghost use Rattle.std.specs.Prelude.{ℕ, ◌↔◌, ◌<◌, ◌^◌};
 ghost use Rattle.st_key.specs.Morton.{address_of};
 ghost use Rattle.st_box.specs.ZBox.{IsInside};
 ghost use Rattle.st_box.specs.declared.zbox.ZBox.{ZBox};
-ghost use Rattle.st_lanes.specs.Lanes.{IsInBox};
+ghost use Rattle.st_lanes.specs.inner.Lanes.{IsInBox};
 
 /// A place is in a box if and only if its address is one of the box.
 pub fn places()

@@ -6,7 +6,8 @@ use Rattle.std.proofs.lemmas.Nat.{shr-shr, le-div, pow_pos, mul-le}
 use Rattle.st_key.specs.Morton.{gather, x_of, y_of, offset_of}
 use Rattle.st_key.specs.Order.{Spot}
 use Rattle.st_box.specs.declared.zbox.ZBox.{ZBox}
-use Rattle.st_box.specs.Corner.{IsWithin, spot_at, address_at}
+use Rattle.st_box.specs.Corner.{IsWithin, spot_at}
+use Rattle.st_box.specs.inner.Corners.{address_at}
 use Rattle.st_box.specs.ZBox.{first_of, last_of}
 use Rattle.st_box.proofs.Cells.{InCube, spot-address, address-spot, address-lt, first_prefix}
 use Rattle.st_box.proofs.Lanes.{same_spot}

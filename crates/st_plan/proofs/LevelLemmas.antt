@@ -4,7 +4,7 @@ use Rattle.std.proofs.Math.Nat.{div-eq_of_lt}
 use Rattle.st_key.specs.Morton.{gather, spread, x_of, y_of, offset_of}
 use Rattle.st_box.specs.declared.zbox.ZBox.{ZBox}
 use Rattle.st_bigmin.specs.declared.run.Run.{Run}
-use Rattle.st_box.specs.Corner.{address_at}
+use Rattle.st_box.specs.inner.Corners.{address_at}
 use Rattle.st_box.specs.ZBox.{IsInside}
 use Rattle.st_bigmin.specs.Run.{IsNextRun}
 use Rattle.st_box.proofs.Cells.{address-spot}

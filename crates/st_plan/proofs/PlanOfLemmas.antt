@@ -4,7 +4,8 @@ use Rattle.std.proofs.lemmas.Bool.{cases_lt, both_ways, leb-true, leb-false, le-
 use Rattle.std.proofs.lemmas.Nat.{pow_pos, div-add-mod', mod_below}
 use Rattle.std.proofs.Math.Nat.{div-mul-le_self, div-le_self}
 use Rattle.st_key.specs.Morton.{x_of, y_of, offset_of}
-use Rattle.st_box.specs.Corner.{spot_at, address_at}
+use Rattle.st_box.specs.Corner.{spot_at}
+use Rattle.st_box.specs.inner.Corners.{address_at}
 use Rattle.st_box.specs.declared.part.Part.{Part}
 use Rattle.st_box.specs.declared.zbox.ZBox.{ZBox}
 use Rattle.st_box.specs.Part.{Cut, cut_of, cuts_of}
@@ -71,19 +72,19 @@ tests p level =
     }
 
 abbrev make : (lo hi x0 x1 y0 y1 o0 o1 : ℕ) → Cut
-make lo hi x0 x1 y0 y1 o0 o1 = record { bin_lo = lo; bin_hi = hi; x_first = x0; x_last = x1; y_first = y0; y_last = y1; offset_first = o0; offset_last = o1 }
+make lo hi x0 x1 y0 y1 o0 o1 = record { bin_lo = lo; bin_hi = hi; first = record { x = x0; y = y0; offset = o0 }; last = record { x = x1; y = y1; offset = o1 } }
 
 by_one : (n : ℕ) → n / 2 ^ 0 ≡ n
 by_one n = omega arith
 
 coarse_zero : (c : Cut) → coarse_cut 0 c ≡ c
 coarse_zero c =
-    ap (λ n. make c.bin_lo c.bin_hi n (c.x_last / 2 ^ 0) (c.y_first / 2 ^ 0) (c.y_last / 2 ^ 0) (c.offset_first / 2 ^ 0) (c.offset_last / 2 ^ 0)) (by_one c.x_first)
-    ∙ ap (λ n. make c.bin_lo c.bin_hi c.x_first n (c.y_first / 2 ^ 0) (c.y_last / 2 ^ 0) (c.offset_first / 2 ^ 0) (c.offset_last / 2 ^ 0)) (by_one c.x_last)
-    ∙ ap (λ n. make c.bin_lo c.bin_hi c.x_first c.x_last n (c.y_last / 2 ^ 0) (c.offset_first / 2 ^ 0) (c.offset_last / 2 ^ 0)) (by_one c.y_first)
-    ∙ ap (λ n. make c.bin_lo c.bin_hi c.x_first c.x_last c.y_first n (c.offset_first / 2 ^ 0) (c.offset_last / 2 ^ 0)) (by_one c.y_last)
-    ∙ ap (λ n. make c.bin_lo c.bin_hi c.x_first c.x_last c.y_first c.y_last n (c.offset_last / 2 ^ 0)) (by_one c.offset_first)
-    ∙ ap (λ n. make c.bin_lo c.bin_hi c.x_first c.x_last c.y_first c.y_last c.offset_first n) (by_one c.offset_last)
+    ap (λ n. make c.bin_lo c.bin_hi n (c.last.x / 2 ^ 0) (c.first.y / 2 ^ 0) (c.last.y / 2 ^ 0) (c.first.offset / 2 ^ 0) (c.last.offset / 2 ^ 0)) (by_one c.first.x)
+    ∙ ap (λ n. make c.bin_lo c.bin_hi c.first.x n (c.first.y / 2 ^ 0) (c.last.y / 2 ^ 0) (c.first.offset / 2 ^ 0) (c.last.offset / 2 ^ 0)) (by_one c.last.x)
+    ∙ ap (λ n. make c.bin_lo c.bin_hi c.first.x c.last.x n (c.last.y / 2 ^ 0) (c.first.offset / 2 ^ 0) (c.last.offset / 2 ^ 0)) (by_one c.first.y)
+    ∙ ap (λ n. make c.bin_lo c.bin_hi c.first.x c.last.x c.first.y n (c.first.offset / 2 ^ 0) (c.last.offset / 2 ^ 0)) (by_one c.last.y)
+    ∙ ap (λ n. make c.bin_lo c.bin_hi c.first.x c.last.x c.first.y c.last.y n (c.last.offset / 2 ^ 0)) (by_one c.first.offset)
+    ∙ ap (λ n. make c.bin_lo c.bin_hi c.first.x c.last.x c.first.y c.last.y c.first.offset n) (by_one c.last.offset)
 
 -- and at level 0, of the box itself
 set_of : (p : Part) → Tests (IsInside p.zbox) (has_address (cut_of p)) (end_of (cut_of p))

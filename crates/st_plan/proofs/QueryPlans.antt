@@ -8,14 +8,17 @@ use Rattle.st_key.specs.declared.key.Key.{Key}
 use Rattle.st_key.specs.declared.period.Period.{Period}
 use Rattle.st_box.specs.declared.part.Part.{Part}
 use Rattle.st_box.specs.declared.query.Query.{Query}
-use Rattle.st_box.specs.Part.{Cut, cut_of, HasPart}
+use Rattle.st_box.specs.Part.{Cut, cut_of}
+use Rattle.st_box.specs.inner.Parts.{HasPart}
 use Rattle.st_box.proofs.SameBoxes.{same_box}
 use Rattle.st_plan.specs.declared.part_plan.PartPlan.{PartPlan}
 use Rattle.st_plan.specs.declared.range.Range.{Range}
-use Rattle.st_plan.specs.Plan.{IsPlanOf, Rise}
+use Rattle.st_plan.specs.Plan.{IsPlanOf}
+use Rattle.st_plan.specs.inner.Covers.{Rise}
 use Rattle.st_plan.specs.inner.Levels.{HoldExactly, PartPlans}
 use Rattle.st_plan.specs.Range.{is_exact_in}
-use Rattle.st_plan.specs.QueryPlan.{IsPartPlan, IsQueryPlan, HoldKey, is_exact}
+use Rattle.st_plan.specs.QueryPlan.{IsPartPlan, IsQueryPlan, is_exact}
+use Rattle.st_plan.specs.inner.Covers.{HoldKey}
 use Rattle.st_plan.proofs.OnlyPlan.{only_plan}
 use Rattle.st_plan.proofs.RangeLemmas as ranges
 
@@ -86,7 +89,7 @@ exact budget (p ∷ ps) (x ∷ xs) k h there =
 
 box_by_cut : (p r : Part) → cut_of p ≡ cut_of r → p.zbox ≡ r.zbox
 box_by_cut p r e =
-    same_box r.zbox p.zbox (ap (λ c. c.x_first) e, ap (λ c. c.x_last) e, ap (λ c. c.y_first) e, ap (λ c. c.y_last) e, ap (λ c. c.offset_first) e, ap (λ c. c.offset_last) e)
+    same_box r.zbox p.zbox (ap (λ c. c.first.x) e, ap (λ c. c.last.x) e, ap (λ c. c.first.y) e, ap (λ c. c.last.y) e, ap (λ c. c.first.offset) e, ap (λ c. c.last.offset) e)
 
 abbrev make : {A : Type 0} → ℕ → ℕ → List Range → PartPlan A
 make lo hi xs = record { bin_lo = lo; bin_hi = hi; ranges = xs }

@@ -6,12 +6,14 @@ use Rattle.std.proofs.lemmas.Nat.{pow_pos, le-div, mul-le}
 use Rattle.st_box.specs.declared.zbox.ZBox.{ZBox}
 use Rattle.st_bigmin.specs.declared.run.Run.{Run}
 use Rattle.st_box.specs.ZBox.{IsInside}
-use Rattle.st_bigmin.specs.Run.{IsNextRun, IsRunTo, IsLeastInCell, IsGreatestInCell}
+use Rattle.st_bigmin.specs.Run.{IsNextRun}
+use Rattle.st_bigmin.specs.inner.Runs.{IsRunTo, IsLeastInCell, IsGreatestInCell}
 use Rattle.st_box.proofs.Cells.{above_prefix}
 use Rattle.st_plan.specs.declared.range.Range.{Range}
 use Rattle.st_plan.specs.Coarse.{InCoarse, Runs}
 use Rattle.st_plan.specs.inner.Levels.{AreFirstRuns, HasFewRuns, HoldExactly, Ranges}
-use Rattle.st_plan.specs.Plan.{IsRangeOf, IsPlanOf, Rise, Hold}
+use Rattle.st_plan.specs.Plan.{IsRangeOf, IsPlanOf}
+use Rattle.st_plan.specs.inner.Covers.{Rise, Hold}
 use Rattle.st_plan.specs.inner.Levels.{AreRangesAt}
 use Rattle.st_plan.proofs.CoarseLemmas.{up, down}
 use Rattle.st_plan.proofs.RunLists.{begins-append, begins-runs}

@@ -1,5 +1,5 @@
 -- The plan of a box.
-use Rattle.std.specs.Prelude.{ℕ, ◌<◌, ◌≤◌, ◌+◌, ◌*◌, ◌^◌, ◌↔◌, ◌⊎◌, List, [], ◌∷◌, length, IsTrue}
+use Rattle.std.specs.Prelude.{ℕ, ◌<◌, ◌≤◌, ◌+◌, ◌*◌, ◌^◌, ◌↔◌, List, length, IsTrue}
 use Rattle.std.specs.List.{AllZip}
 use Rattle.st_box.specs.declared.zbox.ZBox.{ZBox}
 use Rattle.st_bigmin.specs.declared.run.Run.{Run}
@@ -25,13 +25,3 @@ pub record IsPlanOf (b : ZBox) (budget : ℕ) (xs : List Range) : Type 0 where
   pub in_budget : length runs ≤ budget
   pub least : (finer : ℕ) → finer < level → IsTooFine b budget finer
   pub ranges : AllZip (IsRangeOf b level) runs xs
-
--- the ranges rise from a number on, and do not meet
-abbrev pub Rise : ℕ → List Range → Type 0
-Rise from [] = Unit {0}
-Rise from (x ∷ xs) = (from ≤ x.lo) × (x.lo ≤ x.hi) × Rise (x.hi + 1) xs
-
--- one of the ranges holds the address
-abbrev pub Hold : List Range → ℕ → Type 0
-Hold [] a = ⊥
-Hold (x ∷ xs) a = ((x.lo ≤ a) × (a ≤ x.hi)) ⊎ Hold xs a

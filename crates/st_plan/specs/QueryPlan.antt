@@ -1,5 +1,5 @@
 -- The plan of a query.
-use Rattle.std.specs.Prelude.{ℕ, ◌≡◌, ◌≤◌, ◌⊎◌, List, [], ◌∷◌, map, Bool, ◌&&◌, nat_le}
+use Rattle.std.specs.Prelude.{ℕ, ◌≡◌, List, map, Bool, ◌&&◌, nat_le}
 use Rattle.std.specs.List.{AllZip, list_any}
 use Rattle.st_key.specs.declared.key.Key.{Key}
 use Rattle.st_key.specs.declared.period.Period.{Period}
@@ -7,7 +7,7 @@ use Rattle.st_box.specs.declared.part.Part.{Part}
 use Rattle.st_box.specs.declared.query.Query.{Query}
 use Rattle.st_box.specs.Part.{cut_of, cuts_of}
 use Rattle.st_plan.specs.declared.part_plan.PartPlan.{PartPlan}
-use Rattle.st_plan.specs.Plan.{IsPlanOf, Hold}
+use Rattle.st_plan.specs.Plan.{IsPlanOf}
 use Rattle.st_plan.specs.Range.{is_exact_in}
 
 -- the part's bins, and the plan of its box
@@ -21,11 +21,6 @@ pub record IsQueryPlan {A : Type 0} (period : Period) (q : Query) (budget : ℕ)
   pub parts : List Part
   pub cuts : map cut_of parts ≡ cuts_of period q
   pub plans : AllZip (IsPartPlan budget) parts xs
-
--- the key is in a range of its bin
-abbrev pub HoldKey : {A : Type 0} → List (PartPlan A) → Key → Type 0
-HoldKey [] k = ⊥
-HoldKey (x ∷ xs) k = ((x.bin_lo ≤ k.bin) × (k.bin ≤ x.bin_hi) × Hold x.ranges k.address) ⊎ HoldKey xs k
 
 -- whether the key is in an exact range of its bin
 abbrev pub is_exact : {A : Type 0} → List (PartPlan A) → Key → Bool

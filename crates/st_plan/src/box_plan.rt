@@ -3,7 +3,8 @@ ghost use Rattle.std.specs.Prelude.{◌≡◌, ℕ, ◌<◌, ◌≤◌, IfOk, Is
 ghost use Rattle.std.specs.List.{list_any};
 ghost use Rattle.st_box.specs.ZBox.{IsInside};
 ghost use Rattle.st_plan.specs.Coarse.{InCoarse};
-ghost use Rattle.st_plan.specs.Plan.{IsRangeOf, IsPlanOf, Rise, Hold};
+ghost use Rattle.st_plan.specs.Plan.{IsRangeOf, IsPlanOf};
+ghost use Rattle.st_plan.specs.inner.Covers.{Rise, Hold};
 ghost use Rattle.st_plan.specs.Range.{is_exact_in};
 ghost use Rattle.st_plan.specs.inner.Levels.{AreRangesAt};
 ghost use Rattle.st_plan.specs.declared.range.Range.{Range};

@@ -6,8 +6,9 @@ ghost use Rattle.st_box.specs.Query.{HasKey};
 ghost use Rattle.st_plan.specs.declared.fault.PlanFault.TheVariants.{BadBudget};
 ghost use Rattle.st_plan.specs.declared.part_plan.PartPlan.{PartPlan};
 ghost use Rattle.st_plan.specs.PlanOf.{plan_of};
-ghost use Rattle.st_plan.specs.Plan.{Rise};
-ghost use Rattle.st_plan.specs.QueryPlan.{IsPartPlan, IsQueryPlan, HoldKey, is_exact};
+ghost use Rattle.st_plan.specs.inner.Covers.{Rise};
+ghost use Rattle.st_plan.specs.QueryPlan.{IsPartPlan, IsQueryPlan, is_exact};
+ghost use Rattle.st_plan.specs.inner.Covers.{HoldKey};
 ghost use Rattle.st_plan.specs.inner.Levels.{PartPlans};
 
 use crate::box_plan::plan_box;

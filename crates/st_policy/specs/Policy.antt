@@ -10,12 +10,9 @@ use Rattle.st_policy.specs.declared.denial.Denial.{Denial}
 use Rattle.st_policy.specs.declared.refusal.Refusal.{Refusal}
 use Rattle.st_policy.specs.declared.refusal.Refusal.TheVariants.{NoTable, NoUser, TableExists, UserExists, Denied}
 use Rattle.st_policy.specs.declared.request.Request.{Request}
-use Rattle.st_policy.specs.declared.request.Request.TheVariants.{Whoami, Tables, Users, User, Grants, NamespaceGrants, Label, Audit}
-use Rattle.st_policy.specs.declared.request.Request.TheVariants.{Get, Scan, Count, Grid, Plan, Put, Delete, CreateTable, DropTable}
-use Rattle.st_policy.specs.declared.request.Request.TheVariants.{Constraint, Period, CreateUser, DropUser, Token, Auths, GrantSystem}
-use Rattle.st_policy.specs.declared.request.Request.TheVariants.{RevokeSystem}
-use Rattle.st_policy.specs.declared.request.Request.TheVariants.{GrantTable, RevokeTable, GrantNamespace, RevokeNamespace}
-use Rattle.st_policy.specs.Requests.{table_of, user_of, named_auths, first_some}
+use Rattle.st_policy.specs.declared.request.Request.TheVariants.{CreateTable, CreateUser, DropUser, Put}
+use Rattle.st_policy.specs.Requests.{Need, Nothing, Table, System, TableOrSystem, NamespaceOrSystem, OneselfOrSystem}
+use Rattle.st_policy.specs.Requests.{need_of, table_of, user_of, named_auths, first_some}
 
 abbrev pub unless : Bool → Refusal → Option Refusal
 unless holds refusal = if holds then None else Some refusal
@@ -35,52 +32,6 @@ name_is_free d (CreateUser user digest auths) = unless (not (is_user d user)) (U
 name_is_free d _ = None
 
 -- ---- permission
-
--- what a line needs
-pub data Need : Type 0 where
-  -- no permission
-  Nothing : Need
-  -- a permission on the table
-  Table : (table : Text) → Permission → Need
-  -- a permission on the system
-  System : Permission → Need
-  -- a permission on the table or on the system
-  TableOrSystem : (table : Text) → Permission → Need
-  -- a permission on the namespace or on the system
-  NamespaceOrSystem : (namespace : Text) → Permission → Need
-  -- to be the user, or a permission on the system
-  OneselfOrSystem : (user : Text) → Permission → Need
-
-abbrev pub need_of : {A : Type 0} → Request A → Need
-need_of Whoami = Nothing
-need_of Tables = Nothing
-need_of Users = Nothing
-need_of (User user) = Nothing
-need_of (Grants table) = Nothing
-need_of (NamespaceGrants namespace) = Nothing
-need_of (Label label) = Nothing
-need_of Audit = System Permission.System
-need_of (Get table id auths) = Table table Permission.Read
-need_of (Scan table query auths limit after) = Table table Permission.Read
-need_of (Count table query auths) = Table table Permission.Read
-need_of (Grid table query auths columns lines) = Table table Permission.Read
-need_of (Plan table query budget) = Table table Permission.Read
-need_of (Put table row) = Table table Permission.Write
-need_of (Delete table id label) = Table table Permission.Write
-need_of (CreateTable table period) = System Permission.CreateTable
-need_of (DropTable table) = TableOrSystem table Permission.DropTable
-need_of (Constraint table on) = TableOrSystem table Permission.AlterTable
-need_of (Period table period) = TableOrSystem table Permission.AlterTable
-need_of (CreateUser user digest auths) = System Permission.CreateUser
-need_of (DropUser user) = System Permission.DropUser
-need_of (Token user digest) = OneselfOrSystem user Permission.AlterUser
-need_of (Auths user auths) = System Permission.AlterUser
-need_of (GrantSystem user permission) = System Permission.Grant
-need_of (RevokeSystem user permission) = System Permission.Grant
-need_of (GrantTable table user permission) = TableOrSystem table Permission.Grant
-need_of (RevokeTable table user permission) = TableOrSystem table Permission.Grant
-need_of (GrantNamespace namespace user permission) = NamespaceOrSystem namespace Permission.Grant
-need_of (RevokeNamespace namespace user permission) = NamespaceOrSystem namespace Permission.Grant
 
 -- where two permissions would do, the denial names the table's or the namespace's
 abbrev pub meets : {A : Type 0} → Directory A → Text → Need → Option Refusal

@@ -1,7 +1,7 @@
--- What is in each line of the table of requests: a column is a function, a line an equation. The last equation of a column is of all
--- other lines.
+-- The table of requests: what is in each line.
 use Rattle.std.specs.Prelude.{Bool, true, false, List, [], ◌∷◌, Option, Some, None, codes, unwrap_or}
 use Rattle.st_text.specs.Texts.{Text}
+use Rattle.st_grant.specs.declared.permission.Permission.{Permission}
 use Rattle.st_policy.specs.declared.request.Request.{Request}
 use Rattle.st_policy.specs.declared.request.Request.TheVariants.{Whoami, Tables, Users, User, Grants, NamespaceGrants, Label, Audit}
 use Rattle.st_policy.specs.declared.request.Request.TheVariants.{Get, Scan, Count, Grid, Plan, Put, Delete, CreateTable, DropTable}
@@ -9,106 +9,108 @@ use Rattle.st_policy.specs.declared.request.Request.TheVariants.{Constraint, Per
 use Rattle.st_policy.specs.declared.request.Request.TheVariants.{RevokeSystem}
 use Rattle.st_policy.specs.declared.request.Request.TheVariants.{GrantTable, RevokeTable, GrantNamespace, RevokeNamespace}
 
--- the name of the line, by which the audit listing writes it
+-- what a line needs
+pub data Need : Type 0 where
+  -- no permission
+  Nothing : Need
+  -- a permission on the table
+  Table : (table : Text) → Permission → Need
+  -- a permission on the system
+  System : Permission → Need
+  -- a permission on the table or on the system
+  TableOrSystem : (table : Text) → Permission → Need
+  -- a permission on the namespace or on the system
+  NamespaceOrSystem : (namespace : Text) → Permission → Need
+  -- to be the user, or a permission on the system
+  OneselfOrSystem : (user : Text) → Permission → Need
+
+-- A line of the table. The table and the user that it is about must be there, and a new name must be free.
+pub record RequestInfo : Type 0 where
+  -- by which the audit listing writes it
+  pub name : Text
+  pub is_a_change : Bool
+  pub need : Need
+  pub table : Option Text
+  pub namespace : Option Text
+  pub user : Option Text
+  -- of the table or the user that it makes
+  pub new_name : Option Text
+  -- the authorizations that must be the asker's own
+  pub auths : List Text
+
+-- a read that names nothing, and a change
+abbrev pub a_read : Text → Need → RequestInfo
+a_read name need =
+    record { name = name; is_a_change = false; need = need; table = None; namespace = None; user = None; new_name = None; auths = [] }
+
+abbrev pub a_change : Text → Need → RequestInfo
+a_change name need = record (a_read name need) { is_a_change = true }
+
+abbrev pub info_of : {A : Type 0} → Request A → RequestInfo
+info_of Whoami = a_read (codes "whoami") Nothing
+info_of Tables = a_read (codes "tables") Nothing
+info_of Users = a_read (codes "users") Nothing
+info_of (User user) = record (a_read (codes "user") Nothing) { user = Some user }
+info_of (Grants table) = record (a_read (codes "grants") Nothing) { table = Some table }
+info_of (NamespaceGrants namespace) = record (a_read (codes "namespace-grants") Nothing) { namespace = Some namespace }
+info_of (Label label) = a_read (codes "label") Nothing
+info_of Audit = a_read (codes "audit") (System Permission.System)
+info_of (Get table id auths) = record (a_read (codes "get") (Table table Permission.Read)) { table = Some table; auths = auths }
+info_of (Scan table query auths limit after) =
+    record (a_read (codes "scan") (Table table Permission.Read)) { table = Some table; auths = auths }
+info_of (Count table query auths) = record (a_read (codes "count") (Table table Permission.Read)) { table = Some table; auths = auths }
+info_of (Grid table query auths columns lines) =
+    record (a_read (codes "grid") (Table table Permission.Read)) { table = Some table; auths = auths }
+info_of (Plan table query budget) = record (a_read (codes "plan") (Table table Permission.Read)) { table = Some table }
+info_of (Put table row) = record (a_change (codes "put") (Table table Permission.Write)) { table = Some table }
+info_of (Delete table id label) = record (a_change (codes "delete") (Table table Permission.Write)) { table = Some table }
+info_of (CreateTable table period) = record (a_change (codes "create-table") (System Permission.CreateTable)) { new_name = Some table }
+info_of (DropTable table) = record (a_change (codes "drop-table") (TableOrSystem table Permission.DropTable)) { table = Some table }
+info_of (Constraint table on) = record (a_change (codes "constraint") (TableOrSystem table Permission.AlterTable)) { table = Some table }
+info_of (Period table period) = record (a_change (codes "period") (TableOrSystem table Permission.AlterTable)) { table = Some table }
+info_of (CreateUser user digest auths) = record (a_change (codes "create-user") (System Permission.CreateUser)) { new_name = Some user }
+info_of (DropUser user) = record (a_change (codes "drop-user") (System Permission.DropUser)) { user = Some user }
+info_of (Token user digest) = record (a_change (codes "token") (OneselfOrSystem user Permission.AlterUser)) { user = Some user }
+info_of (Auths user auths) = record (a_change (codes "auths") (System Permission.AlterUser)) { user = Some user }
+info_of (GrantSystem user permission) = record (a_change (codes "grant-system") (System Permission.Grant)) { user = Some user }
+info_of (RevokeSystem user permission) = record (a_change (codes "revoke-system") (System Permission.Grant)) { user = Some user }
+info_of (GrantTable table user permission) =
+    record (a_change (codes "grant-table") (TableOrSystem table Permission.Grant)) { table = Some table; user = Some user }
+info_of (RevokeTable table user permission) =
+    record (a_change (codes "revoke-table") (TableOrSystem table Permission.Grant)) { table = Some table; user = Some user }
+info_of (GrantNamespace namespace user permission) =
+    record (a_change (codes "grant-namespace") (NamespaceOrSystem namespace Permission.Grant)) {
+      namespace = Some namespace;
+      user = Some user;
+    }
+info_of (RevokeNamespace namespace user permission) =
+    record (a_change (codes "revoke-namespace") (NamespaceOrSystem namespace Permission.Grant)) {
+      namespace = Some namespace;
+      user = Some user;
+    }
+
+-- ---- the columns
+
 abbrev pub request_name : {A : Type 0} → Request A → Text
-request_name Whoami = codes "whoami"
-request_name Tables = codes "tables"
-request_name Users = codes "users"
-request_name (User user) = codes "user"
-request_name (Grants table) = codes "grants"
-request_name (NamespaceGrants namespace) = codes "namespace-grants"
-request_name (Label label) = codes "label"
-request_name Audit = codes "audit"
-request_name (Get table id auths) = codes "get"
-request_name (Scan table query auths limit after) = codes "scan"
-request_name (Count table query auths) = codes "count"
-request_name (Grid table query auths columns lines) = codes "grid"
-request_name (Plan table query budget) = codes "plan"
-request_name (Put table row) = codes "put"
-request_name (Delete table id label) = codes "delete"
-request_name (CreateTable table period) = codes "create-table"
-request_name (DropTable table) = codes "drop-table"
-request_name (Constraint table on) = codes "constraint"
-request_name (Period table period) = codes "period"
-request_name (CreateUser user digest auths) = codes "create-user"
-request_name (DropUser user) = codes "drop-user"
-request_name (Token user digest) = codes "token"
-request_name (Auths user auths) = codes "auths"
-request_name (GrantSystem user permission) = codes "grant-system"
-request_name (RevokeSystem user permission) = codes "revoke-system"
-request_name (GrantTable table user permission) = codes "grant-table"
-request_name (RevokeTable table user permission) = codes "revoke-table"
-request_name (GrantNamespace namespace user permission) = codes "grant-namespace"
-request_name (RevokeNamespace namespace user permission) = codes "revoke-namespace"
+request_name request = (info_of request).name
 
--- A request is a change unless it is one of these reads.
 abbrev pub is_change : {A : Type 0} → Request A → Bool
-is_change Whoami = false
-is_change Tables = false
-is_change Users = false
-is_change (User user) = false
-is_change (Grants table) = false
-is_change (NamespaceGrants namespace) = false
-is_change (Label label) = false
-is_change Audit = false
-is_change (Get table id auths) = false
-is_change (Scan table query auths limit after) = false
-is_change (Count table query auths) = false
-is_change (Grid table query auths columns lines) = false
-is_change (Plan table query budget) = false
-is_change _ = true
+is_change request = (info_of request).is_a_change
 
--- the table that it is about, which must be there
+abbrev pub need_of : {A : Type 0} → Request A → Need
+need_of request = (info_of request).need
+
 abbrev pub table_of : {A : Type 0} → Request A → Option Text
-table_of (Grants table) = Some table
-table_of (Get table id auths) = Some table
-table_of (Scan table query auths limit after) = Some table
-table_of (Count table query auths) = Some table
-table_of (Grid table query auths columns lines) = Some table
-table_of (Plan table query budget) = Some table
-table_of (Put table row) = Some table
-table_of (Delete table id label) = Some table
-table_of (DropTable table) = Some table
-table_of (Constraint table on) = Some table
-table_of (Period table period) = Some table
-table_of (GrantTable table user permission) = Some table
-table_of (RevokeTable table user permission) = Some table
-table_of _ = None
+table_of request = (info_of request).table
 
--- the namespace that it is about
 abbrev pub namespace_named : {A : Type 0} → Request A → Option Text
-namespace_named (NamespaceGrants namespace) = Some namespace
-namespace_named (GrantNamespace namespace user permission) = Some namespace
-namespace_named (RevokeNamespace namespace user permission) = Some namespace
-namespace_named _ = None
+namespace_named request = (info_of request).namespace
 
--- the user that it is about, who must be there
 abbrev pub user_of : {A : Type 0} → Request A → Option Text
-user_of (User user) = Some user
-user_of (DropUser user) = Some user
-user_of (Token user digest) = Some user
-user_of (Auths user auths) = Some user
-user_of (GrantSystem user permission) = Some user
-user_of (RevokeSystem user permission) = Some user
-user_of (GrantTable table user permission) = Some user
-user_of (RevokeTable table user permission) = Some user
-user_of (GrantNamespace namespace user permission) = Some user
-user_of (RevokeNamespace namespace user permission) = Some user
-user_of _ = None
+user_of request = (info_of request).user
 
--- the name of the table or the user that it makes, which must be free
-abbrev pub new_name_of : {A : Type 0} → Request A → Option Text
-new_name_of (CreateTable table period) = Some table
-new_name_of (CreateUser user digest auths) = Some user
-new_name_of _ = None
-
--- the authorizations that must be the asker's own
 abbrev pub named_auths : {A : Type 0} → Request A → List Text
-named_auths (Get table id auths) = auths
-named_auths (Scan table query auths limit after) = auths
-named_auths (Count table query auths) = auths
-named_auths (Grid table query auths columns lines) = auths
-named_auths _ = []
+named_auths request = (info_of request).auths
 
 -- the first that is there
 abbrev pub first_some : {X : Type 0} → List (Option X) → Option X
@@ -118,4 +120,5 @@ first_some (None ∷ others) = first_some others
 
 -- what an audit entry names: the table, else the namespace, else the user that it is about, else the name that it makes
 abbrev pub target_of : {A : Type 0} → Request A → Text
-target_of request = unwrap_or (first_some (table_of request ∷ namespace_named request ∷ user_of request ∷ new_name_of request ∷ [])) []
+target_of request =
+    unwrap_or (first_some (table_of request ∷ namespace_named request ∷ user_of request ∷ (info_of request).new_name ∷ [])) []

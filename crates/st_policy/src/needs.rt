@@ -1,6 +1,7 @@
 //! Permissions that are needed.
 ghost use Rattle.std.specs.Prelude.{◌≡◌};
-ghost use Rattle.st_policy.specs.Policy.{decision, meets, Table, System, TableOrSystem, NamespaceOrSystem, OneselfOrSystem};
+ghost use Rattle.st_policy.specs.Policy.{decision, meets};
+ghost use Rattle.st_policy.specs.Requests.{Table, System, TableOrSystem, NamespaceOrSystem, OneselfOrSystem};
 
 use crate::denial::Denial;
 use crate::refusal::Refusal;

@@ -1,8 +1,8 @@
 //! The policy.
 ghost use Rattle.std.specs.Prelude.{◌≡◌};
-ghost use Rattle.st_policy.specs.Policy.{refusal_of, decision, need_of, meets, table_exists, user_exists, name_is_free};
+ghost use Rattle.st_policy.specs.Policy.{refusal_of, decision, meets, table_exists, user_exists, name_is_free};
 ghost use Rattle.st_policy.specs.Policy.{auths_are_held, label_is_met, is_not_oneself};
-ghost use Rattle.st_policy.specs.Requests.{table_of, user_of, named_auths};
+ghost use Rattle.st_policy.specs.Requests.{need_of, table_of, user_of, named_auths};
 
 use crate::asker_auths::{lacking, sees, text_of_label};
 use crate::denial::Denial;

@@ -1,12 +1,15 @@
 //! The store in a SQLite file.
-ghost use Rattle.std.specs.Prelude.{◌≡◌, false, map, string_bytes};
+ghost use Rattle.std.specs.Prelude.{◌≡◌, false, List};
 ghost use Rattle.sqlite_wal.specs.Files.{image_at};
+ghost use Rattle.st_text.specs.Texts.{Text};
 ghost use Rattle.st_command.specs.Running.{Ran};
+ghost use Rattle.st_command_line.specs.RunArguments.{SaysRun};
 ghost use Rattle.st_connection.specs.Streams.{streams};
-ghost use Rattle.st_store_file.specs.Holding.{HoldStore};
+ghost use Rattle.st_journal_file.specs.Opening.{HoldStore};
 
 use sqlite_std_file::{FileFrom, Start};
-use st_command::run_words;
+use st_command::run_with;
+use st_command_line::RunArguments;
 use st_connection::{Sink, Source};
 use st_core::Seed;
 use st_journal::Journal;
@@ -14,26 +17,26 @@ use st_journal_file::FileJournal;
 use st_store_file::SqliteKeeper;
 use std::io::Write;
 
-/// Serves one connection by the arguments of `st_run`, as `run_words` does: from a store in memory, or from the store in the SQLite
+/// Serves one connection by the arguments of `st_run`, as `run_with` does: from a store in memory, or from the store in the SQLite
 /// file that they name. `start` says what is supposed of a crash, and stands for what the files held.
 pub fn run_files<S: Start, R: Source, W: Sink, F: Write>(
     rt: &HostRuntime,
     start: S,
-    words: &[String],
+    said: &RunArguments<'_>,
     reader: &mut R,
     writer: &mut W,
     faults: &mut F,
 ) -> u8
     requires reader_sound { R.has_failed reader.old ≡ false }
     requires writer_sound { W.has_failed writer.old ≡ false }
-    ensures { Ran (λ _. HoldStore (image_at S.Start)) ⟦<FileJournal<FileFrom<S>> as Journal>⟧.list
+    ensures { (words : List Text) → SaysRun words said.now
+        → Ran (λ _. HoldStore (image_at S.Start)) ⟦<FileJournal<FileFrom<S>> as Journal>⟧.list
         ⟦<FileJournal<FileFrom<S>> as Journal>⟧.misreads ⟦<FileJournal<FileFrom<S>> as Journal>⟧.faults
-        ⟦<FileJournal<FileFrom<S>> as Journal>⟧.may_leave
-        (map string_bytes words.now)
+        ⟦<FileJournal<FileFrom<S>> as Journal>⟧.may_leave words
         (streams R.left R.reads R.has_ended R.has_failed W.held W.has_failed reader.old reader.new writer.old writer.new)
         result }
 {
     let keeper = SqliteKeeper::new(rt, "st_run", start);
     let seed = Seed::random(rt);
-    run_words(rt, rt.alloc(), seed, keeper, words, reader, writer, faults)
+    run_with(rt, rt.alloc(), seed, keeper, said, reader, writer, faults)
 }

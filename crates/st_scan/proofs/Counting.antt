@@ -12,9 +12,9 @@ use Rattle.st_text.specs.Texts.{Text}
 use Rattle.st_box.specs.declared.query.Query.{Query}
 use Rattle.st_box.specs.Query.{HasKey}
 use Rattle.st_index.specs.declared.row.Row.{Row}
-use Rattle.st_index.specs.Counting.{count_of, is_counted}
-use Rattle.st_index.specs.Fields.{CanAdd, Counts, count_in}
-use Rattle.st_index.specs.Index.{rows_between, rows_from}
+use Rattle.st_index.specs.inner.Counting.{count_of, is_counted}
+use Rattle.st_index.specs.inner.Fields.{CanAdd, Counts, count_in}
+use Rattle.st_index.specs.inner.Index.{rows_between, rows_from}
 use Rattle.st_index.specs.Rows.{key_end, rank_of}
 use Rattle.st_index.proofs.Tallying.{zero_at}
 use Rattle.st_scan.specs.inner.Rows.{has_row}

@@ -1,6 +1,6 @@
 -- Entries whose keys rise, and their rows.
-use Rattle.std.proofs.Common.{◌≡◌, ℕ, ◌+◌, ◌-◌, ◌<◌, ◌≤◌, List, [], ◌∷◌, ◌++◌, filter, length, get_or, take, drop, suc, zero, add-zero, refl, sym, ap, subst, ◌∙◌, arith, append_assoc, append-nil, IsTrue}
-use Rattle.std.proofs.lemmas.Grind.{flat_map-append}
+use Rattle.std.proofs.Common.{◌≡◌, ℕ, ◌+◌, ◌-◌, ◌<◌, ◌≤◌, List, [], ◌∷◌, ◌++◌, filter, length, get_or, take, drop, suc, zero, add-zero, refl, sym, ap}
+use Rattle.std.proofs.Common.{subst, ◌∙◌, arith, append_assoc, append-nil, IsTrue}
 use Rattle.std.proofs.lemmas.List.Elements.{All-append, All-cons, All-head, All-nil, All-tail, filter-append}
 use Rattle.std.proofs.lemmas.List.{get_or-drop, get_or-take, length-drop, length-take-le, take-append-drop, take_all}
 use Rattle.std.specs.List.{All}
@@ -8,7 +8,8 @@ use Rattle.std.specs.List.Sorted.{IsNonDecreasingBy, IsPartitionPoint}
 use Rattle.std.specs.declared.cmp.Ordering.TheVariants.{Less, Equal, Greater}
 use Rattle.std.specs.Ordering.{nat_cmp, ordering_index}
 use Rattle.st_index.proofs.Names.{nat_equal}
-use Rattle.st_index.proofs.Putting.{missing}
+use Rattle.st_index.proofs.Putting.{missing, rows-append}
+use Rattle.st_index.proofs.Rising.{rises_all, rises_bounds}
 use Rattle.st_key.specs.declared.period.Period.{Period}
 use Rattle.st_box.specs.declared.query.Query.{Query}
 use Rattle.st_index.specs.Rows.{EntryValue, IsEntry, Rises, rank_of, rows_of}
@@ -25,9 +26,6 @@ all_right P [] ys h = h
 all_right P (x ∷ xs) ys h = all_right P xs ys (All-tail P x (xs ++ ys) h)
 
 module _ {A : Type 0} where
-  pub rows-append : (xs ys : List (EntryValue A)) → rows_of (xs ++ ys) ≡ rows_of xs ++ rows_of ys
-  rows-append xs ys = flat_map-append (λ (e : EntryValue A). e.rows) xs ys
-
   -- the rows of the entries passed, and then those of the entry
   pub rows_around : (xs : List (EntryValue A)) (e : EntryValue A) (ys : List (EntryValue A)) → rows_of (xs ++ e ∷ ys) ≡ rows_of xs ++ (e.rows ++ rows_of ys)
   rows_around xs e ys = rows-append xs (e ∷ ys)
@@ -37,21 +35,13 @@ module _ {A : Type 0} (period : Period) where
   keyed lo hi [] h = All-nil (IsEntry period)
   keyed lo hi (e ∷ es) h = All-cons (IsEntry period) e es h.1 (keyed (e.at + 1) hi es h.2)
 
-  pub rises_le : (lo hi : ℕ) (es : List (EntryValue A)) → Rises period lo hi es → lo ≤ hi
-  rises_le lo hi [] h = h
-  rises_le lo hi (e ∷ es) h = omega (arith, h.0, rises_le (e.at + 1) hi es h.2)
-
   pub rises_lower : (low lo hi : ℕ) (es : List (EntryValue A)) → low ≤ lo → Rises period lo hi es → Rises period low hi es
   rises_lower low lo hi [] le h = omega (arith, le, h)
   rises_lower low lo hi (e ∷ es) le h = (omega (arith, le, h.0), h.1, h.2)
 
-  pub entries_from : (lo hi : ℕ) (es : List (EntryValue A)) → Rises period lo hi es → All (λ e. lo ≤ e.at) es
-  entries_from lo hi [] h = All-nil _
-  entries_from lo hi (e ∷ es) h = All-cons (λ f. lo ≤ f.at) e es h.0 (entries_from lo hi es (rises_lower lo (e.at + 1) hi es (omega (arith, h.0)) h.2))
-
   pub entries_below : (lo hi : ℕ) (es : List (EntryValue A)) → Rises period lo hi es → All (λ e. e.at < hi) es
   entries_below lo hi [] h = All-nil _
-  entries_below lo hi (e ∷ es) h = All-cons (λ f. f.at < hi) e es (omega (arith, rises_le (e.at + 1) hi es h.2)) (entries_below (e.at + 1) hi es h.2)
+  entries_below lo hi (e ∷ es) h = All-cons (λ f. f.at < hi) e es (omega (arith, rises_bounds period (e.at + 1) hi es h.2)) (entries_below (e.at + 1) hi es h.2)
 
   -- what holds of the entries' places holds of their rows'
   pub rows_all : (P : ℕ → Type 0) (es : List (EntryValue A)) → All (IsEntry period) es → All (λ e. P e.at) es → All (λ row. P (rank_of period row)) (rows_of es)
@@ -96,11 +86,12 @@ module _ {A : Type 0} (period : Period) (start : ℕ) where
   rises_order : (lo hi : ℕ) (es : List (EntryValue A)) → Rises period lo hi es → (i j : ℕ) (d : EntryValue A) → i < j → j < length es → (get_or es i d).at < (get_or es j d).at
   rises_order lo hi [] h i j d a b = absurd (omega (arith, b))
   rises_order lo hi (e ∷ es) h i zero d a b = absurd (omega (arith, a))
-  rises_order lo hi (e ∷ es) h zero (suc j) d a b = let later = entries_from period (e.at + 1) hi es h.2 j d (omega (arith, b)) in omega (arith, later)
+  rises_order lo hi (e ∷ es) h zero (suc j) d a b = let later = rises_all period (e.at + 1) hi es h.2 j d (omega (arith, b)) in omega (arith, later)
   rises_order lo hi (e ∷ es) h (suc i) (suc j) d a b = rises_order (e.at + 1) hi es h.2 i j d (omega (arith, a)) (omega (arith, b))
 
   -- the entries from the place of a key on
-  pub skips_there : (lo hi : ℕ) (es : List (EntryValue A)) (n : ℕ) → n < length es → ((d : EntryValue A) → nat_cmp (get_or es n d).at start ≡ Equal) → Rises period lo hi es → SkipsTo start es (drop n es)
+  pub skips_there : (lo hi : ℕ) (es : List (EntryValue A)) (n : ℕ) → n < length es → ((d : EntryValue A) → nat_cmp (get_or es n d).at start ≡ Equal)
+      → Rises period lo hi es → SkipsTo start es (drop n es)
   skips_there lo hi es n le here h = record {
     skipped = take n es;
     is = sym (take-append-drop n es);
@@ -120,7 +111,10 @@ module _ {A : Type 0} (period : Period) (start : ℕ) where
           omega (arith, at, order)
 
   -- and from where it would stand
-  pub skips_missing : (lo hi : ℕ) (es : List (EntryValue A)) (n : ℕ) → (IsNonDecreasingBy (λ (e : EntryValue A). ordering_index (nat_cmp e.at start)) es → IsPartitionPoint (λ (e : EntryValue A). nat_cmp e.at start ≡ Less) (λ (e : EntryValue A). nat_cmp e.at start ≡ Greater) es n) → Rises period lo hi es → SkipsTo start es (drop n es)
+  pub skips_missing : (lo hi : ℕ) (es : List (EntryValue A)) (n : ℕ)
+      → (IsNonDecreasingBy (λ (e : EntryValue A). ordering_index (nat_cmp e.at start)) es
+      → IsPartitionPoint (λ (e : EntryValue A). nat_cmp e.at start ≡ Less) (λ (e : EntryValue A). nat_cmp e.at start ≡ Greater) es n)
+      → Rises period lo hi es → SkipsTo start es (drop n es)
   skips_missing lo hi es n found h =
       let m = missing period start es n lo hi h found in
       record {
@@ -144,5 +138,5 @@ module _ {A : Type 0} (period : Period) where
     skipped = [];
     is = refl;
     before = All-nil _;
-    after = λ j d l. let a = entries_from period lo hi entries h j d l in omega (arith, a, le);
+    after = λ j d l. let a = rises_all period lo hi entries h j d l in omega (arith, a, le);
   }

@@ -7,7 +7,7 @@ use Rattle.st_label.specs.Reading.{is_true}
 use Rattle.st_text.specs.Texts.{Text, is_among}
 use Rattle.st_box.specs.declared.query.Query.{Query}
 use Rattle.st_index.specs.declared.row.Row.{Row}
-use Rattle.st_index.specs.Fields.{Counts}
+use Rattle.st_index.specs.inner.Fields.{Counts}
 use Rattle.st_index.proofs.Tallying.{zero_at}
 use Rattle.st_scan.specs.Grids.{field_of, grid_of}
 use Rattle.st_scan.specs.Visible.{is_visible_inside, visible_rows}

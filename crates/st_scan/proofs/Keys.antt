@@ -2,7 +2,7 @@
 use Rattle.std.proofs.Math.Bool.{true≢false}
 use Rattle.std.proofs.lemmas.Bool.{cases_lt}
 use Rattle.std.specs.Prelude.{IfSome, IfNone, Option, Some, None}
-use Rattle.st_bigmin.specs.First.{IsAtOrAfter}
+use Rattle.st_bigmin.specs.inner.First.{IsAtOrAfter}
 use Rattle.st_scan.specs.inner.Steps.{rank_or_end}
 use Rattle.std.proofs.Common.{inl, inr, Bool, false, ◌≡◌, ◌↔◌, ℕ, ◌+◌, ◌*◌, ◌/◌, ◌%◌, ◌^◌, ◌<◌, ◌≤◌, refl, sym, ◌∙◌, subst, arith, IsTrue}
 use Rattle.st_key.specs.declared.key.Key.{Key}

@@ -21,7 +21,8 @@ use Rattle.st_index.specs.declared.row.Row.{Row}
 use Rattle.st_index.specs.Order.{scan_key}
 use Rattle.st_index.specs.Rows.{rank_of}
 use Rattle.st_text.specs.Texts.{Text, comes_before}
-use Rattle.st_scan.specs.Pages.{is_past, place_key, visible_after}
+use Rattle.st_scan.specs.Pages.{is_past, place_key}
+use Rattle.st_scan.specs.inner.Pages.{visible_after}
 use Rattle.st_scan.specs.inner.Starts.{IsStart, is_shown}
 use Rattle.st_scan.specs.inner.Rows.{has_row_from}
 use Rattle.st_scan.specs.Visible.{is_visible_inside, is_visible}

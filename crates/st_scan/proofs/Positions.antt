@@ -6,13 +6,13 @@ use Rattle.st_key.specs.Key.{rank}
 use Rattle.st_box.specs.declared.query.Query.{Query}
 use Rattle.st_box.specs.Query.{HasKey}
 use Rattle.st_index.specs.declared.row.Row.{Row}
-use Rattle.st_index.specs.Index.{Follow, Region}
+use Rattle.st_index.specs.inner.Index.{Follow, Region}
 use Rattle.st_index.specs.RowViews.{viewed}
 use Rattle.st_index.specs.Rows.{EntryValue, key_end, rank_of, rows_of}
 use Rattle.st_scan.specs.declared.position.Position.{Position}
-use Rattle.st_scan.specs.Regions.{Count}
+use Rattle.st_scan.specs.inner.Regions.{Count}
 use Rattle.st_scan.specs.inner.Rows.{has_row, has_row_from}
-use Rattle.st_scan.specs.Walks.{MeetsUpTo}
+use Rattle.st_scan.specs.inner.Walks.{MeetsUpTo}
 use Rattle.st_scan.specs.inner.Steps.{IsAt, IsNextEntry, IsOver, IsPosition, Opens, left_at, left_of, rank_or_end}
 use Rattle.st_scan.proofs.Steps.{enter, enter_left, give, give_opened, over_left, over_count, opened_left, opened_at, opened_fits, opened_on}
 

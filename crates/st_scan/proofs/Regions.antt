@@ -1,8 +1,8 @@
 -- Regions that follow one another, and how many of them are counted.
 use Rattle.std.proofs.Common.{◌≡◌, ◌↔◌, ℕ, suc, zero, ◌+◌, ◌<◌, ◌≤◌, ◌⊎◌, List, [], ◌∷◌, length, get_or, inl, inr, refl, sym, ap, ◌∙◌, subst, arith}
 use Rattle.std.specs.List.{Contains}
-use Rattle.st_index.specs.Index.{Follow, Region}
-use Rattle.st_scan.specs.Regions.{Count}
+use Rattle.st_index.specs.inner.Index.{Follow, Region}
+use Rattle.st_scan.specs.inner.Regions.{Count}
 use Rattle.st_scan.specs.inner.Steps.{IsIn}
 
 module _ {X : Type 0} where

@@ -1,5 +1,6 @@
 -- Steps of a walk.
-use Rattle.std.proofs.Common.{◌≡◌, ◌↔◌, ℕ, ◌+◌, ◌^◌, ◌<◌, ◌≤◌, List, [], ◌∷◌, ◌++◌, length, filter, get_or, inl, inr, refl, sym, ap, subst, ◌∙◌, arith, append_assoc, true, false, Bool, ◌&&◌, IsTrue, nat_le}
+use Rattle.std.proofs.Common.{◌≡◌, ◌↔◌, ℕ, ◌+◌, ◌^◌, ◌<◌, ◌≤◌, List, [], ◌∷◌, ◌++◌, length, filter, get_or, inl, inr, refl, sym, ap, subst, ◌∙◌}
+use Rattle.std.proofs.Common.{arith, append_assoc, true, false, Bool, ◌&&◌, IsTrue, nat_le}
 use Rattle.std.proofs.Math.Bool.{true≢false}
 use Rattle.std.proofs.lemmas.Bool.{cases_lt, leb-true, le-leb}
 use Rattle.std.proofs.lemmas.List.Elements.{All-head, All-nil, All-tail, filter-append}
@@ -10,15 +11,17 @@ use Rattle.st_key.specs.Key.{rank}
 use Rattle.st_box.specs.declared.query.Query.{Query}
 use Rattle.st_box.specs.Query.{HasKey, is_inside}
 use Rattle.st_index.specs.declared.row.Row.{Row}
-use Rattle.st_index.specs.Index.{Follow, Region}
+use Rattle.st_index.specs.inner.Index.{Follow, Region}
 use Rattle.st_index.specs.Rows.{EntryValue, IsEntry, Rises, key_end, rank_of, rows_of}
-use Rattle.st_scan.specs.Regions.{Count, Meets}
+use Rattle.st_scan.specs.inner.Regions.{Count, Meets}
 use Rattle.st_scan.specs.inner.Rows.{has_row, has_row_from}
-use Rattle.st_scan.specs.Walks.{MeetsUpTo}
+use Rattle.st_scan.specs.inner.Walks.{MeetsUpTo}
 use Rattle.st_scan.specs.inner.Steps.{IsAt, IsNextEntry, MeetsBefore, Opens, left_at}
 use Rattle.st_scan.proofs.Filters.{filter_all, filter_none, filter_same}
 use Rattle.st_scan.proofs.Keys.{row_has, row_key}
-use Rattle.st_scan.proofs.Entries.{all_left, all_right, entries_below, entries_from, keyed, rises_right, rows-append, rows_all, rows_around}
+use Rattle.st_index.proofs.Putting.{rows-append}
+use Rattle.st_index.proofs.Rising.{rises_all}
+use Rattle.st_scan.proofs.Entries.{all_left, all_right, entries_below, keyed, rises_right, rows_all, rows_around}
 use Rattle.st_scan.proofs.Regions.{apart, count_iff, count_le, count_more, count_none, lies}
 
 pub from_parts : (b c : Bool) → (b && c) ≡ true → (b ≡ true) × (c ≡ true)
@@ -44,7 +47,7 @@ module _ {A : Type 0} (period : Period) (q : Query) where
     -- a row of the region is in its bounds
     in_region : All (λ row. (o.region.first ≤ rank_of period row) × (rank_of period row < o.region.last + 1)) (rows_of entries)
     in_region = rows_all period (λ n. (o.region.first ≤ n) × (n < o.region.last + 1)) entries (keyed period _ _ entries rising)
-        (λ k d l. (entries_from period _ _ entries rising k d l, entries_below period _ _ entries rising k d l))
+        (λ k d l. (rises_all period _ _ entries rising k d l, entries_below period _ _ entries rising k d l))
 
     at_start : (row : Row A) → IsTrue (has_row_from period q start row) → rank o.key ≤ rank_of period row
     at_start row h =
@@ -76,7 +79,8 @@ module _ {A : Type 0} (period : Period) (q : Query) where
         let b = o.leaf.later k d l in
         from_high start _ (omega (arith, b, o.from_start, o.leaf.to)) ∙ sym (from_high next _ (omega (arith, b, o.next_is))))
 
-    cut : (start : ℕ) → filter (has_row_from period q start) content ≡ filter (has_row_from period q start) o.leaf.before ++ (filter (has_row_from period q start) (rows_of (o.skipped ++ entries)) ++ filter (has_row_from period q start) o.leaf.after)
+    cut : (start : ℕ) → filter (has_row_from period q start) content ≡ filter (has_row_from period q start) o.leaf.before
+        ++ (filter (has_row_from period q start) (rows_of (o.skipped ++ entries)) ++ filter (has_row_from period q start) o.leaf.after)
     cut s =
         ap (filter (has_row_from period q s)) o.leaf.parts
         ∙ filter-append (has_row_from period q s) o.leaf.before (rows_of (o.skipped ++ entries) ++ o.leaf.after)
@@ -122,7 +126,8 @@ module _ {A : Type 0} (period : Period) (q : Query) where
       at.counted
 
   -- an entry is entered
-  pub enter : (regions : List Region) (start : ℕ) (entries : List (EntryValue A)) (next opened : ℕ) (rows : List (Row A)) (rest : List (EntryValue A)) → IsAt period q regions start [] entries next opened
+  pub enter : (regions : List Region) (start : ℕ) (entries : List (EntryValue A)) (next opened : ℕ) (rows : List (Row A)) (rest : List (EntryValue A))
+      → IsAt period q regions start [] entries next opened
       → IsNextEntry q entries rows rest → IsAt period q regions start rows rest next opened
   enter regions start entries next opened rows rest at n =
       let keys = subst (All (IsEntry period)) n.is at.keyed in
@@ -165,7 +170,8 @@ module _ {A : Type 0} (period : Period) (q : Query) where
     to_end = at.to_end;
   }
 
-  pub give_opened : (regions : List Region) (start : ℕ) (row : Row A) (rest : List (Row A)) (entries : List (EntryValue A)) (next opened : ℕ) → IsAt period q regions start (row ∷ rest) entries next opened
+  pub give_opened : (regions : List Region) (start : ℕ) (row : Row A) (rest : List (Row A)) (entries : List (EntryValue A)) (next opened : ℕ)
+      → IsAt period q regions start (row ∷ rest) entries next opened
       → Count (MeetsUpTo period q start (rank_of period row)) regions opened
   give_opened regions start row rest entries next opened at =
       count_iff (MeetsBefore period q start next) (MeetsUpTo period q start (rank_of period row)) regions opened

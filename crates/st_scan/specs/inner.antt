@@ -2,3 +2,6 @@
 pub mod Rows
 pub mod Steps
 pub mod Starts
+pub mod Walks
+pub mod Regions
+pub mod Pages

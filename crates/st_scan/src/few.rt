@@ -1,7 +1,10 @@
 //! Counts of rows that lie in few ranges of keys.
+//!
+//! A box of 2^55 points or more has keys in more than eight bottom nodes. Before each next node the box is compared with twice the
+//! points that the nodes until then had keys for. The two estimates have no clause: they choose between two proved ways.
 ghost use Rattle.std.specs.Prelude.{◌≡◌, length, IsTrue};
 ghost use Rattle.std.specs.List.{All};
-ghost use Rattle.st_index.specs.Fields.{Counts};
+ghost use Rattle.st_index.specs.inner.Fields.{Counts};
 
 use st_bigmin::first_by;
 use st_box::{KeyTest, Query};

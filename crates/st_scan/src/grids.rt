@@ -1,7 +1,7 @@
 //! Grids of a scan.
 ghost use Rattle.std.specs.Prelude.{◌≡◌, ◌↔◌, ◌*◌, ◌<◌, ◌≤◌, ◌⊎◌, length, IsOk, IfOk, IfErr};
 ghost use Rattle.std.specs.List.{All};
-ghost use Rattle.st_index.specs.Fields.{Counts};
+ghost use Rattle.st_index.specs.inner.Fields.{Counts};
 ghost use Rattle.st_scan.specs.declared.fault.ScanFault.TheVariants.{BadGrid, BadLimit};
 ghost use Rattle.st_scan.specs.Grids.{field_of, grid_of};
 ghost use Rattle.st_scan.specs.Visible.{visible_rows};

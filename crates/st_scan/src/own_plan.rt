@@ -2,7 +2,7 @@
 ghost use Rattle.std.specs.Prelude.{◌≡◌, IfSome, IsTrue};
 ghost use Rattle.std.specs.List.{list_any};
 ghost use Rattle.st_box.specs.Query.{HasKey};
-ghost use Rattle.st_scan.specs.Walks.{IsExactFor};
+ghost use Rattle.st_scan.specs.inner.Walks.{IsExactFor};
 ghost use Rattle.st_scan.specs.inner.Steps.{IsOwnExact};
 
 use st_box::Query;

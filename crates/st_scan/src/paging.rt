@@ -2,7 +2,7 @@
 ghost use Rattle.std.specs.Prelude.{◌≡◌, ◌↔◌, ◌<◌, ◌≤◌, ◌⊎◌, filter, length, map, nat_lt, option_copied, take, IsOk, IfOk, IfErr};
 ghost use Rattle.st_index.specs.RowViews.{row_of_view};
 ghost use Rattle.st_scan.specs.declared.fault.ScanFault.TheVariants.{BadGrid, BadLimit, NoMemory};
-ghost use Rattle.st_scan.specs.Pages.{visible_after};
+ghost use Rattle.st_scan.specs.inner.Pages.{visible_after};
 ghost use Rattle.st_scan.specs.inner.Starts.{is_shown};
 
 use crate::after::{is_past, start_of};

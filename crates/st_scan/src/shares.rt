@@ -1,4 +1,6 @@
 //! Equal shares that the numbers from one to another are cut into.
+//!
+//! The factor of a grid is rounded up, and the widths are few enough that the product gives the same as the division.
 ghost use Rattle.std.specs.Prelude.{◌≡◌, ℕ, ◌+◌, ◌-◌, ◌*◌, ◌/◌, ◌<◌, ◌≤◌, ◌^◌, IfSome};
 
 // In how many parts a share is counted where it is found by a factor: no fewer than the square of the greatest width.
@@ -38,9 +40,9 @@ fn one_share(first: u32, last: u32, shares: u32, from: u32, to: u32) -> Option<u
     Some(share)
 }
 
-/// So many equal shares of the numbers from one to another. The factor is how much of a share each number makes, in parts and
-/// rounded up, so that to find the share of a number takes a product and no division. All that rounding adds is less than a
-/// share divided by the width, and each number is at least so far from the next share.
+// So many equal shares of the numbers from one to another. The factor is how much of a share each number makes, in parts and
+// rounded up, so that to find the share of a number takes a product and no division. All that rounding adds is less than a
+// share divided by the width, and each number is at least so far from the next share.
 #[derive(Clone, Copy)]
 pub(crate) struct Shares {
     first: u32,
@@ -55,7 +57,7 @@ pub(crate) struct Shares {
 }
 
 impl Shares {
-    /// So many equal shares of the numbers from one to another.
+    // So many equal shares of the numbers from one to another.
     pub(crate) fn new(first: u32, last: u32, shares: u32) -> Shares
         requires some { 1 ≤ shares }
         requires few { shares ≤ 32 }
@@ -74,7 +76,7 @@ impl Shares {
         }
     }
 
-    /// Which share a number is in.
+    // Which share a number is in.
     pub(crate) fn of(&self, number: u32) -> u32
         requires from { self.now.first ≤ number }
         requires to { number ≤ self.now.last }
@@ -84,7 +86,7 @@ impl Shares {
         (u64::from(number - self.first) * self.factor / FULL) as u32
     }
 
-    /// The one share that those of the numbers are in that are between two others, if they are found to share one.
+    // The one share that those of the numbers are in that are between two others, if they are found to share one.
     pub(crate) fn one(&self, from: u32, to: u32) -> Option<u32>
         ensures some { IfSome result (λ share. (number : ℕ) → self.now.first ≤ number → number ≤ self.now.last
             → from ≤ number → number ≤ to

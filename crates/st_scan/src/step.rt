@@ -5,7 +5,7 @@ ghost use Rattle.st_key.specs.declared.key.Key.{Key};
 ghost use Rattle.st_key.specs.declared.period.Period.{Period};
 ghost use Rattle.st_key.specs.Key.{rank};
 ghost use Rattle.st_box.specs.Query.{HasKey};
-ghost use Rattle.st_index.specs.Index.{Follow};
+ghost use Rattle.st_index.specs.inner.Index.{Follow};
 ghost use Rattle.st_index.specs.RowViews.{viewed};
 ghost use Rattle.st_index.specs.Rows.{IsEntry, Rises, key_end, rows_of};
 ghost use Rattle.st_scan.specs.inner.Rows.{has_row};

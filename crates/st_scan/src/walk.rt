@@ -1,12 +1,15 @@
 //! Walks over the rows of a query.
+//!
+//! `Walk::new` requires that the plan's exact ranges hold keys of the query alone, which is less than that the plan be the query's
+//! own.
 ghost use Rattle.std.specs.Prelude.{◌≡◌, ◌<◌, ◌≤◌, ◌^◌, ◌∷◌, [], filter, length, IfSome, IfNone};
 ghost use Rattle.st_key.specs.Key.{rank};
 ghost use Rattle.st_box.specs.Query.{is_inside};
 ghost use Rattle.st_index.specs.RowViews.{row_of_view};
 ghost use Rattle.st_index.specs.Rows.{key_end, rank_of};
-ghost use Rattle.st_scan.specs.Regions.{Count, Meets};
+ghost use Rattle.st_scan.specs.inner.Regions.{Count, Meets};
 ghost use Rattle.st_scan.specs.inner.Rows.{has_row_from};
-ghost use Rattle.st_scan.specs.Walks.{IsExactFor, MeetsUpTo};
+ghost use Rattle.st_scan.specs.inner.Walks.{IsExactFor, MeetsUpTo};
 ghost use Rattle.st_scan.specs.inner.Steps.{AreExact, IsOwnExact};
 
 use crate::exact::ranges_of;
@@ -33,7 +36,7 @@ pub struct Walk<'a, 'p, I: RowIndex> {
 }
 
 impl<'a, 'p, I: RowIndex> Model for Walk<'a, 'p, I> {
-    ghost use Rattle.st_scan.specs.Walks.{WalkValue};
+    ghost use Rattle.st_scan.specs.inner.Walks.{WalkValue};
 
     ghost Value = { WalkValue I.Alloc };
 

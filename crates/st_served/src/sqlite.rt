@@ -1,14 +1,17 @@
 //! The store in a SQLite file.
-ghost use Rattle.std.specs.Prelude.{map, string_bytes};
+ghost use Rattle.std.specs.Prelude.{List};
 ghost use Rattle.sqlite_wal.specs.Files.{image_at};
+ghost use Rattle.st_text.specs.Texts.{Text};
+ghost use Rattle.st_command_line.specs.ServedArguments.{SaysServed};
 ghost use Rattle.st_server.specs.Running.{RunsServer};
-ghost use Rattle.st_store_file.specs.Holding.{HoldStore};
+ghost use Rattle.st_journal_file.specs.Opening.{HoldStore};
 
 use sqlite_std_file::{FileFrom, Start};
+use st_command_line::ServedArguments;
 use st_core::Seed;
 use st_journal::Journal;
 use st_journal_file::FileJournal;
-use st_server::serve_words;
+use st_server::serve_with;
 use st_server_peer::{Client, Listener};
 use st_store_file::{SqliteCopier, SqliteKeeper};
 use std::fs::Files;
@@ -18,7 +21,7 @@ use std::sync::Wait;
 use std::thread::Threads;
 use std::time::Clock;
 
-/// Serves connections by the arguments of `st_served`, as `serve_words` does: from a store in memory, or from the store in the SQLite
+/// Serves connections by the arguments of `st_served`, as `serve_with` does: from a store in memory, or from the store in the SQLite
 /// file that they name, which `files` opens. `start` says what is supposed of a crash, and stands for what the files held.
 pub fn serve_files<
     R: Net<Listener = TcpListener, Stream = TcpStream>
@@ -31,21 +34,30 @@ pub fn serve_files<
     S: Start + Send,
     O: Write,
     F: Write,
->(rt: &R, files: &HostRuntime, start: S, words: &[String], output: &mut O, faults: &mut F) -> u8
-    ensures { RunsServer ⟦<TcpStream as Client>⟧.call (λ _. HoldStore (image_at S.Start)) ⟦<FileJournal<FileFrom<S>> as Journal>⟧.list
+>(
+    rt: &R,
+    files: &HostRuntime,
+    start: S,
+    said: &ServedArguments<'_>,
+    output: &mut O,
+    faults: &mut F,
+) -> u8
+    ensures { (words : List Text) → SaysServed words said.now
+        → RunsServer ⟦<TcpStream as Client>⟧.call (λ _. HoldStore (image_at S.Start)) ⟦<FileJournal<FileFrom<S>> as Journal>⟧.list
         ⟦<FileJournal<FileFrom<S>> as Journal>⟧.misreads ⟦<FileJournal<FileFrom<S>> as Journal>⟧.faults
-        ⟦<FileJournal<FileFrom<S>> as Journal>⟧.may_leave (map string_bytes words.now) (O.contents output.old) (O.contents output.new) result }
+        ⟦<FileJournal<FileFrom<S>> as Journal>⟧.may_leave words (O.contents output.old)
+        (O.contents output.new) result }
 {
     let keeper = SqliteKeeper::new(files, "st_served", start);
     let copier = SqliteCopier::new(files);
     let seed = Seed::random(files);
-    serve_words::<_, _, _, TcpStream, Listener, _, _, _>(
+    serve_with::<_, _, _, TcpStream, Listener, _, _, _>(
         rt,
         files.alloc(),
         seed,
         keeper,
         copier,
-        words,
+        said,
         output,
         faults,
     )

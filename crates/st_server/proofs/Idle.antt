@@ -3,14 +3,14 @@ use Rattle.std.proofs.Common.{◌≡◌, ℕ, List, [], Option, Err, inl, refl, 
 use Rattle.st_command_line.specs.declared.fault.Fault.{Fault}
 use Rattle.st_command_line.specs.declared.fault.Fault.TheVariants.{StoreLost}
 use Rattle.st_server_peer.specs.Meeting.{Call, Serving}
-use Rattle.st_hall.specs.Steps.{State}
+use Rattle.st_hall.specs.Steps.{Ask, State}
 use Rattle.st_hall.specs.Decisions.{Standing}
-use Rattle.st_server.specs.Attending.{Attends, AttendsFrom, Keeps}
+use Rattle.st_server.specs.Attending.{Attends, AttendsFrom}
 
-pub idle : {T P : Type 0} (hall : Keeps) (serves : Serving T) (call : P → Call) (standing : T → Standing) (attendants : List T)
+pub idle : {T P : Type 0} (leaves : (kept list : List Ask) → Type 0) (serves : Serving T) (call : P → Call) (standing : T → Standing) (attendants : List T)
     (connections : Option ℕ) (fault : Fault) → (fault ≡ StoreLost → ⊥)
-    → AttendsFrom hall serves call standing attendants connections (Err fault)
-idle hall serves call standing attendants connections fault sound = record {
+    → AttendsFrom leaves serves call standing attendants connections (Err fault)
+idle leaves serves call standing attendants connections fault sound = record {
   workers = [];
   each = inl refl;
   ok = tt;
@@ -19,7 +19,7 @@ idle hall serves call standing attendants connections fault sound = record {
   number = tt;
 }
 
-pub nobody : {P : Type 0} (call : P → Call) (start : State) (hall : Keeps) (hold : ℕ) (connections : Option ℕ) (fault : Fault)
-    → (fault ≡ StoreLost → ⊥) → Attends call start hall hold connections (Err fault)
-nobody call start hall hold connections fault sound =
-    record { stations = []; new = λ k d below. absurd (omega (arith, below)); attends = idle hall _ call _ [] connections fault sound }
+pub nobody : {P : Type 0} (call : P → Call) (start : State) (leaves : (kept list : List Ask) → Type 0) (hold : ℕ) (connections : Option ℕ) (fault : Fault)
+    → (fault ≡ StoreLost → ⊥) → Attends call start leaves hold connections (Err fault)
+nobody call start leaves hold connections fault sound =
+    record { stations = []; new = λ k d below. absurd (omega (arith, below)); attends = idle leaves _ call _ [] connections fault sound }

@@ -1,4 +1,4 @@
--- What the workers of a hall have seen, counted and settled, by their desks.
+-- What the workers of a hall have seen, counted and synced, by their desks.
 use Rattle.std.proofs.Common.{◌≡◌, ℕ, ◌+◌, ◌<◌, List, [], ◌∷◌, map, length, refl, sym, ap, subst, ◌∙◌, arith}
 use Rattle.std.proofs.lemmas.List.{get_or-map, length-map}
 use Rattle.std.specs.List.{All, fold, sum_by}
@@ -10,7 +10,7 @@ use Rattle.st_hall.specs.Decisions.{Standing}
 use Rattle.st_server_workers.specs.declared.working.Worked.{Worked}
 use Rattle.st_server_peer.specs.Meeting.{Call, Serving}
 use Rattle.st_server_workers.specs.Working.{WorkedEach}
-use Rattle.st_server.specs.Attending.{HaveOneList, WorkedAsOne, desk_of, settled_of}
+use Rattle.st_server.specs.Attending.{HaveOneList, WorkedAsOne, desk_of, synced_of}
 
 fold_of_map : {X Y : Type 0} (f : Y → ℕ) (g : X → Y) (a : ℕ) (xs : List X)
     → fold (λ (n : ℕ) (y : Y). n + f y) a (map g xs) ≡ fold (λ (n : ℕ) (x : X). n + f (g x)) a xs
@@ -40,24 +40,18 @@ joined standing workers desks fronts list longest are counted seen begins same a
       counted = counted ∙ (ap receipts are ∙ sum_of_map (λ (desk : Seat). desk.made) (desk_of standing) workers);
     }
 
--- what begins the longest of the kept list and all that was settled begins the kept list, where they are of one length
-pub settled_in : (kept longest : List Ask) (settled : List (List Ask)) → IsPrefix kept longest → length longest ≡ length kept
-    → All (λ (front : List Ask). IsPrefix front longest) settled → All (λ (front : List Ask). IsPrefix front kept) settled
-settled_in kept longest settled begins same all =
-    subst (λ (l : List Ask). All (λ (front : List Ask). IsPrefix front l) settled) (sym (prefix_whole kept longest begins (omega (arith, same)))) all
-
--- and so does what each worker had settled
-pub each_settled : {T : Type 0} (standing : T → Standing) (workers : List (Worked T)) (settled : List (List Ask)) (kept : List Ask)
-    → settled ≡ map (settled_of standing) workers → All (λ (front : List Ask). IsPrefix front kept) settled
-    → All (λ worker. IsPrefix (settled_of standing worker) kept) workers
-each_settled standing workers settled kept are all =
-    all_before_map (λ (front : List Ask). IsPrefix front kept) (settled_of standing) workers
+-- what all that was synced begins, what each worker had synced begins
+pub each_synced : {T : Type 0} (standing : T → Standing) (workers : List (Worked T)) (synced : List (List Ask)) (kept : List Ask)
+    → synced ≡ map (synced_of standing) workers → All (λ (front : List Ask). IsPrefix front kept) synced
+    → All (λ worker. IsPrefix (synced_of standing worker) kept) workers
+each_synced standing workers synced kept are all =
+    all_before_map (λ (front : List Ask). IsPrefix front kept) (synced_of standing) workers
     (subst (λ (fronts : List (List Ask)). All (λ (front : List Ask). IsPrefix front kept) fronts) are all)
 
 -- so the workers worked by one list
 pub as_one : {T P : Type 0} (holds : (kept list : List Ask) → Type 0) (serves : Serving T) (call : P → Call) (standing : T → Standing) (attendants : List T)
-    (workers : List (Worked T)) (settled : List (List Ask)) (list kept : List Ask) → WorkedEach serves call attendants workers
-    → HaveOneList standing workers list → settled ≡ map (settled_of standing) workers → All (λ (front : List Ask). IsPrefix front kept) settled
+    (workers : List (Worked T)) (synced : List (List Ask)) (list kept : List Ask) → WorkedEach serves call attendants workers
+    → HaveOneList standing workers list → synced ≡ map (synced_of standing) workers → All (λ (front : List Ask). IsPrefix front kept) synced
     → holds kept list → WorkedAsOne holds serves call standing attendants workers
-as_one holds serves call standing attendants workers settled list kept each one are all is =
-    record { each = each; list = list; one = one; kept = kept; has = each_settled standing workers settled kept are all; is = is }
+as_one holds serves call standing attendants workers synced list kept each one are all is =
+    record { each = each; list = list; one = one; kept = kept; has = each_synced standing workers synced kept are all; is = is }

@@ -10,48 +10,46 @@ use Rattle.st_journal_store.specs.Applying.{Applies}
 use Rattle.st_command_line.specs.declared.fault.Fault.{Fault}
 use Rattle.st_command_line.specs.declared.fault.Fault.TheVariants.{StoreLost}
 use Rattle.st_command_line.specs.declared.served_arguments.ServedArguments.{ServedArguments}
-use Rattle.st_command_line.specs.ServedArguments.{SaysServed, place_text, store_of}
+use Rattle.st_command_line.specs.Common.{path_in}
+use Rattle.st_command_line.specs.ServedArguments.{SaysServed, address_text}
 use Rattle.st_command_line.specs.Status.{exit_status_after}
 use Rattle.st_command.specs.Opening.{Fails, IsOfStore, OpensWith}
-use Rattle.st_hall_group_commit.specs.Rolls.{HasFailed, Leaves, WasKept}
+use Rattle.st_hall_group_commit.specs.Rolls.{HasFailed, Leaves}
 use Rattle.st_server_peer.specs.Meeting.{Call}
-use Rattle.st_server.specs.Attending.{Attends, Keeps, held_back}
+use Rattle.st_server.specs.Attending.{Attends, held_back}
 use Rattle.st_server_workers.specs.Telling.{Tells, line}
 
 -- What is told of it: as of any server, and it may end since its store is lost, which is said on standard error.
 abbrev pub TellsKept : Text → Option ℕ → Option (List ℕ) → Option (List ℕ) → Result Unit Fault → Type 0
-TellsKept place connections old new (Err StoreLost) = Appends old new (line (codes "listening") place)
-TellsKept place connections old new ended = Tells place connections old new ended
+TellsKept address connections old new (Err StoreLost) = Appends old new (line (codes "listening") address)
+TellsKept address connections old new ended = Tells address connections old new ended
 
--- a hall that keeps its list in a journal, from these states on
-abbrev pub kept_by : {J : Type 0} → (list : J → List Record) → (misreads : J → ℕ) → (may_leave : J → List Record → Type 0)
-    → (first start : State Global) → Keeps
-kept_by list misreads may_leave first start =
-    record { keeps = WasKept list misreads first start; leaves = Leaves misreads may_leave first start }
-
--- A journal was opened. Stations of a hall that begins with the state after its changes served the connections; what they answered was
+-- A journal was opened. Stations of a hall that begins with the state after its changes served the connections; what they answered is
 -- kept, and is left in the end. The store is lost only where a journal failed.
 pub record RunsOpened {P J : Type 0} (call : P → Call) (holds : List ℕ → List Record → Type 0) (list : J → List Record)
-    (misreads faults : J → ℕ) (may_leave : J → List Record → Type 0) (opening : List ℕ) (first : State Global) (said : ServedArguments) (old new : Option (List ℕ)) (status : ℕ) : Type 0 where
+    (misreads faults : J → ℕ) (may_leave : J → List Record → Type 0) (opening : List ℕ) (first : State Global) (said : ServedArguments)
+    (old new : Option (List ℕ)) (status : ℕ) : Type 0 where
   pub journal : J
   pub before : State Global
   pub found : misreads journal ≡ 0 → holds opening (list journal)
   pub made : misreads journal ≡ 0 → Replays Applies first (list journal) before
   pub ended : Result Unit Fault
-  pub attends : Attends call before (kept_by list misreads may_leave first before) held_back said.connections ended
+  pub attends : Attends call before (Leaves misreads may_leave first before) held_back said.connections ended
   pub cause : ended ≡ Err StoreLost → HasFailed misreads faults
-  pub tells : TellsKept (place_text said.place) said.connections old new ended
+  pub tells : TellsKept (address_text said.bind_address) said.connections old new ended
   pub status_is : status ≡ exit_status_after ended
 
 -- The words name a store at a path, and open the state that its changes lead on from. Its journal was opened, or it was not, and nothing
 -- was told.
 pub record RunsKept {P J : Type 0} (call : P → Call) (holds : (path opening : List ℕ) → List Record → Type 0) (list : J → List Record)
-    (misreads faults : J → ℕ) (may_leave : J → List Record → Type 0) (words : List Text) (old new : Option (List ℕ)) (status : ℕ) : Type 0 where
+    (misreads faults : J → ℕ) (may_leave : J → List Record → Type 0) (words : List Text) (old new : Option (List ℕ)) (status : ℕ) : Type
+    0 where
   pub said : ServedArguments
   pub says : SaysServed words said
   pub path : Text
-  pub named : store_of said ≡ Some path
+  pub named : path_in said.store ≡ Some path
   pub first : State Global
   pub opening : Text
   pub opens : OpensWith said.digest.now (map (λ name. name.now) said.names.items) first opening
-  pub ends : RunsOpened call (holds path) list misreads faults may_leave opening first said old new status ⊎ Fails IsOfStore (new ≡ old) status
+  pub ends : RunsOpened call (holds path) list misreads faults may_leave opening first said old new status
+      ⊎ Fails IsOfStore (new ≡ old) status

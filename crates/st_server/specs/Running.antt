@@ -9,7 +9,8 @@ use Rattle.st_server.specs.Keeping.{RunsKept}
 use Rattle.st_server.specs.Serving.{RunsInMemory}
 
 -- It serves from memory or from a store, or the words are refused, and nothing was told.
-abbrev pub RunsServer : {P J : Type 0} → (P → Call) → ((path opening : List ℕ) → List Record → Type 0) → (J → List Record) → (J → ℕ) → (J → ℕ)
+abbrev pub RunsServer : {P J : Type 0} → (P → Call) → ((path opening : List ℕ) → List Record → Type 0) → (J → List Record) → (J → ℕ)
+    → (J → ℕ)
     → (J → List Record → Type 0) → List Text → Option (List ℕ) → Option (List ℕ) → ℕ → Type 0
 RunsServer call holds list misreads faults may_leave words old new status =
     RunsInMemory call words old new status

@@ -6,24 +6,26 @@ use Rattle.st_core.specs.State.{State}
 use Rattle.st_command_line.specs.declared.fault.Fault.{Fault}
 use Rattle.st_command.specs.Opening.{OpensState}
 use Rattle.st_command_line.specs.declared.served_arguments.ServedArguments.{ServedArguments}
-use Rattle.st_command_line.specs.ServedArguments.{SaysServed, place_text, store_of}
+use Rattle.st_command_line.specs.Common.{path_in}
+use Rattle.st_command_line.specs.ServedArguments.{SaysServed, address_text}
 use Rattle.st_command_line.specs.Status.{exit_status_after}
 use Rattle.st_server_peer.specs.Meeting.{Call}
 use Rattle.st_server_workers.specs.Telling.{Tells}
-use Rattle.st_server.specs.Attending.{Attends, Keeps}
+use Rattle.st_hall.specs.Steps.{Ask}
+use Rattle.st_server.specs.Attending.{Attends}
 
--- a hall in memory: each list is kept, and nothing is left
-abbrev pub in_memory : Keeps
-in_memory = record { keeps = λ list. ⊤; leaves = λ kept list. ⊤ }
+-- nothing is left of a hall in memory
+abbrev pub nothing_left : (kept list : List Ask) → Type 0
+nothing_left kept list = ⊤
 
 -- The words name no store and open a state. Stations of a hall that begins with it served the connections.
 pub record RunsInMemory {P : Type 0} (call : P → Call) (words : List Text) (old new : Option (List ℕ)) (status : ℕ) : Type 0 where
   pub said : ServedArguments
   pub says : SaysServed words said
-  pub unnamed : store_of said ≡ None
+  pub unnamed : path_in said.store ≡ None
   pub state : State Global
   pub opens : OpensState said.digest.now (map (λ name. name.now) said.names.items) state
   pub ended : Result Unit Fault
-  pub attends : Attends call state in_memory 0 said.connections ended
-  pub tells : Tells (place_text said.place) said.connections old new ended
+  pub attends : Attends call state nothing_left 0 said.connections ended
+  pub tells : Tells (address_text said.bind_address) said.connections old new ended
   pub status_is : status ≡ exit_status_after ended

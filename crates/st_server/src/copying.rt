@@ -7,7 +7,7 @@ use st_connection::Attend;
 use st_hall::{Front, HallName};
 use st_hall_group_commit::{DurableHall, Reading};
 use st_journal::{ReadBack, ReadError, Record};
-use st_journal_copy::{Copier, CopyFault, Source};
+use st_journal_copy::{Copier, CopyFault, RecordSource};
 use st_journal_store::Beginning;
 use st_server_peer::{Client, Listens};
 use st_server_workers::{Attended, Binds, PROGRAM, attend};
@@ -67,7 +67,7 @@ pub(crate) struct KeptList<
     pub(crate) kept: Front<H>,
 }
 
-impl<B: Beginning, H: HallName, C: Wait + Clock + Drop, J: ReadBack + Drop, R: Wait> Source
+impl<B: Beginning, H: HallName, C: Wait + Clock + Drop, J: ReadBack + Drop, R: Wait> RecordSource
     for KeptList<'_, B, H, C, J, R> {
     ghost use Rattle.st_server.specs.inner.Reading.{GivesOf};
 
@@ -77,7 +77,7 @@ impl<B: Beginning, H: HallName, C: Wait + Clock + Drop, J: ReadBack + Drop, R: W
     fn read(&mut self, from: u64, most: usize) -> Result<Vec<Record>, ReadError> {
         let reading = self.hall.read(self.rt, from, most)?;
         let Reading { records, kept } = reading;
-        self.kept = self.kept.longer(&kept);
+        self.kept = self.kept.longer(kept.front());
         Ok(records)
     }
 }
@@ -86,7 +86,7 @@ impl<B: Beginning, H: HallName, C: Wait + Clock + Drop, J: ReadBack + Drop, R: W
 #[derive(Drop)]
 pub(crate) struct NoList;
 
-impl Source for NoList {
+impl RecordSource for NoList {
     ghost gives = { λ _ _ _ _. ⊥ };
 
     fn read(&mut self, _from: u64, _most: usize) -> Result<Vec<Record>, ReadError> {
@@ -103,7 +103,7 @@ pub(crate) struct Copying<'a, K> {
 }
 
 // Says on standard error whether the copy is written, where that has changed: whether a fault was said last.
-fn tell<R: Eprint>(rt: &R, was_faulty: bool, turn: Result<(), CopyFault>) -> bool {
+fn report<R: Eprint>(rt: &R, was_faulty: bool, turn: Result<(), CopyFault>) -> bool {
     match turn {
         Ok(()) => {
             if was_faulty {
@@ -121,7 +121,7 @@ fn tell<R: Eprint>(rt: &R, was_faulty: bool, turn: Result<(), CopyFault>) -> boo
 }
 
 // Takes turns until the bell rings, and a last one then; none more once the store is lost.
-fn follow<L: Source + Drop, K: Copier + Drop, R: Wait + Clock + Eprint>(
+fn follow<L: RecordSource + Drop, K: Copier + Drop, R: Wait + Clock + Eprint>(
     rt: &R,
     mut list: L,
     copying: Copying<'_, K>,
@@ -140,7 +140,7 @@ fn follow<L: Source + Drop, K: Copier + Drop, R: Wait + Clock + Eprint>(
         if let Err(CopyFault::Lost) = turn {
             return;
         }
-        was_faulty = tell(rt, was_faulty, turn);
+        was_faulty = report(rt, was_faulty, turn);
         if is_last {
             return;
         }
@@ -153,7 +153,7 @@ pub(crate) fn attend_and_copy<
     T: Attend + Send + Drop,
     C: Client + Send + Drop,
     N: Binds + Listens<Accepted = C> + Sync,
-    L: Source + Drop + Send,
+    L: RecordSource + Drop + Send,
     K: Copier + Drop + Send,
     R: Net<Listener = TcpListener, Stream = TcpStream>
         + Files

@@ -3,11 +3,12 @@ ghost use Rattle.std.specs.Prelude.{◌≡◌, ◌<◌, ◌⊎◌, Err, Some, Li
 ghost use Rattle.st_text.specs.Texts.{Text};
 ghost use Rattle.st_journal.specs.Replays.{Replays};
 ghost use Rattle.st_journal_store.specs.Applying.{Applies};
-ghost use Rattle.st_hall_group_commit.specs.Rolls.{HasFailed};
+ghost use Rattle.st_hall_group_commit.specs.Rolls.{HasFailed, Leaves};
 ghost use Rattle.st_server.specs.Attending.{Attends, held_back};
-ghost use Rattle.st_server.specs.Keeping.{RunsKept, RunsOpened, TellsKept, kept_by};
+ghost use Rattle.st_server.specs.Keeping.{RunsKept, RunsOpened, TellsKept};
 ghost use Rattle.st_command.specs.Opening.{Fails, IsOfStore};
-ghost use Rattle.st_command_line.specs.ServedArguments.{RefusesServedWords, SaysServed, place_text, store_of};
+ghost use Rattle.st_command_line.specs.Common.{path_in};
+ghost use Rattle.st_command_line.specs.ServedArguments.{RefusesServedWords, SaysServed, address_text};
 ghost use Rattle.st_command_line.specs.Status.{exit_status_after};
 ghost use Rattle.st_command_line.specs.declared.fault.Fault.TheVariants.{StoreLost};
 
@@ -34,7 +35,7 @@ use std::time::Clock;
 
 // Where a store is kept, and what it is opened with.
 #[derive(Drop)]
-struct Place<'a> {
+struct StoreLocation<'a> {
     path: &'a str,
     opening: String,
 }
@@ -66,20 +67,21 @@ fn open_hall<
     workers: u16,
     output: &mut O,
 ) -> Result<(), Fault>
-    requires named { (name.seen.book ≡ H.book) × (name.blank.name ≡ H.name) }
+    requires named { (name.seen.book ≡ H.book) × (name.blank.name ≡ H.name) × (name.mark.name ≡ H.mark) }
     requires workers { (name.blank.parts ≡ workers) × (H.parts ≡ workers) × (0 < workers) }
     requires alike { (both.0 ≡ H.start) × (both.1 ≡ H.start) }
     requires ready { J.Journal.is_ready journal }
     requires stands { J.Journal.misreads journal ≡ 0 → Replays Applies B.first (J.Journal.list journal) H.start }
-    ensures told { TellsKept (place_text said.now.place) said.now.connections (O.contents output.old) (O.contents output.new) result }
+    ensures told { TellsKept (address_text said.now.bind_address) said.now.connections
+        (O.contents output.old) (O.contents output.new) result }
     ensures failed { result ≡ Err StoreLost → HasFailed J.Journal.misreads J.Journal.faults }
-    ensures attended { Attends C.call H.start
-        (kept_by J.Journal.list J.Journal.misreads J.Journal.may_leave B.first H.start) held_back said.now.connections result }
+    ensures attended { Attends C.call H.start (Leaves J.Journal.misreads J.Journal.may_leave B.first H.start)
+        held_back said.now.connections result }
 {
     match Hall::<H>::open_for(rt, alloc, name, both.0, both.1, workers) {
         Ok((clerk, desks)) => {
+            let kept = clerk.front();
             let hall = DurableHall::<B, H, &R, J>::new(alloc, rt, clerk, journal);
-            let kept = hall.kept(rt);
             let list = KeptList {
                 hall: &hall,
                 rt,
@@ -96,13 +98,13 @@ fn open_hall<
 fn copying_for<'a, K: Copier + Drop>(
     said: &ServedArguments<'a>,
     copier: K,
-    place: &'a Place<'_>,
+    location: &'a StoreLocation<'_>,
 ) -> Option<Copying<'a, K>> {
     match said.copy {
         Some(path) => Some(Copying {
             copier,
             path,
-            opening: place.opening.as_str(),
+            opening: location.opening.as_str(),
         }),
         None => {
             drop(copier);
@@ -132,22 +134,22 @@ fn serve_kept<
     alloc: Global,
     keeper: K,
     copier: L,
-    place: &Place<'_>,
+    location: &StoreLocation<'_>,
     mut state: ReplayedStore,
     said: &ServedArguments<'_>,
     output: &mut O,
 ) -> Result<(), Fault>
     requires first { state ≡ B.first }
-    ensures { RunsOpened C.call (K.holds keeper place.now.path.now) J.Journal.list J.Journal.misreads J.Journal.faults
-        J.Journal.may_leave (string_bytes place.now.opening) B.first said.now
+    ensures { RunsOpened C.call (K.holds keeper location.now.path.now) J.Journal.list J.Journal.misreads J.Journal.faults
+        J.Journal.may_leave (string_bytes location.now.opening) B.first said.now
         (O.contents output.old) (O.contents output.new) (exit_status_after result)
         ⊎ Fails IsOfStore (O.contents output.new ≡ O.contents output.old) (exit_status_after result) }
 {
-    let journal = keeper.open(place.path, place.opening.as_str(), &mut state)?;
+    let journal = keeper.open(location.path, location.opening.as_str(), &mut state)?;
     let both = state.into_stores()?;
     let workers = said.worker_count();
     let name = UnnamedFor::of(workers);
-    let copying = copying_for(said, copier, place);
+    let copying = copying_for(said, copier, location);
     open_hall::<B, Brand, J, L, C, N, R, O>(
         rt, alloc, name, both, journal, said, copying, workers, output,
     )
@@ -178,14 +180,16 @@ pub(crate) fn run_kept<
     path: &str,
     output: &mut O,
 ) -> Result<(), Fault>
-    requires named { store_of said.now ≡ Some path.now }
+    requires named { path_in said.now.store ≡ Some path.now }
     ensures { (words : List Text) → SaysServed words said.now
         → Fails (RefusesServedWords words) (O.contents output.new ≡ O.contents output.old) (exit_status_after result)
         ⊎ RunsKept C.call (K.holds keeper) J.Journal.list J.Journal.misreads J.Journal.faults J.Journal.may_leave
         words (O.contents output.old) (O.contents output.new) (exit_status_after result) }
 {
     let (first, opening) = store_and_opening_for(alloc, seed, said.digest, &said.names)?;
-    let place = Place { path, opening };
+    let location = StoreLocation { path, opening };
     let state = ReplayedStore::new(alloc, first);
-    serve_kept::<Brand, J, K, L, C, N, R, O>(rt, alloc, keeper, copier, &place, state, said, output)
+    serve_kept::<Brand, J, K, L, C, N, R, O>(
+        rt, alloc, keeper, copier, &location, state, said, output,
+    )
 }

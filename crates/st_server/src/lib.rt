@@ -11,4 +11,4 @@ mod served;
 mod serving;
 mod stations;
 
-pub use served::serve_words;
+pub use served::serve_with;

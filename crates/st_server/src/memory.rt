@@ -3,9 +3,10 @@ ghost use Rattle.std.specs.Prelude.{◌≡◌, ◌<◌, ◌⊎◌, None, List, m
 ghost use Rattle.st_text.specs.Texts.{Text};
 ghost use Rattle.st_command.specs.Opening.{Fails, OpensState};
 ghost use Rattle.st_server.specs.Attending.{Attends};
-ghost use Rattle.st_server.specs.Serving.{RunsInMemory, in_memory};
+ghost use Rattle.st_server.specs.Serving.{RunsInMemory, nothing_left};
 ghost use Rattle.st_server_workers.specs.Telling.{Tells};
-ghost use Rattle.st_command_line.specs.ServedArguments.{RefusesServedWords, SaysServed, place_text, store_of};
+ghost use Rattle.st_command_line.specs.Common.{path_in};
+ghost use Rattle.st_command_line.specs.ServedArguments.{RefusesServedWords, SaysServed, address_text};
 ghost use Rattle.st_command_line.specs.Status.{exit_status_after};
 
 use crate::copying::{Copying, NoList};
@@ -49,12 +50,13 @@ fn open_hall<
     workers: u16,
     output: &mut O,
 ) -> Result<(), Fault>
-    requires named { (name.seen.book ≡ H.book) × (name.blank.name ≡ H.name) }
+    requires named { (name.seen.book ≡ H.book) × (name.blank.name ≡ H.name) × (name.mark.name ≡ H.mark) }
     requires workers { (name.blank.parts ≡ workers) × (H.parts ≡ workers) × (0 < workers) }
     requires alike { (both.0 ≡ H.start) × (both.1 ≡ H.start) }
     requires opens { OpensState said.now.digest.now (map (λ name. name.now) said.now.names.items) both.0 }
-    ensures told { Tells (place_text said.now.place) said.now.connections (O.contents output.old) (O.contents output.new) result }
-    ensures attended { Attends C.call H.start in_memory 0 said.now.connections result }
+    ensures told { Tells (address_text said.now.bind_address) said.now.connections
+        (O.contents output.old) (O.contents output.new) result }
+    ensures attended { Attends C.call H.start nothing_left 0 said.now.connections result }
 {
     match Hall::<H>::open_for(rt, alloc, name, both.0, both.1, workers) {
         Ok((clerk, desks)) => {
@@ -89,7 +91,7 @@ pub(crate) fn run_in_memory<
     said: &ServedArguments<'_>,
     output: &mut O,
 ) -> Result<(), Fault>
-    requires in_memory { store_of said.now ≡ None }
+    requires in_memory { path_in said.now.store ≡ None }
     ensures { (words : List Text) → SaysServed words said.now
         → RunsInMemory C.call words (O.contents output.old) (O.contents output.new) (exit_status_after result)
         ⊎ Fails (RefusesServedWords words) (O.contents output.new ≡ O.contents output.old) (exit_status_after result) }

@@ -1,19 +1,19 @@
 //! Serving at the desks of a hall, whatever makes its changes.
 ghost use Rattle.std.specs.Prelude.{◌≡◌, ◌<◌, ◌⊎◌, [], All, Err, IfErr, IfOk, Ok, length};
-ghost use Rattle.st_command_line.specs.ServedArguments.{place_text};
+ghost use Rattle.st_command_line.specs.ServedArguments.{address_text};
 ghost use Rattle.st_command_line.specs.declared.fault.Fault.TheVariants.{NoMemory, StoreLost};
 ghost use Rattle.st_hall.specs.Views.{opening_seat};
 ghost use Rattle.st_server.specs.Attending.{Attends, AttendsFrom};
 ghost use Rattle.st_server.specs.Keeping.{TellsKept};
 
 use crate::copying::{Copying, attend_and_copy};
-use crate::leaving::{AtDesk, are_equal, join_lists, kept_of};
+use crate::leaving::{AtDesk, join_lists, kept_of};
 use crate::stations::{Open, stations_at};
 use st_command_line::{Fault, ServedArguments};
 use st_connection::Attend;
-use st_hall::{Commits, Desk, Front, HallName};
+use st_hall::{Commits, Desk, Front, HallName, KeptFront};
 use st_hall_station::Station;
-use st_journal_copy::{Copier, Source};
+use st_journal_copy::{Copier, RecordSource};
 use st_server_peer::{Client, Listens};
 use st_server_workers::{Attended, Binds, begin, tell};
 use std::alloc::Global;
@@ -37,14 +37,14 @@ fn why_lost<H: HallName, M: Commits<H>, R: Wait>(rt: &R, hall: &M) -> Fault
     }
 }
 
-// How serving ends once all workers are back: well where all changes are kept.
+// How serving ends once all workers are back: well where all changes are kept, and then with their list as one that is.
 fn finish<H: HallName, M: Commits<H>, R: Wait>(
     rt: &R,
     hall: &M,
     ended: Result<u16, Fault>,
     list: &Front<H>,
-) -> Result<u16, Fault>
-    ensures ok { IfOk result (λ number. (ended ≡ Ok number) × M.keeps list.now) }
+) -> Result<(u16, KeptFront<H>), Fault>
+    ensures ok { IfOk result (λ well. (ended ≡ Ok well.0) × (well.1 ≡ list.now)) }
     ensures err { IfErr result (λ fault. (ended ≡ Err fault) ⊎ ((fault ≡ StoreLost) ⊎ (fault ≡ NoMemory))) }
     ensures failed { result ≡ Err StoreLost → (ended ≡ Err StoreLost) ⊎ M.fails }
 {
@@ -52,11 +52,10 @@ fn finish<H: HallName, M: Commits<H>, R: Wait>(
         return Err(why_lost(rt, hall));
     }
     let number = ended?;
-    let settled = hall.settle(rt, list);
-    if settled.is_err() {
-        return Err(why_lost(rt, hall));
+    match hall.sync(rt, list) {
+        Ok((kept, _)) => Ok((number, kept)),
+        Err(_) => Err(why_lost(rt, hall)),
     }
-    Ok(number)
 }
 
 // Tells that the server listens, serves connections, sees that all changes are kept, and tells how many were served, or that the store
@@ -67,7 +66,7 @@ fn announce<
     T: Attend + AtDesk<H> + Send + Drop,
     C: Client + Send + Drop,
     N: Binds + Listens<Accepted = C> + Sync + Drop,
-    L: Source + Drop + Send,
+    L: RecordSource + Drop + Send,
     K: Copier + Drop + Send,
     R: Net<Listener = TcpListener, Stream = TcpStream>
         + Files
@@ -88,9 +87,10 @@ fn announce<
     output: &mut O,
 ) -> Result<(), Fault>
     requires { (length attendants.items ≡ H.parts) × (0 < H.parts) }
-    ensures told { TellsKept (place_text said.now.place) said.now.connections (O.contents output.old) (O.contents output.new) result }
+    ensures told { TellsKept (address_text said.now.bind_address) said.now.connections
+        (O.contents output.old) (O.contents output.new) result }
     ensures failed { result ≡ Err StoreLost → M.fails }
-    ensures attended { AttendsFrom (record { keeps = M.keeps; leaves = M.leaves }) T.Attend.serves C.call T.AtDesk.standing
+    ensures attended { AttendsFrom M.leaves T.Attend.serves C.call T.AtDesk.standing
         attendants.items said.now.connections result }
 {
     let listener: N = match begin(rt, alloc, said, output) {
@@ -109,14 +109,21 @@ fn announce<
         return Err(fault);
     }
     let joined = join_lists::<H, M, T, R>(rt, alloc, hall, workers)?;
-    let finished = finish(rt, hall, ended, &joined.list);
-    let kept = kept_of(rt, hall, &joined)?;
-    let number = finished?;
-    // That what is kept is not the whole list never comes.
-    if !are_equal(&kept, &joined.list) {
-        return Err(Fault::NoMemory);
+    match finish(rt, hall, ended, &joined.list) {
+        Ok((number, whole)) => {
+            let kept = kept_of(rt, hall, &joined, &whole)?;
+            drop(kept);
+            tell(alloc, output, "served", number)
+        }
+        Err(fault) => {
+            let Some(known) = joined.synced.as_slice().first() else {
+                return Err(Fault::NoMemory);
+            };
+            let kept = kept_of(rt, hall, &joined, known)?;
+            drop(kept);
+            Err(fault)
+        }
     }
-    tell(alloc, output, "served", number)
 }
 
 // Serves at the desks of a hall that was just opened, by a station each, as the words say. A copy follows the list where one is wanted.
@@ -125,7 +132,7 @@ pub(crate) fn serve_at<
     M: Commits<H> + Sync,
     C: Client + Send + Drop,
     N: Binds + Listens<Accepted = C> + Sync + Drop,
-    L: Source + Drop + Send,
+    L: RecordSource + Drop + Send,
     K: Copier + Drop + Send,
     R: Net<Listener = TcpListener, Stream = TcpStream>
         + Files
@@ -147,9 +154,10 @@ pub(crate) fn serve_at<
 ) -> Result<(), Fault>
     requires new { All (λ desk. desk ≡ opening_seat []) desks.items }
     requires all { (length desks.items ≡ H.parts) × (0 < H.parts) }
-    ensures told { TellsKept (place_text said.now.place) said.now.connections (O.contents output.old) (O.contents output.new) result }
+    ensures told { TellsKept (address_text said.now.bind_address) said.now.connections
+        (O.contents output.old) (O.contents output.new) result }
     ensures failed { result ≡ Err StoreLost → M.fails }
-    ensures attended { Attends C.call H.start (record { keeps = M.keeps; leaves = M.leaves }) M.HOLD said.now.connections result }
+    ensures attended { Attends C.call H.start M.leaves M.HOLD said.now.connections result }
 {
     match stations_at(rt, alloc, hall, desks) {
         Ok(stations) => announce::<H, M, Station<'_, H, M, Open, R>, C, N, L, K, R, O>(

@@ -4,7 +4,7 @@ ghost use Rattle.st_hall.specs.Views.{opening_seat};
 ghost use Rattle.st_server.specs.Attending.{AreNew, new_station};
 
 use crate::leaving::AtDesk;
-use st_hall::{Commits, Desk, Front, Gate, HallName};
+use st_hall::{Commits, Desk, Gate, HallName, KeptFront};
 use st_hall_station::Station;
 use std::alloc::{AllocError, Global};
 use std::sync::Wait;
@@ -26,7 +26,7 @@ impl Gate for Open {
 impl<'a, H: HallName, M: Commits<H>, R: Wait> AtDesk<H> for Station<'a, H, M, Open, R> {
     ghost standing = { λ station. station };
 
-    fn apart(self) -> (Desk<H>, Front<H>) {
+    fn apart(self) -> (Desk<H>, KeptFront<H>) {
         Station::apart(self)
     }
 }
@@ -42,11 +42,13 @@ fn station_at<'a, H: HallName, M: Commits<H>, R: Wait>(
     requires { desk ≡ opening_seat [] }
     ensures { IfOk result (λ station. station ≡ new_station number) }
 {
-    let front = desk.front();
-    if !hall.has_kept(rt, &front) {
-        return Err(AllocError);
+    match hall.find_kept(rt, &desk.front()) {
+        Some(kept) => Station::new(rt, alloc, number, desk, kept, hall, &Open),
+        None => {
+            drop(desk);
+            Err(AllocError)
+        }
     }
-    Station::new(rt, alloc, number, desk, hall, &Open)
 }
 
 // A station at each desk, numbered from 1.

@@ -86,7 +86,7 @@ impl<'a, L: Listens> Acceptor<'a, L> {
     }
 
     // Says whether the machine is short of files or memory, where that has changed.
-    fn tell<R: Eprint>(&mut self, rt: &R, is_short: bool, what: &str) {
+    fn report<R: Eprint>(&mut self, rt: &R, is_short: bool, what: &str) {
         if self.is_short != is_short {
             self.is_short = is_short;
             let program = self.program;
@@ -104,13 +104,13 @@ impl<'a, L: Listens> Acceptor<'a, L> {
             }
             match self.listener.accept() {
                 Ok(stream) => {
-                    self.tell(rt, false, "accepting again");
+                    self.report(rt, false, "accepting again");
                     return Ok(stream);
                 }
                 Err(error) => match cause_of(&error) {
                     Cause::Connection => {}
                     Cause::Machine => {
-                        self.tell(rt, true, "no file or memory for a connection: waiting");
+                        self.report(rt, true, "no file or memory for a connection: waiting");
                         thread::sleep(rt, wait);
                         wait = longer(wait);
                     }

@@ -1,4 +1,8 @@
 //! What the server reads from a client.
+//!
+//! A message that comes whole in one read costs no reading of the clock while both limits are equal. The loop notifies its source
+//! of what is left unanswered (`Source::answered`), which changes nothing that a contract sees. A socket's own limit is for one
+//! read (`SO_RCVTIMEO`).
 ghost use Rattle.std.specs.Prelude.{◌≡◌, ◌↔◌, ◌<◌, ◌≤◌, false, None, IfOk, IsTrue};
 
 use crate::watching::{Crowd, Watch};

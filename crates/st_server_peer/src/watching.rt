@@ -53,8 +53,8 @@ fn comes_soon(stream: &TcpStream) -> bool {
     false
 }
 
-/// Watches a stream while the server has processors to spare, so that a message which comes at once finds the server awake. Where it
-/// was watched for nothing, it is not watched for the next messages: 1, then 3, and so on up to 63.
+// Watches a stream while the server has processors to spare, so that a message which comes at once finds the server awake. Where it
+// was watched for nothing, it is not watched for the next messages: 1, then 3, and so on up to 63.
 #[derive(Drop)]
 pub(crate) struct Watch<'a> {
     crowd: &'a Crowd,
@@ -87,7 +87,7 @@ impl<'a> Watch<'a> {
         let _set = stream.set_nonblocking(false);
     }
 
-    /// Waits a little for the next message, if that is worth it.
+    // Waits a little for the next message, if that is worth it.
     pub(crate) fn wait(&mut self, stream: &TcpStream) {
         if self.rest > 0 {
             self.rest -= 1;

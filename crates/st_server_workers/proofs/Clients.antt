@@ -1,5 +1,5 @@
 -- How the clients that an attendant meets are counted.
-use Rattle.std.proofs.Common.{◌≡◌, ◌+◌, ℕ, Option, Result, [], ◌∷◌, length, refl, arith}
+use Rattle.std.proofs.Common.{◌≡◌, ◌+◌, ℕ, Option, Result, [], ◌∷◌, refl, arith}
 use Rattle.st_connection.specs.declared.connection.Ended.{Ended}
 use Rattle.st_connection.specs.declared.connection.IoFault.{IoFault}
 use Rattle.st_server_peer.specs.Meeting.{Call, MeetsClient, Met, Serving}

@@ -11,27 +11,27 @@ use Rattle.st_server_workers.specs.Telling.{Stops, Tells, line}
 abbrev pub Untold : Option (List ℕ) → Option (List ℕ) → Fault → Type 0
 Untold old new fault = (fault ≡ Write) ⊎ ((fault ≡ NoMemory) × (new ≡ old))
 
-pub not_bound : (place : Text) (connections : Option ℕ) (old : Option (List ℕ)) (fault : Fault) → fault ≡ Bind → Tells place connections old old (Err fault)
-not_bound place connections old fault is = subst (λ f. Tells place connections old old (Err f)) (sym is) (Appends-nil old)
+pub not_bound : (address : Text) (connections : Option ℕ) (old : Option (List ℕ)) (fault : Fault) → fault ≡ Bind → Tells address connections old old (Err fault)
+not_bound address connections old fault is = subst (λ f. Tells address connections old old (Err f)) (sym is) (Appends-nil old)
 
-pub no_memory : (place : Text) (connections : Option ℕ) (old : Option (List ℕ)) (fault : Fault) → fault ≡ NoMemory → Tells place connections old old (Err fault)
-no_memory place connections old fault is = subst (λ f. Tells place connections old old (Err f)) (sym is) (inl (Appends-nil old))
+pub no_memory : (address : Text) (connections : Option ℕ) (old : Option (List ℕ)) (fault : Fault) → fault ≡ NoMemory → Tells address connections old old (Err fault)
+no_memory address connections old fault is = subst (λ f. Tells address connections old old (Err f)) (sym is) (inl (Appends-nil old))
 
-pub not_listening : (place : Text) (connections : Option ℕ) (old new : Option (List ℕ)) (fault : Fault) → Untold old new fault → Tells place connections old new (Err fault)
-not_listening place connections old new fault (inl is) = subst (λ f. Tells place connections old new (Err f)) (sym is) tt
-not_listening place connections old new fault (inr h) = subst (λ n. Tells place connections old n (Err fault)) (sym h.1) (no_memory place connections old fault h.0)
+pub not_listening : (address : Text) (connections : Option ℕ) (old new : Option (List ℕ)) (fault : Fault) → Untold old new fault → Tells address connections old new (Err fault)
+not_listening address connections old new fault (inl is) = subst (λ f. Tells address connections old new (Err f)) (sym is) tt
+not_listening address connections old new fault (inr h) = subst (λ n. Tells address connections old n (Err fault)) (sym h.1) (no_memory address connections old fault h.0)
 
-pub all_told : (place : Text) (number : ℕ) (connections : Option ℕ) (old mid new : Option (List ℕ)) (result : Result Unit Fault)
-    → Appends old mid (line (codes "listening") place) → connections ≡ Some number
+pub all_told : (address : Text) (number : ℕ) (connections : Option ℕ) (old mid new : Option (List ℕ)) (result : Result Unit Fault)
+    → Appends old mid (line (codes "listening") address) → connections ≡ Some number
     → OnOk result (Appends mid new (line (codes "served") (decimal number))) → IfErr result (Untold mid new)
-    → Tells place connections old new result
-all_told place number connections old mid new (Ok done) first is told untold = (number, is, Appends-trans old mid new _ _ first told)
-all_told place number connections old mid new (Err fault) first is told (inl write) = subst (λ f. Tells place connections old new (Err f)) (sym write) tt
-all_told place number connections old mid new (Err fault) first is told (inr h) =
-    subst (λ f. Tells place connections old new (Err f)) (sym h.0) (inr (subst (λ n. Appends old n (line (codes "listening") place)) (sym h.1) first))
+    → Tells address connections old new result
+all_told address number connections old mid new (Ok done) first is told untold = (number, is, Appends-trans old mid new _ _ first told)
+all_told address number connections old mid new (Err fault) first is told (inl write) = subst (λ f. Tells address connections old new (Err f)) (sym write) tt
+all_told address number connections old mid new (Err fault) first is told (inr h) =
+    subst (λ f. Tells address connections old new (Err f)) (sym h.0) (inr (subst (λ n. Appends old n (line (codes "listening") address)) (sym h.1) first))
 
-pub stopped : (place : Text) (connections : Option ℕ) (old new : Option (List ℕ)) (fault : Fault) → Appends old new (line (codes "listening") place)
-    → Stops fault → Tells place connections old new (Err fault)
-stopped place connections old new fault told (inl is) = subst (λ f. Tells place connections old new (Err f)) (sym is) told
-stopped place connections old new fault told (inr (inl is)) = subst (λ f. Tells place connections old new (Err f)) (sym is) told
-stopped place connections old new fault told (inr (inr is)) = subst (λ f. Tells place connections old new (Err f)) (sym is) (inr told)
+pub stopped : (address : Text) (connections : Option ℕ) (old new : Option (List ℕ)) (fault : Fault) → Appends old new (line (codes "listening") address)
+    → Stops fault → Tells address connections old new (Err fault)
+stopped address connections old new fault told (inl is) = subst (λ f. Tells address connections old new (Err f)) (sym is) told
+stopped address connections old new fault told (inr (inl is)) = subst (λ f. Tells address connections old new (Err f)) (sym is) told
+stopped address connections old new fault told (inr (inr is)) = subst (λ f. Tells address connections old new (Err f)) (sym is) (inr told)

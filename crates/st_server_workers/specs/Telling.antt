@@ -9,20 +9,19 @@ use Rattle.st_command_line.specs.declared.fault.Fault.TheVariants.{Bind, Accept,
 abbrev pub line : (what text : Text) → Text
 line what text = what ++ codes " " ++ text ++ codes "\n"
 
--- The server listened at the place, and served so many connections.
-abbrev pub told_whole : Text → ℕ → Text
-told_whole place connections = line (codes "listening") place ++ line (codes "served") (decimal connections)
-
--- What is told of a server at a place. It ends well only where it was to serve so many connections.
+-- What is told of a server at an address: that it listens, and how many connections it served. It ends well only where it was to serve so
+-- many connections.
 abbrev pub Tells : Text → Option ℕ → Option (List ℕ) → Option (List ℕ) → Result Unit Fault → Type 0
-Tells place connections old new (Ok done) = (number : ℕ) × (connections ≡ Some number) × Appends old new (told_whole place number)
-Tells place connections old new (Err Bind) = Appends old new []
-Tells place connections old new (Err NoPlace) = Appends old new []
-Tells place connections old new (Err Accept) = Appends old new (line (codes "listening") place)
-Tells place connections old new (Err NoThread) = Appends old new (line (codes "listening") place)
-Tells place connections old new (Err NoMemory) = Appends old new [] ⊎ Appends old new (line (codes "listening") place)
-Tells place connections old new (Err Write) = Unit {0}
-Tells place connections old new (Err _) = ⊥
+Tells address connections old new (Ok done) =
+    (number : ℕ) × (connections ≡ Some number)
+    × Appends old new (line (codes "listening") address ++ line (codes "served") (decimal number))
+Tells address connections old new (Err Bind) = Appends old new []
+Tells address connections old new (Err NoPlace) = Appends old new []
+Tells address connections old new (Err Accept) = Appends old new (line (codes "listening") address)
+Tells address connections old new (Err NoThread) = Appends old new (line (codes "listening") address)
+Tells address connections old new (Err NoMemory) = Appends old new [] ⊎ Appends old new (line (codes "listening") address)
+Tells address connections old new (Err Write) = Unit {0}
+Tells address connections old new (Err _) = ⊥
 
 -- serving stopped before its end
 abbrev pub Stops : Fault → Type 0

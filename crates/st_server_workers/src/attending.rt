@@ -47,8 +47,8 @@ fn total<T>(workers: &[Worked<T>]) -> Option<u64>
     Some(sum)
 }
 
-// What is told where so many connections were accepted.
-fn told<T>(
+// How serving ended where so many connections were accepted.
+fn ending_of<T>(
     workers: &[Worked<T>],
     connections: u16,
     distributed: Result<(), Fault>,
@@ -83,7 +83,7 @@ fn attend_number<
 {
     match serve_number(rt, alloc, listener, connections, limits, attendants) {
         Ok((workers, distributed)) => {
-            let ended = told(&workers, connections, distributed);
+            let ended = ending_of(&workers, connections, distributed);
             Attended { workers, ended }
         }
         Err(fault) => stopped(alloc, fault),

@@ -2,17 +2,17 @@
 ghost use Rattle.std.specs.Prelude.{◌≡◌, ◌⊎◌, Err, IfErr, OnOk, codes, decimal};
 ghost use Rattle.std.specs.Io.KnownBytes.{Appends};
 ghost use Rattle.st_server_workers.specs.Telling.{Tells, line};
-ghost use Rattle.st_command_line.specs.ServedArguments.{place_text};
+ghost use Rattle.st_command_line.specs.ServedArguments.{address_text};
 ghost use Rattle.st_command_line.specs.declared.fault.Fault.TheVariants.{Bind, Write as Unwritten, NoMemory};
 
-use st_command_line::{Fault, Place, ServedArguments};
+use st_command_line::{BindAddress, Fault, ServedArguments};
 use st_server_peer::{Listener, Listens, SocketListener};
 use std::alloc::Global;
 use std::fs::Files;
 use std::io::{self, Write};
 use std::net::{Net, SocketAddr, TcpListener, TcpStream};
 
-/// A listener at a place that a command line names.
+/// A listener at an address that a command line names.
 pub trait Binds: Listens {
     /// Listens where the words say.
     fn bind<R: Net<Listener = TcpListener, Stream = TcpStream> + Files>(
@@ -22,7 +22,7 @@ pub trait Binds: Listens {
     where
         Self: Sized;
 
-    /// Removes what was made at the place to listen there.
+    /// Removes what was made at the address to listen there.
     fn leave<R: Files>(&self, rt: &R, said: &ServedArguments<'_>);
 }
 
@@ -31,18 +31,18 @@ impl Binds for Listener {
         rt: &R,
         said: &ServedArguments<'_>,
     ) -> io::Result<Listener> {
-        match said.place {
-            Place::Port(port) => {
+        match said.bind_address {
+            BindAddress::Port(port) => {
                 let port = TcpListener::bind(rt, SocketAddr::V4(said.address(port)))?;
                 Ok(Listener::Port(port))
             }
-            Place::Socket(path) => Ok(Listener::Socket(SocketListener::bind(rt, path)?)),
+            BindAddress::Socket(path) => Ok(Listener::Socket(SocketListener::bind(rt, path)?)),
         }
     }
 
     fn leave<R: Files>(&self, rt: &R, said: &ServedArguments<'_>) {
         if let Listener::Socket(socket) = self {
-            if let Place::Socket(path) = said.place {
+            if let BindAddress::Socket(path) = said.bind_address {
                 socket.remove(rt, path);
             }
         }
@@ -89,15 +89,19 @@ fn tell_path<O: Write>(alloc: Global, output: &mut O, what: &str, path: &str) ->
 }
 
 // Tells where the server listens.
-fn tell_place<O: Write>(alloc: Global, output: &mut O, place: Place<'_>) -> Result<(), Fault>
+fn tell_bind_address<O: Write>(
+    alloc: Global,
+    output: &mut O,
+    address: BindAddress<'_>,
+) -> Result<(), Fault>
     ensures ok { OnOk result (Appends (O.contents output.old) (O.contents output.new)
-        (line (codes "listening") (place_text place.entry))) }
+        (line (codes "listening") (address_text address.entry))) }
     ensures err { IfErr result (λ fault. (fault ≡ Unwritten)
         ⊎ ((fault ≡ NoMemory) × (O.contents output.new ≡ O.contents output.old))) }
 {
-    match place {
-        Place::Port(port) => tell(alloc, output, "listening", port),
-        Place::Socket(path) => tell_path(alloc, output, "listening", path),
+    match address {
+        BindAddress::Port(port) => tell(alloc, output, "listening", port),
+        BindAddress::Socket(path) => tell_path(alloc, output, "listening", path),
     }
 }
 
@@ -109,12 +113,12 @@ pub fn begin<L: Binds + Drop, R: Net<Listener = TcpListener, Stream = TcpStream>
     output: &mut O,
 ) -> Result<L, Fault>
     ensures ok { OnOk result (Appends (O.contents output.old) (O.contents output.new)
-        (line (codes "listening") (place_text said.now.place))) }
-    ensures err { IfErr result (λ fault. Tells (place_text said.now.place) said.now.connections
+        (line (codes "listening") (address_text said.now.bind_address))) }
+    ensures err { IfErr result (λ fault. Tells (address_text said.now.bind_address) said.now.connections
         (O.contents output.old) (O.contents output.new) (Err fault)) }
 {
     let listener: L = listen(rt, said)?;
-    match tell_place(alloc, output, said.place) {
+    match tell_bind_address(alloc, output, said.bind_address) {
         Ok(()) => Ok(listener),
         Err(fault) => {
             listener.leave(rt, said);

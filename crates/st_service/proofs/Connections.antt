@@ -11,7 +11,7 @@ use Rattle.st_service.specs.Answers.{Answers, IsBusy, StateAnswers, told, busy, 
 use Rattle.st_service.specs.Worlds.{Event, ItemAsks, IsHistory, requests, next_state, item_text}
 use Rattle.st_service.specs.Worlds as worlds
 use Rattle.st_service.proofs.Histories.{asks_one}
-use Rattle.st_connection.specs.Connection.{Run, Told}
+use Rattle.st_connection.specs.Connection.{Run, WithInterim}
 use Rattle.st_connection.specs.Render.{interim}
 
 abbrev NotBusy : List (List ℕ) → Type 0
@@ -50,7 +50,7 @@ module _ {A : Type 0} where
   raw_so s mid (fault reason bare) answer text (said, same) is some = record { asked = None; answered = record { asks = tt; text = is ∙ said; state = same } }
   raw_so s mid (more waits) answer text one is some = absurd one
 
-  answered_so : (s mid : State A) (item : First) (text : List ℕ) → Told Answers s item text mid → (IsBusy text → ⊥) → AnsweredSo s mid item text
+  answered_so : (s mid : State A) (item : First) (text : List ℕ) → WithInterim Answers s item text mid → (IsBusy text → ⊥) → AnsweredSo s mid item text
   answered_so s mid item text (answer, is, one) some = raw_so s mid item answer text one is some
 
   -- the items of such a run are a history
@@ -58,7 +58,7 @@ module _ {A : Type 0} where
     pub history : List (Event A)
     pub is_history : IsHistory items history
 
-  pub heard : (s t : State A) (items : List First) (texts : List (List ℕ)) → Run (Told Answers) s items texts t → NotBusy texts → Heard s t items texts
+  pub heard : (s t : State A) (items : List First) (texts : List (List ℕ)) → Run (WithInterim Answers) s items texts t → NotBusy texts → Heard s t items texts
   heard s t [] [] run some = record { history = []; is_history = tt }
   heard s t [] (text ∷ texts) run some = absurd run
   heard s t (item ∷ items) [] run some = absurd run
@@ -67,7 +67,7 @@ module _ {A : Type 0} where
       let more = heard mid t items texts rest (All-tail (λ a. IsBusy a → ⊥) text texts some) in
       record {
         history = record { item = item; asked = first.asked } ∷ more.history;
-        is_history = (refl, first.answered.asks, more.is_history);
+        is_history = ((refl, first.answered.asks), more.is_history);
       }
 
   -- and its answers and its state are those of the definitions
@@ -75,14 +75,14 @@ module _ {A : Type 0} where
     pub texts_are : texts ≡ worlds.answers s history
     pub ends : t ≡ after s (requests history)
 
-  pub defined : (s t : State A) (items : List First) (texts : List (List ℕ)) (history : List (Event A)) → Run (Told Answers) s items texts t → NotBusy texts
+  pub defined : (s t : State A) (items : List First) (texts : List (List ℕ)) (history : List (Event A)) → Run (WithInterim Answers) s items texts t → NotBusy texts
       → IsHistory items history → Defined s t texts history
   defined s t [] [] [] run some h = record { texts_are = refl; ends = run }
   defined s t [] [] (event ∷ events) run some h = absurd h
   defined s t [] (text ∷ texts) history run some h = absurd run
   defined s t (item ∷ items) [] history run some h = absurd run
   defined s t (item ∷ items) (text ∷ texts) [] run some h = absurd h
-  defined s t (item ∷ items) (text ∷ texts) (event ∷ events) (mid, one, rest) some (is, asks, h) =
+  defined s t (item ∷ items) (text ∷ texts) (event ∷ events) (mid, one, rest) some ((is, asks), h) =
       let first = answered_so s mid item text one (All-head (λ a. IsBusy a → ⊥) text texts some) in
       let same = asks_one item first.asked event.asked first.answered.asks asks in
       let here : text ≡ item_text event.item (option_map (λ a. (step s a).reply) event.asked) =
@@ -99,9 +99,9 @@ module _ {A : Type 0} where
       last (Some asked) e = simp e
 
   -- a run and another after it are one
-  pub joined : (s m t : State A) (items others : List First) (texts later : List (List ℕ)) → Run (Told Answers) s items texts m → Run (Told Answers) m others later t
-      → Run (Told Answers) s (items ++ others) (texts ++ later) t
-  joined s m t [] others [] later run rest = subst (λ x. Run (Told Answers) x others later t) run rest
+  pub joined : (s m t : State A) (items others : List First) (texts later : List (List ℕ)) → Run (WithInterim Answers) s items texts m → Run (WithInterim Answers) m others later t
+      → Run (WithInterim Answers) s (items ++ others) (texts ++ later) t
+  joined s m t [] others [] later run rest = subst (λ x. Run (WithInterim Answers) x others later t) run rest
   joined s m t [] others (text ∷ texts) later run rest = absurd run
   joined s m t (item ∷ items) others [] later run rest = absurd run
   joined s m t (item ∷ items) others (text ∷ texts) later (mid, one, run) rest = (mid, one, joined mid m t items others texts later run rest)

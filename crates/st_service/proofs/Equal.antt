@@ -1,48 +1,28 @@
 -- What a user is answered, by the user's own items and the replies to them.
 use Rattle.std.proofs.Common.{◌≡◌, ℕ, List, [], ◌∷◌, ◌++◌, map, filter, Bool, true, false, Option, Some, None, refl, sym, ◌∙◌, ap, subst}
-use Rattle.std.specs.Prelude.{filter_map}
+use Rattle.std.specs.Prelude.{filter_map, is_some}
 use Rattle.st_text.specs.Texts.{Text}
-use Rattle.st_http.specs.First.{First, message, fault, more}
-use Rattle.st_connection.specs.Render.{interim}
+use Rattle.st_http.specs.First.{First}
 use Rattle.st_core.specs.declared.asked.Asked.{Asked}
 use Rattle.st_policy.specs.declared.reply.Reply.{Reply}
 use Rattle.st_core.specs.State.{State}
 use Rattle.st_core.specs.Step.{step}
 use Rattle.st_core.specs.Worlds.{ever, NeverSystem, names, keep, replies_to}
 use Rattle.st_core.proofs.Kept.{told_the_same}
-use Rattle.st_service.specs.Answers.{reply_text}
-use Rattle.st_service.specs.Worlds.{Form, form_of, Event, ItemAsks, IsHistory, requests, is_of, kept_events, Trace, trace_of, keep_history, keep_items, item_text, answers, answers_to}
+use Rattle.st_service.specs.Worlds.{Event, ItemAsks, IsHistory, requests, is_of, kept_events, Trace, trace_of, keep_history, keep_items, answers, answers_to}
 use Rattle.st_service.proofs.Histories.{each_asks, each_kept, same_events, whose, requests_kept, own_events, own_kept}
 
--- the text of an answer by its form
-abbrev form_text : {A : Type 0} → Option Form → Option (Reply A) → List ℕ
-form_text None reply = []
-form_text (Some form) None = interim form.expects ++ form.unrouted
-form_text (Some form) (Some reply) = interim form.expects ++ reply_text reply form.close form.bare
-
--- a user's own item is a message, and its answer hangs on its form
-text_is : {A : Type 0} (user : Text) (item : First) (reply : Option (Reply A)) → is_of user item ≡ true
-    → form_text (form_of item) reply ≡ item_text item reply
-text_is user (message h body bare) None e = refl
-text_is user (message h body bare) (Some reply) e = refl
-text_is user (fault reason bare) reply e = absurd (let k : false ≡ true = e in cc)
-text_is user (more waits) reply e = absurd (let k : false ≡ true = e in cc)
-
-abbrev has_form : Option Form → Bool
-has_form None = false
-has_form (Some form) = true
-
-owned : (user : Text) (item : First) → is_of user item ≡ true → has_form (form_of item) ≡ true
-owned user (message h body bare) e = refl
-owned user (fault reason bare) e = absurd (let k : false ≡ true = e in cc)
-owned user (more waits) e = absurd (let k : false ≡ true = e in cc)
+-- the text of an answer by what its item leaves
+abbrev own_text : {A : Type 0} → Option (Option (Reply A) → List ℕ) → Option (Reply A) → List ℕ
+own_text None reply = []
+own_text (Some text) reply = text reply
 
 module _ {A : Type 0} where
   -- an own item, and the rest of the answers by the replies that are left
-  abbrev told_one : Option Form → Option (Asked A) → (List (Reply A) → List (List ℕ)) → List (Reply A) → List (List ℕ)
-  told_one form None rest replies = form_text {A = A} form None ∷ rest replies
-  told_one form (Some asked) rest [] = []
-  told_one form (Some asked) rest (reply ∷ replies) = form_text form (Some reply) ∷ rest replies
+  abbrev told_one : Option (Option (Reply A) → List ℕ) → Option (Asked A) → (List (Reply A) → List (List ℕ)) → List (Reply A) → List (List ℕ)
+  told_one own None rest replies = own_text own None ∷ rest replies
+  told_one own (Some asked) rest [] = []
+  told_one own (Some asked) rest (reply ∷ replies) = own_text own (Some reply) ∷ rest replies
 
   abbrev told : List (Trace A) → List (Reply A) → List (List ℕ)
   told [] = λ replies. []
@@ -57,7 +37,7 @@ module _ {A : Type 0} where
   own_told user s [] [] h = refl
   own_told user s [] (event ∷ events) h = absurd h
   own_told user s (item ∷ items) [] h = absurd h
-  own_told user s (item ∷ items) (event ∷ events) (is, asks, rest) = by event.asked refl (λ m. own_told user m items events rest)
+  own_told user s (item ∷ items) (event ∷ events) ((is, asks), rest) = by event.asked refl (λ m. own_told user m items events rest)
     where
       Goal : Type 0
       Goal = answers_to user (item ∷ items) (answers s (event ∷ events))
@@ -69,9 +49,7 @@ module _ {A : Type 0} where
         where
           at : (b : Bool) → is_of user event.item ≡ b
               → answers_to user items (answers s events) ≡ told (own_traces user events) (replies_to user s (requests events)) → Goal
-          at true f ih =
-              let mine = ap (is_of user) (sym is) ∙ f in
-              let text = text_is {A = A} user event.item None f in simp (e, f, mine, text, ih)
+          at true f ih = let mine = ap (is_of user) (sym is) ∙ f in simp (e, f, mine, ih)
           at false f ih = let mine = ap (is_of user) (sym is) ∙ f in simp (e, f, mine, ih)
       by (Some asked) e onward =
           let own = whose user item asked (subst (λ o. ItemAsks item o) e asks) in
@@ -80,10 +58,7 @@ module _ {A : Type 0} where
           at : is_of user item ≡ names asked.token user → (b : Bool) → names asked.token user ≡ b
               → answers_to user items (answers (step s asked).state events)
               ≡ told (own_traces user events) (replies_to user (step s asked).state (requests events)) → Goal
-          at own true g ih =
-              let f = own ∙ g in
-              let mine = ap (is_of user) is ∙ f in
-              let text = text_is user event.item (Some (step s asked).reply) mine in simp (e, f, mine, g, text, ih)
+          at own true g ih = let f = own ∙ g in let mine = ap (is_of user) is ∙ f in simp (e, f, mine, g, ih)
           at own false g ih = let f = own ∙ g in let mine = ap (is_of user) is ∙ f in simp (e, f, mine, g, ih)
 
   -- ---- the traces say the requests that are kept, and the user's own events
@@ -100,7 +75,7 @@ module _ {A : Type 0} where
       at (Some asked) e ih = simp (e, ih)
 
   abbrev own_of : List (Trace A) → List (Trace A)
-  own_of traces = filter (λ trace. has_form trace.own) traces
+  own_of traces = filter (λ trace. is_some trace.own) traces
 
   own_traced : (user : Text) (events : List (Event A)) → own_traces user events ≡ own_of (map (trace_of user) events)
   own_traced user [] = refl
@@ -108,7 +83,7 @@ module _ {A : Type 0} where
     where
       at : (b : Bool) → is_of user event.item ≡ b → own_traces user rest ≡ own_of (map (trace_of user) rest)
           → own_traces user (event ∷ rest) ≡ own_of (map (trace_of user) (event ∷ rest))
-      at true e ih = let has = owned user event.item e in simp (e, has, ih)
+      at true e ih = simp (e, ih)
       at false e ih = simp (e, ih)
 
   -- histories of which the same items are kept

@@ -1,7 +1,9 @@
 -- What items ask, and what is kept of it.
 use Rattle.std.proofs.Common.{◌≡◌, ℕ, List, [], ◌∷◌, map, filter, Bool, true, false, Option, Some, None, refl, sym, ◌∙◌, ap, subst}
 use Rattle.std.specs.Bool.{⊤}
+use Rattle.std.specs.Option.{option_map_or}
 use Rattle.st_text.specs.Texts.{Text}
+use Rattle.st_dir.specs.Directory.{Directory}
 use Rattle.st_http.specs.declared.routes.Endpoint.{Endpoint}
 use Rattle.st_http.specs.First.{First, message, fault, more, fields_of}
 use Rattle.st_http.specs.Routes.{Routed, found, no_route, bad_method, routed}
@@ -12,7 +14,7 @@ use Rattle.st_core.specs.Step.{judge, step}
 use Rattle.st_core.specs.Worlds.{Sight, names, matters, kept}
 use Rattle.st_json.proofs.OneAnswer.{one_answer}
 use Rattle.st_service.specs.Answers.{Asks, IsUnrouted, call_from}
-use Rattle.st_service.specs.Worlds.{Event, ItemAsks, IsHistory, requests, is_of, item_stays, asks_what_matters, next_state, kept_events}
+use Rattle.st_service.specs.Worlds.{Event, ItemAsks, IsHistory, requests, is_of, item_stays, next_state, kept_events}
 
 -- ---- an item asks one thing
 
@@ -38,6 +40,10 @@ later [] = []
 later (x ∷ xs) = xs
 
 module _ {A : Type 0} where
+  -- what has no endpoint counts as refused
+  abbrev asks_what_matters : Sight → Directory A → Option (Asked A) → Bool
+  asks_what_matters sight d asked = option_map_or (λ a. matters sight (judge d a)) asked false
+
   one_asks : (endpoint : Endpoint) (name body : List ℕ) (token : Option UserAndSecret) (a b : Asked A) → Asks endpoint name token body a → Asks endpoint name token body b → a ≡ b
   one_asks endpoint name body token a b of_a of_b =
       let (d, made, call) = of_a.calls in
@@ -60,7 +66,8 @@ module _ {A : Type 0} where
   asks_one (fault reason bare) (Some a) b p q = absurd p
   asks_one (fault reason bare) None (Some b) p q = absurd q
   asks_one (fault reason bare) None None p q = refl
-  asks_one (more waits) a b p q = absurd p
+  asks_one (more waits) (Some a) b p q = absurd p
+  asks_one (more waits) None b p q = absurd p
 
   -- the items of events, each of which asks what its item does
   abbrev pub items_of : List (Event A) → List First
@@ -74,13 +81,13 @@ module _ {A : Type 0} where
   each_asks [] [] h = tt
   each_asks [] (event ∷ events) h = absurd h
   each_asks (item ∷ items) [] h = absurd h
-  each_asks (item ∷ items) (event ∷ events) (is, asks, rest) = (subst (λ x. ItemAsks x event.asked) (sym is) asks, each_asks items events rest)
+  each_asks (item ∷ items) (event ∷ events) ((is, asks), rest) = (subst (λ x. ItemAsks x event.asked) (sym is) asks, each_asks items events rest)
 
   pub of_items : (items : List First) (history : List (Event A)) → IsHistory items history → items ≡ items_of history
   of_items [] [] h = refl
   of_items [] (event ∷ events) h = absurd h
   of_items (item ∷ items) [] h = absurd h
-  of_items (item ∷ items) (event ∷ events) (is, asks, rest) = λ i. sym is i ∷ of_items items events rest i
+  of_items (item ∷ items) (event ∷ events) ((is, asks), rest) = λ i. sym is i ∷ of_items items events rest i
 
   -- the same items ask the same
   pub same_events : (xs ys : List (Event A)) → EachAsks xs → EachAsks ys → items_of xs ≡ items_of ys → xs ≡ ys

@@ -1,4 +1,4 @@
-pub mod Told
+pub mod Replying
 pub mod Histories
 pub mod Equal
 pub mod Connections

@@ -1,8 +1,8 @@
 -- Answers to messages whose token does not hold.
-use Rattle.std.proofs.Common.{◌≡◌, ℕ, List, Option, Some, None, Result, refl, sym, ap, subst, option_map}
+use Rattle.std.proofs.Common.{◌≡◌, ℕ, List, Option, None, Result, refl, sym, ap, subst, option_map}
 use Rattle.st_http.specs.declared.routes.Endpoint.{Endpoint}
 use Rattle.st_http.specs.declared.message.Message.{Message}
-use Rattle.st_http.specs.Routes.{ShowsRoute, found}
+use Rattle.st_http.specs.Routes.{found}
 use Rattle.st_text.specs.Texts.{Text}
 use Rattle.st_policy.specs.declared.denial.Denial.{Denial}
 use Rattle.st_policy.specs.declared.refusal.Refusal.{Refusal}
@@ -13,9 +13,9 @@ use Rattle.st_core.specs.State.{State}
 use Rattle.st_core.specs.Step.{asker_of, judge_call, settle, step}
 use Rattle.st_json.specs.Bodies.{Decoded}
 use Rattle.st_json.proofs.SomeAnswer.{some_answer}
-use Rattle.st_service.specs.Answers.{Asks, AsksBy, IsFound, RepliesTo, TellsOrBusy, call_from, token_from, token_in}
-use Rattle.st_service.specs.inner.Shown.{one_told}
-use Rattle.st_service.proofs.Told.{replies}
+use Rattle.st_service.specs.Answers.{Asks, AsksBy, IsFound, RepliesTo, RendersOrBusy, call_from, token_from, token_in}
+use Rattle.st_service.specs.inner.Represented.{one_route}
+use Rattle.st_service.proofs.Replying.{replies}
 
 -- what a message asks whose route is this endpoint and this name
 asks_there : {A : Type 0} (m : Message) (endpoint other : Endpoint) (name text : List ℕ) → found other text ≡ found endpoint name
@@ -38,8 +38,8 @@ module _ {A : Type 0} (s : State A) (m : Message) (is_found : IsFound m)
   asked = record { token = option_map token_from (token_in m); call = call_from decoded.0 }
 
   asks : AsksBy m asked
-  asks endpoint name shows =
-      asks_there m is_found.0 endpoint is_found.1 name (one_told m.route is_found.0 is_found.1 (found endpoint name) is_found.2 shows) decoded.0 decoded.1
+  asks endpoint name represents =
+      asks_there m is_found.0 endpoint is_found.1 name (one_route m.route is_found.0 is_found.1 (found endpoint name) is_found.2 represents) decoded.0 decoded.1
 
   stays : s ≡ (step s asked).state
   stays = sym (ap (λ (asker : Option Text). (settle s (judge_call s.directory asker asked.call)).state) none)
@@ -47,5 +47,5 @@ module _ {A : Type 0} (s : State A) (m : Message) (is_found : IsFound m)
   told : Reply.Refused (Refusal.Denied Denial.Token) ≡ (step s asked).reply
   told = sym (ap (λ (asker : Option Text). (settle s (judge_call s.directory asker asked.call)).reply) none)
 
-  pub replies_to_stranger : (bytes : List ℕ) → TellsOrBusy {A = A} (Reply.Refused (Refusal.Denied Denial.Token)) m.close m.bare bytes → RepliesTo s m bytes s
+  pub replies_to_stranger : (bytes : List ℕ) → RendersOrBusy {A = A} (Reply.Refused (Refusal.Denied Denial.Token)) m.close m.bare bytes → RepliesTo s m bytes s
   replies_to_stranger bytes text = replies s s m bytes asked is_found asks stays (Reply.Refused (Refusal.Denied Denial.Token)) told text

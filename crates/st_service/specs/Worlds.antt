@@ -1,6 +1,9 @@
 -- What the items of a text ask, what of them a user may notice, and what the user is answered. The items may come from one connection
 -- or from several, one after another.
-use Rattle.std.specs.Prelude.{◌≡◌, ℕ, Bool, false, ◌||◌, List, [], ◌∷◌, ◌++◌, map, filter_map, if◌then◌else◌, Option, Some, None, option_map, ⊤}
+use Rattle.std.specs.Prelude.{◌≡◌, ℕ, Bool, false, ◌||◌, List, [], ◌∷◌, ◌++◌, map, filter_map, if◌then◌else◌, Option, Some, None}
+use Rattle.std.specs.Prelude.{option_map, ⊤}
+use Rattle.std.specs.List.{AllZip, items_where_true}
+use Rattle.std.specs.Option.{option_map_or}
 use Rattle.st_text.specs.Texts.{Text}
 use Rattle.st_dir.specs.Directory.{Directory}
 use Rattle.st_http.specs.First.{First, message, fault, more, expects, fields_of}
@@ -25,16 +28,12 @@ pub record Event (A : Type 0) : Type 0 where
 abbrev pub ItemAsks : {A : Type 0} → First → Option (Asked A) → Type 0
 ItemAsks (message h body bare) (Some asked) = AsksIn (parsed h body bare) asked
 ItemAsks (message h body bare) None = IsUnrouted (routed h.method h.target)
-ItemAsks (fault reason bare) (Some asked) = ⊥
 ItemAsks (fault reason bare) None = ⊤
-ItemAsks (more waits) asked = ⊥
+ItemAsks _ _ = ⊥
 
 -- these are the items, in order, each with what it asks
 abbrev pub IsHistory : {A : Type 0} → List First → List (Event A) → Type 0
-IsHistory [] [] = ⊤
-IsHistory [] (event ∷ events) = ⊥
-IsHistory (item ∷ items) [] = ⊥
-IsHistory (item ∷ items) (event ∷ events) = (event.item ≡ item) × ItemAsks item event.asked × IsHistory items events
+IsHistory items history = AllZip (λ item event. (event.item ≡ item) × ItemAsks item event.asked) items history
 
 -- the requests of a history, in order
 abbrev pub requests : {A : Type 0} → List (Event A) → List (Asked A)
@@ -48,18 +47,13 @@ abbrev pub is_of : Text → First → Bool
 is_of user (message h body bare) = names (option_map token_from (token_of (fields_of h))) user
 is_of user _ = false
 
--- what has no endpoint counts as refused, as a fault does
-abbrev pub asks_what_matters : {A : Type 0} → Sight → Directory A → Option (Asked A) → Bool
-asks_what_matters sight d None = false
-asks_what_matters sight d (Some asked) = matters sight (judge d asked)
-
+-- An item stays if it is the user's, or if what it asks matters; what has no endpoint asks nothing, and a fault neither.
 abbrev pub item_stays : {A : Type 0} → Text → Sight → Directory A → Event A → Bool
-item_stays user sight d event = is_of user event.item || asks_what_matters sight d event.asked
+item_stays user sight d event = is_of user event.item || option_map_or (λ asked. matters sight (judge d asked)) event.asked false
 
 -- the state after an item that asks this
 abbrev pub next_state : {A : Type 0} → State A → Option (Asked A) → State A
-next_state s None = s
-next_state s (Some asked) = (step s asked).state
+next_state s asked = option_map_or (λ a. (step s a).state) asked s
 
 -- The items that stay for this sight, in order, each judged in the whole run.
 abbrev pub kept_events : {A : Type 0} → Text → Sight → State A → List (Event A) → List (Event A)
@@ -69,31 +63,23 @@ kept_events user sight s (event ∷ rest) =
     then event ∷ kept_events user sight (next_state s event.asked) rest
     else kept_events user sight (next_state s event.asked) rest
 
--- What the answer to a message hangs on beside what it asks: the answer where its route is no endpoint, and nothing where it is one;
--- whether the connection is closed after it; whether it is a HEAD request; and whether the client may wait for the interim response.
-pub record Form : Type 0 where
-  pub unrouted : List ℕ
-  pub close : Bool
-  pub bare : Bool
-  pub expects : Bool
+-- ---- what they leave to notice
 
--- the form of a message; no other item is a user's
-abbrev pub form_of : First → Option Form
-form_of (message h body bare) = Some (record {
-  unrouted = unrouted_text (routed h.method h.target) (close_of h) bare;
-  close = close_of h;
-  bare = bare;
-  expects = expects (message h body bare);
-})
-form_of _ = None
+-- the answer to an item that gets this reply, or none, behind the interim response that the item expects
+abbrev pub item_text : {A : Type 0} → First → Option (Reply A) → List ℕ
+item_text (message h body bare) (Some reply) = interim (expects (message h body bare)) ++ reply_text reply (close_of h) bare
+item_text (message h body bare) None = interim (expects (message h body bare)) ++ unrouted_text (routed h.method h.target) (close_of h) bare
+item_text (fault reason bare) reply = fault_text reason bare
+item_text (more waits) reply = []
 
--- What an item leaves to notice: what it asks, and of the user's own the form. How it is written otherwise does not matter.
+-- What an item leaves to notice: what it asks, and of the user's own how each reply to it is written, or none. How the item is written
+-- otherwise does not matter.
 pub record Trace (A : Type 0) : Type 0 where
-  pub own : Option Form
+  pub own : Option (Option (Reply A) → List ℕ)
   pub asked : Option (Asked A)
 
 abbrev pub trace_of : {A : Type 0} → Text → Event A → Trace A
-trace_of user event = record { own = if is_of user event.item then form_of event.item else None; asked = event.asked }
+trace_of user event = record { own = if is_of user event.item then Some (item_text event.item) else None; asked = event.asked }
 
 -- what the items leave that stay for what the user may ever see
 abbrev pub keep_history : {A : Type 0} → Text → State A → List (Event A) → List (Trace A)
@@ -105,13 +91,6 @@ keep_items user s history = map (λ event. event.item) (kept_events user (ever u
 
 -- ---- the answers
 
--- the answer to an item that gets this reply, or none, behind the interim response that the item expects
-abbrev pub item_text : {A : Type 0} → First → Option (Reply A) → List ℕ
-item_text (message h body bare) (Some reply) = interim (expects (message h body bare)) ++ reply_text reply (close_of h) bare
-item_text (message h body bare) None = interim (expects (message h body bare)) ++ unrouted_text (routed h.method h.target) (close_of h) bare
-item_text (fault reason bare) reply = fault_text reason bare
-item_text (more waits) reply = []
-
 -- the answers to the items of a history, in order: what asks takes its step, and what does not leaves the state
 abbrev pub answers : {A : Type 0} → State A → List (Event A) → List (List ℕ)
 answers s [] = []
@@ -120,6 +99,4 @@ answers s (event ∷ rest) =
 
 -- of the answers to items, those to the user's own
 abbrev pub answers_to : Text → List First → List (List ℕ) → List (List ℕ)
-answers_to user [] texts = []
-answers_to user (item ∷ items) [] = []
-answers_to user (item ∷ items) (text ∷ texts) = if is_of user item then text ∷ answers_to user items texts else answers_to user items texts
+answers_to user items texts = items_where_true (map (is_of user) items) texts

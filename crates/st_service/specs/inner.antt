@@ -1,2 +1,3 @@
 -- Lemmas of the contracts, which no reader has to believe.
-pub mod Shown
+pub mod Calls
+pub mod Represented

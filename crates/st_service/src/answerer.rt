@@ -3,7 +3,7 @@ ghost use Rattle.std.specs.Prelude.{◌≡◌, false, option_map, refl};
 ghost use Rattle.st_core.specs.State.{State};
 ghost use Rattle.st_service.specs.Answers.{Answers, AsksBy, IsFound, RepliesTo, StateAnswers, token_from, token_in};
 ghost use Rattle.st_service.specs.Bytes.{bytes_of};
-ghost use Rattle.st_service.specs.inner.Shown.{shown};
+ghost use Rattle.st_service.specs.inner.Represented.{is_replied};
 
 use crate::answer::Answer;
 use crate::asked::{asked_with, token_of};
@@ -42,8 +42,8 @@ impl<A: Allocator + Copy> Answerer<A> {
         }
     }
 
-    // Takes the step that a message asks, and tells the reply.
-    fn tell_step(&mut self, message: &Message<'_>, asked: &Asked<A>) -> Answer<A>
+    // Takes the step that a message asks, and answers with its reply.
+    fn answer_step(&mut self, message: &Message<'_>, asked: &Asked<A>) -> Answer<A>
         requires found { IsFound message.now }
         requires asks { AsksBy message.now asked.now }
         ensures { RepliesTo self.old message.now (bytes_of result) self.new }
@@ -66,7 +66,7 @@ impl<A: Allocator + Copy> Answerer<A> {
                 bare: message.bare,
             };
         };
-        let answer = self.tell_step(message, &asked);
+        let answer = self.answer_step(message, &asked);
         drop(asked);
         answer
     }
@@ -100,7 +100,7 @@ impl<A: Allocator + Copy> Replies for Answerer<A> {
 
     ghost replies = { RepliesTo };
 
-    ghost shown = { shown (StateAnswers {A = A}) };
+    ghost replied = { is_replied (StateAnswers {A = A}) };
 
     ghost faults = { λ s reason bare. (refl, refl) };
 
@@ -111,7 +111,7 @@ impl<A: Allocator + Copy> Replies for Answerer<A> {
         }
     }
 
-    fn settle(&mut self) -> Result<(), Failed> {
+    fn sync(&mut self) -> Result<(), Failed> {
         Ok(())
     }
 }

@@ -7,7 +7,7 @@ ghost use Rattle.st_core.specs.State.{State};
 ghost use Rattle.st_core.specs.Step.{asker_of, after};
 ghost use Rattle.st_core.specs.Worlds.{NeverSystem};
 ghost use Rattle.st_service.specs.Answers.{Answers, IsBusy, IsFound, RepliesTo, reply_text, token_from, token_in};
-ghost use Rattle.st_connection.specs.Connection.{Run, Served, Told};
+ghost use Rattle.st_connection.specs.Connection.{Run, Served, WithInterim};
 ghost use Rattle.st_connection.specs.Streams.{Streams};
 ghost use Rattle.st_connection.specs.declared.connection.Ended.{Ended};
 ghost use Rattle.st_connection.specs.declared.connection.IoFault.{IoFault};
@@ -21,18 +21,18 @@ use std::alloc::Allocator;
 /// Where no answer is a 503, the items have one history: what each of them asks. The answers are those of the
 /// history, and the state is that after its requests.
 pub fn one_history<A: Allocator>()
-    ensures there { (s t : State A) (items : List First) (texts : List (List ℕ)) → Run (Told Answers) s items texts t
+    ensures there { (s t : State A) (items : List First) (texts : List (List ℕ)) → Run (WithInterim Answers) s items texts t
         → All (λ answer. IsBusy answer → ⊥) texts → (history : List (Event A)) × IsHistory items history }
     ensures alone { (items : List First) (history other : List (Event A))
         → IsHistory items history → IsHistory items other → history ≡ other }
     ensures answered { (s t : State A) (items : List First) (texts : List (List ℕ)) (history : List (Event A))
-        → Run (Told Answers) s items texts t → All (λ answer. IsBusy answer → ⊥) texts → IsHistory items history
+        → Run (WithInterim Answers) s items texts t → All (λ answer. IsBusy answer → ⊥) texts → IsHistory items history
         → (texts ≡ answers s history) × (t ≡ after s (requests history)) }
 {}
 
 /// Histories that agree on what a user may ever see give that user equal bytes: from one state, where the user holds SYSTEM at
-/// no moment and the same is kept of both. Of the user's own items that is what they ask and the form of their answers, so
-/// that a field of a head that nothing hangs on may differ. The same is kept, at the least, where the same items are kept.
+/// no moment and the same is kept of both. Of the user's own items that is what they ask and how each reply to them is
+/// written, so that a field of a head that nothing hangs on may differ. The same is kept, at the least, where the same items are kept.
 pub fn equal_bytes<A: Allocator>()
     ensures told_the_same { (s : State A) (user : Text) (items others : List First) (history other : List (Event A))
         → IsHistory items history → IsHistory others other
@@ -46,8 +46,8 @@ pub fn equal_bytes<A: Allocator>()
 
 /// Connections that are served one after another from a state make one run.
 pub fn connections_join<A: Allocator>()
-    ensures { (s m t : State A) (items others : List First) (texts more : List (List ℕ)) → Run (Told Answers) s items texts m
-        → Run (Told Answers) m others more t → Run (Told Answers) s (items ++ others) (texts ++ more) t }
+    ensures { (s m t : State A) (items others : List First) (texts more : List (List ℕ)) → Run (WithInterim Answers) s items texts m
+        → Run (WithInterim Answers) m others more t → Run (WithInterim Answers) s (items ++ others) (texts ++ more) t }
 {}
 
 /// So it is of what is served: two runs from one state without a 503, however many connections they are made of, answer the
@@ -56,7 +56,7 @@ pub fn connections_join<A: Allocator>()
 /// what it wrote.
 pub fn equal_service<A: Allocator>()
     ensures runs { (s t u : State A) (user : Text) (items others : List First) (texts more : List (List ℕ))
-        (history other : List (Event A)) → Run (Told Answers) s items texts t → Run (Told Answers) s others more u
+        (history other : List (Event A)) → Run (WithInterim Answers) s items texts t → Run (WithInterim Answers) s others more u
         → All (λ answer. IsBusy answer → ⊥) texts → All (λ answer. IsBusy answer → ⊥) more
         → IsHistory items history → IsHistory others other
         → NeverSystem user s (requests history) → NeverSystem user s (requests other)

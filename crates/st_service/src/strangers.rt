@@ -4,7 +4,7 @@ ghost use Rattle.st_policy.specs.declared.denial.Denial.TheVariants.{Token as Ba
 ghost use Rattle.st_policy.specs.declared.refusal.Refusal.TheVariants.{Denied};
 ghost use Rattle.st_policy.specs.declared.reply.Reply.TheVariants.{Refused};
 ghost use Rattle.st_core.specs.Step.{asker_of};
-ghost use Rattle.st_service.specs.Answers.{TellsOrBusy};
+ghost use Rattle.st_service.specs.Answers.{RendersOrBusy};
 ghost use Rattle.st_service.specs.Bytes.{bytes_of};
 
 use crate::answer::Answer;
@@ -49,7 +49,7 @@ pub fn is_stranger<A: Allocator>(
 
 /// The answer to a message whose token does not hold, whatever its body is. When out of memory it is a 503.
 pub fn to_stranger<A: Allocator + Copy>(alloc: A, message: &Message<'_>) -> Answer<A>
-    ensures { TellsOrBusy {A = A} (Refused (Denied BadToken)) message.now.close message.now.bare (bytes_of result) }
+    ensures { RendersOrBusy {A = A} (Refused (Denied BadToken)) message.now.close message.now.bare (bytes_of result) }
 {
     let told = Ok(Reply::Refused(Refusal::Denied(Denial::Token)));
     let answer = Answer::of(alloc, &told, message.close, message.bare);

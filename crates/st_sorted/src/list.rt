@@ -1,4 +1,7 @@
 //! Searches in sorted lists, by halves.
+//!
+//! A sorted list is tried at its end before it is searched, since names often come in order. `goes_last` has a clause for its yes
+//! alone: one that always said no would be slower.
 ghost use Rattle.std.specs.Prelude.{◌≡◌, ◌<◌, ◌≤◌, true, false, filter, find, not, length, option_map, slice_index_or, IfSome, IfNone};
 ghost use Rattle.std.specs.List.{list_any};
 ghost use Rattle.st_sorted.specs.Sorted.{Rises};

@@ -12,7 +12,7 @@ use Rattle.st_journal_compact.specs.Watching.{Watched, Watches}
 use Rattle.st_journal_store.specs.Applying.{Applies}
 use Rattle.st_journal_compact.proofs.Seeing.{is_short_list}
 use Rattle.st_journal_compact.proofs.Shorter.{one_state}
-use Rattle.st_store_file.specs.declared.counts.Counts.{Counts}
+use Rattle.st_store_file.specs.declared.counts.ListLengths.{ListLengths}
 use Rattle.st_store_file.specs.Shortened.{AreCounted, IsShortened}
 
 -- ---- lengths
@@ -118,7 +118,7 @@ made_again before after [] is = ap (λ (w : Watched). w.state) is
 made_again before after (r ∷ records) (mid, w, later) = (mid.state, w.made, made_again mid after records later)
 
 pub shortened_by : (holds : List ℕ → List Record → Type 0) (opening : List ℕ) (first : State Global) (new after : Watched)
-    (old list : List Record) (counts : Counts) → new ≡ record { state = first; changes = [] } → first.rows ≡ [] → first.audit ≡ []
+    (old list : List Record) (counts : ListLengths) → new ≡ record { state = first; changes = [] } → first.rows ≡ [] → first.audit ≡ []
     → holds opening old → Replays Watches new old after
     → ((w : Watched) → w.changes ≡ [] → Replays Watches w old after → AreCounted w.state.directory old list counts)
     → IsShortened holds opening first list counts
@@ -142,6 +142,6 @@ shortened_by holds opening first new after old list counts is no_rows no_audit h
     }
 
 -- the same, where the opening is said otherwise
-pub shortened_of : (holds : List ℕ → List Record → Type 0) (opening other : List ℕ) (first : State Global) (list : List Record) (counts : Counts)
+pub shortened_of : (holds : List ℕ → List Record → Type 0) (opening other : List ℕ) (first : State Global) (list : List Record) (counts : ListLengths)
     → opening ≡ other → IsShortened holds opening first list counts → IsShortened holds other first list counts
 shortened_of holds opening other first list counts same is = subst (λ o. IsShortened holds o first list counts) same is

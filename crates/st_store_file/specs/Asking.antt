@@ -8,7 +8,7 @@ use Rattle.st_journal.specs.declared.record.Record.{Record}
 use Rattle.st_command_line.specs.Common.{SaysRoot, file_of, has_flag}
 use Rattle.st_command_line.specs.declared.fault.Fault.{Fault}
 use Rattle.st_command.specs.Opening.{OpensWith, IsOfStore}
-use Rattle.st_store_file.specs.declared.counts.Counts.{Counts}
+use Rattle.st_store_file.specs.declared.counts.ListLengths.{ListLengths}
 use Rattle.st_store_file.specs.Shortened.{IsShortened}
 
 -- the words are a command line, and do not ask for a short list
@@ -32,7 +32,7 @@ pub record IsDone {J : Type 0} (holds : List ℕ → List Record → Type 0) (li
   pub first : State Global
   pub opening : Text
   pub asks : AsksShort app words first opening
-  pub counts : Counts
+  pub counts : ListLengths
   pub shortened : misreads journal ≡ 0 → IsShortened holds opening first (list journal) counts
   pub leaves : misreads journal ≡ 0 → (left : List Record) → may_leave journal left → left ≡ list journal
 

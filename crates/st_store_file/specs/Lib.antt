@@ -1,4 +1,3 @@
-pub mod Holding
 pub mod Copying
 pub mod Shortened
 pub mod Asking

@@ -7,17 +7,17 @@ use Rattle.st_journal.specs.declared.record.Record.{Record}
 use Rattle.st_journal.specs.Replays.{Replays}
 use Rattle.st_journal_store.specs.Applying.{Applies}
 use Rattle.st_journal_compact.specs.Shortening.{IsShortList}
-use Rattle.st_store_file.specs.declared.counts.Counts.{Counts}
+use Rattle.st_store_file.specs.declared.counts.ListLengths.{ListLengths}
 
 -- a list of so many records has a short list of so many, by this directory
-pub record AreCounted (d : Directory Global) (old short : List Record) (counts : Counts) : Type 0 where
+pub record AreCounted (d : Directory Global) (old short : List Record) (counts : ListLengths) : Type 0 where
   pub is_short : IsShortList d old short
   pub before : counts.before ≡ length old
   pub after : counts.after ≡ length short
 
 -- The files held a list of a store that was opened so. The list that is there now is its short list, and leads to the same state.
 pub record IsShortened (holds : List ℕ → List Record → Type 0) (opening : List ℕ) (first : State Global) (list : List Record)
-    (counts : Counts) : Type 0 where
+    (counts : ListLengths) : Type 0 where
   pub old : List Record
   pub held : holds opening old
   pub counted : AreCounted first.directory old list counts

@@ -4,11 +4,11 @@ ghost use Rattle.clap.specs.Words.{App};
 ghost use Rattle.sqlite_wal.specs.Files.{image_at};
 ghost use Rattle.st_text.specs.Texts.{Text};
 ghost use Rattle.st_command_line.specs.Common.{RefusesWords};
-ghost use Rattle.st_store_file.specs.Holding.{HoldStore};
+ghost use Rattle.st_journal_file.specs.Opening.{HoldStore};
 ghost use Rattle.st_store_file.specs.Asking.{IsNotDone, Shortens};
 ghost use Rattle.st_store_file.specs.inner.Stages.{Says};
 
-use crate::counts::Counts;
+use crate::counts::ListLengths;
 use crate::file::shorten_file;
 use sqlite_std_file::{FileFrom, Start};
 use st_command::store_and_opening_for;
@@ -18,7 +18,7 @@ use st_journal::Journal;
 use st_journal_file::FileJournal;
 use std::io::Write;
 
-/// What a command line says of a short list.
+// What a command line says of a short list.
 #[derive(Drop)]
 pub(crate) struct Asked<'a> {
     // The name of the program.
@@ -30,13 +30,13 @@ pub(crate) struct Asked<'a> {
 }
 
 // Says how many changes a list had and has. A message that cannot be written is dropped.
-fn tell<F: Write>(program: &str, counts: &Counts, faults: &mut F) {
+fn tell<F: Write>(program: &str, counts: &ListLengths, faults: &mut F) {
     let before = counts.before;
     let after = counts.after;
     let _ = writeln!(faults, "{program}: of {before} changes {after} are kept");
 }
 
-/// Makes the list of the store short, if that is asked for, and says on `faults` how many changes it had and has.
+// Makes the list of the store short, if that is asked for, and says on `faults` how many changes it had and has.
 pub(crate) fn shorten_asked<S: Start, F: Write>(
     rt: &HostRuntime,
     start: S,

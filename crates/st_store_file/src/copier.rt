@@ -2,13 +2,13 @@
 ghost use Rattle.std.specs.Prelude.{◌≡◌, Some, true, IfOk};
 ghost use Rattle.sqlite_wal.specs.Files.{image_at};
 ghost use Rattle.st_store_file.specs.Copying.{Copied};
-ghost use Rattle.st_store_file.specs.Holding.{HoldStore};
+ghost use Rattle.st_journal_file.specs.Opening.{HoldStore};
 
 use crate::private::make_private;
 use crate::time::milliseconds;
 use sqlite_std_file::{FileFrom, Start, Unknown};
 use st_journal::Journal;
-use st_journal_copy::{Copier, CopyFault, Counting, Source, bring_up, has_more};
+use st_journal_copy::{Copier, CopyFault, Counting, RecordSource, bring_up, has_more};
 use st_journal_file::{FileJournal, OpenError, Silent};
 
 // Why a list was not copied into a file that was not opened.
@@ -41,7 +41,7 @@ fn is_known(left: Option<u64>, found: u64) -> bool
 
 /// Opens the copy at a path, brings it up to a list, and closes it: how many records it has then. A copy that has as many as the last
 /// turn left there is not compared with the list. `start` stands for what its files held.
-pub fn copy_into<S: Start, L: Source>(
+pub fn copy_into<S: Start, L: RecordSource>(
     rt: &HostRuntime,
     path: &str,
     opening: &str,
@@ -88,7 +88,7 @@ impl<'a> SqliteCopier<'a> {
 }
 
 impl Copier for SqliteCopier<'_> {
-    fn take_turn<S: Source>(
+    fn take_turn<S: RecordSource>(
         &mut self,
         path: &str,
         opening: &str,

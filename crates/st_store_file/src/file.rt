@@ -3,10 +3,10 @@ ghost use Rattle.std.specs.Prelude.{◌≡◌, [], IfOk, IfErr, List};
 ghost use Rattle.sqlite_wal.specs.Files.{image_at};
 ghost use Rattle.st_journal.specs.declared.record.Record.{Record as Change};
 ghost use Rattle.st_command.specs.Opening.{IsOfStore};
-ghost use Rattle.st_store_file.specs.Holding.{HoldStore};
+ghost use Rattle.st_journal_file.specs.Opening.{HoldStore};
 ghost use Rattle.st_store_file.specs.Shortened.{IsShortened};
 
-use crate::counts::Counts;
+use crate::counts::ListLengths;
 use crate::journal::{leave, shorten_journal};
 use crate::keeper::SqliteKeeper;
 use sqlite_std_file::{FileFrom, Start};
@@ -27,7 +27,7 @@ pub fn shorten_file<S: Start>(
     path: &str,
     opening: &str,
     store: Store,
-) -> Result<(FileJournal<FileFrom<S>>, Counts), Fault>
+) -> Result<(FileJournal<FileFrom<S>>, ListLengths), Fault>
     requires rows { store.rows ≡ [] }
     requires audit { store.audit ≡ [] }
     ensures leaves { IfOk result (λ both. ⟦<FileJournal<FileFrom<S>> as Journal>⟧.misreads both.0 ≡ 0 → (left : List Change)

@@ -9,7 +9,7 @@ ghost use Rattle.st_journal_compact.specs.Shortening.{IsShortList};
 ghost use Rattle.st_journal_compact.specs.Watching.{Watched, Watches};
 ghost use Rattle.st_store_file.specs.Shortened.{AreCounted};
 
-use crate::counts::Counts;
+use crate::counts::ListLengths;
 use sqlite_disk::Disk;
 use st_command_line::Fault;
 use st_journal::{Journal, Record, ReplayError};
@@ -69,7 +69,7 @@ pub fn shorten_journal<D: Disk + Drop>(
     alloc: Global,
     journal: &mut FileJournal<D>,
     state: WatchedStore,
-) -> Result<Counts, Fault>
+) -> Result<ListLengths, Fault>
     requires ready { ⟦<FileJournal<D> as Journal>⟧.is_ready journal.old }
     ensures ready { OnOk result (⟦<FileJournal<D> as Journal>⟧.is_ready journal.new) }
     ensures misreads { ⟦<FileJournal<D> as Journal>⟧.misreads journal.old ≤ ⟦<FileJournal<D> as Journal>⟧.misreads journal.new }
@@ -91,5 +91,5 @@ pub fn shorten_journal<D: Disk + Drop>(
     let kept = short_list(alloc, changes)?;
     put_in_place(journal, before, kept.as_slice())?;
     let after = kept.len() as u64;
-    Ok(Counts { before, after })
+    Ok(ListLengths { before, after })
 }

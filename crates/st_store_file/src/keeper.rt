@@ -3,7 +3,7 @@ ghost use Rattle.std.specs.Prelude.{◌≡◌};
 ghost use Rattle.st_command.specs.Opening.{IsOfStore};
 
 use crate::private::make_private;
-use crate::telling::Telling;
+use crate::progress::PrintedProgress;
 use crate::time::milliseconds;
 use sqlite_std_file::{FileFrom, Start};
 use st_command::Keeper;
@@ -54,7 +54,7 @@ impl<'a, S: Start> SqliteKeeper<'a, S> {
 
 impl<S: Start> Keeper<FileJournal<FileFrom<S>>> for SqliteKeeper<'_, S> {
     ghost use Rattle.sqlite_wal.specs.Files.{image_at};
-    ghost use Rattle.st_store_file.specs.Holding.{HoldStore};
+    ghost use Rattle.st_journal_file.specs.Opening.{HoldStore};
 
     // What the files held is supposed of all paths at once, since the kit's `Start` names none.
     ghost holds = { λ _ _. HoldStore (image_at S.Start) };
@@ -69,7 +69,7 @@ impl<S: Start> Keeper<FileJournal<FileFrom<S>>> for SqliteKeeper<'_, S> {
             return Err(Fault::StoreIo);
         }
         let time = milliseconds(self.runtime);
-        let telling = Telling {
+        let progress = PrintedProgress {
             runtime: self.runtime,
             program: self.program,
         };
@@ -79,7 +79,7 @@ impl<S: Start> Keeper<FileJournal<FileFrom<S>>> for SqliteKeeper<'_, S> {
             opening,
             time,
             state,
-            &telling,
+            &progress,
             self.start,
         ) {
             Ok(journal) => Ok(journal),

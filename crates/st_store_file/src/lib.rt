@@ -9,12 +9,12 @@ mod file;
 mod journal;
 mod keeper;
 mod private;
-mod telling;
+mod progress;
 mod time;
 mod words;
 
 pub use copier::{SqliteCopier, copy_into};
-pub use counts::Counts;
+pub use counts::ListLengths;
 pub use file::shorten_file;
 pub use journal::shorten_journal;
 pub use keeper::SqliteKeeper;

@@ -6,7 +6,7 @@ use std::os::unix::fs::OpenOptionsExt;
 // Reading and writing for the owner alone.
 const MODE: u32 = 0o600;
 
-/// Makes an empty file that its owner alone may read and write, where none is. The files that SQLite keeps beside it get its mode.
+// Makes an empty file that its owner alone may read and write, where none is. The files that SQLite keeps beside it get its mode.
 pub(crate) fn make_private(rt: &HostRuntime, path: &str) -> io::Result<()> {
     match OpenOptions::new()
         .write(true)

@@ -1,10 +1,11 @@
-//! Making the list of a store short, where the words of a command line ask for it.
-ghost use Rattle.std.specs.Prelude.{◌≡◌, ◌⊎◌, None, Ok, IfOk, IfErr, map, string_bytes};
+//! Making the list of a store short, where the arguments of a command line ask for it.
+ghost use Rattle.std.specs.Prelude.{◌≡◌, ◌⊎◌, None, Ok, IfOk, IfErr, List};
 ghost use Rattle.sqlite_wal.specs.Files.{image_at};
+ghost use Rattle.st_text.specs.Texts.{Text};
 ghost use Rattle.st_command_line.specs.Common.{RefusesWords};
-ghost use Rattle.st_command_line.specs.RunArguments.{run_command};
-ghost use Rattle.st_command_line.specs.ServedArguments.{served_command, RefusesServedWords};
-ghost use Rattle.st_store_file.specs.Holding.{HoldStore};
+ghost use Rattle.st_command_line.specs.RunArguments.{SaysRun, run_command};
+ghost use Rattle.st_command_line.specs.ServedArguments.{RefusesServedWords, SaysServed, served_command};
+ghost use Rattle.st_journal_file.specs.Opening.{HoldStore};
 ghost use Rattle.st_store_file.specs.Asking.{IsNotDone, Shortens};
 
 use crate::asked::{Asked, shorten_asked};
@@ -20,17 +21,17 @@ use std::io::Write;
 pub fn shorten_for_run<S: Start, F: Write>(
     rt: &HostRuntime,
     start: S,
-    words: &[String],
+    said: &RunArguments<'_>,
     faults: &mut F,
 ) -> Result<Option<FileJournal<FileFrom<S>>>, Fault>
-    ensures ok { IfOk result (Shortens (HoldStore (image_at S.Start)) ⟦<FileJournal<FileFrom<S>> as Journal>⟧.list
+    ensures ok { IfOk result (λ journal. (words : List Text) → SaysRun words said.now
+        → Shortens (HoldStore (image_at S.Start)) ⟦<FileJournal<FileFrom<S>> as Journal>⟧.list
         ⟦<FileJournal<FileFrom<S>> as Journal>⟧.misreads ⟦<FileJournal<FileFrom<S>> as Journal>⟧.may_leave
-        run_command (map string_bytes words.now)) }
+        run_command words journal) }
     ensures unasked { (result ≡ Ok None) → F.contents faults.new ≡ F.contents faults.old }
-    ensures err { IfErr result (λ fault. RefusesWords run_command (map string_bytes words.now) fault
-        ⊎ IsNotDone run_command (map string_bytes words.now) fault) }
+    ensures err { IfErr result (λ fault. (words : List Text) → SaysRun words said.now
+        → RefusesWords run_command words fault ⊎ IsNotDone run_command words fault) }
 {
-    let said = RunArguments::read(rt.alloc(), words)?;
     let asked = Asked {
         program: "st_run",
         compacts: said.compacts,
@@ -45,17 +46,17 @@ pub fn shorten_for_run<S: Start, F: Write>(
 pub fn shorten_for_served<S: Start, F: Write>(
     rt: &HostRuntime,
     start: S,
-    words: &[String],
+    said: &ServedArguments<'_>,
     faults: &mut F,
 ) -> Result<Option<FileJournal<FileFrom<S>>>, Fault>
-    ensures ok { IfOk result (Shortens (HoldStore (image_at S.Start)) ⟦<FileJournal<FileFrom<S>> as Journal>⟧.list
+    ensures ok { IfOk result (λ journal. (words : List Text) → SaysServed words said.now
+        → Shortens (HoldStore (image_at S.Start)) ⟦<FileJournal<FileFrom<S>> as Journal>⟧.list
         ⟦<FileJournal<FileFrom<S>> as Journal>⟧.misreads ⟦<FileJournal<FileFrom<S>> as Journal>⟧.may_leave
-        served_command (map string_bytes words.now)) }
+        served_command words journal) }
     ensures unasked { (result ≡ Ok None) → F.contents faults.new ≡ F.contents faults.old }
-    ensures err { IfErr result (λ fault. RefusesServedWords (map string_bytes words.now) fault
-        ⊎ IsNotDone served_command (map string_bytes words.now) fault) }
+    ensures err { IfErr result (λ fault. (words : List Text) → SaysServed words said.now
+        → RefusesServedWords words fault ⊎ IsNotDone served_command words fault) }
 {
-    let said = ServedArguments::read(rt.alloc(), words)?;
     let asked = Asked {
         program: "st_served",
         compacts: said.compacts,

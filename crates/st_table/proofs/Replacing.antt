@@ -9,7 +9,7 @@ use Rattle.st_key.specs.declared.period.Period.{Period}
 use Rattle.st_text.specs.Texts.{same, in_order}
 use Rattle.st_text.proofs.Same.{same-eq, same-refl}
 use Rattle.st_index.specs.declared.row.Row.{Row}
-use Rattle.st_index.specs.Index.{Adds, Swaps, Holds, IsAbsent}
+use Rattle.st_index.specs.inner.Index.{Adds, Swaps, Holds, IsAbsent}
 use Rattle.st_index.specs.Order.{InScanOrder, scan_key}
 use Rattle.st_index.specs.Rows.{Name, key_end, name_of, rank_of}
 use Rattle.st_index.proofs.Scanning.{scan_apart}

@@ -7,7 +7,7 @@ use Rattle.st_key.specs.declared.period.Period.{Period}
 use Rattle.st_key.specs.declared.period.Period.TheVariants.{Day, Week}
 use Rattle.st_text.specs.Texts.{Text}
 use Rattle.st_index.specs.declared.row.Row.{Row}
-use Rattle.st_index.specs.Index.{IsAbsent}
+use Rattle.st_index.specs.inner.Index.{IsAbsent}
 use Rattle.st_index.specs.Rows.{Name, key_end, name_of, rank_of}
 use Rattle.st_index.proofs.Sorting.{rank_below}
 use Rattle.st_table.specs.declared.seed.Seed.{Seed}
@@ -109,7 +109,9 @@ module _ {A : Type 0} (seed : Seed) (period : Period) (numbers : List (ℕ × �
         let same : offset % 2 ^ 81 ≡ n = omega (arith, low_rank) in
         let place : hash * 2 ^ 96 + offset ≡ place_of (name_hash seed r.id r.label) n = omega (arith, mine) in
         let held = stands_somewhere (stands_at seed period (place_of (name_hash seed r.id r.label) n)) rows k d l (eq-eqb (place_of (name_hash seed r.id r.label) n) _ refl) in
-        let some : 0 < number_at numbers (hash * 2 ^ 96 + offset) = subst (λ m. 0 < m) (sym (tied (hash * 2 ^ 96 + offset))) (subst (λ p. 0 < length (filter (stands_at seed period p) rows)) (sym place) held) in
+        let some : 0 < number_at numbers (hash * 2 ^ 96 + offset) =
+        subst (λ m. 0 < m) (sym (tied (hash * 2 ^ 96 + offset)))
+        (subst (λ p. 0 < length (filter (stands_at seed period p) rows)) (sym place) held) in
         let key : 0 < number_at keys (place_of 0 n) = subst (λ m. 0 < number_at keys m) (same ∙ sym (of_zero n)) (keeps offset inside some) in
         let zero = none n from below in
         omega (arith, key, zero)

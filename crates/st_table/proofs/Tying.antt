@@ -6,7 +6,7 @@ use Rattle.st_key.specs.declared.period.Period.{Period}
 use Rattle.st_key.specs.Key.{rank}
 use Rattle.st_text.specs.Texts.{Text, comes_before, put_in_order, in_order}
 use Rattle.st_index.specs.declared.row.Row.{Row}
-use Rattle.st_index.specs.Index.{Adds, IsAbsent}
+use Rattle.st_index.specs.inner.Index.{Adds, IsAbsent}
 use Rattle.st_index.specs.Order.{InScanOrder, scan_key}
 use Rattle.st_index.specs.Rows.{Name, name_of, rank_of}
 use Rattle.st_table.specs.declared.seed.Seed.{Seed}

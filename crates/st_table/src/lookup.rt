@@ -1,12 +1,11 @@
 //! Looking up rows by their names.
-ghost use Rattle.std.specs.Prelude.{◌≡◌, ◌*◌, ◌^◌, ◌<◌, true, false, map, filter, nat_eq, IfSome, IfNone, IfOk, OnOk, ◌++◌, ◌∷◌, []};
-ghost use Rattle.std.specs.List.{Contains};
+ghost use Rattle.std.specs.Prelude.{◌≡◌, ◌*◌, ◌^◌, ◌<◌, true, false, map, filter, nat_eq, IfSome, IfOk, OnOk, ◌++◌, ◌∷◌, []};
 ghost use Rattle.st_key.specs.declared.period.Period.{Period};
 ghost use Rattle.st_key.specs.Key.{rank};
 ghost use Rattle.st_text.specs.Texts.{in_order};
-ghost use Rattle.st_index.specs.Index.{IsAbsent};
+ghost use Rattle.st_index.specs.inner.Index.{IsAbsent};
 ghost use Rattle.st_index.specs.RowViews.{row_of_view, viewed};
-ghost use Rattle.st_index.specs.Rows.{Rises, key_end, name_of, rank_of, rows_of};
+ghost use Rattle.st_index.specs.Rows.{Rises, key_end, rank_of, rows_of};
 ghost use Rattle.st_scan.specs.Visible.{is_visible};
 ghost use Rattle.st_table.specs.Table.{HasEachOnce};
 ghost use Rattle.st_table.specs.inner.Found.{IsFound, is_shown_of};

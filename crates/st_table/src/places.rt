@@ -1,4 +1,8 @@
 //! Where the rows of a name stand.
+//!
+//! A key of the map is 32 bits of the id's hash, 15 of the label's and 81 of the key's rank. The last two bytes of an id are added
+//! to the hash of the others, so ids that are counted up lie near each other. If the system refuses randomness, the seed is what
+//! its call left.
 ghost use Rattle.std.specs.Prelude.{◌≡◌, ℕ, ◌+◌, ◌*◌, ◌^◌, ◌<◌, ◌≤◌, IfOk, IfSome, IfNone, OnOk, OnErr, nat_eq, if◌then◌else◌, [], List};
 ghost use Rattle.st_key.specs.Key.{rank};
 ghost use Rattle.st_table.specs.inner.Places.{AddsNoKeys, KeepsKeys, one_at, one_before, number_at, place_of};
@@ -17,7 +21,7 @@ const PLACES: u128 = 1 << 81;
 // How many places an id's hash has: one for each hash of a label and each key.
 const PLACES_OF_ID: u128 = 1 << 96;
 
-/// A key where rows of a hash stand, and how many.
+// A key where rows of a hash stand, and how many.
 #[derive(Clone, Copy)]
 pub(crate) struct Stand {
     pub key: Key,
@@ -32,8 +36,8 @@ fn rank_in(key: Key) -> u128
     u128::from(key.bin()) * (1 << 63) + u128::from(key.address())
 }
 
-/// How many rows have a name of this hash and stand at this key, for each hash and key where any do. The places of one hash lie side
-/// by side, in the order of the keys, and so do those of one id's hash.
+// How many rows have a name of this hash and stand at this key, for each hash and key where any do. The places of one hash lie side
+// by side, in the order of the keys, and so do those of one id's hash.
 #[derive(Drop)]
 pub(crate) struct Places<A: Allocator> {
     alloc: A,

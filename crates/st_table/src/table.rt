@@ -1,5 +1,6 @@
 //! Tables.
-ghost use Rattle.std.specs.Prelude.{◌≡◌, ◌↔◌, ◌^◌, ◌<◌, ◌≤◌, ◌⊎◌, [], length, map, nat_lt, option_copied, option_map, take, OnOk, OnErr, IsOk, IfOk, IfErr, IfSome};
+ghost use Rattle.std.specs.Prelude.{◌≡◌, ◌↔◌, ◌^◌, ◌<◌, ◌≤◌, ◌⊎◌, [], length, map, nat_lt, option_copied, option_map, take, OnOk};
+ghost use Rattle.std.specs.Prelude.{OnErr, IsOk, IfOk, IfErr, IfSome};
 ghost use Rattle.st_key.specs.declared.period.Period.{Period};
 ghost use Rattle.st_key.specs.Key.{rank};
 ghost use Rattle.st_text.specs.Texts.{in_order};
@@ -7,7 +8,7 @@ ghost use Rattle.st_index.specs.Order.{InScanOrder, scan_key};
 ghost use Rattle.st_index.specs.RowViews.{row_of_view};
 ghost use Rattle.st_index.specs.Rows.{name_of};
 ghost use Rattle.st_scan.specs.Grids.{grid_of};
-ghost use Rattle.st_scan.specs.Pages.{visible_after};
+ghost use Rattle.st_scan.specs.inner.Pages.{visible_after};
 ghost use Rattle.st_scan.specs.Visible.{is_visible, visible_rows};
 ghost use Rattle.st_scan.specs.declared.fault.ScanFault.TheVariants.{BadGrid, BadLimit};
 ghost use Rattle.st_table.specs.Table.{HasEachOnce, rows_by_label, with_row, without_named};
@@ -43,7 +44,8 @@ impl<I: RowIndex> Model for Table<I> {
 
     ghost view = { λ t. record { period = I.period_of t.index; rows = I.content t.index } };
 
-    ghost invariant = { λ t. IsTied t.places.seed (I.period_of t.index) t.places.numbers (I.content t.index) × HasEachOnce (I.content t.index) };
+    ghost invariant = { λ t. IsTied t.places.seed (I.period_of t.index) t.places.numbers (I.content t.index)
+        × HasEachOnce (I.content t.index) };
 }
 
 // Puts a row into an index in place of the one of its name, which stands at this key, if there is one.

@@ -10,7 +10,7 @@ use Rattle.st_box.specs.Query.{is_inside}
 use Rattle.st_box.proofs.Bounds.{has, holds}
 use Rattle.st_text.specs.Texts.{Text}
 use Rattle.st_index.specs.declared.row.Row.{Row}
-use Rattle.st_index.specs.Counting.{count_of, is_counted}
+use Rattle.st_index.specs.inner.Counting.{count_of, is_counted}
 use Rattle.st_tally.specs.declared.bounds.Bounds.{Bounds}
 use Rattle.st_tally.specs.inner.Sums.{AreInside, IsWithin, labelled, lies_in, meets}
 

@@ -9,8 +9,8 @@ use Rattle.st_box.specs.declared.query.Query.{Query}
 use Rattle.st_box.specs.Query.{is_inside}
 use Rattle.st_text.specs.Texts.{Text}
 use Rattle.st_index.specs.declared.row.Row.{Row}
-use Rattle.st_index.specs.Counting.{is_counted}
-use Rattle.st_index.specs.Fields.{CanAdd, Counts, IsBetween}
+use Rattle.st_index.specs.inner.Counting.{is_counted}
+use Rattle.st_index.specs.inner.Fields.{CanAdd, Counts, IsBetween}
 use Rattle.st_index.proofs.Tallying.{counts_not}
 use Rattle.st_tally.specs.declared.bounds.Bounds.{Bounds}
 use Rattle.st_index.specs.Rows.{EntryValue}

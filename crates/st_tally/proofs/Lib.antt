@@ -7,4 +7,4 @@ pub mod Placing
 pub mod Spotting
 pub mod Summing
 pub mod Tallied
-pub mod Telling
+pub mod Tested

@@ -10,7 +10,7 @@ use Rattle.st_text.specs.Texts.{Text}
 use Rattle.st_index.specs.Rows.{EntryValue}
 use Rattle.st_index.specs.declared.entries.Change.{Change}
 use Rattle.st_index.specs.inner.Changes.{IsChange}
-use Rattle.st_tally.specs.Pages.{NodeValue, PageValue, entries_of_pages}
+use Rattle.st_tally.specs.inner.Pages.{NodeValue, PageValue, entries_of_pages}
 use Rattle.st_tally.specs.declared.page_marks.PageMarks.{PageMarks}
 use Rattle.st_tally.specs.declared.spots.Spot.{Spot}
 use Rattle.st_tally.specs.inner.Marks.{AreMarkedBy, AreMarks, ClosesAt, DifferAt, DifferInMarks, HasAt, IsMark, IsMarkedAt, Keeps, OpensAt}

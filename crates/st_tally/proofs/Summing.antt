@@ -8,13 +8,14 @@ use Rattle.std.specs.List.{All, flat_map}
 use Rattle.st_key.specs.declared.point.Point.{Point}
 use Rattle.st_text.specs.Texts.{Text}
 use Rattle.st_index.specs.declared.row.Row.{Row}
-use Rattle.st_index.specs.Index.{Adds, Swaps}
+use Rattle.st_index.specs.inner.Index.{Adds, Swaps}
 use Rattle.st_index.proofs.Climbing.{all_left, all_right}
 use Rattle.st_tally.specs.declared.bounds.Bounds.{Bounds}
 use Rattle.st_tally.specs.declared.summary.Summary.{Summary}
 use Rattle.st_tally.specs.inner.Sums.{CountsLess, CountsMore, IsWithin, Sums, labelled, total}
 
-pub wider : {A : Type 0} (a b : Bounds) → ((p : Point) → IsWithin a p → IsWithin b p) → (rows : List (Row A)) → All (λ (r : Row A). IsWithin a r.point) rows → All (λ (r : Row A). IsWithin b r.point) rows
+pub wider : {A : Type 0} (a b : Bounds) → ((p : Point) → IsWithin a p → IsWithin b p) → (rows : List (Row A))
+    → All (λ (r : Row A). IsWithin a r.point) rows → All (λ (r : Row A). IsWithin b r.point) rows
 wider a b more rows all = λ k d l. more _ (all k d l)
 
 pub next_rows : {X : Type 0} (rows xs : List X) (i : ℕ) (x : X) → i < length xs → x ≡ get_or xs i x → (rows ++ take i xs) ++ x ∷ [] ≡ rows ++ take (i + 1) xs

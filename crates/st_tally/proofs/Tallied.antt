@@ -11,7 +11,7 @@ use Rattle.st_box.specs.declared.query.Query.{Query}
 use Rattle.st_box.specs.Query.{is_inside}
 use Rattle.st_text.specs.Texts.{Text}
 use Rattle.st_index.specs.declared.row.Row.{Row}
-use Rattle.st_index.specs.Counting.{count_of, is_counted}
+use Rattle.st_index.specs.inner.Counting.{count_of, is_counted}
 use Rattle.st_index.specs.Rows.{EntryValue}
 use Rattle.st_index.proofs.Sums.{sum_all, sum_by-flat_map, sum_one_more}
 use Rattle.st_tally.specs.declared.marks.Marks.{Marks}
@@ -153,13 +153,13 @@ module _ {A : Type 0} (labels : List Text) where
       sym (ap (is_inside q) (same_point week spot p one.0.point at one.2) ∙ All-head P one.0 [] (subst (All P) one.1 inside))
 
 module _ {A : Type 0} (q : Query) (labels : List Text) (e : EntryValue A) (number week : ℕ) (spot : Spot) (is : IsMark labels e number week spot) (inside : Bool)
-    (told : (p : Point) → IsSpotOf week spot p → inside ≡ is_inside q p) where
+    (tested : (p : Point) → IsSpotOf week spot p → inside ≡ is_inside q p) where
   counted_at : (judges : Text → Bool) → number < 512 → count_of q judges e.rows ≡ cond (inside && verdict_on judges labels number) 1 0
   counted_at judges low =
       let one = is (omega (arith, low)) in
       ap (count_of q judges) one.1
       ∙ one_row q judges one.0
-      ∙ ap {B = ℕ} (λ b. cond (b && judges one.0.label) 1 0) (sym (told one.0.point one.2))
+      ∙ ap {B = ℕ} (λ b. cond (b && judges one.0.label) 1 0) (sym (tested one.0.point one.2))
       ∙ ap {B = ℕ} (λ b. cond (inside && b) 1 0) (sym (verdict_here judges labels number one.0.label (one.3 low)))
 
   -- the row of an entry is tallied by its mark
@@ -178,7 +178,7 @@ module _ {A : Type 0} (q : Query) (labels : List Text) (e : EntryValue A) (numbe
       let one = is few in
       ap (count_of q judges) one.1
       ∙ one_row q judges one.0
-      ∙ ap {B = ℕ} (λ b. cond (b && judges one.0.label) 1 0) (sym (told one.0.point one.2) ∙ outside)
+      ∙ ap {B = ℕ} (λ b. cond (b && judges one.0.label) 1 0) (sym (tested one.0.point one.2) ∙ outside)
 
 -- rows that some things have, as they are counted one after another
 module _ {A X : Type 0} (rows : X → List (Row A)) (xs : List X) (at : ℕ) where

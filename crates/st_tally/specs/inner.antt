@@ -2,3 +2,4 @@
 pub mod Sums
 pub mod Spots
 pub mod Marks
+pub mod Pages

@@ -1,17 +1,17 @@
 //! Counts in fields of marked entries, whose labels are judged by their numbers.
 ghost use Rattle.std.specs.Prelude.{◌≡◌, ℕ, ◌+◌, ◌<◌, ◌≤◌, ◌&&◌, IsTrue, cond, get_or, length, nat_eq};
 ghost use Rattle.st_box.specs.Query.{is_inside};
-ghost use Rattle.st_index.specs.Fields.{CanAdd, Counts};
+ghost use Rattle.st_index.specs.inner.Fields.{CanAdd, Counts};
 ghost use Rattle.st_index.specs.Rows.{EntryValue, rows_of};
 ghost use Rattle.st_key.specs.declared.point.Point.{Point as PointValue};
-ghost use Rattle.st_tally.specs.inner.Marks.{AreKnown, AreMarks, AreTold, HasAt, Tells, verdict_on};
+ghost use Rattle.st_tally.specs.inner.Marks.{AreKnown, AreMarks, AreTested, HasAt, IsTested, verdict_on};
 ghost use Rattle.st_tally.specs.inner.Spots.{IsSpotOf};
 ghost use Rattle.st_tally.specs.inner.Sums.{AreInside};
 
 use crate::numbering::MAX_NUMBERS;
 use crate::page_marks::PageMarks;
 use crate::spots::{Spot, SpotBox, point_at};
-use crate::told::{has_some, told};
+use crate::testing::{has_some, test_marks};
 use crate::verdicts::Verdicts;
 use st_index::{Entry, Fields, Judge, field_counting};
 use std::alloc::Allocator;
@@ -45,7 +45,7 @@ fn count_numbered<A: Allocator + Copy, J: Judge<A>, F: Fields>(
     }
 }
 
-// Counts the rows of the entry at a place in their fields, where it was told that they are inside. The entry is read only where
+// Counts the rows of the entry at a place in their fields, where it was tested that they are inside. The entry is read only where
 // its mark does not tell.
 fn count_at<A: Allocator + Copy, J: Judge<A>, F: Fields>(
     entries: &[Entry<A>],
@@ -59,7 +59,7 @@ fn count_at<A: Allocator + Copy, J: Judge<A>, F: Fields>(
 )
     requires within { at < length entries.now }
     requires not_more { length entries.now ≤ 32 }
-    requires told { Tells (F.query fields.now) marks.now at inside }
+    requires tested { IsTested (F.query fields.now) marks.now at inside }
     requires long { length counts.old ≡ F.count fields.now }
     requires fits { (e : EntryValue A) → HasAt entries.now at e → CanAdd (length e.rows) counts.old }
     requires marked { AreMarks verdicts.old.marks.now.labels.items entries.now marks.now }
@@ -82,18 +82,18 @@ fn count_at<A: Allocator + Copy, J: Judge<A>, F: Fields>(
     field_counting::count(&entries[at..at + 1], judge, fields, counts);
 }
 
-// Counts the rows of a page's entries in their fields, of which it was told whether they are inside.
-fn count_told<A: Allocator + Copy, J: Judge<A>, F: Fields>(
+// Counts the rows of a page's entries in their fields, of which it was tested whether they are inside.
+fn count_tested<A: Allocator + Copy, J: Judge<A>, F: Fields>(
     entries: &[Entry<A>],
     marks: &PageMarks,
-    told: &[bool; 32],
+    tested: &[bool; 32],
     verdicts: &mut Verdicts<'_, A>,
     judge: &mut J,
     fields: &F,
     counts: &mut [u64],
 )
     requires not_more { length entries.now ≤ 32 }
-    requires told { AreTold (F.query fields.now) entries.now marks.now told.now }
+    requires tested { AreTested (F.query fields.now) entries.now marks.now tested.now }
     requires long { length counts.old ≡ F.count fields.now }
     requires fits { CanAdd (length (rows_of entries.now)) counts.old }
     requires marked { AreMarks verdicts.old.marks.now.labels.items entries.now marks.now }
@@ -105,7 +105,7 @@ fn count_told<A: Allocator + Copy, J: Judge<A>, F: Fields>(
     ensures same { J.judges judge.new ≡ J.judges judge.old }
 {
     for at in 0..entries.len() {
-        let inside = told[at];
+        let inside = tested[at];
         count_at(entries, at, marks, inside, verdicts, judge, fields, counts);
     }
 }
@@ -131,9 +131,9 @@ pub fn count_marked<A: Allocator + Copy, J: Judge<A>, F: Fields>(
         counts.old counts.new }
     ensures same { J.judges judge.new ≡ J.judges judge.old }
 {
-    let told = told(marks, &SpotBox::new(fields.query(), marks.week));
-    if has_some(&told) {
-        count_told(entries, marks, &told, verdicts, judge, fields, counts);
+    let tested = test_marks(marks, &SpotBox::new(fields.query(), marks.week));
+    if has_some(&tested) {
+        count_tested(entries, marks, &tested, verdicts, judge, fields, counts);
     }
 }
 
@@ -158,5 +158,5 @@ pub fn count_inside<A: Allocator + Copy, J: Judge<A>, F: Fields>(
         counts.old counts.new }
     ensures same { J.judges judge.new ≡ J.judges judge.old }
 {
-    count_told(entries, marks, &[true; 32], verdicts, judge, fields, counts);
+    count_tested(entries, marks, &[true; 32], verdicts, judge, fields, counts);
 }

@@ -13,5 +13,5 @@ pub mod numbering;
 pub mod page_marks;
 mod spots;
 pub mod summary;
-mod told;
+mod testing;
 pub mod verdicts;

@@ -1,14 +1,14 @@
 //! Counts of marked entries, whose rows are tallied by the numbers of their labels.
 ghost use Rattle.std.specs.Prelude.{◌≡◌, ◌+◌, ◌<◌, ◌≤◌, ◌^◌, List, length, sum};
 ghost use Rattle.st_text.specs.Texts.{Text};
-ghost use Rattle.st_index.specs.Counting.{count_of};
+ghost use Rattle.st_index.specs.inner.Counting.{count_of};
 ghost use Rattle.st_index.specs.Rows.{EntryValue, rows_of};
-ghost use Rattle.st_tally.specs.inner.Marks.{AreMarks, HasAt, MakeUp, Tells};
+ghost use Rattle.st_tally.specs.inner.Marks.{AreMarks, HasAt, MakeUp, IsTested};
 ghost use Rattle.st_tally.specs.inner.Sums.{AreInside};
 
 use crate::page_marks::PageMarks;
 use crate::spots::SpotBox;
-use crate::told::{has_some, told};
+use crate::testing::{has_some, test_marks};
 use st_box::Query;
 use st_index::{Entry, Judge, counting};
 use std::alloc::Allocator;
@@ -43,7 +43,7 @@ fn tally_at<A: Allocator + Copy, J: Judge<A>>(
     requires within { at < length entries.now }
     requires not_more { length entries.now ≤ 32 }
     requires marked { (labels : List Text) × AreMarks labels entries.now marks.now }
-    requires told { Tells query.now marks.now at inside }
+    requires tested { IsTested query.now marks.now at inside }
     requires few { length tally.old ≤ 512 }
     requires fits { (e : EntryValue A) → HasAt entries.now at e → sum tally.old + length e.rows < 2 ^ 64 }
     ensures count { (labels : List Text) (e : EntryValue A) → AreMarks labels entries.now marks.now → HasAt entries.now at e
@@ -109,13 +109,13 @@ pub fn count_marked<A: Allocator + Copy, J: Judge<A>>(
     ensures most { sum tally.new ≤ sum tally.old + length (rows_of entries.now) }
     ensures same { J.judges judge.new ≡ J.judges judge.old }
 {
-    let told = told(marks, &SpotBox::new(query, marks.week));
-    if !has_some(&told) {
+    let tested = test_marks(marks, &SpotBox::new(query, marks.week));
+    if !has_some(&tested) {
         return 0;
     }
     let mut count = 0;
     for at in 0..entries.len() {
-        count += tally_at(entries, at, marks, told[at], query, judge, tally);
+        count += tally_at(entries, at, marks, tested[at], query, judge, tally);
     }
     count
 }

@@ -1,7 +1,11 @@
 //! The marks of pages, and the labels that have numbers in them.
+//!
+//! A label number is found by hash among up to 512; the list has room for 20 at first, then 80, 320 and 512. A point is its place
+//! and its seconds since the page's week. An entry of several rows has neither, nor has a point 2^22 - 1 seconds or more after the
+//! week's start. After a split both halves are marked anew, trying the numbers that stood nearby first.
 ghost use Rattle.std.specs.Prelude.{◌≡◌, ◌≤◌, ◌<◌, ◌^◌, cond, IfSome, List, length};
 ghost use Rattle.st_index.specs.inner.Changes.{IsChange};
-ghost use Rattle.st_tally.specs.Pages.{NodeValue, entries_of_pages};
+ghost use Rattle.st_tally.specs.inner.Pages.{NodeValue, entries_of_pages};
 ghost use Rattle.st_tally.specs.inner.Marks.{AreMarked, AreMarks, ClosesAt, DifferAt, HasAt, HasNone, OpensAt, tallied, verdict_on};
 
 use crate::numbering::{FEW_NUMBERS, MAX_NUMBERS, NO_NUMBER, SLOTS};

@@ -1,11 +1,14 @@
 //! What a node knows of the rows below it.
+//!
+//! Where a label is looked for first depends on its bytes; the first label fills all places. Bounds do not narrow when a row goes.
+//! Both are made anew when a node is split, and after 256 removals from a node that does not know its labels.
 ghost use Rattle.std.specs.Prelude.{◌≡◌, ◌++◌, [], ◌∷◌, Bool, List, ◌<◌, ◌^◌, IsFalse, IsTrue, IfSome, length};
 ghost use Rattle.std.specs.List.{All};
 ghost use Rattle.st_box.specs.Query.{is_inside};
 ghost use Rattle.st_index.specs.declared.row.Row.{Row as RowValue};
 ghost use Rattle.st_index.specs.RowViews.{row_of_view};
 ghost use Rattle.st_index.specs.Rows.{rows_of};
-ghost use Rattle.st_index.specs.Counting.{count_of};
+ghost use Rattle.st_index.specs.inner.Counting.{count_of};
 ghost use Rattle.st_text.specs.Texts.{Text};
 ghost use Rattle.st_tally.specs.inner.Sums.{AreInside, IsWithin, Sums};
 

@@ -20,7 +20,9 @@ six (a ∷ b ∷ c ∷ d ∷ []) more l = absurd (omega arith)
 six (a ∷ b ∷ c ∷ d ∷ e ∷ []) more l = absurd (omega arith)
 six (a ∷ b ∷ c ∷ d ∷ e ∷ f ∷ g ∷ rest) more l = absurd (omega arith)
 
-pub last-six : (bytes more : List ℕ) → length bytes ≡ 14 → get_or bytes 8 0 ∷ get_or bytes 9 0 ∷ get_or bytes 10 0 ∷ get_or bytes 11 0 ∷ get_or bytes 12 0 ∷ get_or bytes 13 0 ∷ more ≡ drop 8 bytes ++ more
+pub last-six : (bytes more : List ℕ) → length bytes ≡ 14
+    → get_or bytes 8 0 ∷ get_or bytes 9 0 ∷ get_or bytes 10 0 ∷ get_or bytes 11 0 ∷ get_or bytes 12 0 ∷ get_or bytes 13 0 ∷ more ≡ drop 8 bytes
+    ++ more
 last-six bytes more l =
     let at : (i : ℕ) → get_or bytes (8 + i) 0 ≡ get_or (drop 8 bytes) i 0 = λ i. sym (get_or-drop 8 bytes i 0) in
     (λ i. at 0 i ∷ at 1 i ∷ at 2 i ∷ at 3 i ∷ at 4 i ∷ at 5 i ∷ more) ∙ six (drop 8 bytes) more (omega (arith, length-drop 8 bytes))

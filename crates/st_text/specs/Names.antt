@@ -19,17 +19,10 @@ is_dot b = b == 46
 abbrev pub has_dot : Text → Bool
 has_dot text = nat_lt (position_or_len is_dot text) (length text)
 
--- the part before the first dot, and the part behind it
-abbrev pub before_dot : Text → Text
-before_dot text = before_first is_dot text
-
-abbrev pub behind_dot : Text → Text
-behind_dot text = after_first is_dot text
-
 -- a name, or a namespace, one dot and a name
 abbrev pub is_table_name : Text → Bool
-is_table_name text = if has_dot text then is_name (before_dot text) && is_name (behind_dot text) else is_name text
+is_table_name text = if has_dot text then is_name (before_first is_dot text) && is_name (after_first is_dot text) else is_name text
 
 -- the namespace of a table, where its name has one
 abbrev pub namespace_of : Text → Option Text
-namespace_of table = if has_dot table then Some (before_dot table) else None
+namespace_of table = if has_dot table then Some (before_first is_dot table) else None

@@ -58,13 +58,3 @@ impl<T: Drop, A: Allocator> Items<T, A> {
         Ok(())
     }
 }
-
-impl<T: Copy + Drop, A: Allocator> Items<T, A> {
-    /// Appends copies of the items. `AllocError` when out of memory; the list is then unchanged.
-    pub fn extend(&mut self, items: &[T]) -> Result<(), AllocError>
-        ensures ok { OnOk result (self.new ≡ self.old ++ items.now) }
-        ensures err { OnErr result (self.new ≡ self.old) }
-    {
-        self.items.extend_from_slice(items)
-    }
-}

@@ -1,4 +1,6 @@
 //! Texts of at most 14 bytes.
+//!
+//! `ShortText::mixed` has no clause, since each text that it leads to is compared.
 ghost use Rattle.std.specs.Prelude.{ℕ, ◌≡◌, ◌≤◌, ◌<◌, ◌++◌, ◌∷◌, [], IsSome, IfSome, IsTrue, ◌↔◌, length, take, drop, slice_index};
 ghost use Rattle.st_text.specs.Texts.{same};
 ghost use Rattle.st_text.specs.inner.Packed.{word};

@@ -3,7 +3,7 @@ use Rattle.std.proofs.Common.{◌≡◌, ℕ, ◌≤◌, List, length, sym, ap, 
 use Rattle.std.specs.Prelude.{IsTrue}
 use Rattle.std.specs.List.{All}
 use Rattle.st_index.specs.declared.row.Row.{Row}
-use Rattle.st_tally.specs.Pages.{NodeValue}
+use Rattle.st_tally.specs.inner.Pages.{NodeValue}
 use Rattle.st_tally.specs.declared.bounds.Bounds.{Bounds}
 use Rattle.st_tally.specs.declared.marks.Marks.{Marks}
 use Rattle.st_tally.specs.declared.summary.Summary.{Summary}

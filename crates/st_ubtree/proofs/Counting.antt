@@ -5,10 +5,10 @@ use Rattle.std.specs.List.{All}
 use Rattle.st_ubtree.specs.declared.node.Kids.{Kids}
 use Rattle.st_ubtree.specs.declared.node.Kids.TheVariants.{Page, Inner}
 use Rattle.st_ubtree.specs.inner.Nodes.{IsNode, pages_under, width_of, widths_under}
-use Rattle.st_tally.specs.Pages.{PageValue, IsFilled, IsWide}
+use Rattle.st_tally.specs.inner.Pages.{PageValue, IsFilled, IsWide}
 use Rattle.st_ubtree.specs.inner.Kids.{pages_of}
-use Rattle.st_tally.specs.Pages.{AreFilled}
-use Rattle.st_ubtree.proofs.Settling.{kids_wide}
+use Rattle.st_tally.specs.inner.Pages.{AreFilled}
+use Rattle.st_ubtree.proofs.Halving.{kids_wide}
 use Rattle.st_ubtree.proofs.Splitting.{page}
 
 pub node_filled : {A : Type 0} (first height : ℕ) (kids : Kids A) → IsNode first height kids → AreFilled (pages_under first kids)

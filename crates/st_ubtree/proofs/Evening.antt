@@ -1,16 +1,17 @@
 -- Two pages side by side that are evened, and what this does to the nodes over them.
-use Rattle.std.proofs.Common.{◌≡◌, ℕ, ◌+◌, ◌-◌, ◌<◌, ◌≤◌, List, [], ◌∷◌, ◌++◌, length, get_or, set, drop, take, reverse, refl, sym, ap, subst, ◌∙◌, suc, zero, inl, inr, arith, append_assoc, length-append, length-set, true, false, Bool, eqb, ltb, if◌then◌else◌, Some}
+use Rattle.std.proofs.Common.{◌≡◌, ℕ, ◌+◌, ◌-◌, ◌<◌, ◌≤◌, List, [], ◌∷◌, ◌++◌, length, get_or, set, drop, take, reverse, refl, sym, ap, subst, ◌∙◌}
+use Rattle.std.proofs.Common.{suc, zero, inl, inr, arith, append_assoc, length-append, length-set, true, false, Bool, eqb, ltb, if◌then◌else◌, Some}
 use Rattle.std.proofs.lemmas.Bool.{cases_lt}
 use Rattle.std.proofs.lemmas.List.{append-nil, length-reverse, reverse-append, reverse-reverse, set_split}
 use Rattle.std.proofs.lemmas.List.Elements.{All-cons, All-head, All-tail}
 use Rattle.std.specs.List.{All, insert}
 use Rattle.st_key.specs.declared.period.Period.{Period}
 use Rattle.st_index.specs.declared.row.Row.{Row}
-use Rattle.st_index.specs.Index.{Adds, IsAbsent}
+use Rattle.st_index.specs.inner.Index.{Adds, IsAbsent}
 use Rattle.st_index.specs.Rows.{name_of, rows_of}
 use Rattle.st_index.proofs.Climbing.{all_left, all_right}
 use Rattle.st_index.proofs.Putting.{split_read}
-use Rattle.st_tally.specs.Pages.{PageValue, NodeValue, entries_of_pages, rows_of_pages}
+use Rattle.st_tally.specs.inner.Pages.{PageValue, NodeValue, entries_of_pages, rows_of_pages}
 use Rattle.st_ubtree.specs.inner.Evening.{Evens, HasPairAt, KidsEven, SplitsNone}
 use Rattle.st_ubtree.specs.inner.Growing.{AreAround, IsRoomFor}
 use Rattle.st_ubtree.specs.inner.Kids.{GrowsBy, HeadAt, IsKid, Spans, pages_of}
@@ -21,7 +22,7 @@ use Rattle.st_ubtree.proofs.Joining.{reshapes_inside, reshapes_same}
 use Rattle.st_ubtree.proofs.Lifting.{alone, that_kid}
 use Rattle.st_ubtree.proofs.Mending.{Pair, Paired, both_are, get_after, get_at, joins_pair, mends_both, set_at, worn_kid}
 use Rattle.st_ubtree.proofs.Needing.{chains-append, mid_splits, skip_front, splits_under, with_none}
-use Rattle.st_ubtree.proofs.Settling.{chains_length, kids_start, kids_wide}
+use Rattle.st_ubtree.proofs.Halving.{chains_length, kids_start, kids_wide}
 use Rattle.st_ubtree.proofs.Spanning.{pages-append, pages_split, spans_cut, spans_join}
 use Rattle.st_ubtree.proofs.Trading.{kept_all, kept_head, kept_kid}
 
@@ -137,8 +138,10 @@ module _ {A : Type 0} where
       let d = spans_cut o.period c.at o.hi (pages_of old) (pages_of back) c.high in
       let in_front = all_left (IsKid below) front (old ++ back) each in
       let in_old = all_left (IsKid below) old back (all_right (IsKid below) front (old ++ back) each) in
-      let parts = splits_parts o.period key o.lo c.at d.at o.hi (pages_of front) (pages_of old) (pages_of new) (pages_of back) (chains_over w front) (chains_over w old) (chains_over w new) (chains_over w back)
-      c.low d.low (spans o.period c.at d.at d.low) d.high (chains_length w below front in_front) (chains_length w below old in_old) (chains_length w below new there) o.from o.to (less o.period c.at d.at d.low) in
+      let parts = splits_parts o.period key o.lo c.at d.at o.hi (pages_of front) (pages_of old) (pages_of new) (pages_of back) (chains_over w front)
+      (chains_over w old) (chains_over w new) (chains_over w back)
+      c.low d.low (spans o.period c.at d.at d.low) d.high (chains_length w below front in_front) (chains_length w below old in_old)
+      (chains_length w below new there) o.from o.to (less o.period c.at d.at d.low) in
       let one = splits_three w key front new back in
       let two = splits_three w key front old back in
       omega (arith, one, two, parts)
@@ -239,9 +242,11 @@ module _ {A : Type 0} where
       → HasPairAt kids left → kid.width + right.width ≤ 62
   pair_fits below left kids rest kid right q fits =
       let p = q.pair in
-      let here : kid ≡ get_or kids left kid = q.one_is ∙ sym (get_at p.front p.one (p.two ∷ p.back) kid) ∙ ap (λ n. get_or (p.front ++ p.one ∷ p.two ∷ p.back) n kid) p.stands ∙ ap (λ ks. get_or ks left kid) (sym p.is) in
+      let here : kid ≡ get_or kids left kid = q.one_is ∙ sym (get_at p.front p.one (p.two ∷ p.back) kid)
+      ∙ ap (λ n. get_or (p.front ++ p.one ∷ p.two ∷ p.back) n kid) p.stands ∙ ap (λ ks. get_or ks left kid) (sym p.is) in
       let after : suc (length p.front) ≡ left + 1 = let s = p.stands in omega (arith, s) in
-      let beside : right ≡ get_or kids (left + 1) right = q.two_is ∙ sym (get_after p.front p.one p.two p.back right) ∙ ap (λ n. get_or (p.front ++ p.one ∷ p.two ∷ p.back) n right) after ∙ ap (λ ks. get_or ks (left + 1) right) (sym p.is) in
+      let beside : right ≡ get_or kids (left + 1) right = q.two_is ∙ sym (get_after p.front p.one p.two p.back right)
+      ∙ ap (λ n. get_or (p.front ++ p.one ∷ p.two ∷ p.back) n right) after ∙ ap (λ ks. get_or ks (left + 1) right) (sym p.is) in
       let l = fits.0 in
       fits.1 kid right (omega (arith, l), here) (l, beside)
 
@@ -265,7 +270,8 @@ module _ {A : Type 0} where
   pair_set below left kids rest kid right v s q =
       let p = q.pair in
       let after : left + 1 ≡ suc (length p.front) = let t = p.stands in omega (arith, t) in
-      let one : set kids left v ≡ p.front ++ v ∷ p.two ∷ p.back = ap (λ ks. set ks left v) p.is ∙ ap (λ n. set (p.front ++ p.one ∷ p.two ∷ p.back) n v) (sym p.stands) ∙ set_at p.front p.one (p.two ∷ p.back) v in
+      let one : set kids left v ≡ p.front ++ v ∷ p.two ∷ p.back = ap (λ ks. set ks left v) p.is
+      ∙ ap (λ n. set (p.front ++ p.one ∷ p.two ∷ p.back) n v) (sym p.stands) ∙ set_at p.front p.one (p.two ∷ p.back) v in
       ap (λ ks. set ks (left + 1) s) one ∙ ap (λ n. set (p.front ++ v ∷ p.two ∷ p.back) n s) after ∙ set_after p.front v p.two p.back s ∙ sym (both_are below left kids rest kid right v s q)
 
   pub kids_even_one : (below : ℕ) (kids : List (NodeValue A)) (i : ℕ) (kid v : NodeValue A) → i < length kids → kid ≡ get_or kids i kid

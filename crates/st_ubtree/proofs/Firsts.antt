@@ -14,18 +14,20 @@ use Rattle.st_ubtree.specs.declared.node.Kids.TheVariants.{Inner}
 use Rattle.st_ubtree.specs.declared.node.aside.Aside.{Aside}
 use Rattle.st_ubtree.specs.declared.node.firsts.First.{First}
 use Rattle.st_ubtree.specs.declared.node.firsts.Firsts.{Firsts}
-use Rattle.st_tally.specs.Pages.{NodeValue}
+use Rattle.st_tally.specs.inner.Pages.{NodeValue}
 use Rattle.st_ubtree.specs.inner.Firsts.{AreFirsts, AreFirstsUnder}
-use Rattle.st_ubtree.specs.inner.Growing.{IsChosen, Settles}
+use Rattle.st_ubtree.specs.inner.Growing.{IsChosen, SplitsIfFull}
 use Rattle.st_tally.specs.inner.Marks.{AreMarked}
 use Rattle.st_ubtree.specs.inner.Nodes.{AreMarkedUnder, IsNode}
 use Rattle.st_tally.proofs.Placing.{there_is}
 
 map_insert : {X : Type 0} (n : X → ℕ) (xs : List X) (i : ℕ) (x : X) → map n (insert xs i x) ≡ insert (map n xs) i (n x)
-map_insert n xs i x = map-append n (take i xs) (x ∷ drop i xs) ∙ ap (λ front. front ++ n x ∷ map n (drop i xs)) (sym (take-map n i xs)) ∙ ap (λ back. take i (map n xs) ++ n x ∷ back) (sym (drop-map n i xs))
+map_insert n xs i x = map-append n (take i xs) (x ∷ drop i xs) ∙ ap (λ front. front ++ n x ∷ map n (drop i xs)) (sym (take-map n i xs))
+    ∙ ap (λ back. take i (map n xs) ++ n x ∷ back) (sym (drop-map n i xs))
 
 map_remove : {X : Type 0} (n : X → ℕ) (xs : List X) (i : ℕ) → map n (remove xs i) ≡ remove (map n xs) i
-map_remove n xs i = map-append n (take i xs) (drop (suc i) xs) ∙ ap (λ front. front ++ map n (drop (suc i) xs)) (sym (take-map n i xs)) ∙ ap (λ back. take i (map n xs) ++ back) (sym (drop-map n (suc i) xs))
+map_remove n xs i = map-append n (take i xs) (drop (suc i) xs) ∙ ap (λ front. front ++ map n (drop (suc i) xs)) (sym (take-map n i xs))
+    ∙ ap (λ back. take i (map n xs) ++ back) (sym (drop-map n (suc i) xs))
 
 module _ {X : Type 0} (p : X → Bool) (xs : List X) where
   -- where the first that passes stands, or how many there are
@@ -78,7 +80,11 @@ module _ {A : Type 0} where
         ap (λ m. not (ltb key m)) before ∙ p i j v le within (ap (λ m. not (ltb key m)) (sym at) ∙ passes)
 
     -- a search among the first keys finds the place among the children
-    pub found_by : (n : ℕ) → n ≤ length f.keys.items → (IsPartitionedBy (λ (k : First). not (ltb key (number k))) f.keys.items → IsPartitionPoint (λ (k : First). not (ltb key (number k)) ≡ true) (λ (k : First). not (ltb key (number k)) ≡ false) f.keys.items n) → IsPartitionedBy (λ (v : NodeValue A). not (ltb key v.first)) kids → IsPartitionPoint (λ (v : NodeValue A). not (ltb key v.first) ≡ true) (λ (v : NodeValue A). not (ltb key v.first) ≡ false) kids n
+    pub found_by : (n : ℕ) → n ≤ length f.keys.items
+        → (IsPartitionedBy (λ (k : First). not (ltb key (number k))) f.keys.items
+        → IsPartitionPoint (λ (k : First). not (ltb key (number k)) ≡ true) (λ (k : First). not (ltb key (number k)) ≡ false) f.keys.items n)
+        → IsPartitionedBy (λ (v : NodeValue A). not (ltb key v.first)) kids
+        → IsPartitionPoint (λ (v : NodeValue A). not (ltb key v.first) ≡ true) (λ (v : NodeValue A). not (ltb key v.first) ≡ false) kids n
     found_by n bound found p =
         let q = found (parted p) in
         let len = as_many f kids h in (
@@ -103,20 +109,22 @@ module _ {A : Type 0} where
     pub marks_in : AreMarkedUnder k → AreMarked a.marks kids.items
     marks_in h = subst (λ (b : Aside A). AreMarked b.marks kids.items) (sym same) (subst AreMarkedUnder is h)
 
-    pub chosen_in : (key first height at : ℕ) → IsNode first height k → AreFirstsUnder k → ((ks : List (NodeValue A)) → 1 ≤ length ks → AreFirsts a.firsts ks → IsChosen key ks at) → IsChosen key kids.items at
+    pub chosen_in : (key first height at : ℕ) → IsNode first height k → AreFirstsUnder k
+        → ((ks : List (NodeValue A)) → 1 ≤ length ks → AreFirsts a.firsts ks → IsChosen key ks at) → IsChosen key kids.items at
     chosen_in key first height at node firsts chosen =
         let good = subst (IsNode first height) is node in
         chosen kids.items good.not_less (firsts_in firsts)
 
-  -- of children that were settled, as many stay as there are then
-  pub settled_take : (height count : ℕ) (old new : List (NodeValue A)) (split : Option (NodeValue A)) → Settles height old new split → count ≡ length new → take count old ≡ new
-  settled_take height count old new None s is = let n = ap length s.0 in take_all count old (omega (arith, n, is)) ∙ sym s.0
-  settled_take height count old new (Some r) s is = ap (λ n. take n old) (is ∙ s.1) ∙ sym s.0
+  -- of children that were split, as many stay as there are then
+  pub split_take : (height count : ℕ) (old new : List (NodeValue A)) (split : Option (NodeValue A)) → SplitsIfFull height old new split → count ≡ length new → take count old ≡ new
+  split_take height count old new None s is = let n = ap length s.0 in take_all count old (omega (arith, n, is)) ∙ sym s.0
+  split_take height count old new (Some r) s is = ap (λ n. take n old) (is ∙ s.1) ∙ sym s.0
 
   -- what an edit of the first keys makes of those of the children
   module _ (keys new : List First) (kids : List (NodeValue A)) (i : ℕ) (h : map number keys ≡ map (λ (w : NodeValue A). w.first) kids) where
     pub firsts_open : (k : First) (v : NodeValue A) → new ≡ insert keys i k → number k ≡ v.first → map number new ≡ map (λ (w : NodeValue A). w.first) (insert kids i v)
-    firsts_open k v is first = ap (map number) is ∙ map_insert number keys i k ∙ ap (λ ns. insert ns i (number k)) h ∙ ap (insert (map (λ (w : NodeValue A). w.first) kids) i) first ∙ sym (map_insert (λ (w : NodeValue A). w.first) kids i v)
+    firsts_open k v is first = ap (map number) is ∙ map_insert number keys i k ∙ ap (λ ns. insert ns i (number k)) h
+        ∙ ap (insert (map (λ (w : NodeValue A). w.first) kids) i) first ∙ sym (map_insert (λ (w : NodeValue A). w.first) kids i v)
 
     pub firsts_close : new ≡ remove keys i → map number new ≡ map (λ (w : NodeValue A). w.first) (remove kids i)
     firsts_close is = ap (map number) is ∙ map_remove number keys i ∙ ap (λ ns. remove ns i) h ∙ sym (map_remove (λ (w : NodeValue A). w.first) kids i)

@@ -8,11 +8,11 @@ use Rattle.st_index.proofs.Climbing.{all_left}
 use Rattle.st_index.proofs.Putting.{split_read}
 use Rattle.st_index.proofs.Rising.{rises_around, rises_bounds, rises_join}
 use Rattle.st_ubtree.specs.inner.Nodes.{IsInnerNode, inner_node}
-use Rattle.st_tally.specs.Pages.{page_node}
-use Rattle.st_tally.specs.Pages.{PageValue, NodeValue, entries_of_pages}
+use Rattle.st_tally.specs.inner.Pages.{page_node}
+use Rattle.st_tally.specs.inner.Pages.{PageValue, NodeValue, entries_of_pages}
 use Rattle.st_ubtree.specs.inner.Kids.{HeadAt, IsKid, Spans, pages_of}
 use Rattle.st_ubtree.specs.inner.Shrinking.{IsNodeOf, IsPageOf, IsKidBeside, Joins, KidsJoin, PagesJoin, Reshapes, pages_beside}
-use Rattle.st_ubtree.proofs.Settling.{kids_start, kids_wide}
+use Rattle.st_ubtree.proofs.Halving.{kids_start, kids_wide}
 use Rattle.st_ubtree.proofs.Spanning.{entries_three, pages-append, spans_cut, spans_join}
 use Rattle.st_ubtree.proofs.Splitting.{wide_page, page, rises_wide}
 
@@ -39,7 +39,8 @@ module _ {A : Type 0} where
   two_pages : (first second : ℕ) (es fs : List (EntryValue A)) → entries_of_pages (page first es ∷ page second fs ∷ []) ≡ es ++ fs
   two_pages first second es fs = ap (λ t. es ++ t) (append-nil fs)
 
-  pages_shape : (old right new : List (EntryValue A)) (r : Option (NodeValue A)) → PagesJoin old right new r → (first second : ℕ) → Reshapes (page first old ∷ page second right ∷ []) (page first new ∷ pages_beside r)
+  pages_shape : (old right new : List (EntryValue A)) (r : Option (NodeValue A)) → PagesJoin old right new r → (first second : ℕ)
+      → Reshapes (page first old ∷ page second right ∷ []) (page first new ∷ pages_beside r)
   pages_shape old right new None j first second =
       let is : new ≡ old ++ right = sym (append-nil new) ∙ sym (ap (λ t. new ++ t) j.beside) ∙ j.kept in
       record {
@@ -82,7 +83,8 @@ module _ {A : Type 0} where
   beside_page rest None h = tt
   beside_page rest (Some s) h = h.0
 
-  pub join_of_pages : (first second : ℕ) (height : ℕ) (old right new : List (EntryValue A)) (r : Option (NodeValue A)) (v : NodeValue A) → height ≡ 0 → v.pages ≡ page second right ∷ [] → PagesJoin old right new r → Joins height (page_node first height old) v (page_node first height new) r
+  pub join_of_pages : (first second : ℕ) (height : ℕ) (old right new : List (EntryValue A)) (r : Option (NodeValue A)) (v : NodeValue A) → height ≡ 0
+      → v.pages ≡ page second right ∷ [] → PagesJoin old right new r → Joins height (page_node first height old) v (page_node first height new) r
   join_of_pages first second height old right new r v z is j =
       let shape = pages_shape old right new r j first second in
       record {
@@ -111,7 +113,9 @@ module _ {A : Type 0} where
   pub joined_head : (height first : ℕ) (old right new : List (NodeValue A)) (r : Option (NodeValue A)) → KidsJoin height old right new r → HeadAt first old → HeadAt first new
   joined_head height first old right new r j h = head_of_joined first new j.rest old right j.kept h (let n = j.not_less in omega (arith, n))
 
-  pub join_of_kids : (first height below : ℕ) (old right new : List (NodeValue A)) (r : Option (NodeValue A)) (v : NodeValue A) → v.pages ≡ pages_of right → All (IsKid below) (old ++ right) → HeadAt first old → KidsJoin height old right new r → Joins height (inner_node first height old) v (inner_node first height new) r
+  pub join_of_kids : (first height below : ℕ) (old right new : List (NodeValue A)) (r : Option (NodeValue A)) (v : NodeValue A)
+      → v.pages ≡ pages_of right → All (IsKid below) (old ++ right) → HeadAt first old → KidsJoin height old right new r
+      → Joins height (inner_node first height old) v (inner_node first height new) r
   join_of_kids first height below old right new r v is each head j =
       let all = joined_each below old right new j.rest j.kept each in
       let at = joined_head height first old right new r j head in
@@ -120,10 +124,12 @@ module _ {A : Type 0} where
         kid = record { same_height = refl; not_less = j.not_less; not_more = j.not_more; starts = kids_start below first new all at; filled = kids_wide below new all };
         beside = kid_beside height j.rest r j.beside;
         by = reshapes_same (pages_of old ++ v.pages) (pages_of new ++ pages_beside r)
-            (ap (λ ps. pages_of new ++ ps) (kids_beside height j.rest r j.beside) ∙ sym (pages-append new j.rest) ∙ ap pages_of j.kept ∙ pages-append old right ∙ ap (λ ps. pages_of old ++ ps) (sym is));
+            (ap (λ ps. pages_of new ++ ps) (kids_beside height j.rest r j.beside) ∙ sym (pages-append new j.rest) ∙ ap pages_of j.kept
+            ∙ pages-append old right ∙ ap (λ ps. pages_of old ++ ps) (sym is));
       }
 
-  pub both_kids : (first second height other : ℕ) (old right : List (NodeValue A)) (room more : ℕ) → other ≡ height → (a : IsInnerNode first height old room) → IsInnerNode second other right more → All (IsKid a.below) (old ++ right)
+  pub both_kids : (first second height other : ℕ) (old right : List (NodeValue A)) (room more : ℕ) → other ≡ height
+      → (a : IsInnerNode first height old room) → IsInnerNode second other right more → All (IsKid a.below) (old ++ right)
   both_kids first second height other old right room more e a b =
       let h = a.higher in
       let k = b.higher in

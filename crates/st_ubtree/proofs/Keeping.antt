@@ -10,16 +10,16 @@ use Rattle.st_key.specs.declared.point.Point.{Point}
 use Rattle.st_text.specs.Texts.{Text}
 use Rattle.st_box.specs.declared.query.Query.{Query}
 use Rattle.st_index.specs.declared.row.Row.{Row}
-use Rattle.st_index.specs.Counting.{count_of, is_counted}
+use Rattle.st_index.specs.inner.Counting.{count_of, is_counted}
 use Rattle.st_index.specs.Rows.{EntryValue, Name, name_of}
 use Rattle.st_index.proofs.Sums.{sum_by-flat_map}
 use Rattle.st_tally.specs.declared.bounds.Bounds.{Bounds}
 use Rattle.st_ubtree.specs.declared.node.Kids.{Kids}
 use Rattle.st_ubtree.specs.declared.node.Kids.TheVariants.{Page, Inner}
 use Rattle.st_tally.specs.declared.summary.Summary.{Summary}
-use Rattle.st_tally.specs.Pages.{NodeValue, rows_of_pages}
+use Rattle.st_tally.specs.inner.Pages.{NodeValue, rows_of_pages}
 use Rattle.st_ubtree.specs.inner.Kids.{pages_of}
-use Rattle.st_ubtree.specs.inner.Growing.{Grows, Settles}
+use Rattle.st_ubtree.specs.inner.Growing.{Grows, SplitsIfFull}
 use Rattle.st_ubtree.specs.inner.Shrinking.{Shrinks}
 use Rattle.st_ubtree.specs.inner.Trading.{TradesIn}
 use Rattle.st_ubtree.specs.inner.Nodes.{pages_under, rows_under}
@@ -99,9 +99,9 @@ module _ {A : Type 0} where
   kept_sums s key row old new (Some right) g none sums = cc
 
   -- children that are not split stay
-  pub settled_same : (height : ℕ) (old new : List (NodeValue A)) (split : Option (NodeValue A)) → Settles height old new split → is_some split ≡ false → new ≡ old
-  settled_same height old new None s none = s.0
-  settled_same height old new (Some right) s none = cc
+  pub split_same : (height : ℕ) (old new : List (NodeValue A)) (split : Option (NodeValue A)) → SplitsIfFull height old new split → is_some split ≡ false → new ≡ old
+  split_same height old new None s none = s.0
+  split_same height old new (Some right) s none = cc
 
   pub kept_taken : (s t : Summary A) (key : ℕ) (old new : NodeValue A) (taken : Option (Row A))
       → IfSome taken (λ row. Shrinks key row old new) → IfNone taken (new ≡ old)

@@ -5,17 +5,17 @@ use Rattle.std.specs.List.{All, Contains}
 use Rattle.st_key.specs.declared.period.Period.{Period}
 use Rattle.st_index.specs.declared.row.Row.{Row}
 use Rattle.st_index.specs.Rows.{EntryValue, Name, Rises, key_end, name_of, rank_of, rows_of}
-use Rattle.st_index.specs.Index.{Follow, IsAbsent, IsLawful, IsLeafAt, Region, region}
+use Rattle.st_index.specs.inner.Index.{Follow, IsAbsent, IsLawful, IsLeafAt, Region, region}
 use Rattle.st_index.proofs.Listing.{adds_length, swaps_length}
 use Rattle.st_ubtree.specs.inner.Shrinking.{DropsFrom}
 use Rattle.st_index.proofs.Rising.{rises_join}
 use Rattle.st_index.proofs.Scanning.{scan_rises}
 use Rattle.st_ubtree.specs.inner.Growing.{AreAround, IsLeafIn}
-use Rattle.st_tally.specs.Pages.{PageValue, NodeValue, IsFilled, entries_of_pages, rows_of_pages}
+use Rattle.st_tally.specs.inner.Pages.{PageValue, NodeValue, IsFilled, entries_of_pages, rows_of_pages}
 use Rattle.st_ubtree.specs.inner.Kids.{GrowsBy, Spans}
 use Rattle.st_ubtree.specs.inner.Trading.{TradesIn}
-use Rattle.st_tally.specs.Pages.{AreFilled}
-use Rattle.st_ubtree.specs.Trees.{regions_of}
+use Rattle.st_tally.specs.inner.Pages.{AreFilled}
+use Rattle.st_ubtree.specs.inner.Trees.{regions_of}
 use Rattle.st_ubtree.specs.inner.Tree.{IsTree}
 use Rattle.st_ubtree.proofs.Inside.{rows_join, rows_three}
 use Rattle.st_ubtree.proofs.Shrinking.{page_rows_below, page_rows_from}
@@ -78,7 +78,8 @@ module _ {A : Type 0} (period : Period) where
       let b = regions_length hi (p ∷ q ∷ ps) in
       omega (arith, a, b, n)
 
-  pub lawful_pages : (ps : List (PageValue A)) → Spans period 0 (key_end period) ps → AreFilled ps → length (rows_of_pages ps) < 2 ^ 64 → IsLawful period (rows_of_pages ps) (regions_of (key_end period) ps)
+  pub lawful_pages : (ps : List (PageValue A)) → Spans period 0 (key_end period) ps → AreFilled ps → length (rows_of_pages ps) < 2 ^ 64
+      → IsLawful period (rows_of_pages ps) (regions_of (key_end period) ps)
   lawful_pages ps s f n = record {
     in_order = scan_rises period 0 (key_end period) (entries_of_pages ps) (spans_rise period 0 (key_end period) ps s);
     count = n;
@@ -90,7 +91,8 @@ module _ {A : Type 0} (period : Period) where
   lawful_tree root len t = let a = t.counted in let b = t.most in lawful_pages root.pages t.spans t.filled (omega (arith, a, b))
 
   -- the region of a page among others
-  region_at : (lo hi : ℕ) (xs : List (PageValue A)) (p : PageValue A) (ys : List (PageValue A)) (last : ℕ) (d : Region) → p.first ≤ last → Spans period (last + 1) hi ys → get_or (regions_of hi (xs ++ p ∷ ys)) (length xs) d ≡ region p.first last
+  region_at : (lo hi : ℕ) (xs : List (PageValue A)) (p : PageValue A) (ys : List (PageValue A)) (last : ℕ) (d : Region) → p.first ≤ last
+      → Spans period (last + 1) hi ys → get_or (regions_of hi (xs ++ p ∷ ys)) (length xs) d ≡ region p.first last
   region_at lo hi [] p [] last d l h = ap (λ n. region p.first n) (let e : hi - 1 ≡ last = omega (arith, h) in e)
   region_at lo hi [] p (y ∷ ys) last d l h = ap (λ n. region p.first n) (let f = h.0 in let e : y.first - 1 ≡ last = omega (arith, f) in e)
   region_at lo hi (x ∷ []) p ys last d l h = region_at lo hi [] p ys last d l h
@@ -99,7 +101,8 @@ module _ {A : Type 0} (period : Period) where
   regions_longer : (hi : ℕ) (xs : List (PageValue A)) (p : PageValue A) (ys : List (PageValue A)) → length xs < length (regions_of hi (xs ++ p ∷ ys))
   regions_longer hi xs p ys = let a = regions_length hi (xs ++ p ∷ ys) in let b = length-append xs (p ∷ ys) in omega (arith, a, b)
 
-  module _ (key end first last : ℕ) (pages : List (PageValue A)) (entries : List (EntryValue A)) (h : IsLeafIn key pages end first last entries) (s : Spans period 0 (key_end period) pages) (e : end + 1 ≡ key_end period) (below : key < key_end period) where
+  module _ (key end first last : ℕ) (pages : List (PageValue A)) (entries : List (EntryValue A)) (h : IsLeafIn key pages end first last entries)
+      (s : Spans period 0 (key_end period) pages) (e : end + 1 ≡ key_end period) (below : key < key_end period) where
     pub leaf_at_key : IsLeafAt period key (rows_of_pages pages) (region first last) entries
     leaf_at_key =
         let all = part_spans period key end first last pages (page first entries ∷ []) h s e in
@@ -143,7 +146,8 @@ module _ {A : Type 0} (period : Period) where
   -- a tree that changes
 
   module _ (key : ℕ) (row : Row A) (old new : NodeValue A) (len : ℕ) (t : IsTree period old len) (wide : 1 ≤ new.height → 2 ≤ new.width) (filled : AreFilled new.pages) where
-    pub tree_grows : GrowsBy key row old.pages new.pages → key ≡ rank_of period row → key < key_end period → IsAbsent period key (name_of row) (rows_of_pages old.pages) → length (rows_of_pages old.pages) + 1 < 2 ^ 64 → IsTree period new (len + 1)
+    pub tree_grows : GrowsBy key row old.pages new.pages → key ≡ rank_of period row → key < key_end period
+        → IsAbsent period key (name_of row) (rows_of_pages old.pages) → length (rows_of_pages old.pages) + 1 < 2 ^ 64 → IsTree period new (len + 1)
     tree_grows g at below absent count =
         let more = adds_length row (rows_of_pages old.pages) (rows_of_pages new.pages) g.adds in
         let n = t.counted in

@@ -5,11 +5,11 @@ use Rattle.std.specs.List.{All}
 use Rattle.std.specs.List.Sorted.{IsPartitionedBy, IsPartitionPoint}
 use Rattle.st_ubtree.specs.declared.node.Kids.{Kids}
 use Rattle.st_ubtree.specs.declared.node.Kids.TheVariants.{Page, Inner}
-use Rattle.st_tally.specs.Pages.{PageValue, NodeValue}
+use Rattle.st_tally.specs.inner.Pages.{PageValue, NodeValue}
 use Rattle.st_ubtree.specs.inner.Kids.{Spans, StartsAt, IsKid, pages_of}
 use Rattle.st_ubtree.specs.inner.Nodes.{IsNode, pages_under}
 use Rattle.st_ubtree.specs.inner.Growing.{IsPartIn}
-use Rattle.st_ubtree.proofs.Settling.{kids_start}
+use Rattle.st_ubtree.proofs.Halving.{kids_start}
 use Rattle.st_ubtree.proofs.Spanning.{Found, found_kid, pages_split, spans_join, starts_there}
 use Rattle.st_key.specs.declared.period.Period.{Period}
 
@@ -48,7 +48,10 @@ module _ {A : Type 0} where
     high = λ period lo s. spans_join period (last + 1) (l + 1) (end + 1) i.after o.after (i.high period f (o.inside period lo s)) (o.high period lo s);
   }
 
-  module _ (key below end : ℕ) (kids : List (NodeValue A)) (i n : ℕ) (kid : NodeValue A) (each : All (IsKid below) kids) (found : IsPartitionedBy (λ (v : NodeValue A). not (ltb key v.first)) kids → IsPartitionPoint (λ (v : NodeValue A). not (ltb key v.first) ≡ true) (λ (v : NodeValue A). not (ltb key v.first) ≡ false) kids n) (is : i + 1 ≡ max n 1) (l : i < length kids) (read : kid ≡ get_or kids i kid) where
+  module _ (key below end : ℕ) (kids : List (NodeValue A)) (i n : ℕ) (kid : NodeValue A) (each : All (IsKid below) kids)
+      (found : IsPartitionedBy (λ (v : NodeValue A). not (ltb key v.first)) kids
+      → IsPartitionPoint (λ (v : NodeValue A). not (ltb key v.first) ≡ true) (λ (v : NodeValue A). not (ltb key v.first) ≡ false) kids n)
+      (is : i + 1 ≡ max n 1) (l : i < length kids) (read : kid ≡ get_or kids i kid) where
     f_at : (period : Period) (lo : ℕ) → Spans period lo (end + 1) (pages_of kids) → Found period key lo (end + 1) kids i kid
     f_at period lo s = found_kid period key below lo (end + 1) kids each s n i kid found is l read
 
@@ -64,11 +67,14 @@ module _ {A : Type 0} where
       from = λ period lo s k. let f = f_at period lo s in let e = begins period f.a f.b f.mid in let from = f.from k in omega (arith, e, from);
       to = λ period lo s k. let f = f_at period lo s in let e = ends period lo f in let to = f.to (omega (arith, k)) in omega (arith, e, to);
       low = λ period lo s. let f = f_at period lo s in subst (λ m. Spans period lo m (pages_of (take i kids))) (sym (begins period f.a f.b f.mid)) f.low;
-      inside = λ period lo s. let f = f_at period lo s in subst (λ m. Spans period kid.first m kid.pages) (sym (ends period lo f)) (subst (λ m. Spans period m f.b kid.pages) (sym (begins period f.a f.b f.mid)) f.mid);
+      inside = λ period lo s. let f =
+          f_at period lo s in subst (λ m. Spans period kid.first m kid.pages) (sym (ends period lo f))
+          (subst (λ m. Spans period m f.b kid.pages) (sym (begins period f.a f.b f.mid)) f.mid);
       high = λ period lo s. let f = f_at period lo s in subst (λ m. Spans period m (end + 1) (pages_of (drop (suc i) kids))) (sym (ends period lo f)) f.high;
     }
 
-    pub ends_next : (k : ℕ) (w : NodeValue A) → suc i < length kids → w ≡ get_or kids (suc i) w → k ≡ w.first - 1 → (period : Period) (lo : ℕ) (f : Found period key lo (end + 1) kids i kid) → k + 1 ≡ f.b
+    pub ends_next : (k : ℕ) (w : NodeValue A) → suc i < length kids → w ≡ get_or kids (suc i) w → k ≡ w.first - 1
+        → (period : Period) (lo : ℕ) (f : Found period key lo (end + 1) kids i kid) → k + 1 ≡ f.b
     ends_next k w m at e period lo f =
         let q = drop-cons kids (suc i) w m in
         let b = f.next (get_or kids (suc i) w) (drop (suc (suc i)) kids) q in

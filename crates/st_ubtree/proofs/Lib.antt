@@ -2,7 +2,7 @@ pub mod Spanning
 pub mod Leaves
 pub mod Inside
 pub mod Splitting
-pub mod Settling
+pub mod Halving
 pub mod Lifting
 pub mod Joining
 pub mod Mending
@@ -17,3 +17,4 @@ pub mod Walking
 pub mod Keeping
 pub mod Firsts
 pub mod Copying
+pub mod Viewed

@@ -3,7 +3,7 @@ use Rattle.std.proofs.Common.{◌≡◌, ℕ, ◌+◌, ◌<◌, ◌≤◌, ◌�
 use Rattle.std.proofs.lemmas.List.Elements.{All-append, All-cons, All-head, All-tail}
 use Rattle.std.specs.List.{All, insert, remove}
 use Rattle.st_index.proofs.Climbing.{all_left, all_right}
-use Rattle.st_tally.specs.Pages.{PageValue, NodeValue}
+use Rattle.st_tally.specs.inner.Pages.{PageValue, NodeValue}
 use Rattle.st_ubtree.specs.inner.Kids.{HeadAt, IsKid, pages_of}
 use Rattle.st_ubtree.specs.inner.Shrinking.{AreWorn, IsKidBeside, IsWorn, Joins, Mends, Reshapes, pages_beside}
 use Rattle.st_ubtree.proofs.Joining.{reshapes_inside, reshapes_same}
@@ -138,7 +138,8 @@ module _ {A : Type 0} where
   pair_head first [] one v xs ys e h = e ∙ h
   pair_head first (x ∷ front) one v xs ys e h = h
 
-  pub mends_pair : {most : ℕ} (below left : ℕ) (kids new : List (NodeValue A)) (p : Pair below left most kids) (v : NodeValue A) (r : Option (NodeValue A)) → Joins below p.one p.two v r → new ≡ p.front ++ v ∷ (list_of r ++ p.back) → Mends below kids new
+  pub mends_pair : {most : ℕ} (below left : ℕ) (kids new : List (NodeValue A)) (p : Pair below left most kids) (v : NodeValue A)
+      (r : Option (NodeValue A)) → Joins below p.one p.two v r → new ≡ p.front ++ v ∷ (list_of r ++ p.back) → Mends below kids new
   mends_pair below left kids new p v r j e =
       let n = ap length p.is ∙ length-append p.front (p.one ∷ p.two ∷ p.back) in
       let m = ap length e ∙ length-append p.front (v ∷ (list_of r ++ p.back)) in
@@ -149,7 +150,10 @@ module _ {A : Type 0} where
       let now : pages_of new ≡ pages_of p.front ++ ((v.pages ++ pages_beside r) ++ pages_of p.back) =
       ap pages_of e ∙ pages-append p.front (v ∷ (list_of r ++ p.back)) ∙ ap (λ ps. pages_of p.front ++ ps) (beside_pages v r p.back) in
       record {
-        each = subst (All (IsKid below)) (sym e) (All-append (IsKid below) p.front (v ∷ (list_of r ++ p.back)) p.in_front (All-cons (IsKid below) v (list_of r ++ p.back) j.kid (All-append (IsKid below) (list_of r) p.back (beside_each below r j.beside) p.behind)));
+        each = subst (All (IsKid below)) (sym e)
+            (All-append (IsKid below) p.front (v ∷ (list_of r ++ p.back)) p.in_front
+            (All-cons (IsKid below) v (list_of r ++ p.back) j.kid
+            (All-append (IsKid below) (list_of r) p.back (beside_each below r j.beside) p.behind)));
         head = λ first h. subst (HeadAt first) (sym e) (pair_head first p.front p.one v (p.two ∷ p.back) (list_of r ++ p.back) j.first (subst (HeadAt first) p.is h));
         shorter = omega (arith, n, m, q, s);
         at_most_one = omega (arith, n, m, q, s);
@@ -177,7 +181,8 @@ module _ {A : Type 0} where
   worn_is below at kids w kid read = read ∙ ap (λ ks. get_or ks at kid) w.is ∙ ap (λ n. get_or (w.front ++ w.kid ∷ w.back) n kid) (sym w.stands) ∙ get_at w.front w.kid w.back kid
 
   -- a pair that was taken out
-  pub taken_pair : {most : ℕ} (below left : ℕ) (kids rest : List (NodeValue A)) (kid right : NodeValue A) → Pair below left most kids → rest ≡ remove kids (left + 1) → right ≡ get_or kids (left + 1) right → kid ≡ get_or rest left kid → Paired below left most kids rest kid right
+  pub taken_pair : {most : ℕ} (below left : ℕ) (kids rest : List (NodeValue A)) (kid right : NodeValue A) → Pair below left most kids
+      → rest ≡ remove kids (left + 1) → right ≡ get_or kids (left + 1) right → kid ≡ get_or rest left kid → Paired below left most kids rest kid right
   taken_pair below left kids rest kid right p removed taken read =
       let s = p.stands in
       let after : left + 1 ≡ suc (length p.front) = omega (arith, s) in
@@ -190,13 +195,15 @@ module _ {A : Type 0} where
       }
 
   pub paired : (below at left : ℕ) (kids rest : List (NodeValue A)) (w : AreWorn below at kids) (first kid right : NodeValue A) → first ≡ get_or kids at first → first.width < 16
-      → left + 1 < length kids → (left ≡ at) ⊎ (left + 1 ≡ at) → rest ≡ remove kids (left + 1) → right ≡ get_or kids (left + 1) right → kid ≡ get_or rest left kid → Paired below left 47 kids rest kid right
+      → left + 1 < length kids → (left ≡ at) ⊎ (left + 1 ≡ at) → rest ≡ remove kids (left + 1) → right ≡ get_or kids (left + 1) right
+      → kid ≡ get_or rest left kid → Paired below left 47 kids rest kid right
   paired below at left kids rest w first kid right there low fits beside removed taken read =
       let e = ap (λ (v : NodeValue A). v.width) (worn_is below at kids w first there) in
       let p = pair_of below at left kids w (omega (arith, e, low)) fits beside in
       taken_pair below left kids rest kid right p removed taken read
 
-  pub joins_pair : {most : ℕ} (below left : ℕ) (kids rest : List (NodeValue A)) (kid right v : NodeValue A) (r : Option (NodeValue A)) (q : Paired below left most kids rest kid right) → Joins kid.height kid right v r → Joins below q.pair.one q.pair.two v r
+  pub joins_pair : {most : ℕ} (below left : ℕ) (kids rest : List (NodeValue A)) (kid right v : NodeValue A) (r : Option (NodeValue A))
+      (q : Paired below left most kids rest kid right) → Joins kid.height kid right v r → Joins below q.pair.one q.pair.two v r
   joins_pair below left kids rest kid right v r q j =
       let e : kid.height ≡ below = ap (λ (n : NodeValue A). n.height) q.one_is ∙ q.pair.one_worn.same_height in
       subst (λ n. Joins n q.pair.one q.pair.two v r) e (subst (λ n. Joins kid.height n q.pair.two v r) q.one_is (subst (λ n. Joins kid.height kid n v r) q.two_is j))
@@ -208,7 +215,8 @@ module _ {A : Type 0} where
       let p = q.pair in
       ap (λ ks. set ks left v) q.rest_is ∙ ap (λ n. set (p.front ++ p.one ∷ p.back) n v) (sym p.stands) ∙ set_at p.front p.one p.back v
 
-  pub mends_alone : {most : ℕ} (below left : ℕ) (kids rest : List (NodeValue A)) (kid right v : NodeValue A) → Paired below left most kids rest kid right → Joins kid.height kid right v None → Mends below kids (set rest left v)
+  pub mends_alone : {most : ℕ} (below left : ℕ) (kids rest : List (NodeValue A)) (kid right v : NodeValue A)
+      → Paired below left most kids rest kid right → Joins kid.height kid right v None → Mends below kids (set rest left v)
   mends_alone below left kids rest kid right v q j =
       mends_pair below left kids (set rest left v) q.pair v None (joins_pair below left kids rest kid right v None q j)
       (one_is_set below left kids rest kid right v q)
@@ -227,18 +235,21 @@ module _ {A : Type 0} where
       ∙ remove_after p.front v p.two p.back
       ∙ sym (one_is_set below left kids rest kid right v q)
 
-  pub both_are : {most : ℕ} (below left : ℕ) (kids rest : List (NodeValue A)) (kid right v s : NodeValue A) (q : Paired below left most kids rest kid right) → insert (set rest left v) (left + 1) s ≡ q.pair.front ++ v ∷ s ∷ q.pair.back
+  pub both_are : {most : ℕ} (below left : ℕ) (kids rest : List (NodeValue A)) (kid right v s : NodeValue A)
+      (q : Paired below left most kids rest kid right) → insert (set rest left v) (left + 1) s ≡ q.pair.front ++ v ∷ s ∷ q.pair.back
   both_are below left kids rest kid right v s q =
       let p = q.pair in
       let t = p.stands in
       ap (λ ks. insert ks (left + 1) s) (one_is_set below left kids rest kid right v q) ∙ insert_after p.front v p.back s (left + 1) (omega (arith, t))
 
-  pub mends_both : {most : ℕ} (below left : ℕ) (kids rest : List (NodeValue A)) (kid right v s : NodeValue A) → Paired below left most kids rest kid right → Joins kid.height kid right v (Some s) → Mends below kids (insert (set rest left v) (left + 1) s)
+  pub mends_both : {most : ℕ} (below left : ℕ) (kids rest : List (NodeValue A)) (kid right v s : NodeValue A)
+      → Paired below left most kids rest kid right → Joins kid.height kid right v (Some s) → Mends below kids (insert (set rest left v) (left + 1) s)
   mends_both below left kids rest kid right v s q j =
       mends_pair below left kids (insert (set rest left v) (left + 1) s) q.pair v (Some s) (joins_pair below left kids rest kid right v (Some s) q j)
       (both_are below left kids rest kid right v s q)
 
-  pub joins_worn : (below left : ℕ) (kids rest : List (NodeValue A)) (kid right : NodeValue A) → Paired below left 47 kids rest kid right → IsWorn kid.height kid × IsWorn kid.height right × (kid.width + right.width ≤ 47)
+  pub joins_worn : (below left : ℕ) (kids rest : List (NodeValue A)) (kid right : NodeValue A) → Paired below left 47 kids rest kid right
+      → IsWorn kid.height kid × IsWorn kid.height right × (kid.width + right.width ≤ 47)
   joins_worn below left kids rest kid right q =
       let p = q.pair in
       let e : kid.height ≡ below = ap (λ (n : NodeValue A). n.height) q.one_is ∙ p.one_worn.same_height in

@@ -1,5 +1,6 @@
 -- Which nodes a new row splits, seen from a page and from a node over it.
-use Rattle.std.proofs.Common.{◌≡◌, ℕ, ◌+◌, ◌-◌, ◌<◌, ◌≤◌, max, List, [], ◌∷◌, ◌++◌, length, get_or, map, take, drop, append_assoc, refl, sym, ap, subst, ◌∙◌, suc, zero, arith, true, false, Bool, not, ltb, eqb, ◌||◌, if◌then◌else◌, Vec, vec_len}
+use Rattle.std.proofs.Common.{◌≡◌, ℕ, ◌+◌, ◌-◌, ◌<◌, ◌≤◌, max, List, [], ◌∷◌, ◌++◌, length, get_or, map, take, drop, append_assoc, refl, sym, ap}
+use Rattle.std.proofs.Common.{subst, ◌∙◌, suc, zero, arith, true, false, Bool, not, ltb, eqb, ◌||◌, if◌then◌else◌, Vec, vec_len}
 use Rattle.std.proofs.lemmas.Bool.{true≢false, eq-eqb, ne_eqb, le-ltb, lt-ltb, or_from, or_left, or_right}
 use Rattle.std.proofs.lemmas.List.Elements.{All-append, All-cons, All-head, All-tail}
 use Rattle.std.proofs.lemmas.List.{length-map}
@@ -9,11 +10,11 @@ use Rattle.st_key.specs.declared.period.Period.{Period}
 use Rattle.st_index.specs.Rows.{EntryValue, Rises}
 use Rattle.st_index.proofs.Rising.{rises_bounds, rises_all}
 use Rattle.st_ubtree.specs.inner.Growing.{AreAround, DoRise}
-use Rattle.st_tally.specs.Pages.{PageValue, NodeValue, entries_of_pages}
+use Rattle.st_tally.specs.inner.Pages.{PageValue, NodeValue, entries_of_pages}
 use Rattle.st_ubtree.specs.inner.Kids.{IsKid, Spans, pages_of}
-use Rattle.st_tally.specs.Pages.{page_node}
+use Rattle.st_tally.specs.inner.Pages.{page_node}
 use Rattle.st_ubtree.specs.inner.Splits.{chains_of, chains_over, has_key, made_nodes, splits, splits_in, splits_page, splits_with}
-use Rattle.st_ubtree.proofs.Settling.{chains_length}
+use Rattle.st_ubtree.proofs.Halving.{chains_length}
 use Rattle.st_index.proofs.Climbing.{all_left, all_right}
 use Rattle.st_index.proofs.Putting.{split_read}
 use Rattle.st_ubtree.proofs.Spanning.{Found, entries-append, found_kid, pages-append, pages_split, spans_bounds}
@@ -46,10 +47,12 @@ module _ {A : Type 0} where
 
   -- a page of 32 keys that takes a new one
 
-  pub page_overfull : {Z : Type 0} (key : ℕ) (old new : Vec (EntryValue A) Z) → length old.items ≤ 32 → vec_len new ≤ vec_len old + 1 → 32 < vec_len new → (vec_len old < vec_len new → All (λ (e : EntryValue A). e.at ≡ key → ⊥) old.items) → splits_page old.items 1 key ≡ 1
+  pub page_overfull : {Z : Type 0} (key : ℕ) (old new : Vec (EntryValue A) Z) → length old.items ≤ 32 → vec_len new ≤ vec_len old + 1
+      → 32 < vec_len new → (vec_len old < vec_len new → All (λ (e : EntryValue A). e.at ≡ key → ⊥) old.items) → splits_page old.items 1 key ≡ 1
   page_overfull key old new fits most more none = page_full key old.items (omega (arith, old.ok.0, most, more)) (none (omega (arith, old.ok.0, fits, more)))
 
-  pub page_filled : {Z : Type 0} (key : ℕ) (old new : Vec (EntryValue A) Z) → length old.items ≤ 32 → vec_len new ≤ vec_len old + 1 → 32 < vec_len new → (vec_len old < vec_len new → All (λ (e : EntryValue A). e.at ≡ key → ⊥) old.items) → 1 ≤ splits_page old.items 1 key
+  pub page_filled : {Z : Type 0} (key : ℕ) (old new : Vec (EntryValue A) Z) → length old.items ≤ 32 → vec_len new ≤ vec_len old + 1 → 32 < vec_len new
+      → (vec_len old < vec_len new → All (λ (e : EntryValue A). e.at ≡ key → ⊥) old.items) → 1 ≤ splits_page old.items 1 key
   page_filled key old new fits most more none = let one = page_overfull key old new fits most more none in omega (arith, one)
 
   pub page_short : (key : ℕ) (es : List (EntryValue A)) → length es < 32 → splits_page es 1 key ≡ 0
@@ -77,20 +80,25 @@ module _ {A : Type 0} where
       by true = sym (with_none width height)
       by false = refl
 
-  pub lift_splits : (width height key : ℕ) (ps : List (PageValue A)) (ns : List ℕ) → length ns ≡ length ps → splits_in ps (map (splits_with width height) ns) key ≡ splits_with width height (splits_in ps ns key)
+  pub lift_splits : (width height key : ℕ) (ps : List (PageValue A)) (ns : List ℕ) → length ns ≡ length ps
+      → splits_in ps (map (splits_with width height) ns) key ≡ splits_with width height (splits_in ps ns key)
   unfolding splits_in
   lift_splits width height key [] ns e = sym (with_none width height)
   lift_splits width height key (p ∷ ps) [] e = absurd (omega (arith, e))
   lift_splits width height key (p ∷ []) (n ∷ ns) e = lift_page width height p.entries n key
   lift_splits width height key (p ∷ q ∷ ps) (n ∷ ns) e = by (lift_splits width height key (q ∷ ps) ns (omega (arith, e))) (ltb key q.first)
     where
-      by : splits_in (q ∷ ps) (map (splits_with width height) ns) key ≡ splits_with width height (splits_in (q ∷ ps) ns key) → (b : Bool) → (if b then splits_page p.entries (splits_with width height n) key else splits_in (q ∷ ps) (map (splits_with width height) ns) key) ≡ splits_with width height (if b then splits_page p.entries n key else splits_in (q ∷ ps) ns key)
+      by : splits_in (q ∷ ps) (map (splits_with width height) ns) key ≡ splits_with width height (splits_in (q ∷ ps) ns key) → (b : Bool)
+          → (if b then splits_page p.entries (splits_with width height n) key else splits_in (q ∷ ps) (map (splits_with width height) ns) key)
+          ≡ splits_with width height (if b then splits_page p.entries n key else splits_in (q ∷ ps) ns key)
       by rest true = lift_page width height p.entries n key
       by rest false = rest
 
   module _ (period : Period) where
     -- pages before that of the key, and after it
-    pub skip_front : (key lo a hi : ℕ) (front : List (PageValue A)) (m : PageValue A) (rest : List (PageValue A)) (xs ys : List ℕ) → Spans period lo a front → m.first ≡ a → a ≤ key → length xs ≡ length front → splits_in (front ++ m ∷ rest) (xs ++ ys) key ≡ splits_in (m ∷ rest) ys key
+    pub skip_front : (key lo a hi : ℕ) (front : List (PageValue A)) (m : PageValue A) (rest : List (PageValue A)) (xs ys : List ℕ)
+        → Spans period lo a front → m.first ≡ a → a ≤ key → length xs ≡ length front
+        → splits_in (front ++ m ∷ rest) (xs ++ ys) key ≡ splits_in (m ∷ rest) ys key
     unfolding splits_in
     skip_front key lo a hi [] m rest [] ys s e k n = refl
     skip_front key lo a hi [] m rest (x ∷ xs) ys s e k n = absurd (omega (arith, n))
@@ -104,21 +112,26 @@ module _ {A : Type 0} where
         ap (λ b. if b then splits_page p.entries x key else splits_in (q ∷ (ps ++ m ∷ rest)) (xs ++ ys) key) (le-ltb key q.first (omega (arith, b, c, k)))
         ∙ skip_front key s.1.0 a hi (q ∷ ps) m rest xs ys s.1.3 e k (omega (arith, n))
 
-    drop_back : (key a b hi : ℕ) (m : PageValue A) (ms back : List (PageValue A)) (ys zs : List ℕ) → Spans period b hi back → key < b → length ys ≡ length (m ∷ ms) → splits_in (m ∷ (ms ++ back)) (ys ++ zs) key ≡ splits_in (m ∷ ms) ys key
+    drop_back : (key a b hi : ℕ) (m : PageValue A) (ms back : List (PageValue A)) (ys zs : List ℕ) → Spans period b hi back → key < b
+        → length ys ≡ length (m ∷ ms) → splits_in (m ∷ (ms ++ back)) (ys ++ zs) key ≡ splits_in (m ∷ ms) ys key
     unfolding splits_in
     drop_back key a b hi m ms back [] zs s k n = absurd (omega (arith, n))
     drop_back key a b hi m [] [] (y ∷ ys) zs s k n = refl
-    drop_back key a b hi m [] (r ∷ rs) (y ∷ ys) zs s k n = let e = s.0 in ap (λ t. if t then splits_page m.entries y key else splits_in (r ∷ rs) (ys ++ zs) key) (lt-ltb key r.first (omega (arith, e, k)))
+    drop_back key a b hi m [] (r ∷ rs) (y ∷ ys) zs s k n = let e =
+        s.0 in ap (λ t. if t then splits_page m.entries y key else splits_in (r ∷ rs) (ys ++ zs) key) (lt-ltb key r.first (omega (arith, e, k)))
     drop_back key a b hi m (q ∷ ms) back (y ∷ ys) zs s k n = ap (λ t. if ltb key q.first then splits_page m.entries y key else t) (drop_back key a b hi q ms back ys zs s k (omega (arith, n)))
 
-    pub mid_splits : (key lo a b hi : ℕ) (front mid back : List (PageValue A)) (xs ys zs : List ℕ) → Spans period lo a front → Spans period a b mid → Spans period b hi back → a ≤ key → key < b → length xs ≡ length front → length ys ≡ length mid → splits_in (front ++ (mid ++ back)) (xs ++ (ys ++ zs)) key ≡ splits_in mid ys key
+    pub mid_splits : (key lo a b hi : ℕ) (front mid back : List (PageValue A)) (xs ys zs : List ℕ) → Spans period lo a front → Spans period a b mid
+        → Spans period b hi back → a ≤ key → key < b → length xs ≡ length front → length ys ≡ length mid
+        → splits_in (front ++ (mid ++ back)) (xs ++ (ys ++ zs)) key ≡ splits_in mid ys key
     mid_splits key lo a b hi front [] back xs ys zs f m r j k u v = absurd (omega (arith, m, j, k))
     mid_splits key lo a b hi front (m ∷ ms) back xs ys zs f s r j k u v =
         skip_front key lo a hi front m (ms ++ back) xs (ys ++ zs) f s.0 j u ∙ drop_back key a b hi m ms back ys zs r k v
 
   pub chains-append : (width : ℕ) (xs ys : List (NodeValue A)) → chains_over width (xs ++ ys) ≡ chains_over width xs ++ chains_over width ys
   chains-append width [] ys = refl
-  chains-append width (x ∷ xs) ys = ap (λ t. map (splits_with width x.height) x.chains ++ t) (chains-append width xs ys) ∙ sym (append_assoc (map (splits_with width x.height) x.chains) (chains_over width xs) (chains_over width ys))
+  chains-append width (x ∷ xs) ys = ap (λ t. map (splits_with width x.height) x.chains ++ t) (chains-append width xs ys)
+      ∙ sym (append_assoc (map (splits_with width x.height) x.chains) (chains_over width xs) (chains_over width ys))
 
   -- a node over a child that holds the key
   pub splits_under : (period : Period) (key below w lo a b hi : ℕ) (front back : List (NodeValue A)) (v : NodeValue A) → All (IsKid below) (front ++ v ∷ back)
@@ -129,7 +142,8 @@ module _ {A : Type 0} where
       let same : length (map (splits_with w v.height) v.chains) ≡ length v.pages = length-map v.chains (splits_with w v.height) ∙ kid_is.starts.1 in
       ap (λ ps. splits_in ps (chains_over w (front ++ v ∷ back)) key) (pages-append front (v ∷ back))
       ∙ ap (λ ns. splits_in (pages_of front ++ (v.pages ++ pages_of back)) ns key) (chains-append w front (v ∷ back))
-      ∙ mid_splits period key lo a b hi (pages_of front) v.pages (pages_of back) (chains_over w front) (map (splits_with w v.height) v.chains) (chains_over w back) low mid high from to (chains_length w below front (all_left (IsKid below) front (v ∷ back) all)) same
+      ∙ mid_splits period key lo a b hi (pages_of front) v.pages (pages_of back) (chains_over w front) (map (splits_with w v.height) v.chains)
+      (chains_over w back) low mid high from to (chains_length w below front (all_left (IsKid below) front (v ∷ back) all)) same
       ∙ lift_splits w v.height key v.pages v.chains kid_is.starts.1
 
   -- entries by their keys
@@ -154,7 +168,10 @@ module _ {A : Type 0} where
 
   -- a node over the child that a search finds
 
-  module _ (key below : ℕ) (kids : List (NodeValue A)) (i n : ℕ) (kid : NodeValue A) (each : All (IsKid below) kids) (found : IsPartitionedBy (λ (v : NodeValue A). not (ltb key v.first)) kids → IsPartitionPoint (λ (v : NodeValue A). not (ltb key v.first) ≡ true) (λ (v : NodeValue A). not (ltb key v.first) ≡ false) kids n) (is : i + 1 ≡ max n 1) (l : i < length kids) (read : kid ≡ get_or kids i kid) (o : AreAround key (pages_of kids)) where
+  module _ (key below : ℕ) (kids : List (NodeValue A)) (i n : ℕ) (kid : NodeValue A) (each : All (IsKid below) kids)
+      (found : IsPartitionedBy (λ (v : NodeValue A). not (ltb key v.first)) kids
+      → IsPartitionPoint (λ (v : NodeValue A). not (ltb key v.first) ≡ true) (λ (v : NodeValue A). not (ltb key v.first) ≡ false) kids n)
+      (is : i + 1 ≡ max n 1) (l : i < length kids) (read : kid ≡ get_or kids i kid) (o : AreAround key (pages_of kids)) where
     there : Found o.period key o.lo o.hi kids i kid
     there = found_kid o.period key below o.lo o.hi kids each o.spans n i kid found is l read
 
@@ -170,7 +187,8 @@ module _ {A : Type 0} where
         ap (λ ks. splits_in (pages_of ks) (chains_over w ks) key) (split_read kids i kid l read)
         ∙ splits_under o.period key below w o.lo there.a there.b o.hi front back kid all there.low there.mid there.high (there.from o.from) (there.to o.to)
 
-    pub kid_rows : (r : ℕ) → All (λ (e : EntryValue A). e.at ≡ key → length e.rows ≡ r) (entries_of_pages kid.pages) → All (λ (e : EntryValue A). e.at ≡ key → length e.rows ≡ r) (entries_of_pages (pages_of kids))
+    pub kid_rows : (r : ℕ) → All (λ (e : EntryValue A). e.at ≡ key → length e.rows ≡ r) (entries_of_pages kid.pages)
+        → All (λ (e : EntryValue A). e.at ≡ key → length e.rows ≡ r) (entries_of_pages (pages_of kids))
     kid_rows r h =
         let P : EntryValue A → Type 0 = λ e. e.at ≡ key → length e.rows ≡ r in
         let front = pages_of (take i kids) in
@@ -194,7 +212,8 @@ module _ {A : Type 0} where
         all_left P (entries_of_pages kid.pages) (entries_of_pages back) (all_right P (entries_of_pages front) (entries_of_pages kid.pages ++ entries_of_pages back) (subst (All P) split h))
 
 pub with_full : (width height split : ℕ) → 32 ≤ width → split ≡ height + 1 → splits_with width height split ≡ split + 1
-with_full width height split l e = ap (λ b. if b then split else if eqb split (height + 1) then split + 1 else split) (le-ltb width 32 l) ∙ ap (λ b. if b then split + 1 else split) (eq-eqb split (height + 1) e)
+with_full width height split l e = ap (λ b. if b then split else if eqb split (height + 1) then split + 1 else split) (le-ltb width 32 l)
+    ∙ ap (λ b. if b then split + 1 else split) (eq-eqb split (height + 1) e)
 
 pub with_not_less : (width height split : ℕ) → split ≤ splits_with width height split
 with_not_less width height split = by (ltb width 32) (eqb split (height + 1))

@@ -2,16 +2,17 @@
 use Rattle.std.proofs.Common.{◌≡◌, ℕ, ◌+◌, ◌<◌, ◌≤◌, List, ◌++◌, length, sym, ap, subst, ◌∙◌, arith}
 use Rattle.st_key.specs.declared.period.Period.{Period}
 use Rattle.st_index.specs.Rows.{key_end}
-use Rattle.st_index.specs.Index.{rows_between, rows_from}
+use Rattle.st_index.specs.inner.Index.{rows_between, rows_from}
 use Rattle.st_index.proofs.Ranges.{between_middle, from_middle}
-use Rattle.st_tally.specs.Pages.{PageValue, rows_of_pages}
+use Rattle.st_tally.specs.inner.Pages.{PageValue, rows_of_pages}
 use Rattle.st_ubtree.specs.inner.Kids.{Spans}
 use Rattle.st_ubtree.specs.inner.Growing.{IsPartIn}
 use Rattle.st_ubtree.proofs.Inside.{rows_three}
 use Rattle.st_ubtree.proofs.Shrinking.{page_rows_below, page_rows_from}
 use Rattle.st_ubtree.proofs.Spanning.{spans_bounds}
 
-module _ {A : Type 0} (period : Period) (key end first last : ℕ) (pages part : List (PageValue A)) (h : IsPartIn key pages end first last part) (s : Spans period 0 (key_end period) pages) (e : end + 1 ≡ key_end period) where
+module _ {A : Type 0} (period : Period) (key end first last : ℕ) (pages part : List (PageValue A)) (h : IsPartIn key pages end first last part)
+    (s : Spans period 0 (key_end period) pages) (e : end + 1 ≡ key_end period) where
   pub part_spans : Spans period 0 (end + 1) pages
   part_spans = subst (λ n. Spans period 0 n pages) (sym e) s
 

@@ -1,5 +1,6 @@
 -- What taking out a row does to a page, and to a node over the child that it is taken from.
-use Rattle.std.proofs.Common.{◌≡◌, ℕ, ◌+◌, ◌<◌, ◌≤◌, max, List, [], ◌∷◌, ◌++◌, length, get_or, set, take, drop, refl, sym, ap, subst, ◌∙◌, suc, arith, true, false, not, ltb, length-set, length-take-le, Option, Some, None}
+use Rattle.std.proofs.Common.{◌≡◌, ℕ, ◌+◌, ◌<◌, ◌≤◌, max, List, [], ◌∷◌, ◌++◌, length, get_or, set, take, drop, refl, sym, ap, subst, ◌∙◌, suc, arith}
+use Rattle.std.proofs.Common.{true, false, not, ltb, length-set, length-take-le, Option, Some, None}
 use Rattle.std.proofs.lemmas.List.{set_split}
 use Rattle.std.proofs.lemmas.List.Elements.{All-append, All-tail}
 use Rattle.std.specs.List.{All}
@@ -8,18 +9,18 @@ use Rattle.std.specs.List.Sorted.{IsPartitionedBy, IsPartitionPoint}
 use Rattle.st_key.specs.declared.period.Period.{Period}
 use Rattle.st_index.specs.declared.row.Row.{Row}
 use Rattle.st_index.specs.Rows.{EntryValue, Name, Rises, name_of, rank_of, rows_of}
-use Rattle.st_index.specs.Index.{Adds, IsAbsent}
+use Rattle.st_index.specs.inner.Index.{Adds, IsAbsent}
 use Rattle.st_index.proofs.Climbing.{all_left, all_right}
 use Rattle.st_index.proofs.Putting.{adds_inside, split_read}
 use Rattle.st_index.proofs.Taking.{absent_high, absent_join, absent_low, rows_below, rows_from}
 use Rattle.st_ubtree.specs.inner.Nodes.{IsInnerNode, inner_node}
-use Rattle.st_tally.specs.Pages.{page_node}
-use Rattle.st_tally.specs.Pages.{PageValue, NodeValue, rows_of_pages}
+use Rattle.st_tally.specs.inner.Pages.{page_node}
+use Rattle.st_tally.specs.inner.Pages.{PageValue, NodeValue, rows_of_pages}
 use Rattle.st_ubtree.specs.inner.Kids.{HeadAt, IsKid, Spans, pages_of}
 use Rattle.st_ubtree.specs.inner.Shrinking.{AreWorn, DropsFrom, HasNone, IsWorn, Mends, Reshapes, Shrinks}
 use Rattle.st_ubtree.proofs.Inside.{rows_join, rows_three}
 use Rattle.st_ubtree.proofs.Lifting.{head_same, that_kid}
-use Rattle.st_ubtree.proofs.Settling.{kids_start, kids_wide}
+use Rattle.st_ubtree.proofs.Halving.{kids_start, kids_wide}
 use Rattle.st_ubtree.proofs.Spanning.{found_kid, pages-append, pages_split, spans_bounds, spans_cut, spans_join}
 use Rattle.st_ubtree.proofs.Splitting.{wide_page, one_rows, page}
 
@@ -41,7 +42,10 @@ module _ {A : Type 0} (period : Period) where
       (All-append (λ r. lo ≤ rank_of period r) (rows_of p.entries) (rows_of_pages ps) (rows_from period lo h.1.0 p.entries h.1.2) (λ k d l. let a = rest k d l in omega (arith, a, wide)))
 
 module _ {A : Type 0} where
-  pub shrinks_page : (key : ℕ) (row : Row A) (first height : ℕ) (old new : List (EntryValue A)) → Adds row (rows_of new) (rows_of old) → ((period : Period) (lo hi : ℕ) → Rises period lo hi old → rank_of period row ≡ key) → ((period : Period) (lo hi : ℕ) → Rises period lo hi old → Rises period lo hi new) → length new ≤ length old → length old ≤ length new + 1 → length old ≤ 32 → Shrinks key row (page_node first height old) (page_node first height new)
+  pub shrinks_page : (key : ℕ) (row : Row A) (first height : ℕ) (old new : List (EntryValue A)) → Adds row (rows_of new) (rows_of old)
+      → ((period : Period) (lo hi : ℕ) → Rises period lo hi old → rank_of period row ≡ key)
+      → ((period : Period) (lo hi : ℕ) → Rises period lo hi old → Rises period lo hi new) → length new ≤ length old → length old ≤ length new + 1
+      → length old ≤ 32 → Shrinks key row (page_node first height old) (page_node first height new)
   shrinks_page key row first height old new adds placed rising shorter most fits = record {
     first = refl;
     height = refl;
@@ -56,10 +60,15 @@ module _ {A : Type 0} where
     };
   }
 
-  pub none_in_page : (key : ℕ) (name : Name) (first : ℕ) (es : List (EntryValue A)) → ((period : Period) (lo hi : ℕ) → Rises period lo hi es → IsAbsent period key name (rows_of es)) → HasNone key name (page first es ∷ [])
+  pub none_in_page : (key : ℕ) (name : Name) (first : ℕ) (es : List (EntryValue A))
+      → ((period : Period) (lo hi : ℕ) → Rises period lo hi es → IsAbsent period key name (rows_of es)) → HasNone key name (page first es ∷ [])
   none_in_page key name first es absent period lo hi h a b = subst (IsAbsent period key name) (sym (one_rows first es)) (absent period lo h.1.0 h.1.2)
 
-  pub page_taken : (key : ℕ) (name : Name) (first height : ℕ) (old new : List (EntryValue A)) (r : Option (Row A)) → IfSome r (λ row. Adds row (rows_of new) (rows_of old) × (name_of row ≡ name)) → IfSome r (λ row. (period : Period) (lo hi : ℕ) → Rises period lo hi old → rank_of period row ≡ key) → ((period : Period) (lo hi : ℕ) → Rises period lo hi old → Rises period lo hi new) → length new ≤ length old → length old ≤ length new + 1 → length old ≤ 32 → IfSome r (λ row. Shrinks key row (page_node first height old) (page_node first height new))
+  pub page_taken : (key : ℕ) (name : Name) (first height : ℕ) (old new : List (EntryValue A)) (r : Option (Row A))
+      → IfSome r (λ row. Adds row (rows_of new) (rows_of old) × (name_of row ≡ name))
+      → IfSome r (λ row. (period : Period) (lo hi : ℕ) → Rises period lo hi old → rank_of period row ≡ key)
+      → ((period : Period) (lo hi : ℕ) → Rises period lo hi old → Rises period lo hi new) → length new ≤ length old → length old ≤ length new + 1
+      → length old ≤ 32 → IfSome r (λ row. Shrinks key row (page_node first height old) (page_node first height new))
   page_taken key name first height old new None some placed rising shorter most fits = tt
   page_taken key name first height old new (Some row) some placed rising shorter most fits = shrinks_page key row first height old new some.0 placed rising shorter most fits
 
@@ -71,7 +80,9 @@ module _ {A : Type 0} where
   page_kept first height old new None same = ap (page_node first height) same
   page_kept first height old new (Some row) same = tt
 
-  pub page_without : (key : ℕ) (name : Name) (first : ℕ) (es : List (EntryValue A)) (r : Option (Row A)) → IfNone r ((period : Period) (lo hi : ℕ) → Rises period lo hi es → IsAbsent period key name (rows_of es)) → IfNone r (HasNone key name (page first es ∷ []))
+  pub page_without : (key : ℕ) (name : Name) (first : ℕ) (es : List (EntryValue A)) (r : Option (Row A))
+      → IfNone r ((period : Period) (lo hi : ℕ) → Rises period lo hi es → IsAbsent period key name (rows_of es))
+      → IfNone r (HasNone key name (page first es ∷ []))
   page_without key name first es None h = none_in_page key name first es h
   page_without key name first es (Some row) h = tt
 
@@ -83,7 +94,10 @@ module _ {A : Type 0} where
   }
 
   module _ (key below : ℕ) (kids : List (NodeValue A)) (i : ℕ) (kid : NodeValue A) (l : i < length kids) (read : kid ≡ get_or kids i kid) (each : All (IsKid below) kids) where
-    pub none_in_kids : (n : ℕ) (name : Name) → (IsPartitionedBy (λ (v : NodeValue A). not (ltb key v.first)) kids → IsPartitionPoint (λ (v : NodeValue A). not (ltb key v.first) ≡ true) (λ (v : NodeValue A). not (ltb key v.first) ≡ false) kids n) → i + 1 ≡ max n 1 → HasNone key name kid.pages → HasNone key name (pages_of kids)
+    pub none_in_kids : (n : ℕ) (name : Name)
+        → (IsPartitionedBy (λ (v : NodeValue A). not (ltb key v.first)) kids
+        → IsPartitionPoint (λ (v : NodeValue A). not (ltb key v.first) ≡ true) (λ (v : NodeValue A). not (ltb key v.first) ≡ false) kids n)
+        → i + 1 ≡ max n 1 → HasNone key name kid.pages → HasNone key name (pages_of kids)
     none_in_kids n name found is none period lo hi s a b =
         let f = found_kid period key below lo hi kids each s n i kid found is l read in
         let front = pages_of (take i kids) in
@@ -145,7 +159,8 @@ module _ {A : Type 0} where
       head_there : (first : ℕ) → HeadAt first kids → HeadAt first (set kids i v)
       head_there first h = subst (HeadAt first) (sym (set_split kids i v l)) (head_same first kids i kid v (drop (suc i) kids) l read g.first h)
 
-      pub shrinks_inner : (first height : ℕ) (new : List (NodeValue A)) → HeadAt first kids → Mends below (set kids i v) new → Shrinks key row (inner_node first height kids) (inner_node first height new)
+      pub shrinks_inner : (first height : ℕ) (new : List (NodeValue A)) → HeadAt first kids → Mends below (set kids i v) new
+          → Shrinks key row (inner_node first height kids) (inner_node first height new)
       shrinks_inner first height new head m = record {
         first = refl;
         height = refl;
@@ -156,7 +171,8 @@ module _ {A : Type 0} where
         by = drops_reshape key row (pages_of kids) (pages_of (set kids i v)) (pages_of new) drops_there m.by;
       }
 
-      pub shrunk_inner : (first height capacity : ℕ) (new : List (NodeValue A)) → height ≡ below + 1 → HeadAt first kids → 2 ≤ length kids → length kids ≤ 32 → 33 ≤ capacity → Mends below (set kids i v) new → IsInnerNode first height new capacity
+      pub shrunk_inner : (first height capacity : ℕ) (new : List (NodeValue A)) → height ≡ below + 1 → HeadAt first kids → 2 ≤ length kids
+          → length kids ≤ 32 → 33 ≤ capacity → Mends below (set kids i v) new → IsInnerNode first height new capacity
       shrunk_inner first height capacity new h head two fits room m = record {
         below = below;
         higher = h;

@@ -6,7 +6,7 @@ use Rattle.std.proofs.lemmas.List.{get_or-drop, length-drop}
 use Rattle.std.specs.List.{All, AllWithin}
 use Rattle.std.specs.List.Sorted.{IsPartitionedBy, IsPartitionPoint}
 use Rattle.st_index.proofs.Putting.{split_read}
-use Rattle.st_tally.specs.Pages.{PageValue, NodeValue, entries_of_pages}
+use Rattle.st_tally.specs.inner.Pages.{PageValue, NodeValue, entries_of_pages}
 use Rattle.st_ubtree.specs.inner.Kids.{Spans, IsKid, StartsAt, pages_of}
 use Rattle.st_key.specs.declared.period.Period.{Period}
 
@@ -39,13 +39,16 @@ module _ {A : Type 0} where
   pub entries_three : (xs ys zs : List (PageValue A)) → entries_of_pages (xs ++ (ys ++ zs)) ≡ entries_of_pages xs ++ (entries_of_pages ys ++ entries_of_pages zs)
   entries_three xs ys zs = entries-append xs (ys ++ zs) ∙ ap (λ t. entries_of_pages xs ++ t) (entries-append ys zs)
 
-  pub pages_split : (kids : List (NodeValue A)) (i : ℕ) (kid : NodeValue A) → i < length kids → kid ≡ get_or kids i kid → pages_of kids ≡ pages_of (take i kids) ++ (kid.pages ++ pages_of (drop (suc i) kids))
+  pub pages_split : (kids : List (NodeValue A)) (i : ℕ) (kid : NodeValue A) → i < length kids → kid ≡ get_or kids i kid
+      → pages_of kids ≡ pages_of (take i kids) ++ (kid.pages ++ pages_of (drop (suc i) kids))
   pages_split kids i kid l read = ap pages_of (split_read kids i kid l read) ∙ pages-append (take i kids) (kid ∷ drop (suc i) kids)
 
   kid_at : (below : ℕ) (kids : List (NodeValue A)) → All (IsKid below) kids → (i : ℕ) (kid : NodeValue A) → i < length kids → kid ≡ get_or kids i kid → IsKid below kid
   kid_at below kids each i kid l read = subst (IsKid below) (sym read) (each i kid l)
 
-  after_kid : (key below : ℕ) (kids : List (NodeValue A)) → All (IsKid below) kids → (n i : ℕ) → AllWithin (λ (v : NodeValue A). not (ltb key v.first) ≡ false) kids n (length kids) → i + 1 ≡ max n 1 → (w : NodeValue A) (ws : List (NodeValue A)) → drop (suc i) kids ≡ w ∷ ws → IsKid below w × (key < w.first)
+  after_kid : (key below : ℕ) (kids : List (NodeValue A)) → All (IsKid below) kids → (n i : ℕ)
+      → AllWithin (λ (v : NodeValue A). not (ltb key v.first) ≡ false) kids n (length kids) → i + 1 ≡ max n 1
+      → (w : NodeValue A) (ws : List (NodeValue A)) → drop (suc i) kids ≡ w ∷ ws → IsKid below w × (key < w.first)
   after_kid key below kids each n i at is w ws q =
       let there : get_or kids (suc i + 0) w ≡ w = sym (get_or-drop (suc i) kids 0 w) ∙ ap (λ t. get_or t 0 w) q in
       let long : suc i + 0 < length kids = let a = ap length q in let b = length-drop (suc i) kids in omega (arith, a, b) in
@@ -83,7 +86,8 @@ module _ {A : Type 0} (period : Period) where
       let rest = firsts_from below c.at hi vs (All-tail (IsKid below) v vs each) c.high in
       All-cons (λ (w : NodeValue A). lo ≤ w.first) v vs (let e = s.0 in omega (arith, e)) (λ k d l. let r = rest k d l in let b = s.1 in omega (arith, r, b))
 
-  pub firsts_parted : (key below lo hi : ℕ) (kids : List (NodeValue A)) → All (IsKid below) kids → Spans period lo hi (pages_of kids) → IsPartitionedBy (λ (v : NodeValue A). not (ltb key v.first)) kids
+  pub firsts_parted : (key below lo hi : ℕ) (kids : List (NodeValue A)) → All (IsKid below) kids → Spans period lo hi (pages_of kids)
+      → IsPartitionedBy (λ (v : NodeValue A). not (ltb key v.first)) kids
   firsts_parted key below lo hi [] each h i j d a b p = absurd (omega (arith, b))
   firsts_parted key below lo hi (v ∷ vs) each h zero zero d a b p = p
   firsts_parted key below lo hi (v ∷ vs) each h zero (suc j) d a b p =
@@ -123,18 +127,25 @@ module _ {A : Type 0} (period : Period) where
   first_kid : (lo a : ℕ) (kids : List (NodeValue A)) (i : ℕ) → i ≡ 0 → Spans period lo a (pages_of (take i kids)) → lo ≡ a
   first_kid lo a kids i e h = subst (λ n. Spans period lo a (pages_of (take n kids))) e h
 
-  low_bound : (key lo a : ℕ) (kids : List (NodeValue A)) (i n : ℕ) (kid : NodeValue A) → AllWithin (λ (v : NodeValue A). not (ltb key v.first) ≡ true) kids 0 n → i + 1 ≡ max n 1 → kid ≡ get_or kids i kid → kid.first ≡ a → Spans period lo a (pages_of (take i kids)) → lo ≤ key → a ≤ key
+  low_bound : (key lo a : ℕ) (kids : List (NodeValue A)) (i n : ℕ) (kid : NodeValue A)
+      → AllWithin (λ (v : NodeValue A). not (ltb key v.first) ≡ true) kids 0 n → i + 1 ≡ max n 1 → kid ≡ get_or kids i kid → kid.first ≡ a
+      → Spans period lo a (pages_of (take i kids)) → lo ≤ key → a ≤ key
   low_bound key lo a kids i zero kid at is read same h k = let z = first_kid lo a kids i (omega (arith, is)) h in omega (arith, z, k)
   low_bound key lo a kids i (suc m) kid at is read same h k =
       let u = upto_is key (get_or kids i kid).first (at i kid (omega arith) (omega (arith, is))) in
       let e = ap (λ (v : NodeValue A). v.first) read in omega (arith, u, e, same)
 
-  high_bound : (key b hi below : ℕ) (vs : List (NodeValue A)) → Spans period b hi (pages_of vs) → ((w : NodeValue A) (ws : List (NodeValue A)) → vs ≡ w ∷ ws → IsKid below w × (key < w.first)) → key < hi → key < b
+  high_bound : (key b hi below : ℕ) (vs : List (NodeValue A)) → Spans period b hi (pages_of vs)
+      → ((w : NodeValue A) (ws : List (NodeValue A)) → vs ≡ w ∷ ws → IsKid below w × (key < w.first)) → key < hi → key < b
   high_bound key b hi below [] h after k = omega (arith, h, k)
   high_bound key b hi below (w ∷ ws) h after k =
       let q = after w ws refl in let e = next_first below b hi w ws (w ∷ ws) refl q.0 h in let f = q.1 in omega (arith, e, f)
 
-  pub found_kid : (key below lo hi : ℕ) (kids : List (NodeValue A)) → All (IsKid below) kids → Spans period lo hi (pages_of kids) → (n i : ℕ) (kid : NodeValue A) → (IsPartitionedBy (λ (v : NodeValue A). not (ltb key v.first)) kids → IsPartitionPoint (λ (v : NodeValue A). not (ltb key v.first) ≡ true) (λ (v : NodeValue A). not (ltb key v.first) ≡ false) kids n) → i + 1 ≡ max n 1 → i < length kids → kid ≡ get_or kids i kid → Found key lo hi kids i kid
+  pub found_kid : (key below lo hi : ℕ) (kids : List (NodeValue A)) → All (IsKid below) kids → Spans period lo hi (pages_of kids)
+      → (n i : ℕ) (kid : NodeValue A)
+      → (IsPartitionedBy (λ (v : NodeValue A). not (ltb key v.first)) kids
+      → IsPartitionPoint (λ (v : NodeValue A). not (ltb key v.first) ≡ true) (λ (v : NodeValue A). not (ltb key v.first) ≡ false) kids n)
+      → i + 1 ≡ max n 1 → i < length kids → kid ≡ get_or kids i kid → Found key lo hi kids i kid
   found_kid key below lo hi kids each h n i kid found is l read =
       let at = found (firsts_parted key below lo hi kids each h) in
       let after = after_kid key below kids each n i at.1 is in

@@ -1,5 +1,6 @@
 -- What putting a row in another's place does to a page, and to a node over the child that it stands under.
-use Rattle.std.proofs.Common.{◌≡◌, ℕ, ◌+◌, ◌<◌, ◌≤◌, max, List, [], ◌∷◌, ◌++◌, length, get_or, set, take, drop, refl, sym, ap, subst, ◌∙◌, suc, arith, true, false, not, ltb, append_assoc, length-set, Result, Ok, Err}
+use Rattle.std.proofs.Common.{◌≡◌, ℕ, ◌+◌, ◌<◌, ◌≤◌, max, List, [], ◌∷◌, ◌++◌, length, get_or, set, take, drop, refl, sym, ap, subst, ◌∙◌, suc, arith}
+use Rattle.std.proofs.Common.{true, false, not, ltb, append_assoc, length-set, Result, Ok, Err}
 use Rattle.std.proofs.lemmas.List.{set_split}
 use Rattle.std.proofs.lemmas.List.Elements.{All-head}
 use Rattle.std.specs.List.{All}
@@ -8,22 +9,26 @@ use Rattle.std.specs.List.Sorted.{IsPartitionedBy, IsPartitionPoint}
 use Rattle.st_key.specs.declared.period.Period.{Period}
 use Rattle.st_index.specs.declared.row.Row.{Row}
 use Rattle.st_index.specs.Rows.{EntryValue, Name, Rises, name_of, rank_of, rows_of}
-use Rattle.st_index.specs.Index.{IsAbsent, Swaps}
+use Rattle.st_index.specs.inner.Index.{IsAbsent, Swaps}
 use Rattle.st_ubtree.specs.inner.Nodes.{IsInnerNode, inner_node}
-use Rattle.st_tally.specs.Pages.{page_node}
-use Rattle.st_tally.specs.Pages.{NodeValue, IsFilled, rows_of_pages}
+use Rattle.st_tally.specs.inner.Pages.{page_node}
+use Rattle.st_tally.specs.inner.Pages.{NodeValue, IsFilled, rows_of_pages}
 use Rattle.st_ubtree.specs.inner.Kids.{HeadAt, IsKid, pages_of}
 use Rattle.st_ubtree.specs.inner.Shrinking.{HasNone}
 use Rattle.st_ubtree.specs.inner.Trading.{Keeps, TradesIn}
 use Rattle.st_ubtree.proofs.Inside.{rows_three}
 use Rattle.st_ubtree.proofs.Lifting.{alone, each_with, head_same, that_kid}
-use Rattle.st_ubtree.proofs.Settling.{kids_start, kids_wide}
+use Rattle.st_ubtree.proofs.Halving.{kids_start, kids_wide}
 use Rattle.st_ubtree.proofs.Shrinking.{none_in_kids, none_in_page}
 use Rattle.st_ubtree.proofs.Spanning.{pages-append, pages_split, spans_cut, spans_join}
 use Rattle.st_ubtree.proofs.Splitting.{wider_page, one_rows, page}
 
 module _ {A : Type 0} where
-  pub page_trades : (key : ℕ) (row : Row A) (first : ℕ) (old new : List (EntryValue A)) (r : Result (Row A) (Row A)) → IfOk r (λ out. Swaps out row (rows_of old) (rows_of new) × (name_of out ≡ name_of row)) → IfOk r (λ out. (period : Period) (lo hi : ℕ) → Rises period lo hi old → rank_of period out ≡ key) → ((period : Period) (lo hi : ℕ) → key ≡ rank_of period row → Rises period lo hi old → Rises period lo hi new) → IfOk r (λ out. TradesIn key out row (page first old ∷ []) (page first new ∷ []))
+  pub page_trades : (key : ℕ) (row : Row A) (first : ℕ) (old new : List (EntryValue A)) (r : Result (Row A) (Row A))
+      → IfOk r (λ out. Swaps out row (rows_of old) (rows_of new) × (name_of out ≡ name_of row))
+      → IfOk r (λ out. (period : Period) (lo hi : ℕ) → Rises period lo hi old → rank_of period out ≡ key)
+      → ((period : Period) (lo hi : ℕ) → key ≡ rank_of period row → Rises period lo hi old → Rises period lo hi new)
+      → IfOk r (λ out. TradesIn key out row (page first old ∷ []) (page first new ∷ []))
   page_trades key row first old new (Ok out) ok placed rising = record {
     swaps = subst (λ t. Swaps out row t (rows_of_pages (page first new ∷ []))) (sym (one_rows first old)) (subst (λ t. Swaps out row (rows_of old) t) (sym (one_rows first new)) ok.0);
     spans = λ period lo hi at h. (h.0, (h.1.0, h.1.1, rising period lo h.1.0 at h.1.2, h.1.3));
@@ -35,7 +40,9 @@ module _ {A : Type 0} where
   page_named row old new (Ok out) h = h.1
   page_named row old new (Err back) h = tt
 
-  pub page_lacks : (key : ℕ) (name : Name) (first : ℕ) (es : List (EntryValue A)) (r : Result (Row A) (Row A)) → OnErr r ((period : Period) (lo hi : ℕ) → Rises period lo hi es → IsAbsent period key name (rows_of es)) → OnErr r (HasNone key name (page first es ∷ []))
+  pub page_lacks : (key : ℕ) (name : Name) (first : ℕ) (es : List (EntryValue A)) (r : Result (Row A) (Row A))
+      → OnErr r ((period : Period) (lo hi : ℕ) → Rises period lo hi es → IsAbsent period key name (rows_of es))
+      → OnErr r (HasNone key name (page first es ∷ []))
   page_lacks key name first es (Ok out) h = tt
   page_lacks key name first es (Err back) h = none_in_page key name first es h
 
@@ -57,7 +64,8 @@ module _ {A : Type 0} where
   }
 
   module _ (key below : ℕ) (kids : List (NodeValue A)) (i : ℕ) (kid v : NodeValue A) (l : i < length kids) (read : kid ≡ get_or kids i kid) (each : All (IsKid below) kids) where
-    pub kid_trades : (row : Row A) (r : Result (Row A) (Row A)) → IfOk r (λ out. TradesIn key out row kid.pages v.pages) → IfOk r (λ out. TradesIn key out row (pages_of kids) (pages_of (set kids i v)))
+    pub kid_trades : (row : Row A) (r : Result (Row A) (Row A)) → IfOk r (λ out. TradesIn key out row kid.pages v.pages)
+        → IfOk r (λ out. TradesIn key out row (pages_of kids) (pages_of (set kids i v)))
     kid_trades row (Err back) h = tt
     kid_trades row (Ok out) g =
         let front = pages_of (take i kids) in
@@ -78,7 +86,10 @@ module _ {A : Type 0} where
               g.placed period c.at d.at d.low;
         }))
 
-    pub kids_lack : (n : ℕ) (name : Name) (r : Result (Row A) (Row A)) → (IsPartitionedBy (λ (w : NodeValue A). not (ltb key w.first)) kids → IsPartitionPoint (λ (w : NodeValue A). not (ltb key w.first) ≡ true) (λ (w : NodeValue A). not (ltb key w.first) ≡ false) kids n) → i + 1 ≡ max n 1 → OnErr r (HasNone key name kid.pages) → OnErr r (HasNone key name (pages_of kids))
+    pub kids_lack : (n : ℕ) (name : Name) (r : Result (Row A) (Row A))
+        → (IsPartitionedBy (λ (w : NodeValue A). not (ltb key w.first)) kids
+        → IsPartitionPoint (λ (w : NodeValue A). not (ltb key w.first) ≡ true) (λ (w : NodeValue A). not (ltb key w.first) ≡ false) kids n)
+        → i + 1 ≡ max n 1 → OnErr r (HasNone key name kid.pages) → OnErr r (HasNone key name (pages_of kids))
     kids_lack n name (Ok out) found is h = tt
     kids_lack n name (Err back) found is h = none_in_kids key below kids i kid l read each n name found is h
 
@@ -109,7 +120,8 @@ module _ {A : Type 0} where
       filled = λ h. kids_wide below (set kids i v) (kept_all k);
     }
 
-    pub kept_inner : (first height capacity : ℕ) → height ≡ below + 1 → HeadAt first kids → 1 ≤ length kids → length kids ≤ 32 → 33 ≤ capacity → Keeps kid v → IsInnerNode first height (set kids i v) capacity
+    pub kept_inner : (first height capacity : ℕ) → height ≡ below + 1 → HeadAt first kids → 1 ≤ length kids → length kids ≤ 32 → 33 ≤ capacity
+        → Keeps kid v → IsInnerNode first height (set kids i v) capacity
     kept_inner first height capacity h head some fits room k = record {
       below = below;
       higher = h;

@@ -9,3 +9,5 @@ pub mod Trading
 pub mod Falls
 pub mod Nodes
 pub mod Firsts
+pub mod Ranges
+pub mod Trees

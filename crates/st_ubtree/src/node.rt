@@ -1,13 +1,17 @@
 //! Pages, and the nodes over them.
+//!
+//! A node over others keeps the first keys of its children side by side, in one block with the head of its marks. A node knows how
+//! many nodes the split of each of its pages splits (`chains`), in the definitions alone; with it `prepare` states exactly what it
+//! allocates.
 ghost use Rattle.std.specs.Prelude.{◌≡◌, ◌+◌, ◌≤◌, IfSome, IfNone, IfOk, OnErr, length, vec_len, vec_capacity};
 ghost use Rattle.std.specs.List.{All};
 ghost use Rattle.st_key.specs.Key.{rank};
 ghost use Rattle.st_index.specs.Rows.{name_of, rank_of};
 ghost use Rattle.st_index.specs.inner.Changes.{IsChange};
-ghost use Rattle.st_tally.specs.Pages.{IsWide, NodeValue, entries_of_pages, AreFilled, page_node};
+ghost use Rattle.st_tally.specs.inner.Pages.{IsWide, NodeValue, entries_of_pages, AreFilled, page_node};
 ghost use Rattle.st_ubtree.specs.inner.Trading.{Keeps, TradesIn};
 ghost use Rattle.st_ubtree.specs.inner.Shrinking.{HasNone, IsWorn, Joins, Shrinks};
-ghost use Rattle.st_ubtree.specs.inner.Growing.{AreAround, AreBlank, Grows, IsBlank, IsBlankPage, IsRoomFor};
+ghost use Rattle.st_ubtree.specs.inner.Growing.{AreAround, AreBlank, Grows, IsBlankPage, IsRoomFor};
 ghost use Rattle.st_ubtree.specs.inner.Splits.{splits};
 
 mod aside;
@@ -29,7 +33,7 @@ mod widening;
 
 use aside::Aside;
 pub use blank::Blank;
-use grow::{put_in_page, settle};
+use grow::{put_in_page, split_if_full};
 use join::{join_kids, join_pages, mend};
 use marking::{mark_changed, mark_due, mark_if, mark_swapped};
 use st_index::entries::{self, Change};
@@ -61,7 +65,7 @@ enum Kids<A: Allocator = Global> {
 impl<A: Allocator> Model for Node<A> {
     ghost use Rattle.std.specs.Prelude.{◌≡◌};
     ghost use Rattle.st_key.specs.Key.{rank};
-    ghost use Rattle.st_tally.specs.Pages.{NodeValue};
+    ghost use Rattle.st_tally.specs.inner.Pages.{NodeValue};
 
     ghost Value = { NodeValue A };
 
@@ -152,7 +156,7 @@ impl<A: Allocator + Copy> Node<A> {
                     unreachable!()
                 };
                 aside.marks.open(at + 1);
-                let split = settle(kids, self.height, &mut aside.marks, inners);
+                let split = split_if_full(kids, self.height, &mut aside.marks, inners);
                 aside.firsts.keep(kids.len());
                 let parted = split.is_some();
                 mark_due(parted, at, &mut aside.marks, kids);

@@ -1,5 +1,6 @@
 //! Cutting a list in two without more memory.
-ghost use Rattle.std.specs.Prelude.{◌≡◌, ◌+◌, ◌-◌, ◌<◌, ◌≤◌, ◌++◌, [], IsTrue, IsFalse, length, min, reverse, take, drop, vec_len, vec_capacity};
+ghost use Rattle.std.specs.Prelude.{◌≡◌, ◌+◌, ◌-◌, ◌<◌, ◌≤◌, ◌++◌, [], IsTrue, IsFalse, length, min, reverse, take, drop, vec_len};
+ghost use Rattle.std.specs.Prelude.{vec_capacity};
 
 use std::alloc::Allocator;
 

@@ -3,11 +3,11 @@ ghost use Rattle.std.specs.Prelude.{◌≡◌, ◌+◌, ◌<◌, ◌≤◌, [], 
 ghost use Rattle.std.specs.List.{All};
 ghost use Rattle.st_index.specs.Rows.{key_end};
 ghost use Rattle.st_ubtree.specs.inner.Growing.{AreBlank, IsBlankPage};
-ghost use Rattle.st_tally.specs.Pages.{page_node, IsWide, rows_of_pages, AreFilled};
+ghost use Rattle.st_tally.specs.inner.Pages.{page_node, IsWide, rows_of_pages, AreFilled};
 ghost use Rattle.st_ubtree.specs.inner.Splits.{made_nodes, split_nodes};
-ghost use Rattle.st_ubtree.specs.Trees.{regions_of};
+ghost use Rattle.st_ubtree.specs.inner.Trees.{regions_of};
 ghost use Rattle.st_ubtree.specs.inner.Tree.{HasTreeRoom};
-ghost use Rattle.st_ubtree.specs.Ranges.{region_in};
+ghost use Rattle.st_ubtree.specs.inner.Ranges.{region_in};
 
 use crate::node::{Blank, Node};
 use st_box::Query;
@@ -29,7 +29,7 @@ pub struct UbTree<A: Allocator = Global> {
 }
 
 impl<A: Allocator> Model for UbTree<A> {
-    ghost use Rattle.st_ubtree.specs.Trees.{TreeValue};
+    ghost use Rattle.st_ubtree.specs.inner.Trees.{TreeValue};
     ghost use Rattle.st_ubtree.specs.inner.Tree.{IsTree};
 
     ghost Value = { TreeValue A };

@@ -8,17 +8,17 @@ mod fault;
 mod request;
 mod service;
 
-use exchange::tell_all;
+use exchange::answer_all;
 use fault::Fault;
 use std::io::{self, Write};
 use std::process::ExitCode;
 
-// Asks the exchanges of standard input. What is told before a fault is written too.
+// Asks the exchanges of standard input. What was answered before a fault is written too.
 fn run(rt: &HostRuntime) -> Result<(), Fault> {
     let text = io::read_to_string(rt.alloc(), rt.stdin())?;
-    let mut told = Vec::new(rt.alloc());
-    let outcome = tell_all(rt.alloc(), text.as_str(), &mut told);
-    rt.stdout().write_all(told.as_slice())?;
+    let mut output = Vec::new(rt.alloc());
+    let outcome = answer_all(rt.alloc(), text.as_str(), &mut output);
+    rt.stdout().write_all(output.as_slice())?;
     outcome
 }
 

@@ -28,7 +28,7 @@ pub fn opened(alloc: Global, names: &str) -> Result<Service, Fault> {
     }
 }
 
-// What is told of how a connection ended. Nothing, where its input ended between messages.
+// What is written of how a connection ended. Nothing, where its input ended between messages.
 fn end_of(ended: Result<Ended, IoFault>) -> &'static str {
     match ended {
         Ok(Ended::Clean) => "",
@@ -41,7 +41,7 @@ fn end_of(ended: Result<Ended, IoFault>) -> &'static str {
 }
 
 /// Serves a connection of this input. Gives what was written, a line's end, and how the connection ended.
-pub fn told_of(alloc: Global, service: &mut Service, input: &[u8]) -> Result<Vec<u8>, Fault> {
+pub fn answers_of(alloc: Global, service: &mut Service, input: &[u8]) -> Result<Vec<u8>, Fault> {
     let mut reader = FromRead::new(input);
     let mut writer = FromWrite::new(Vec::new(alloc));
     let ended = service.serve(&mut reader, &mut writer);

@@ -3,7 +3,7 @@ ghost use Rattle.std.specs.Prelude.{◌≡◌};
 
 use crate::asks::{entries, rows};
 use crate::opened::{Question, is_right};
-use crate::puts::{Sending, made_by_all, receipts, told_by_all};
+use crate::puts::{Sending, made_by_all, receipts, served_by_all};
 use crate::stations::Always;
 use st_hall::{Commits, Desk, HallName};
 use std::alloc::Global;
@@ -22,7 +22,7 @@ fn found<H: HallName + Send + Sync, M: Commits<H> + Sync, R: Threads + Wait + Sy
     desks: Vec<Desk<H>>,
     sending: Sending,
 ) -> Option<[u64; 4]> {
-    let told = told_by_all(rt, alloc, hall, &Always, desks, sending);
+    let told = served_by_all(rt, alloc, hall, &Always, desks, sending);
     let rows = rows(alloc, &mut last);
     let entries = entries(&mut last);
     drop(last);

@@ -41,7 +41,7 @@ fn most_puts_of_sixteen_threads_are_kept_by_the_append_of_another_one(rt: HostRu
 }
 
 // Whether nobody was told of a put that is not kept, where the fourth append fails.
-fn are_told_what_is_kept(found: Option<Findings>) -> bool {
+fn are_answered_what_is_kept(found: Option<Findings>) -> bool {
     match found {
         Some(found) => { found.in_order < EACH && found.appends == 3 && found.made() <= found.kept }
         None => false,
@@ -49,6 +49,6 @@ fn are_told_what_is_kept(found: Option<Findings>) -> bool {
 }
 
 #[test]
-fn nobody_is_told_of_what_was_lost(rt: HostRuntime) {
-    assert!(rt; are_told_what_is_kept(found(&rt, rt.alloc(), 8, 3, Sending::Own(EACH))));
+fn what_was_lost_gets_no_answer(rt: HostRuntime) {
+    assert!(rt; are_answered_what_is_kept(found(&rt, rt.alloc(), 8, 3, Sending::Own(EACH))));
 }

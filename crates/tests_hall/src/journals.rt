@@ -52,7 +52,7 @@ impl<'a, C: Clock> Journal for SlowJournal<'a, C> {
 
     ghost may_leave = { λ journal left. ⟦<MemoryJournal as Journal>⟧.may_leave journal.kept left };
 
-    ghost settled = { λ _ _ _ _ leaves. absurd leaves };
+    ghost leaves_list = { λ _ _ _ _ leaves. absurd leaves };
 
     fn append(&mut self, records: &[Record]) -> Result<(), AppendError> {
         if self.appends >= self.limit {

@@ -3,8 +3,8 @@ ghost use Rattle.std.specs.Prelude.{◌≡◌, ◌<◌};
 
 use crate::halls::stores;
 use crate::journals::SlowJournal;
-use crate::puts::{Sending, id_of, letter_of, made_by_all, told_by_all};
-use crate::stations::{Always, Told};
+use crate::puts::{Sending, id_of, letter_of, made_by_all, served_by_all};
+use crate::stations::{Always, Visit};
 use st_core::Store;
 use st_hall::{Hall, HallName, UnnamedFor};
 use st_hall_group_commit::DurableHall;
@@ -20,7 +20,7 @@ use std::time::Clock;
 #[derive(Drop)]
 pub struct Findings {
     /// What the client at each desk was told.
-    pub told: Vec<Option<Told>>,
+    pub told: Vec<Option<Visit>>,
     /// How many puts of each client are kept at least, in order.
     pub in_order: u8,
     /// How many records there are.
@@ -61,7 +61,7 @@ fn least_in_order(records: &[Record], workers: u16) -> u8 {
 fn found_in<C: Clock>(
     journal: &SlowJournal<'_, C>,
     workers: u16,
-    told: Vec<Option<Told>>,
+    told: Vec<Option<Visit>>,
 ) -> Findings {
     let records = journal.records();
     Findings {
@@ -86,7 +86,7 @@ fn found_by<
     limit: u64,
     sending: Sending,
 ) -> Option<Findings>
-    requires named { (name.seen.book ≡ H.book) × (name.blank.name ≡ H.name) }
+    requires named { (name.seen.book ≡ H.book) × (name.blank.name ≡ H.name) × (name.mark.name ≡ H.mark) }
     requires workers { (name.blank.parts ≡ workers) × (H.parts ≡ workers) × (0 < workers) }
     requires alike { (both.0 ≡ H.start) × (both.1 ≡ H.start) × (B.first ≡ H.start) }
 {
@@ -95,7 +95,7 @@ fn found_by<
     let hall: DurableHall<B, H, &R, SlowJournal<'_, R>> = DurableHall::new(
         alloc, rt, clerk, journal,
     );
-    let told = told_by_all(rt, alloc, &hall, &Always, desks, sending);
+    let told = served_by_all(rt, alloc, &hall, &Always, desks, sending);
     let (draft, publisher) = hall.apart();
     drop(draft);
     let found = match told {

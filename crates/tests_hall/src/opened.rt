@@ -5,10 +5,10 @@ use crate::calls::are_calls;
 use crate::clerks::{Shared, Way};
 use crate::desks::are_listed_once;
 use crate::halls::stores;
-use crate::pending::are_shown_together;
+use crate::pending::are_published_together;
 use crate::strangers::is_in_no_list;
-use crate::taken_back::{is_made, is_told};
-use crate::workers::are_told_meanwhile;
+use crate::taken_back::{is_answered, is_made};
+use crate::workers::are_served_meanwhile;
 use st_core::Store;
 use st_hall::{Commits, Desk, Hall, HallName, UnnamedFor};
 use std::alloc::Global;
@@ -45,12 +45,12 @@ fn is_so<
     let mut desk = desks.pop()?;
     match question {
         Question::Calls(opens) => are_calls(rt, alloc, hall, desk, opens),
-        Question::Pending => are_shown_together(rt, alloc, hall, &mut desk, desks.first_mut()?),
+        Question::Pending => are_published_together(rt, alloc, hall, &mut desk, desks.first_mut()?),
         Question::Puts(is_own) => are_listed_once(rt, alloc, hall, desk, desks, is_own),
-        Question::Reads => are_told_meanwhile(rt, alloc, hall, desks),
+        Question::Reads => are_served_meanwhile(rt, alloc, hall, desks),
         Question::Stranger => is_in_no_list(rt, alloc, hall, desk),
         Question::User(way) => is_made(rt, alloc, hall, &mut desk, way),
-        Question::Message => is_told(rt, alloc, hall, desk),
+        Question::Message => is_answered(rt, alloc, hall, desk),
     }
 }
 
@@ -63,7 +63,7 @@ fn is_so_in<H: HallName + Send + Sync, R: Threads + Wait + Clock + Sync>(
     workers: u16,
     question: Question,
 ) -> Option<bool>
-    requires named { (name.seen.book ≡ H.book) × (name.blank.name ≡ H.name) }
+    requires named { (name.seen.book ≡ H.book) × (name.blank.name ≡ H.name) × (name.mark.name ≡ H.mark) }
     requires workers { (name.blank.parts ≡ workers) × (H.parts ≡ workers) × (0 < workers) }
     requires alike { (both.0 ≡ H.start) × (both.1 ≡ H.start) }
 {

@@ -40,7 +40,7 @@ fn rows_after<H: HallName>(
 
 /// Whether a put and a new user that are pending are told to be made and seen by nobody, and whether a put by a commit has a receipt
 /// with a front, which shows all three to a desk that learns it.
-pub fn are_shown_together<H: HallName, M: Shared<H>, W: Wait>(
+pub fn are_published_together<H: HallName, M: Shared<H>, W: Wait>(
     rt: &W,
     alloc: Global,
     clerk: &M,

@@ -3,14 +3,14 @@ ghost use Rattle.std.specs.Prelude.{◌≡◌};
 
 use crate::kept::{Findings, found};
 use crate::puts::Sending;
-use crate::stations::Told;
+use crate::stations::Visit;
 use st_connection::Ended;
 use std::test::*;
 
 const TOGETHER: u8 = 50;
 
 // Whether a client was told of all puts, and that the count saw them.
-fn is_counted(told: &Option<Told>) -> bool {
+fn is_counted(told: &Option<Visit>) -> bool {
     match told {
         Some(told) => {
             let is_counted = told.written.as_slice().ends_with(b"{\"count\":50}");
@@ -21,7 +21,7 @@ fn is_counted(told: &Option<Told>) -> bool {
 }
 
 // Whether a client was told nothing, since nothing was kept.
-fn is_lost(told: &Option<Told>) -> bool {
+fn is_lost(told: &Option<Visit>) -> bool {
     match told {
         Some(told) => told.ended == Ended::Lost && told.written.is_empty(),
         None => false,
@@ -50,6 +50,6 @@ fn puts_that_are_sent_together_are_kept_by_one_append(rt: HostRuntime) {
 }
 
 #[test]
-fn nothing_is_told_of_puts_that_were_lost(rt: HostRuntime) {
+fn puts_that_were_lost_get_no_answer(rt: HostRuntime) {
     assert!(rt; are_lost(found(&rt, rt.alloc(), 1, 0, Sending::Together(TOGETHER))));
 }

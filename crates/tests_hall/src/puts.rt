@@ -2,7 +2,7 @@
 ghost use Rattle.std.specs.Prelude.{◌≡◌};
 
 use crate::halls::{COUNT, MADE};
-use crate::stations::{Told, answered};
+use crate::stations::{Visit, answered};
 use st_hall::{Commits, Desk, Gate, HallName};
 use std::alloc::Global;
 use std::sync::Wait;
@@ -85,14 +85,14 @@ fn text_of(alloc: Global, letter: u8, sending: Sending) -> Option<(Vec<u8>, usiz
 }
 
 // What a client at a desk is told.
-fn told_at<H: HallName, M: Commits<H>, G: Gate, W: Wait>(
+fn served_at<H: HallName, M: Commits<H>, G: Gate, W: Wait>(
     rt: &W,
     alloc: Global,
     hall: &M,
     desk: Desk<H>,
     (place, gate): (u64, &G),
     sending: Sending,
-) -> Option<Told> {
+) -> Option<Visit> {
     match text_of(alloc, letter_of(place), sending) {
         Some((text, piece)) => answered(
             rt,
@@ -110,7 +110,7 @@ fn told_at<H: HallName, M: Commits<H>, G: Gate, W: Wait>(
 }
 
 /// What comes of a connection at each desk, each at a thread of its own. Stations are numbered from 1.
-pub fn told_by_all<
+pub fn served_by_all<
     H: HallName + Send + Sync,
     M: Commits<H> + Sync,
     G: Gate + Sync,
@@ -122,21 +122,21 @@ pub fn told_by_all<
     gate: &G,
     desks: Vec<Desk<H>>,
     sending: Sending,
-) -> Option<Vec<Option<Told>>> {
+) -> Option<Vec<Option<Visit>>> {
     let clients = AtomicU64::new(0);
     map_vec(
         rt,
         desks,
         &|desk| {
             let place = clients.fetch_add(1, SeqCst);
-            told_at(rt, alloc, hall, desk, (place, gate), sending)
+            served_at(rt, alloc, hall, desk, (place, gate), sending)
         },
     )
     .ok()
 }
 
 // How many changes a client was told to be made.
-fn made_in(told: &Option<Told>) -> u64 {
+fn made_in(told: &Option<Visit>) -> u64 {
     let Some(told) = told else {
         return 0;
     };
@@ -150,7 +150,7 @@ fn made_in(told: &Option<Told>) -> u64 {
 }
 
 /// How many changes all clients were told to be made.
-pub fn made_by_all(all: &[Option<Told>]) -> u64 {
+pub fn made_by_all(all: &[Option<Visit>]) -> u64 {
     let mut made = 0u64;
     for told in all {
         made = made.saturating_add(made_in(told));
@@ -159,7 +159,7 @@ pub fn made_by_all(all: &[Option<Told>]) -> u64 {
 }
 
 /// How many receipts all stations got.
-pub fn receipts(all: &[Option<Told>]) -> u64 {
+pub fn receipts(all: &[Option<Visit>]) -> u64 {
     let mut made = 0u64;
     for told in all {
         made = made.saturating_add(told.as_ref().map_or(0, |told| told.made));

@@ -27,7 +27,7 @@ impl Gate for Always {
 
 /// What came of a connection.
 #[derive(Drop)]
-pub struct Told {
+pub struct Visit {
     /// How it ended.
     pub ended: Ended,
     /// What was written.
@@ -108,17 +108,17 @@ pub fn answered<H: HallName, M: Commits<H>, G: Gate, W: Wait>(
     desk: Desk<H>,
     (number, gate): (u64, &G),
     sent: (&[u8], usize),
-) -> Option<Told> {
-    if !hall.has_kept(rt, &desk.front()) {
+) -> Option<Visit> {
+    let Some(kept) = hall.find_kept(rt, &desk.front()) else {
         drop(desk);
         return None;
-    }
-    let mut station = Station::new(rt, alloc, number, desk, hall, gate).ok()?;
+    };
+    let mut station = Station::new(rt, alloc, number, desk, kept, hall, gate).ok()?;
     let served = served_at_last(alloc, &mut station, sent);
     let made = station.made();
     drop(station);
     let (ended, written) = served?;
-    Some(Told {
+    Some(Visit {
         ended,
         written,
         made,

@@ -45,7 +45,7 @@ pub fn is_made<H: HallName, M: Shared<H>, W: Wait>(
 }
 
 /// Whether a station tells that the new user is made, who is asked for a second time if memory ran out.
-pub fn is_told<H: HallName, M: Commits<H>, W: Wait>(
+pub fn is_answered<H: HallName, M: Commits<H>, W: Wait>(
     rt: &W,
     alloc: Global,
     hall: &M,

@@ -4,8 +4,8 @@ ghost use denote.Param.Send.{IsSend, IsSync};
 
 use crate::clerks::{Shared, Turn};
 use crate::opened::{Question, is_right};
-use crate::puts::{Sending, told_by_all};
-use crate::stations::Told;
+use crate::puts::{Sending, served_by_all};
+use crate::stations::Visit;
 use st_hall::{Commits, Desk, Gate, HallName};
 use std::alloc::Global;
 use std::sync::Wait;
@@ -26,6 +26,8 @@ const NO_ROWS: &[u8] =
 #[derive(Drop)]
 struct Turns<'a, R: Clock> {
     rt: &'a R,
+    came_one: AtomicU64,
+    came_two: AtomicU64,
     locked: AtomicU64,
     told_one: AtomicU64,
     told_two: AtomicU64,
@@ -35,6 +37,11 @@ struct Turns<'a, R: Clock> {
 impl<R: Clock> Gate for Turns<'_, R> {
     fn may_pass(&self, worker: u64, call: u64) -> bool {
         thread::sleep(self.rt, Duration::from_millis(1));
+        if worker == 1 {
+            self.came_one.store(1, SeqCst);
+        } else {
+            self.came_two.store(1, SeqCst);
+        }
         let is_next = worker == 2 || (worker == 1 && self.told_two.load(SeqCst) == 1);
         self.locked.load(SeqCst) == 1 && call == 1 && is_next
     }
@@ -69,8 +76,30 @@ impl<R: Clock> Turn for Turns<'_, R> {
     }
 }
 
+impl<R: Clock> Turns<'_, R> {
+    // Goes on until both stations have come to their first calls.
+    fn wait(&self) {
+        for _ in 0..TURNS {
+            if self.came_one.load(SeqCst) == 1 && self.came_two.load(SeqCst) == 1 {
+                return;
+            }
+            thread::sleep(self.rt, Duration::from_millis(1));
+        }
+    }
+}
+
+// Holds the clerk once both stations are open, and says whether both answered meanwhile.
+fn are_answered_while_held<H: HallName, M: Shared<H>, R: Wait + Clock>(
+    rt: &R,
+    hall: &M,
+    turns: &Turns<'_, R>,
+) -> bool {
+    turns.wait();
+    hall.holds(rt, turns)
+}
+
 // Whether each client was told that no rows are there.
-fn are_none(told: Option<Vec<Option<Told>>>) -> bool {
+fn are_none(told: Option<Vec<Option<Visit>>>) -> bool {
     let Some(all) = told else {
         return false;
     };
@@ -86,13 +115,15 @@ fn are_none(told: Option<Vec<Option<Told>>>) -> bool {
 }
 
 /// Whether reads at both desks are answered at once, while the clerk is held.
-pub fn are_told_meanwhile<
+pub fn are_served_meanwhile<
     H: HallName + Send + Sync,
     M: Commits<H> + Shared<H> + Sync,
     R: Threads + Wait + Clock + Sync,
 >(rt: &R, alloc: Global, hall: &M, desks: Vec<Desk<H>>) -> Option<bool> {
     let turns = Turns {
         rt,
+        came_one: AtomicU64::new(0),
+        came_two: AtomicU64::new(0),
         locked: AtomicU64::new(0),
         told_one: AtomicU64::new(0),
         told_two: AtomicU64::new(0),
@@ -100,10 +131,10 @@ pub fn are_told_meanwhile<
     };
     let (held, told) = join(
         rt,
-        || hall.holds(rt, &turns),
-        || -> Option<Vec<Option<Told>>>
+        || are_answered_while_held(rt, hall, &turns),
+        || -> Option<Vec<Option<Visit>>>
             requires { IsSync R.row × (IsSync M.row × (IsSend H.row × IsSync H.row)) }
-        { told_by_all(rt, alloc, hall, &turns, desks, Sending::Count) },
+        { served_by_all(rt, alloc, hall, &turns, desks, Sending::Count) },
     );
     Some(held && are_none(told) && turns.gave_up.load(SeqCst) == 0)
 }

@@ -5,7 +5,7 @@ use st_label::Label;
 use std::alloc::{Allocator, Global};
 
 // Whether the label has a normal form, which is this text and its own normal form, and is itself as it was written.
-fn is_settled<A: Allocator + Copy>(label: &Label<A>, text: &str, normal: &str) -> bool {
+fn is_normalized<A: Allocator + Copy>(label: &Label<A>, text: &str, normal: &str) -> bool {
     let Ok(made) = label.normal() else {
         return false;
     };
@@ -16,16 +16,17 @@ fn is_settled<A: Allocator + Copy>(label: &Label<A>, text: &str, normal: &str) -
     }
 }
 
-// With any one growth refused there is no normal form, or it is not told whether it is one, and the label is as before. Gives how many growths there are.
+// With any one growth refused there is no normal form, or it is not told whether it is one, and the label is as before. Gives how many
+// growths there are.
 fn growths(heap: &Refusing<Global>) -> Option<u64> {
     let label = Label::parse(heap, "(C|B)&A&A").ok()?;
     for n in 1..100u64 {
         heap.arm(n);
-        let is_settled = is_settled(&label, "(C|B)&A&A", "(B|C)&A");
-        if is_settled != heap.is_armed() {
+        let is_normalized = is_normalized(&label, "(C|B)&A&A", "(B|C)&A");
+        if is_normalized != heap.is_armed() {
             return None;
         }
-        if is_settled {
+        if is_normalized {
             return Some(n - 1);
         }
     }

@@ -30,7 +30,7 @@ pub trait OnLine {
     fn counted(&self, alloc: Self::Alloc, asked: [u64; 6]) -> Option<u64>;
 
     /// Whether a page of a box has one row at each of these places, in rising order, and no more rows follow.
-    fn shows(&self, alloc: Self::Alloc, asked: [u64; 6], places: Places) -> Option<bool>;
+    fn finds(&self, alloc: Self::Alloc, asked: [u64; 6], places: Places) -> Option<bool>;
 }
 
 /// Puts in a row at a place, if none of its id is held there.
@@ -79,7 +79,7 @@ impl<I: RowIndex> OnLine for I {
         Some(count(alloc, self, &query, &auths))
     }
 
-    fn shows(&self, alloc: I::Alloc, asked: [u64; 6], places: Places) -> Option<bool> {
+    fn finds(&self, alloc: I::Alloc, asked: [u64; 6], places: Places) -> Option<bool> {
         let query = query_of(asked)?;
         let auths = Auths::none(alloc);
         let Ok(page) = page::<I, I::Alloc, Global>(alloc, self, &query, &auths, None, 1_000) else {

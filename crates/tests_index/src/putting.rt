@@ -1,6 +1,6 @@
 //! Rows put into any index, and taken out.
 ghost use Rattle.st_index.specs.Rows.{name_of, rank_of};
-ghost use Rattle.st_index.specs.Index.{IsAbsent};
+ghost use Rattle.st_index.specs.inner.Index.{IsAbsent};
 
 use st_index::{AsRow, Row, RowIndex};
 use std::alloc::AllocError;

@@ -66,16 +66,16 @@ fn counts<I: OnLine>(alloc: I::Alloc, index: &I, places: Places, part: Places) -
 }
 
 // Whether an index shows the rows of these places in a part.
-fn shows<I: OnLine>(alloc: I::Alloc, index: &I, places: Places, part: Places) -> Option<bool> {
-    index.shows(alloc, box_of(part), common(places, part))
+fn finds<I: OnLine>(alloc: I::Alloc, index: &I, places: Places, part: Places) -> Option<bool> {
+    index.finds(alloc, box_of(part), common(places, part))
 }
 
 // Whether an index has the rows of these places: by a count of the middle, and one by one.
 fn is_full<I: OnLine>(alloc: I::Alloc, index: &I, places: Places) -> Option<bool> {
     let [low, high] = HALVES;
     let is_counted = counts(alloc, index, places, MIDDLE)?;
-    let is_low = shows(alloc, index, places, low)?;
-    let is_high = shows(alloc, index, places, high)?;
+    let is_low = finds(alloc, index, places, low)?;
+    let is_high = finds(alloc, index, places, high)?;
     Some(is_counted && is_low && is_high)
 }
 

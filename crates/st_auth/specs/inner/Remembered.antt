@@ -4,7 +4,7 @@ use Rattle.std.specs.List.{All}
 use Rattle.st_label.specs.Reading.{is_true}
 use Rattle.st_text.specs.Texts.{Text, is_among}
 use Rattle.st_auth.specs.declared.long_text.LongText.{LongText}
-use Rattle.st_auth.specs.declared.table.Known.{Known}
+use Rattle.st_auth.specs.declared.cache.Known.{Known}
 use Rattle.lru.specs.LruCache.{LruCache}
 
 -- each verdict is whether the label is true for the set

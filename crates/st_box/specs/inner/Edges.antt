@@ -5,7 +5,7 @@ use Rattle.st_key.specs.Period.{seconds_of}
 use Rattle.st_box.specs.declared.part.Part.{Part}
 use Rattle.st_box.specs.declared.query.Query.{Query}
 use Rattle.st_box.specs.Part.{cut_of, cut_to}
-use Rattle.st_box.specs.Query.{IsBoxIn, first_offset_of, last_offset_of}
+use Rattle.st_box.specs.inner.Bins.{IsBoxIn, first_offset_of, last_offset_of}
 
 -- the seconds of the bin from this offset on are those from t on
 abbrev pub IsFirstOffset : Period → ℕ → ℕ → ℕ → Type 0

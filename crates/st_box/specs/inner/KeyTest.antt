@@ -4,7 +4,7 @@ use Rattle.st_key.specs.declared.period.Period.{Period}
 use Rattle.st_key.specs.Morton.{x_of, y_of, offset_of}
 use Rattle.st_key.specs.Period.{seconds_of}
 use Rattle.st_box.specs.declared.query.Query.{Query}
-use Rattle.st_box.specs.Query.{first_offset_of, last_offset_of}
+use Rattle.st_box.specs.inner.Bins.{first_offset_of, last_offset_of}
 
 -- the address is that of a place in the query's box
 pub record IsPlaceIn (q : Query) (address : ℕ) : Type 0 where

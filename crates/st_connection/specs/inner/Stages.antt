@@ -120,16 +120,16 @@ pub record Spoken {S : Type 0} (step : Answering S) (old new : S) (text rest : L
   pub counted : written_new ≡ written + length (interim told)
 
 -- the first item of a text, answered where its client was told ahead; otherwise nothing is done
-abbrev pub AnsweredTold : {S : Type 0} → Answering S → ℕ → Bool → S → S → S → List ℕ → Option (List ℕ) → Option (List ℕ) → ℕ → ℕ
+abbrev pub AnsweredExpecting : {S : Type 0} → Answering S → ℕ → Bool → S → S → S → List ℕ → Option (List ℕ) → Option (List ℕ) → ℕ → ℕ
     → Result Next Stopped → Type 0
-AnsweredTold step hold told old new kept text ho hn wo wn (Ok (nexts.Waits due)) =
+AnsweredExpecting step hold told old new kept text ho hn wo wn (Ok (nexts.Waits due)) =
     IsFirst text (more true) × Spoken step old new text text true ho hn wo wn
-AnsweredTold step hold told old new kept text ho hn wo wn (Ok (nexts.Open used)) =
+AnsweredExpecting step hold told old new kept text ho hn wo wn (Ok (nexts.Open used)) =
     (used ≤ length text) × (told ≡ true → 0 < used) × Whole step false old new text (drop used text) ho hn wo wn
-AnsweredTold step hold told old new kept text ho hn wo wn (Ok nexts.Closed) =
+AnsweredExpecting step hold told old new kept text ho hn wo wn (Ok nexts.Closed) =
     (rest : List ℕ) × Whole step true old new text rest ho hn wo wn
-AnsweredTold step hold told old new kept text ho hn wo wn (Err stopped.Unwritten) = Broken step hold old new text ho hn wo wn
-AnsweredTold step hold told old new kept text ho hn wo wn (Err stopped.Lost) = Loses step old new kept text ho hn
+AnsweredExpecting step hold told old new kept text ho hn wo wn (Err stopped.Unwritten) = Broken step hold old new text ho hn wo wn
+AnsweredExpecting step hold told old new kept text ho hn wo wn (Err stopped.Lost) = Loses step old new kept text ho hn
 
 -- the items of a text, answered, and the client of the rest told ahead where that is due
 abbrev pub AnsweredOn : {S : Type 0} → Answering S → ℕ → S → S → S → List ℕ → Option (List ℕ) → Option (List ℕ) → ℕ → ℕ

@@ -46,7 +46,7 @@ fn grants<A: Allocator + Copy>(
 
 impl<A: Allocator + Copy> Store<A> {
     // What a read of no table shows to whom it is allowed.
-    fn show_without_table(&self, asker: &Name, request: &Request<A>) -> Result<Reply<A>, AllocError>
+    fn read_without_table(&self, asker: &Name, request: &Request<A>) -> Result<Reply<A>, AllocError>
         requires read { is_change request.now ≡ false }
         requires no_table { table_of request.now ≡ None }
         ensures { IfOk result (λ reply. reply ≡ shown self.now asker.now request.now) }
@@ -68,7 +68,7 @@ impl<A: Allocator + Copy> Store<A> {
     }
 
     // What a read shows to whom it is allowed.
-    fn show(&self, asker: &Name, request: &Request<A>) -> Result<Reply<A>, AllocError>
+    fn read(&self, asker: &Name, request: &Request<A>) -> Result<Reply<A>, AllocError>
         requires read { is_change request.now ≡ false }
         requires allowed { refusal_of self.now.directory asker.now request.now ≡ None }
         ensures { IfOk result (λ reply. reply ≡ shown self.now asker.now request.now) }
@@ -102,7 +102,7 @@ impl<A: Allocator + Copy> Store<A> {
                 query,
                 budget,
             } => Ok(Reply::Plan(self.plan(table, query, *budget)?)),
-            _ => self.show_without_table(asker, request),
+            _ => self.read_without_table(asker, request),
         }
     }
 
@@ -121,7 +121,7 @@ impl<A: Allocator + Copy> Store<A> {
                 asker,
                 request,
                 refusal: None,
-            } => self.show(asker, request),
+            } => self.read(asker, request),
         }
     }
 }

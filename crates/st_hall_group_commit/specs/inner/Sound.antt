@@ -10,7 +10,7 @@ use Rattle.st_hall_group_commit.specs.Rolls.{KeptRoll, LeadPast}
 
 pub record IsSound {J : Type 0} (list : J → List Record) (misreads : J → ℕ) (is_ready : J → Type 0) (may_leave : J → List Record → Type 0)
     (first start : State) (batch : List Record) (k : KeptRoll J) : Type 0 where
-  pub shown : IsPrefix k.published k.kept
+  pub published_kept : IsPrefix k.published k.kept
   pub begins : IsPrefix k.kept k.list
   pub ready : k.is_lost ≡ false → is_ready k.journal
   pub stands : k.is_lost ≡ false → misreads k.journal ≡ 0 → Replays Applies first (list k.journal) (state_after start k.kept)

@@ -2,7 +2,7 @@
 use Rattle.std.specs.Prelude.{◌≡◌, ◌≢◌, ℕ, ⊤, false, List, ◌++◌, length, take, Result, IfErr, OnOk}
 use Rattle.sqlite_trees.specs.View.{View, HasCause, OnlyWrites}
 use Rattle.sqlite_trees.specs.declared.error.StoreError.{StoreError}
-use Rattle.st_journal.specs.Faults.{Rises}
+use Rattle.st_journal.specs.Faults.{FaultsRise}
 use Rattle.st_journal.specs.declared.record.Record.{Record}
 use Rattle.st_journal_rows.specs.Table.{table_tree, numbered_rows}
 
@@ -31,4 +31,4 @@ pub record Replaces (old new : View) (count kept : ℕ) (more : List Record) : T
 pub record Wrote {X : Type 0} (old new : View) (before after : ℕ) (written : Result X StoreError) : Type 0 where
   pub sound : old.is_broken ≡ false
   pub went : OnOk written (new.is_broken ≡ false)
-  pub failed : IfErr written (HasCause old (Rises before after) ⊤)
+  pub failed : IfErr written (HasCause old (FaultsRise before after) ⊤)

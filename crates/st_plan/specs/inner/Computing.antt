@@ -6,6 +6,7 @@ use Rattle.st_key.specs.Morton.{x_of, y_of, offset_of, address_of}
 use Rattle.st_box.specs.Part.{Cut}
 use Rattle.st_bigmin.specs.declared.run.Run.{Run}
 use Rattle.st_plan.specs.declared.range.Range.{Range}
+use Rattle.st_plan.specs.Coarse.{coarse_spot}
 
 -- ---- sets of numbers
 
@@ -42,24 +43,20 @@ between lo hi n = nat_le lo n && nat_le n hi
 -- whether the address is that of a place in the box
 abbrev pub has_address : Cut → ℕ → Bool
 has_address c a =
-    between c.x_first c.x_last (x_of a) && between c.y_first c.y_last (y_of a) && between c.offset_first c.offset_last (offset_of a)
+    between c.first.x c.last.x (x_of a) && between c.first.y c.last.y (y_of a) && between c.first.offset c.last.offset (offset_of a)
 
 -- each bound divided by 2^level
 abbrev pub coarse_cut : ℕ → Cut → Cut
 coarse_cut level c = record {
   bin_lo = c.bin_lo;
   bin_hi = c.bin_hi;
-  x_first = c.x_first / 2 ^ level;
-  x_last = c.x_last / 2 ^ level;
-  y_first = c.y_first / 2 ^ level;
-  y_last = c.y_last / 2 ^ level;
-  offset_first = c.offset_first / 2 ^ level;
-  offset_last = c.offset_last / 2 ^ level;
+  first = coarse_spot level c.first;
+  last = coarse_spot level c.last;
 }
 
 -- the number after the address of the box's last corner, which is the greatest of its addresses
 abbrev pub end_of : Cut → ℕ
-end_of c = address_of c.x_last c.y_last c.offset_last + 1
+end_of c = address_of c.last.x c.last.y c.last.offset + 1
 
 abbrev pub coarse_runs : Cut → ℕ → List Run
 coarse_runs c level = runs_of (has_address (coarse_cut level c)) (end_of (coarse_cut level c))

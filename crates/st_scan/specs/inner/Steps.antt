@@ -12,13 +12,13 @@ use Rattle.st_scan.specs.declared.own_plan.OwnPlan.{OwnPlan}
 use Rattle.st_scan.specs.declared.own_plan.OwnPlan.TheVariants.{Due, Made, Never}
 use Rattle.st_scan.specs.declared.part_ranges.PartRanges.{PartRanges}
 use Rattle.st_index.specs.declared.row.Row.{Row}
-use Rattle.st_index.specs.Index.{Follow, IsLeafAt, Region}
+use Rattle.st_index.specs.inner.Index.{Follow, IsLeafAt, Region}
 use Rattle.st_index.specs.RowViews.{viewed}
 use Rattle.st_index.specs.Rows.{EntryValue, IsEntry, key_end, rank_of, rows_of}
 use Rattle.st_scan.specs.declared.position.Position.{Position}
-use Rattle.st_scan.specs.Regions.{Count, Meets}
+use Rattle.st_scan.specs.inner.Regions.{Count, Meets}
 use Rattle.st_scan.specs.inner.Rows.{has_row, has_row_from}
-use Rattle.st_scan.specs.Walks.{IsExactFor}
+use Rattle.st_scan.specs.inner.Walks.{IsExactFor}
 
 abbrev pub IsIn : {X : Type 0} → X → List X → Type 0
 IsIn x [] = ⊥

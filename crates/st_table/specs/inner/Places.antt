@@ -1,5 +1,6 @@
 -- An invariant of a representation, which no reader has to believe: how many rows have names of a hash and stand at a key.
-use Rattle.std.specs.Prelude.{◌≡◌, ℕ, ◌+◌, ◌-◌, ◌*◌, ◌/◌, ◌%◌, ◌^◌, ◌<◌, List, [], ◌∷◌, take, drop, Bool, Option, Some, None, IfSome, filter, length, nat_eq, if◌then◌else◌}
+use Rattle.std.specs.Prelude.{◌≡◌, ℕ, ◌+◌, ◌-◌, ◌*◌, ◌/◌, ◌%◌, ◌^◌, ◌<◌, List, [], ◌∷◌, take, drop, Bool, Option, Some, None, IfSome}
+use Rattle.std.specs.Prelude.{filter, length, nat_eq, if◌then◌else◌}
 use Rattle.std.specs.Hash.{u64}
 use Rattle.std.specs.Hash.DefaultHasher.{initial, write, finish}
 use Rattle.std.specs.List.{fold}

@@ -1,9 +1,10 @@
 -- An invariant of a representation, which no reader has to believe: what the marks of pages say of their rows' labels.
-use Rattle.std.specs.Prelude.{◌≡◌, ℕ, ◌+◌, ◌-◌, ◌<◌, ◌≤◌, Bool, false, cond, IfSome, IsTrue, List, [], ◌∷◌, Option, None, length, get_or, map}
+use Rattle.std.specs.Prelude.{◌≡◌, ℕ, ◌+◌, ◌-◌, ◌<◌, ◌≤◌, Bool, false, cond, IfSome, IsTrue, List, [], ◌∷◌, Option, None, length}
+use Rattle.std.specs.Prelude.{get_or, map}
 use Rattle.st_text.specs.Texts.{Text}
 use Rattle.st_index.specs.declared.row.Row.{Row}
 use Rattle.st_index.specs.Rows.{EntryValue}
-use Rattle.st_tally.specs.Pages.{NodeValue, entries_of_pages}
+use Rattle.st_tally.specs.inner.Pages.{NodeValue, entries_of_pages}
 use Rattle.st_tally.specs.declared.marks.Marks.{Marks}
 use Rattle.st_tally.specs.declared.page_marks.PageMarks.{PageMarks}
 use Rattle.st_key.specs.declared.point.Point.{Point}
@@ -35,13 +36,13 @@ abbrev pub AreMarks : {A : Type 0} → List Text → List (EntryValue A) → Pag
 AreMarks {A} labels es p = (i : ℕ) (e : EntryValue A) → HasAt es i e → IsMarkedAt labels p i e
 
 -- a truth tells whether the row of the entry that has this mark is inside; where there is none, it is true
-abbrev pub Tells : Query → PageMarks → ℕ → Bool → Type 0
-Tells q p i inside = (number : ℕ) (spot : Spot) → HasAt p.numbers i number → HasAt p.spots i spot
+abbrev pub IsTested : Query → PageMarks → ℕ → Bool → Type 0
+IsTested q p i inside = (number : ℕ) (spot : Spot) → HasAt p.numbers i number → HasAt p.spots i spot
     → (inside ≡ false → number < 65535) × (number < 65535 → (point : Point) → IsSpotOf p.week spot point → inside ≡ is_inside q point)
 
 -- each of these tells it of the entry at its place
-abbrev pub AreTold : {A : Type 0} → Query → List (EntryValue A) → PageMarks → List Bool → Type 0
-AreTold {A} q es p insides = (i : ℕ) (e : EntryValue A) → HasAt es i e → Tells q p i (get_or insides i false)
+abbrev pub AreTested : {A : Type 0} → Query → List (EntryValue A) → PageMarks → List Bool → Type 0
+AreTested {A} q es p insides = (i : ℕ) (e : EntryValue A) → HasAt es i e → IsTested q p i (get_or insides i false)
 
 -- none are known
 abbrev pub HasNone : PageMarks → Type 0

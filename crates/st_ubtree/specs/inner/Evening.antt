@@ -1,7 +1,7 @@
 -- A stage of the code, which no reader has to believe: what evening pages does to a node, before a row is put in.
 use Rattle.std.specs.Prelude.{◌≡◌, ℕ, ◌+◌, ◌<◌, ◌≤◌, List, length}
 use Rattle.std.specs.List.{All}
-use Rattle.st_tally.specs.Pages.{NodeValue}
+use Rattle.st_tally.specs.inner.Pages.{NodeValue}
 use Rattle.st_ubtree.specs.inner.Growing.{AreAround}
 use Rattle.st_ubtree.specs.inner.Kids.{HeadAt, IsKid, pages_of}
 use Rattle.st_tally.specs.inner.Marks.{HasAt}

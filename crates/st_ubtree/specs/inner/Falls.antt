@@ -4,7 +4,7 @@ use Rattle.std.proofs.Common.{arith}
 use Rattle.std.specs.List.{All}
 use Rattle.std.proofs.lemmas.List.Elements.{All-head, All-tail}
 use denote.Param.Weighed.{most}
-use Rattle.st_tally.specs.Pages.{NodeValue}
+use Rattle.st_tally.specs.inner.Pages.{NodeValue}
 use Rattle.st_ubtree.specs.inner.Kids.{IsKid}
 use Rattle.std.specs.declared.alloc.Allocator.{Ghosts}
 use Rattle.st_ubtree.specs.inner.Nodes.{IsNode}

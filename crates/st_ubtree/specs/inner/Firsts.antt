@@ -5,7 +5,7 @@ use Rattle.st_ubtree.specs.declared.node.Kids.{Kids}
 use Rattle.st_ubtree.specs.declared.node.Kids.TheVariants.{Page, Inner}
 use Rattle.st_ubtree.specs.declared.node.firsts.First.{First}
 use Rattle.st_ubtree.specs.declared.node.firsts.Firsts.{Firsts}
-use Rattle.st_tally.specs.Pages.{NodeValue}
+use Rattle.st_tally.specs.inner.Pages.{NodeValue}
 
 -- they are those of the children, in their order
 abbrev pub AreFirsts : {A : Type 0} → Firsts A → List (NodeValue A) → Type 0

@@ -7,7 +7,7 @@ use Rattle.st_key.specs.declared.period.Period.{Period}
 use Rattle.st_index.specs.declared.row.Row.{Row}
 use Rattle.st_index.specs.Rows.{EntryValue, Rises}
 use Rattle.st_ubtree.specs.declared.node.blank.Blank.{Blank}
-use Rattle.st_tally.specs.Pages.{PageValue, NodeValue}
+use Rattle.st_tally.specs.inner.Pages.{PageValue, NodeValue}
 use Rattle.st_ubtree.specs.inner.Kids.{Spans, GrowsBy, AreWide, IsKid, Starts, pages_of}
 
 -- an empty list of rows that can hold one more than the key's, if it has some
@@ -94,7 +94,7 @@ pub record AreKids {A : Type 0} (height : ℕ) (kids : List (NodeValue A)) : Typ
   pub each : All (IsKid below) kids
 
 -- at most 32 children stay; of more, the lower 16 stay and the others go under a node beside this one
-abbrev pub Settles : {A : Type 0} → ℕ → List (NodeValue A) → List (NodeValue A) → Option (NodeValue A) → Type 0
-Settles height old new None = (new ≡ old) × (length old ≤ 32)
-Settles height old new (Some s) = (new ≡ take 16 old) × (length new ≡ 16) × IsKid height s × (s.pages ≡ pages_of (drop 16 old))
+abbrev pub SplitsIfFull : {A : Type 0} → ℕ → List (NodeValue A) → List (NodeValue A) → Option (NodeValue A) → Type 0
+SplitsIfFull height old new None = (new ≡ old) × (length old ≤ 32)
+SplitsIfFull height old new (Some s) = (new ≡ take 16 old) × (length new ≡ 16) × IsKid height s × (s.pages ≡ pages_of (drop 16 old))
     × (length old ≡ 33)

@@ -4,8 +4,8 @@ use Rattle.std.specs.List.{All, flat_map}
 use Rattle.st_key.specs.declared.period.Period.{Period}
 use Rattle.st_index.specs.declared.row.Row.{Row}
 use Rattle.st_index.specs.Rows.{Rises, name_of, rank_of}
-use Rattle.st_index.specs.Index.{Adds, IsAbsent}
-use Rattle.st_tally.specs.Pages.{PageValue, IsFilled, NodeValue, rows_of_pages, IsWide}
+use Rattle.st_index.specs.inner.Index.{Adds, IsAbsent}
+use Rattle.st_tally.specs.inner.Pages.{PageValue, IsFilled, NodeValue, rows_of_pages, IsWide}
 
 -- the pages' regions follow each other from lo to just below hi, and each page's entries rise inside its own
 abbrev pub Spans : {A : Type 0} → Period → ℕ → ℕ → List (PageValue A) → Type 0

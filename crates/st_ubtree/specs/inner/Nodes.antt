@@ -5,7 +5,7 @@ use Rattle.st_index.specs.declared.row.Row.{Row}
 use Rattle.st_index.specs.Rows.{rows_of}
 use Rattle.st_ubtree.specs.declared.node.Kids.{Kids}
 use Rattle.st_ubtree.specs.declared.node.Kids.TheVariants.{Page, Inner}
-use Rattle.st_tally.specs.Pages.{PageValue, NodeValue, rows_of_pages}
+use Rattle.st_tally.specs.inner.Pages.{PageValue, NodeValue, rows_of_pages}
 use Rattle.st_ubtree.specs.inner.Kids.{IsKid, pages_of, widths_of, HeadAt}
 use Rattle.st_tally.specs.inner.Marks.{AreMarked}
 use Rattle.st_ubtree.specs.inner.Splits.{chains_of}

@@ -3,7 +3,7 @@
 use Rattle.std.specs.Prelude.{ℕ, ◌+◌, ◌-◌, Bool, false, ◌||◌, if◌then◌else◌, eqb, ltb, List, [], ◌∷◌, ◌++◌, length, map, drop, get_or}
 use Rattle.std.specs.Prelude.{Option, Some, None}
 use Rattle.st_index.specs.Rows.{EntryValue}
-use Rattle.st_tally.specs.Pages.{PageValue, NodeValue}
+use Rattle.st_tally.specs.inner.Pages.{PageValue, NodeValue}
 
 abbrev pub has_key : {A : Type 0} → ℕ → List (EntryValue A) → Bool
 has_key key [] = false

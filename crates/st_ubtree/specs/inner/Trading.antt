@@ -3,8 +3,8 @@ use Rattle.std.specs.Prelude.{◌≡◌, ℕ, List}
 use Rattle.st_key.specs.declared.period.Period.{Period}
 use Rattle.st_index.specs.declared.row.Row.{Row}
 use Rattle.st_index.specs.Rows.{rank_of}
-use Rattle.st_index.specs.Index.{Swaps}
-use Rattle.st_tally.specs.Pages.{PageValue, NodeValue, rows_of_pages}
+use Rattle.st_index.specs.inner.Index.{Swaps}
+use Rattle.st_tally.specs.inner.Pages.{PageValue, NodeValue, rows_of_pages}
 use Rattle.st_ubtree.specs.inner.Kids.{AreWide, Spans, Starts}
 
 -- new pages hold one row in another's place, both of the key, between the same bounds

@@ -4,12 +4,12 @@ use Rattle.std.specs.List.{All}
 use Rattle.st_key.specs.declared.period.Period.{Period}
 use Rattle.st_index.specs.declared.row.Row.{Row}
 use Rattle.st_index.specs.Rows.{EntryValue, key_end, rank_of}
-use Rattle.st_tally.specs.Pages.{NodeValue, entries_of_pages, rows_of_pages, AreFilled}
+use Rattle.st_tally.specs.inner.Pages.{NodeValue, entries_of_pages, rows_of_pages, AreFilled}
 use Rattle.st_ubtree.specs.inner.Kids.{Spans}
 use Rattle.st_ubtree.specs.inner.Growing.{AreBlank, IsBlankPage, IsRoomFor}
 use Rattle.st_ubtree.specs.inner.Splits.{made_nodes, splits}
 use Rattle.st_ubtree.specs.declared.tree.UbSpare.{UbSpare}
-use Rattle.st_ubtree.specs.Trees.{TreeValue}
+use Rattle.st_ubtree.specs.inner.Trees.{TreeValue}
 
 -- the pages hold the rows of all keys in order, at least 16 keys each unless one is alone, and an inner root has two
 -- children or more

@@ -1,7 +1,7 @@
 //! Counting what lies below nodes.
 ghost use Rattle.std.specs.Prelude.{◌≡◌, ◌<◌, ◌^◌, length};
-ghost use Rattle.st_index.specs.Counting.{count_of};
-ghost use Rattle.st_tally.specs.Pages.{rows_of_pages};
+ghost use Rattle.st_index.specs.inner.Counting.{count_of};
+ghost use Rattle.st_tally.specs.inner.Pages.{rows_of_pages};
 
 use super::pages::count_pages;
 use super::{Kids, Node};

@@ -1,8 +1,8 @@
 //! Counting in fields what lies below nodes.
 ghost use Rattle.std.specs.Prelude.{◌≡◌, List, length};
 ghost use Rattle.std.specs.List.{All};
-ghost use Rattle.st_index.specs.Fields.{CanAdd, Counts};
-ghost use Rattle.st_tally.specs.Pages.{NodeValue, rows_of_pages};
+ghost use Rattle.st_index.specs.inner.Fields.{CanAdd, Counts};
+ghost use Rattle.st_tally.specs.inner.Pages.{NodeValue, rows_of_pages};
 ghost use Rattle.st_ubtree.specs.inner.Kids.{pages_of};
 ghost use Rattle.st_tally.specs.inner.Marks.{AreKnown, AreMarked, HasAt};
 

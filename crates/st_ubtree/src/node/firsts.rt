@@ -4,7 +4,7 @@ ghost use Rattle.std.specs.List.{insert, position, remove};
 ghost use Rattle.std.specs.List.Sorted.{IsPartitionPoint, IsPartitionedBy};
 ghost use Rattle.arrayvec.specs.ArrayVec.{array_vec_len};
 ghost use Rattle.st_key.specs.Key.{rank};
-ghost use Rattle.st_tally.specs.Pages.{NodeValue};
+ghost use Rattle.st_tally.specs.inner.Pages.{NodeValue};
 ghost use Rattle.st_ubtree.specs.inner.Firsts.{AreFirsts};
 ghost use Rattle.st_ubtree.specs.inner.Growing.{IsChosen};
 ghost use Rattle.st_tally.specs.inner.Marks.{HasAt};

@@ -3,7 +3,7 @@ ghost use Rattle.std.specs.Prelude.{◌≡◌, ◌+◌, ◌<◌, ◌≤◌, IfNo
 ghost use Rattle.st_key.specs.Key.{rank};
 ghost use Rattle.st_index.specs.Rows.{rank_of};
 ghost use Rattle.st_index.specs.inner.Changes.{IsChange};
-ghost use Rattle.st_ubtree.specs.inner.Growing.{AreBlank, AreKids, DoRise, IsBlankPage, IsRoomFor, PageGrows, Settles};
+ghost use Rattle.st_ubtree.specs.inner.Growing.{AreBlank, AreKids, DoRise, IsBlankPage, IsRoomFor, PageGrows, SplitsIfFull};
 ghost use Rattle.st_ubtree.specs.inner.Splits.{splits_page};
 
 use super::sums::add_kids;
@@ -49,7 +49,7 @@ pub(super) fn put_in_page<A: Allocator + Copy>(
 }
 
 // Of 33 children the upper 17 are handed back under a node of their own. The others' marks then go into a shorter list.
-pub(super) fn settle<A: Allocator + Copy>(
+pub(super) fn split_if_full<A: Allocator + Copy>(
     kids: &mut Vec<Node<A>, A>,
     height: u64,
     marks: &mut Marks<A>,
@@ -59,7 +59,7 @@ pub(super) fn settle<A: Allocator + Copy>(
     requires not_more { length kids.old.items ≤ 33 }
     requires blank { AreBlank inners.old.items }
     requires enough { 32 < length kids.old.items → 0 < vec_len inners.old }
-    ensures settles { Settles height kids.old.items kids.new.items result }
+    ensures split { SplitsIfFull height kids.old.items kids.new.items result }
     ensures capacity { vec_capacity kids.new ≡ vec_capacity kids.old }
     ensures blank { AreBlank inners.new.items }
     ensures left { vec_len inners.old ≤ vec_len inners.new + 1 }

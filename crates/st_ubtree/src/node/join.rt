@@ -3,7 +3,7 @@ ghost use Rattle.std.specs.Prelude.{◌≡◌, ◌+◌, ◌<◌, ◌≤◌, ◌+
 ghost use Rattle.st_index.specs.Rows.{rows_of};
 ghost use Rattle.st_ubtree.specs.inner.Shrinking.{AreWorn, KidsJoin, Mends, PagesJoin};
 ghost use Rattle.st_ubtree.specs.inner.Growing.{AreKids};
-ghost use Rattle.st_tally.specs.Pages.{rows_of_pages};
+ghost use Rattle.st_tally.specs.inner.Pages.{rows_of_pages};
 ghost use Rattle.st_ubtree.specs.inner.Firsts.{AreFirsts};
 ghost use Rattle.st_ubtree.specs.inner.Kids.{pages_of};
 ghost use Rattle.st_tally.specs.inner.Marks.{AreMarked};

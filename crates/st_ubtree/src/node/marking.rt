@@ -1,7 +1,7 @@
 //! The marks of pages' entries, which their parents keep.
 ghost use Rattle.std.specs.Prelude.{◌≡◌, IfOk, IsFalse, List};
 ghost use Rattle.st_index.specs.inner.Changes.{IsChange};
-ghost use Rattle.st_tally.specs.Pages.{NodeValue, entries_of_pages};
+ghost use Rattle.st_tally.specs.inner.Pages.{NodeValue, entries_of_pages};
 ghost use Rattle.st_tally.specs.inner.Marks.{AreMarked, DifferAt, HasAt};
 
 use super::{Kids, Node};

@@ -1,8 +1,8 @@
 //! Counting what lies in pages that have marks.
 ghost use Rattle.std.specs.Prelude.{◌≡◌, ◌+◌, ◌<◌, ◌≤◌, ◌^◌, List, length, sum};
 ghost use Rattle.std.specs.List.{All};
-ghost use Rattle.st_index.specs.Counting.{count_of};
-ghost use Rattle.st_tally.specs.Pages.{NodeValue, rows_of_pages};
+ghost use Rattle.st_index.specs.inner.Counting.{count_of};
+ghost use Rattle.st_tally.specs.inner.Pages.{NodeValue, rows_of_pages};
 ghost use Rattle.st_ubtree.specs.inner.Kids.{pages_of};
 ghost use Rattle.st_tally.specs.inner.Marks.{AreKnown, AreMarked, HasAt, MakeUp};
 

@@ -2,7 +2,7 @@
 ghost use Rattle.std.specs.Prelude.{◌≡◌, ◌++◌, [], ◌∷◌, List, MatchOption, IsFalse};
 ghost use Rattle.std.specs.List.{All};
 ghost use Rattle.st_index.specs.declared.row.Row.{Row as RowValue};
-ghost use Rattle.st_tally.specs.Pages.{rows_of_pages};
+ghost use Rattle.st_tally.specs.inner.Pages.{rows_of_pages};
 ghost use Rattle.st_ubtree.specs.inner.Kids.{pages_of};
 ghost use Rattle.st_ubtree.specs.inner.Nodes.{rows_under};
 ghost use Rattle.st_tally.specs.inner.Sums.{IsWithin, Sums};

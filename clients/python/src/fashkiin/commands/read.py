@@ -94,7 +94,7 @@ def _output(file: str | None) -> Iterator[TextIO]:
 def _scan_arguments(parser: argparse.ArgumentParser) -> None:
     add_table(parser)
     add_where(parser)
-    parser.add_argument("--limit", type=int, metavar="ROWS", help="at most so many rows")
+    parser.add_argument("--limit", type=int, metavar="ROWS", help="at most this many rows")
 
 
 def _scan(session: Session, arguments: argparse.Namespace) -> int:
@@ -162,7 +162,7 @@ COMMANDS = (
     Command("scan", "show the rows of a place and a time", _scan_arguments, _scan),
     Command(
         "count",
-        "count the rows of a place and a time: about so many, where rows lie in cells and seconds that these cut",
+        "count the rows of a place and a time; approximate where cells or seconds are cut",
         _count_arguments,
         _count,
     ),

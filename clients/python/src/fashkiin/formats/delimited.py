@@ -7,8 +7,9 @@ import contextlib
 import csv
 import io
 import json
+from collections import deque
 from collections.abc import Iterable, Iterator, Sequence
-from itertools import chain
+from itertools import chain, count, islice
 from typing import Any, TextIO
 
 from fashkiin.cells import time_text
@@ -37,7 +38,7 @@ def read(source: Source, names: Names) -> Iterator[Found]:
         if source.raw is not None:
             source.head = text.head("" if numbered is None else "id")
         number = 0
-        for line, fields in _records(records, names):
+        for line, fields in _records(text, records):
             number += bool(fields)
             if source.raw is not None:
                 raw = text.record("" if numbered is None else f"{numbered}-{number}")
@@ -49,21 +50,32 @@ def read(source: Source, names: Names) -> Iterator[Found]:
 def prepare(source: Source, names: Names, size: int, share: Share = WHOLE) -> Iterator[list[Prepared]]:
     """A share of the rows that `read` finds, by up to `size` records at a time."""
     with _Text(source, names) as text:
-        records = text.records()
+        records = text.records(share)
         columns = find_columns(source, read_header(source, records), names)
         bodies = Bodies(columns, names)
-        number = 0
-        for at, batch in enumerate(pieces(_records(records, names), size)):
-            if not share.has(at):
-                number += sum(bool(fields) for _, fields in batch)
-                continue
+        for number, batch in _batches(text, records, size, share):
             whole = [fields for _, fields in batch if isinstance(fields, list)]
             try:
                 rows = bodies.read([line for line, _ in batch], whole, number + 1)
             except (ValueError, OverflowError):
                 rows = _each(batch, columns, names, number)
-            number += len(rows)
             yield rows
+
+
+def _batches(text: _Text, records: Any, size: int, share: Share) -> Iterator[tuple[int, list[_Record]]]:
+    """The batches of a share of up to `size` records, with how many rows are before them."""
+    number = 0
+    batches = pieces(_records(text, records), size)
+    for at in count():
+        rows = None if share.has(at) else text.leave_out(size)
+        if rows is None:
+            batch = next(batches, None)
+            if batch is None:
+                return
+            if share.has(at):
+                yield number, batch
+            rows = sum(bool(fields) for _, fields in batch)
+        number += rows
 
 
 def _each(batch: Iterable[_Record], columns: Columns, names: Names, number: int) -> list[Prepared]:
@@ -80,6 +92,10 @@ class _Text:
         encoding = names.encoding or "utf-8-sig"
         self._text = io.TextIOWrapper(source.stream, encoding=encoding, errors="surrogateescape", newline="")
         self._encode = codecs.getincrementalencoder(names.encoding or "utf-8")("surrogateescape").encode
+        self._left_out = 0
+        """How many lines were read for no record."""
+        self._back: deque[str] = deque()
+        """Lines that are still to be read for records."""
         self._skipped = [self._text.readline() for _ in range(names.skip)]
         self._header = self._text.readline()
         most = "\t" if source.name.lower().removesuffix(".gz").endswith(".tsv") else max(DELIMITERS, key=self._header.count)
@@ -94,11 +110,31 @@ class _Text:
         with contextlib.suppress(ValueError):  # The file was closed before all was read.
             self._text.detach()
 
-    def records(self) -> Any:
+    def records(self, share: Share = WHOLE) -> Any:
         """The header and the records, whose delimiter is the one that is given, or that the header has most often, a comma where
-        none is more often."""
-        lines = chain([self._header] if self._header else [], self._text)
+        none is more often. Those of other shares may be left out."""
+        lines = chain([self._header] if self._header else [], self._text if share.turns == 1 else self._rest())
         return csv.reader(self._kept(lines) if self._keeps else lines, delimiter=self._delimiter, strict=True)
+
+    def line(self, records: Any) -> int:
+        """The line on which the next record begins."""
+        return len(self._skipped) + self._left_out + int(records.line_num) + 1
+
+    def leave_out(self, size: int) -> int | None:
+        """Leaves so many records out, and returns how many rows they are. None where some of them may be of several lines, may be
+        none, or are not there: then they are to be read."""
+        lines = [] if self._back else list(islice(self._text, size))
+        together = "".join(lines)
+        if len(lines) < size or '"' in together or len(together) > csv.field_size_limit():
+            self._back.extend(lines)
+            return None
+        self._left_out += size
+        return size - sum(map(lines.count, ("\n", "\r\n", "\r")))
+
+    def _rest(self) -> Iterator[str]:
+        """The lines that are left."""
+        while line := self._back.popleft() if self._back else next(self._text, ""):
+            yield line
 
     def _kept(self, lines: Iterable[str]) -> Iterator[str]:
         for line in lines:
@@ -118,14 +154,14 @@ class _Text:
         return self._encode(front + text + ("" if text.endswith(("\n", "\r")) else "\n"))
 
 
-def _records(records: Any, names: Names) -> Iterator[_Record]:
+def _records(text: _Text, records: Any) -> Iterator[_Record]:
     """The records with the lines on which they begin, or what is wrong with one. That of a blank line is empty."""
     while True:
-        line = names.skip + records.line_num + 1
+        line = text.line(records)
         try:
             for fields in records:
                 yield line, fields
-                line = names.skip + records.line_num + 1
+                line = text.line(records)
             return
         except csv.Error as error:
             yield line, RowError("row", Plain(error), "a row of CSV")
@@ -169,11 +205,11 @@ def _row(fields: list[str], columns: Columns, names: Names, number: int) -> Row:
 def numbers(source: Source, names: Names, share: Share = WHOLE) -> Iterator[Kinds]:
     """The kinds of the properties of a CSV file, by the records of a share. It ends once none can be a number throughout."""
     with _Text(source, names) as text:
-        records = text.records()
+        records = text.records(share)
         columns = find_columns(source, read_header(source, records), names)
         left = {at: name for at, name, _ in columns.properties}
         width = len(columns.header)
-        for batch in share.of(pieces(_records(records, names), NUMBERS_AT_A_TIME)):
+        for _, batch in _batches(text, records, NUMBERS_AT_A_TIME, share):
             rows = [fields for _, fields in batch if isinstance(fields, list) and len(fields) == width]
             kinds = kinds_of((name, [fields[at] for fields in rows if fields[at]]) for at, name in left.items())
             yield kinds

@@ -11,6 +11,7 @@ from collections.abc import Callable, Iterable, Iterator, Mapping, Sequence
 from contextlib import AbstractContextManager
 from dataclasses import dataclass, replace
 from datetime import datetime, timedelta
+from functools import lru_cache
 from typing import Any, TypeVar
 
 from fashkiin.cells import EPOCH, parse_time
@@ -45,6 +46,12 @@ def candidates(field: str, there: Iterable[str]) -> list[str]:
         if found:
             return found
     return []
+
+
+@lru_cache(maxsize=1_024)
+def _candidates_of(field: str, there: tuple[str, ...]) -> Sequence[str]:
+    """The candidates of a row, among its names in small letters. Most rows of a file have the names of others."""
+    return candidates(field, [name for name in there if name == name.lower()])
 
 
 Found = tuple[int, Row | RowError]
@@ -153,7 +160,7 @@ class Names:
         if given or field in there:
             name = given or field
             return name if name in there else None
-        found = candidates(field, [name for name in there if name == name.lower()])
+        found = _candidates_of(field, tuple(there))
         if len(found) > 1:
             raise RowError(field, Plain(" and ".join(found)), f"one of them: name it by --{field}-column")
         return found[0] if found else None

@@ -6,17 +6,16 @@ What GPX has no element for stands in `extensions`, as JSON, when rows are writt
 from __future__ import annotations
 
 import json
-from collections.abc import Iterable, Iterator, Sequence
-from contextlib import suppress
+from collections.abc import Iterable, Iterator, Mapping, Sequence
 from decimal import Decimal
-from itertools import chain
 from typing import TYPE_CHECKING, Any, TextIO
 
 from fashkiin.cells import parse_time, time_text
 from fashkiin.errors import MissingError, RowError
 from fashkiin.formats.fields import Found, Names, Prepared, Source, degrees, make_row, prepare_each, prepared
 from fashkiin.formats.gpx_columns import Kind, PointBodies, Usual
-from fashkiin.formats.gpx_points import Placed, Point, local, points, shared_points
+from fashkiin.formats.gpx_points import NOTHING, Told, points, shared_points
+from fashkiin.formats.gpx_texts import NAMESPACE, ROW, Texts, texts_of
 from fashkiin.formats.numbers import NUMBERS_AT_A_TIME, Kinds, kinds_of, with_numbers
 from fashkiin.pipeline import pieces
 from fashkiin.rows import Row
@@ -26,8 +25,6 @@ if TYPE_CHECKING:
     from xml.etree import ElementTree
 
 GPX = "http://www.topografix.com/GPX/1/1"
-NAMESPACE = "urn:fashkiin:row"
-ROW = f"{{{NAMESPACE}}}row"
 HEAD = f'<?xml version="1.0" encoding="UTF-8"?>\n<gpx xmlns="{GPX}" version="1.1" creator="fashkiin">\n'
 TAIL = "</gpx>\n"
 
@@ -39,7 +36,7 @@ def read(source: Source, names: Names) -> Iterator[Found]:
     elements of extensions, such as `hr` and `cad`, have their own names. What is kept in no row is told by `source.dropped`.
     """
     for number, (line, (point, track)) in enumerate(points(source, names.encoding), 1):
-        row = _read_point((point, track), names, number, source.dropped)
+        row = _read_point(texts_of(point), track, names, number, source.dropped)
         if source.raw is not None:
             source.raw.append(_raw(point, track | {"id": f"{names.number}-{number}"}))
         yield line, row
@@ -49,11 +46,14 @@ def prepare(source: Source, names: Names, size: int, share: Share = WHOLE) -> It
     """A share of the rows that `read` finds, by up to `size` at a time."""
     if _is_cut(names, share):
         bodies = PointBodies(names)
-        for number, batch in shared_points(source, size, share):
-            yield _rows(batch, names, number, source.dropped, bodies)
+        for number, run in shared_points(source, size, share):
+            rows = _rows(run, names, number, source.dropped, bodies)
+            yield from (rows[at : at + size] for at in range(0, len(rows), size))
         return
     units = points(source, names.encoding)
-    yield from prepare_each(units, lambda it, number: _read_point(it, names, number, source.dropped), size, share, names.wrap)
+    yield from prepare_each(
+        units, lambda it, number: _read_point(texts_of(it[0]), it[1], names, number, source.dropped), size, share, names.wrap
+    )
 
 
 def _is_cut(names: Names, share: Share) -> bool:
@@ -61,82 +61,83 @@ def _is_cut(names: Names, share: Share) -> bool:
     return share.is_cut and not names.encoding
 
 
-def _rows(batch: list[Placed], names: Names, before: int, dropped: dict[str, None], bodies: PointBodies) -> list[Prepared]:
+def _rows(run: list[Told], names: Names, before: int, dropped: dict[str, None], bodies: PointBodies) -> list[Prepared]:
     """The rows of points behind so many others: those alike together, where they are as most are."""
     rows: dict[int, Prepared] = {}
     kinds: dict[Kind, list[Usual]] = {}
-    lost: dict[str, None] = {}
-    for number, (line, point) in enumerate(batch, before + 1):
-        usual = _usual(number, line, point, _values(point[0], lost))
-        if usual is not None:
-            kinds.setdefault(usual.kind, []).append(usual)
+    for number, (line, texts, track) in enumerate(run, before + 1):
+        if _is_usual(texts):
+            kinds.setdefault((tuple(track), texts.names), []).append((number, line, texts, track))
     for kind, alike in kinds.items():
-        with suppress(ValueError, OverflowError):
-            rows.update(zip([it.number for it in alike], bodies.read(kind, alike), strict=True))
-    if len(rows) == len(batch):
-        dropped.update(lost)
-        return [rows[number] for number in range(before + 1, before + 1 + len(batch))]
-    found = ((number, line, _read_point(it, names, number, dropped)) for number, (line, it) in enumerate(batch, before + 1))
-    return [rows.get(number) or prepared(line, row, names.wrap) for number, line, row in found]
+        rows.update(bodies.read(kind, alike))
+    found = []
+    for number, (line, texts, track) in enumerate(run, before + 1):
+        if number in rows:
+            dropped.update(texts.dropped)
+            found.append(rows[number])
+        else:
+            found.append(prepared(line, _read_point(texts, track, names, number, dropped), names.wrap))
+    return found
 
 
-def _usual(number: int, line: int, found: Point, values: dict[str, str]) -> Usual | None:
-    """A point as most are: with a place, a time, and texts that are not empty; None for another, and for one that `write`
-    wrote."""
-    point, track = found
-    lon, lat = point.get("lon"), point.get("lat")
-    if lon is None or lat is None or not all(values.values()) or "time" not in values:
-        return None
-    if next(point.iter(ROW), None) is not None:
-        return None
-    return Usual((tuple(track), tuple(values)), number, line, lon, lat, track, values)
+def _is_usual(point: Texts) -> bool:
+    """Whether a point is as most are: with a place, a time, and texts that are not empty; and not one that `write` wrote."""
+    return point.written is None and bool(point.lon and point.lat) and "time" in point.names and all(point.texts)
 
 
 def numbers(source: Source, names: Names, share: Share = WHOLE) -> Iterator[Kinds]:
     """The kinds of the properties of a GPX file, by the points of a share."""
-    for batch in _all_values(source, names, share):
+    for batch in _all_texts(source, names, share):
+        kinds: dict[Sequence[str], list[Sequence[str]]] = {}
+        for it in batch:
+            kinds.setdefault(it.names, []).append(it.texts)
+            source.dropped.update(it.dropped)
         texts: dict[str, list[str]] = {}
-        for name, text in chain.from_iterable(it.items() for it in batch):
-            if text:
-                texts.setdefault(name, []).append(text)
+        for kind, alike in kinds.items():
+            for name, column in zip(kind, zip(*alike, strict=True), strict=True):
+                texts.setdefault(name, []).extend(filter(None, column))
         yield kinds_of(texts.items())
 
 
-def _all_values(source: Source, names: Names, share: Share) -> Iterator[Sequence[dict[str, str]]]:
-    """What the points of a share have, by many at a time."""
+def _all_texts(source: Source, names: Names, share: Share) -> Iterator[list[Texts]]:
+    """The texts of the points of a share, by many at a time."""
     size = NUMBERS_AT_A_TIME
     if _is_cut(names, share):
-        for _, batch in shared_points(source, size, share):
-            yield [_values(point, source.dropped) for _, (point, _) in batch]
+        for _, run in shared_points(source, size, share, is_for_kinds=True):
+            yield from ([texts for _, texts, _ in run[at : at + size]] for at in range(0, len(run), size))
         return
-    values = (
-        _values(point, source.dropped) if share.has(number // size) else {}
+    texts = (
+        texts_of(point) if share.has(number // size) else NOTHING[1]
         for number, (_, (point, _)) in enumerate(points(source, names.encoding))
     )
-    yield from share.of(pieces(values, size))
+    yield from share.of(pieces(texts, size))
 
 
-def _read_point(found: Point, names: Names, number: int, dropped: dict[str, None]) -> Row | RowError:
+def _read_point(point: Texts, track: Mapping[str, Any], names: Names, number: int, dropped: dict[str, None]) -> Row | RowError:
     """The row of a point and what it has of its track, or what is wrong with it."""
     try:
-        return _row(*found, names, number, dropped)
+        lon, lat = degrees("lon", _needed("lon", point.lon)), degrees("lat", _needed("lat", point.lat))
+        dropped.update(point.dropped)
+        return _row(point, lon, lat, track, names, number)
     except RowError as error:
         return error
 
 
-def _row(
-    point: ElementTree.Element, track: dict[str, Any], names: Names, number: int, dropped: dict[str, None]
-) -> Row:
-    lon, lat = (degrees(field, _attribute(point, field)) for field in ("lon", "lat"))
-    values: dict[str, Any] = _values(point, dropped)
+def _needed(field: str, text: str | None) -> str:
+    if text is None:
+        raise MissingError(field, f"a point with a {field}")
+    return text
+
+
+def _row(point: Texts, lon: float, lat: float, track: Mapping[str, Any], names: Names, number: int) -> Row:
+    values: dict[str, Any] = point.values()
     if not values.get("time", "").strip():
         values.pop("time", "")
         if names.default_time is None:
             raise MissingError("time", "a point with a <time>, or --default-time")
-    written = point.find(f"{{*}}extensions/{ROW}") if next(point.iter(ROW), None) is not None else None
-    if written is not None:
-        return _written(lon, lat, values.get("time", ""), written.text or "")
-    return make_row(names, number, lon, lat, track | with_numbers(values, names.numbers - {"time"}))
+    if point.written is not None:
+        return _written(lon, lat, values.get("time", ""), point.written)
+    return make_row(names, number, lon, lat, {**track, **with_numbers(values, names.numbers - {"time"})})
 
 
 def _raw(point: ElementTree.Element, values: dict[str, Any]) -> bytes:
@@ -152,41 +153,6 @@ def _raw(point: ElementTree.Element, values: dict[str, Any]) -> bytes:
     return ElementTree.tostring(waypoint) + b"\n"
 
 
-def _values(point: ElementTree.Element, dropped: dict[str, None]) -> dict[str, str]:
-    """The texts of a point's elements, then those within its extensions. Of two with the same name the first is kept; what is not
-    kept is told by `dropped`."""
-    values: dict[str, str] = {}
-    larger: list[tuple[str, str]] = []
-    for child in point:
-        name, text = local(child.tag), child.text or ""
-        if name == "link":
-            larger.append(("link", child.get("href", "")))
-            dropped.update({f"{local(it.tag)} of link": None for it in child})
-        elif len(child) or name == "extensions":
-            larger += _leaves(child, point, dropped)
-        elif values.setdefault(name, text) != text:
-            dropped[f"a further {name} of {local(point.tag)}"] = None
-    for name, text in larger:
-        if values.setdefault(name, text) != text:
-            dropped[f"a further {name} of {local(point.tag)}"] = None
-    return values
-
-
-def _leaves(element: ElementTree.Element, point: ElementTree.Element, dropped: dict[str, None]) -> Iterator[tuple[str, str]]:
-    """The names and texts within an element of a point."""
-    leaves = element.iter()
-    next(leaves)  # It is the element itself.
-    for leaf in leaves:
-        tag = leaf.tag
-        if len(leaf) or tag == ROW:
-            continue
-        text = (leaf.text or "").strip()
-        if text:
-            yield local(tag), text
-        elif leaf.attrib:
-            dropped[f"{local(tag)} of {local(point.tag)}"] = None
-
-
 def _written(lon: float, lat: float, time: str, text: str) -> Row:
     """A row that was written by `write`."""
     try:
@@ -196,13 +162,6 @@ def _written(lon: float, lat: float, time: str, text: str) -> Row:
         raise
     except (ValueError, KeyError, TypeError):
         raise RowError("extensions", text, "the JSON of a row") from None
-
-
-def _attribute(point: ElementTree.Element, field: str) -> str:
-    value = point.get(field)
-    if value is None:
-        raise MissingError(field, f"a point with a {field}")
-    return value
 
 
 def write(rows: Iterable[Row], out: TextIO, names: Names) -> None:

@@ -2,52 +2,57 @@
 
 from __future__ import annotations
 
-from collections.abc import Mapping, Sequence
+from collections.abc import Iterator, Mapping, Sequence
 from functools import lru_cache
-from typing import Any, NamedTuple
+from typing import Any
 
 from fashkiin.formats.columns import Bodies
 from fashkiin.formats.fields import Names, Prepared
+from fashkiin.formats.gpx_texts import Texts
 from fashkiin.formats.header import Columns
 
 KINDS = 256
 """Of how many kinds of points it is remembered what their columns hold."""
 
-Kind = tuple[tuple[str, ...], tuple[str, ...]]
+FEW = 16
+"""Of how many points with another one among them each is read by itself."""
+
+Kind = tuple[tuple[str, ...], Sequence[str]]
 """The names of what points have of their tracks, and of their own elements."""
 
-
-class Usual(NamedTuple):
-    """A point with all that its kind has: its number in its file, the line on which it ends, where it is, what it has of its
-    track, and the texts of its elements."""
-
-    kind: Kind
-    number: int
-    line: int
-    lon: str
-    lat: str
-    track: Mapping[str, Any]
-    values: Mapping[str, str]
+Usual = tuple[int, int, Texts, Mapping[str, Any]]
+"""A point with all that its kind has: its number, the line on which it ends, its texts, and what it has of its track."""
 
 
 class PointBodies:
-    """Makes rows of points of one kind. `ValueError` or `OverflowError` where each is to be read by itself."""
+    """Makes rows of points of one kind."""
 
     def __init__(self, names: Names) -> None:
         self._names = names
         self._bodies = lru_cache(KINDS)(self._make)
 
-    def read(self, kind: Kind, points: Sequence[Usual]) -> list[Prepared]:
-        """The rows of points of a kind."""
+    def read(self, kind: Kind, points: Sequence[Usual]) -> Iterator[tuple[int, Prepared]]:
+        """The rows of points of a kind by their numbers, but for those that are to be read by themselves."""
         bodies = self._bodies(kind)
         if bodies is None:
-            raise ValueError("rows that cannot be read by columns")
+            return
+        try:
+            rows = self._together(bodies, points)
+        except (ValueError, OverflowError):
+            half = len(points) // 2 if len(points) > FEW else 0
+            for part in (points[:half], points[half:]) if half else ():
+                yield from self.read(kind, part)
+            return
+        yield from zip([number for number, *_ in points], rows, strict=True)
+
+    def _together(self, bodies: Bodies, points: Sequence[Usual]) -> list[Prepared]:
+        """The rows of points. `ValueError` or `OverflowError` where another one is among them."""
         prefix = self._names.number
-        records = [(f"{prefix}-{it.number}", it.lon, it.lat, *it.values.values()) for it in points]
-        if kind[0]:
-            both = [{**it.track, **it.values}.values() for it in points]
-            records = [(*record[:3], *map(str, texts)) for record, texts in zip(records, both, strict=True)]
-        return bodies.read([it.line for it in points], records, 0)
+        records = [
+            (f"{prefix}-{number}", texts.lon or "", texts.lat or "", *map(str, track.values()), *texts.texts)
+            for number, _, texts, track in points
+        ]
+        return bodies.read([line for _, line, _, _ in points], records, 0)
 
     def _make(self, kind: Kind) -> Bodies | None:
         """What makes the rows of points of a kind; None where each is to be read by itself."""
@@ -61,7 +66,7 @@ def _columns(kind: Kind, names: Names) -> Columns:
     """Which column holds what, as `make_row` finds it: the id by the number, a position, then what points have of their tracks,
     then their own. `ValueError` or `KeyError` where a field is missing, or is a number."""
     track, own = kind
-    header = list(dict.fromkeys((*track, *own)))
+    header = [*track, *own]
     numbers = (names.numbers - {"time"}).intersection(own) | {"segment"}.intersection(track).difference(own)
     ids = names.id or (("id",) if "id" in header else ())
     left = dict.fromkeys(header)

@@ -4,16 +4,17 @@ from __future__ import annotations
 
 import codecs
 import os
-import re
 import zlib
 from collections import deque
-from collections.abc import Callable, Iterator, Sequence
-from functools import lru_cache
-from io import BufferedReader, BytesIO
+from collections.abc import Callable, Iterable, Iterator, Sequence
+from io import BytesIO
 from typing import TYPE_CHECKING, Any
 
 from fashkiin.errors import InputError
 from fashkiin.formats.fields import Source
+from fashkiin.formats.gpx_pieces import Pieces
+from fashkiin.formats.gpx_shapes import Shapes
+from fashkiin.formats.gpx_texts import Texts, local, texts_of
 from fashkiin.shares import RUN, Share, ShareError
 
 if TYPE_CHECKING:
@@ -22,8 +23,6 @@ if TYPE_CHECKING:
 POINTS = ("wpt", "trkpt", "rtept")
 TRACKS = ("trk", "rte")
 PIECE = 65_536
-BLOCK = 1 << 20
-"""How many bytes are read at a time where they are cut into pieces."""
 
 MOST = 64
 """How many points are parsed at a time: more of them are not held in the caches of a processor, and take longer."""
@@ -34,20 +33,11 @@ Point = tuple["ElementTree.Element", dict[str, Any]]
 Placed = tuple[int, Point]
 """A point with the line on which it ends."""
 
-_NEXT = re.compile(rb"<(?:(!--|!\[CDATA\[|\?)|((?:[\w.-]+:)?)(wpt|trkpt|rtept)(?=[\s/>]))")
-"""The start of what may hide points, or of a point: its prefix and its name."""
+Told = tuple[int, Texts, dict[str, Any]]
+"""A point's line, its texts, and what it has of its track."""
 
-_ENDS = {b"!--": b"-->", b"![CDATA[": b"]]>", b"?": b"?>"}
-"""Where that ends."""
-
-_STOPS = {b"wpt": (b"<%strk", b"<%srte"), b"trkpt": (b"</%strkseg",), b"rtept": (b"</%srte>",)}
-"""What may stand between points of a name; its prefix goes in. More is found where the points are parsed."""
-
-
-@lru_cache(maxsize=1_024)
-def local(tag: str) -> str:
-    """The name of an element without its namespace."""
-    return tag.rsplit("}", 1)[-1]
+NOTHING: Told = (0, Texts(None, None, (), ()), {})
+"""What stands in place of a point that is left out."""
 
 
 def points(source: Source, encoding: str) -> Iterator[Placed]:
@@ -75,108 +65,66 @@ def _hint(line: bytes) -> str:
     return ""
 
 
-def shared_points(source: Source, size: int, share: Share) -> Iterator[tuple[int, list[Placed]]]:
-    """The points of a share by up to `size` at a time, with how many are before them. `ShareError` where the file is another than
-    it seems without being parsed, or cannot be read on."""
+def shared_points(source: Source, size: int, share: Share, is_for_kinds: bool = False) -> Iterator[tuple[int, list[Told]]]:
+    """The points of a share by up to `RUN` times `size` at a time, with how many are before them. For kinds of texts, `NOTHING`
+    stands in place of points that have the same kinds as others before. `ShareError` where the file is another than it seems
+    without being parsed, or cannot be read on."""
     from xml.etree import ElementTree
 
     try:
-        yield from _batches(source, size, share)
+        yield from _runs(source, size, share, is_for_kinds)
     except (ElementTree.ParseError, LookupError, ValueError, InputError, OSError, EOFError, zlib.error) as error:
         raise ShareError(str(error)) from None
 
 
-def _batches(source: Source, size: int, share: Share) -> Iterator[tuple[int, list[Placed]]]:
-    """The batches of a share. What is not sure to be points of another share is parsed, too."""
-    document, text = _Document(source, ""), _Text(source.stream)
-    batch: list[Placed] = []
+def _runs(source: Source, size: int, share: Share, is_for_kinds: bool) -> Iterator[tuple[int, list[Told]]]:
+    """The runs of a share. What is not sure to be points of another share is parsed, too."""
+    pieces = Pieces(source.stream)
+    document = _Document(source, "", pieces.are_utf8)
+    run: list[Told] = []
     number, most = 0, RUN * size
     while True:
-        piece, starts = text.take(min(MOST, most - number % most), document.within is None)
+        piece, starts = pieces.take(min(MOST, most - number % most), document.within is None)
         if not piece:
             break
-        if starts and not share.has(number // size):
+        groups: Iterable[list[Told]]
+        if not starts:
+            groups = ([told] for told in document.lines(piece))
+        elif share.has(number // size):
+            groups = [document.whole(piece, starts, is_for_kinds)]
+        else:
             document.skip(piece)
-            number += len(starts)
-            continue
-        for placed in document.whole(piece, starts) if starts else document.lines(piece):
+            groups = [[NOTHING] * len(starts)]
+        for group in groups:
             if share.has(number // size):
-                batch.append(placed)
-            number += 1
-            if batch and number % size == 0:
-                yield number - len(batch), batch
-                batch = []
+                run += group
+            number += len(group)
+            if run and number % most == 0:
+                yield number - len(run), run
+                run = []
     document.finish()
-    if batch:
-        yield number - len(batch), batch
-
-
-class _Text:
-    """The bytes of a file, cut where points begin. All processes that read it cut it alike."""
-
-    def __init__(self, stream: BufferedReader) -> None:
-        self._stream = stream
-        self._data = b""
-        self._at = 0
-        self._ended = False
-
-    def take(self, most: int, is_inside: bool) -> tuple[bytes, list[int]]:
-        """The next piece, which is empty at the end; and where its points begin, if it seems to be nothing but up to `most` whole
-        ones. Inside of a point none is looked for."""
-        if len(self._data) - self._at < BLOCK // 2 and not self._ended:
-            block = self._stream.read(BLOCK)
-            self._data, self._at, self._ended = self._data[self._at :] + block, 0, len(block) < BLOCK
-        data, at = self._data, self._at
-        found = None if is_inside else _NEXT.match(data, at)
-        starts, self._at = self._points(found[2], found[3], most) if found and found[3] else ([], at)
-        if self._at == at:
-            self._at = self._next(at + 1 if found and found[3] else at)
-        return data[at : self._at], [start - at for start in starts]
-
-    def _next(self, at: int) -> int:
-        """Where the next point begins that is not hidden, or what was read ends."""
-        while (found := _NEXT.search(self._data, at)) is not None:
-            if found[3]:
-                return found.start()
-            at = self._data.find(_ENDS[found[1]], found.end())
-            if at < 0:
-                break
-        return len(self._data)
-
-    def _points(self, prefix: bytes, name: bytes, most: int) -> tuple[list[int], int]:
-        """Where up to so many points of a name begin, and where they end."""
-        data, begin, at = self._data, b"<" + prefix + name, self._at
-        starts: list[int] = []
-        while at >= 0 and len(starts) < most:
-            starts.append(at)
-            at = data.find(begin, at + len(begin))
-        end = stop = at if at >= 0 else len(data)
-        for it in _STOPS[name]:
-            found = data.find(it % prefix, self._at, stop)
-            stop = found if found >= 0 else stop
-        starts = [it for it in starts if it < stop]
-        if stop == end and at < 0:
-            stop = starts.pop()  # It may go on behind what was read.
-        if data.find(b"<!--", self._at, stop) >= 0 or data.find(b"<?", self._at, stop) >= 0:
-            starts = []
-        return starts, stop
+    if run:
+        yield number - len(run), run
 
 
 class _Document:
     """A GPX document that is read piece by piece. What has been read is let go."""
 
-    def __init__(self, source: Source, encoding: str) -> None:
+    def __init__(self, source: Source, encoding: str, is_utf8: bool = False) -> None:
         from xml.etree import ElementTree
 
         self.line = 1
         self._source = source
-        self._parser = ElementTree.XMLPullParser(["start", "end"])
+        self._parser = ElementTree.XMLPullParser(["start", "end", "start-ns", "end-ns"])
         self._decode: Callable[[bytes], str] | None = codecs.getincrementaldecoder(encoding)().decode if encoding else None
         self._around: list[tuple[str, ElementTree.Element]] = []
         self._point: ElementTree.Element | None = None
         self._track: dict[str, Any] = {}
         self._segment = 0
         self._mark = f"cut-{os.urandom(8).hex()}"
+        self._is_marked = False
+        """Whether a mark was found behind all that was parsed but whole points, so that it does not end within a comment, say."""
+        self._shapes = Shapes(is_utf8)
 
     @property
     def within(self) -> str | None:
@@ -201,6 +149,9 @@ class _Document:
                 continue  # It is within the point, and is read with it.
             if event == "start":
                 self._start(element)
+                continue
+            if event != "end":
+                self._shapes.clear()  # A namespace is declared here, or was.
                 continue
             self._around.pop()
             within, parent = self._around[-1] if self._around else ("", None)
@@ -234,10 +185,12 @@ class _Document:
         elif within in ("gpx", "trkseg", *TRACKS) and tag not in ("trkseg", *TRACKS):
             self._source.dropped[f"{tag} of {within}"] = None
 
-    def lines(self, piece: bytes) -> Iterator[Placed]:
+    def lines(self, piece: bytes) -> Iterator[Told]:
         """The points that end in a piece."""
+        self._is_marked = False
         for data in BytesIO(piece):
-            yield from self.feed(data)
+            for line, (point, track) in self.feed(data):
+                yield line, texts_of(point), track
 
     def finish(self) -> None:
         """The document has ended. `ShareError` where a point ends only now."""
@@ -248,10 +201,28 @@ class _Document:
         """Leaves a piece of whole points out."""
         self.line += piece.count(b"\n")
 
-    def whole(self, piece: bytes, starts: Sequence[int]) -> list[Placed]:
-        """The points of a piece that begin at these places. `ShareError` where it is not just these, or leads elsewhere: then a
+    def whole(self, piece: bytes, starts: Sequence[int], is_for_kinds: bool) -> list[Told]:
+        """The points of a piece that begin at these places, by their shapes where these are known. For kinds of texts, `NOTHING`
+        stands in place of those of a piece whose shapes are all known. `ShareError` where it is not just these points."""
+        if not self._is_marked:
+            self._parsed(b"", 0)
+            self._is_marked = True
+        if is_for_kinds and self._shapes.cover(piece):
+            self.skip(piece)
+            return [NOTHING] * len(starts)
+        track = self._of_track(self._around[-1][0])
+        found, are_all = self._shapes.read(piece)
+        if not are_all:
+            known = len(found)
+            found = [texts_of(it) for it in self._parsed(piece, len(starts))]
+            if known < len(starts):
+                self._shapes.learn(piece[slice(*[*starts, len(piece)][known : known + 2])], found[known])
+        return [(line, texts, track) for line, texts in zip(self._lines(piece, starts), found, strict=True)]
+
+    def _parsed(self, piece: bytes, count: int) -> list[ElementTree.Element]:
+        """The points of a piece of so many, by the parser. `ShareError` where it is not just these, or leads elsewhere: then a
         mark behind it is not found beside them."""
-        within, parent = self._around[-1]
+        parent = self._around[-1][1]
         self._parser.feed(b"%b<%b/>" % (piece, self._mark.encode()))
         deque(self._parser.read_events(), 0)
         found = list(parent)
@@ -260,19 +231,18 @@ class _Document:
         names = {local(it.tag) for it in found}
         between = "".join([it.tail for it in found if it.tail])
         is_marked = mark is not None and local(mark.tag) == self._mark
-        if not is_marked or len(found) != len(starts) or not names.issubset(POINTS) or between.strip():
+        if not is_marked or len(found) != count or not names.issubset(POINTS) or between.strip():
             raise ShareError("a piece that is not just points")
-        track = self._of_track(within)
-        return [(line, (point, track)) for line, point in zip(self._lines(piece, starts), found, strict=True)]
+        return found
 
     def _lines(self, piece: bytes, starts: Sequence[int]) -> list[int]:
         """The lines on which points end that have nothing but blanks between them."""
-        lines = []
+        lines, end = [], 0
         for start, stop in zip(starts, [*starts[1:], len(piece)], strict=True):
-            point = piece[start:stop].rstrip(b" \t\r\n")
-            if not point.endswith((b"t>", b"/>")):
+            before, end = end, piece.rfind(b">", start, stop) + 1
+            if not piece.endswith((b"t>", b"/>"), start, end):
                 raise ShareError("a point with something behind it")
-            self.line += point.count(b"\n")
+            self.line += piece.count(b"\n", before, end)
             lines.append(self.line)
-            self.line += piece.count(b"\n", start + len(point), stop)
+        self.line += piece.count(b"\n", end)
         return lines

@@ -6,4 +6,5 @@ use Rattle.st_auth.proofs.long_labels.remember.Goals as goal
 
 pub returns-in-Ok : goal.returns-in-Ok
 returns-in-Ok g c = λ names h are.
-    of_tried names c.args.cache.now c.put-kept.new.self c.in-Ok.text c.args.verdict c.put-kept.result c.put-kept.ensures.entries c.put-kept.ensures.err (h ∙ ap (is_true (is_among names)) (sym c.in-Ok.ensures.ok)) are
+    of_tried names c.args.recent.now c.put-kept.new.self c.in-Ok.text c.args.verdict c.put-kept.result c.put-kept.ensures.entries
+    c.put-kept.ensures.err (h ∙ ap (is_true (is_among names)) (sym c.in-Ok.ensures.ok)) are

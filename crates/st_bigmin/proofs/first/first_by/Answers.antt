@@ -1,10 +1,10 @@
 use Rattle.std.proofs.Common.{ℕ, ◌+◌, ◌/◌, ◌≤◌, ◌∙◌, inl, inr, sym, subst, arith, rules}
 use Rattle.st_key.specs.Period.{seconds_of}
-use Rattle.st_box.specs.Query.{IsBoxIn}
+use Rattle.st_box.specs.inner.Bins.{IsBoxIn}
 use Rattle.st_box.specs.ZBox.{IsInside}
 use Rattle.st_box.proofs.KeyTests.{cut, cut_keys}
 use Rattle.st_box.proofs.Spans.{bins_of_key}
-use Rattle.st_bigmin.specs.Jump.{IsLeastAbove}
+use Rattle.st_bigmin.specs.inner.Jump.{IsLeastAbove}
 use Rattle.st_bigmin.proofs.FirstKeys as keys
 use Rattle.st_bigmin.proofs.first.first_by.Goals as goal
 

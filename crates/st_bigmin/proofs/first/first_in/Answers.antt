@@ -1,5 +1,5 @@
 use Rattle.std.proofs.Common.{◌≡◌, ◌∙◌, ap}
-use Rattle.st_box.specs.Corner.{address_at}
+use Rattle.st_box.specs.inner.Corners.{address_at}
 use Rattle.st_box.specs.ZBox.{first_of}
 use Rattle.st_box.proofs.Boxes.{first_inside, first_least}
 use Rattle.st_box.proofs.KeyTests.{cut, cut_keys}

@@ -1,7 +1,8 @@
 use Rattle.std.proofs.Common.{◌≡◌, ◌/◌, ◌-◌, ◌^◌, ap, sym, ◌∙◌, subst, arith, rules}
-use Rattle.st_box.specs.Corner.{IsWithin, spot_at, address_at, earlier_of}
+use Rattle.st_box.specs.Corner.{IsWithin, spot_at}
+use Rattle.st_box.specs.inner.Corners.{address_at, earlier_of}
 use Rattle.st_box.specs.ZBox.{last_of}
-use Rattle.st_bigmin.specs.Jump.{IsGreatestBelow}
+use Rattle.st_bigmin.specs.inner.Jump.{IsGreatestBelow}
 use Rattle.st_bigmin.proofs.Jumps as jumps
 use Rattle.st_box.proofs.Boxes.{cell_last}
 use Rattle.st_bigmin.proofs.Jumps.{meets_from, meets_to}

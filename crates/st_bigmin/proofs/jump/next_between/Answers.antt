@@ -1,7 +1,8 @@
 use Rattle.std.proofs.Common.{◌≡◌, ◌/◌, ◌+◌, ◌^◌, ap, sym, ◌∙◌, subst, arith, rules}
-use Rattle.st_box.specs.Corner.{IsWithin, spot_at, address_at, later_of}
+use Rattle.st_box.specs.Corner.{IsWithin, spot_at}
+use Rattle.st_box.specs.inner.Corners.{address_at, later_of}
 use Rattle.st_box.specs.ZBox.{first_of}
-use Rattle.st_bigmin.specs.Jump.{IsLeastAbove}
+use Rattle.st_bigmin.specs.inner.Jump.{IsLeastAbove}
 use Rattle.st_bigmin.proofs.Jumps as jumps
 use Rattle.st_box.proofs.Boxes.{cell_first}
 use Rattle.st_bigmin.proofs.Jumps.{meets_from, meets_to}

@@ -1,7 +1,8 @@
 use Rattle.std.proofs.Common.{◌≡◌, ◌*◌, ◌^◌, ap, sym, ◌∙◌, subst, arith}
-use Rattle.st_box.specs.Corner.{spot_at, address_at, later_of}
+use Rattle.st_box.specs.Corner.{spot_at}
+use Rattle.st_box.specs.inner.Corners.{address_at, later_of}
 use Rattle.st_box.specs.ZBox.{first_of}
-use Rattle.st_bigmin.specs.Run.{IsLeastInCell}
+use Rattle.st_bigmin.specs.inner.Runs.{IsLeastInCell}
 use Rattle.st_bigmin.proofs.Ends.{least_in_cell, cell_room}
 use Rattle.st_bigmin.proofs.run.first_in_cell.Goals as goal
 

@@ -1,7 +1,8 @@
 use Rattle.std.proofs.Common.{◌≡◌, ◌*◌, ◌+◌, ◌-◌, ◌^◌, ap, sym, ◌∙◌, subst, arith}
-use Rattle.st_box.specs.Corner.{spot_at, address_at, earlier_of}
+use Rattle.st_box.specs.Corner.{spot_at}
+use Rattle.st_box.specs.inner.Corners.{address_at, earlier_of}
 use Rattle.st_box.specs.ZBox.{last_of}
-use Rattle.st_bigmin.specs.Run.{IsGreatestInCell}
+use Rattle.st_bigmin.specs.inner.Runs.{IsGreatestInCell}
 use Rattle.st_bigmin.proofs.Ends.{greatest_in_cell, cell_room}
 use Rattle.st_bigmin.proofs.run.last_in_cell.Goals as goal
 

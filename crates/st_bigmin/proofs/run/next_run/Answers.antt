@@ -1,6 +1,6 @@
 use Rattle.std.proofs.Common.{◌≡◌, inl, inr, subst, arith, rules}
 use Rattle.std.proofs.lemmas.Bool.{cases_lt}
-use Rattle.st_bigmin.specs.Jump.{IsLeastAbove}
+use Rattle.st_bigmin.specs.inner.Jump.{IsLeastAbove}
 use Rattle.st_box.specs.ZBox.{IsInside}
 use Rattle.st_bigmin.proofs.Runs.{run_of}
 use Rattle.st_bigmin.proofs.run.next_run.Goals as goal

@@ -16,9 +16,8 @@ returns-in-Some-clause-ok c = λ app words parsed wanting.
 pub returns-in-None-clause-err : goal.returns-in-None-clause-err
 returns-in-None-clause-err c = λ app words parsed.
     let yes : c.wants_store.result ≡ true = search rules in
-    let found = found_of c.args.matches.now in
-    record {
-      whole = parsed.whole;
-      wants = wants app words c.args.matches.now parsed (c.wants_store.ensures.yes yes);
-      without = sym (file_is app words (codes "store") c.args.matches.now parsed) ∙ (sym c.get_str.ensures ∙ ap (option_map (λ s. s.now)) c.in-None.is);
-    }
+    let found = found_of c.args.matches.now in (
+      parsed.whole,
+      wants app words c.args.matches.now parsed (c.wants_store.ensures.yes yes),
+      sym (file_is app words (codes "store") c.args.matches.now parsed) ∙ (sym c.get_str.ensures ∙ ap (option_map (λ s. s.now)) c.in-None.is),
+    )

@@ -16,7 +16,15 @@ returns c =
     (All-cons FitsChain c.compact.result (c.names.result ∷ []) c.compact.ensures.fits
     (All-cons FitsChain c.names.result ([]) c.names.ensures.fits
     (All-nil FitsChain))))) in
-    let chain : AddsInTurn AddsArg c.named.result all c.in_ok-command.command = (c.in_ok-arg.field-0, c.in_ok-arg.ensures, (c.in_ok-arg-2.field-0, c.in_ok-arg-2.ensures, (c.in_ok-arg-3.field-0, c.in_ok-arg-3.ensures, (c.in_ok-command.command, c.in_ok-command.ensures, refl)))) in
+    let chain : AddsInTurn AddsArg c.named.result all c.in_ok-command.command = (
+      c.in_ok-arg.field-0,
+      c.in_ok-arg.ensures,
+      (
+        c.in_ok-arg-2.field-0,
+        c.in_ok-arg-2.ensures,
+        (c.in_ok-arg-3.field-0, c.in_ok-arg-3.ensures, (c.in_ok-command.command, c.in_ok-command.ensures, refl)),
+      ),
+    ) in
     let start = with_version (new_app (codes "st_run")) in
     let apart : are_distinct (ids_of all) ≡ true = ap are_distinct (ap₂ ◌∷◌ c.root.ensures.id
     (ap₂ ◌∷◌ c.store.ensures.id

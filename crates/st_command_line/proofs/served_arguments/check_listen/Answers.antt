@@ -15,8 +15,8 @@ returns-in-Some-get_str-clause-ok c = λ words parsed wanting.
     given c.get_str-2.result _ _ c.in-Some-get_str.is (c.get_str-2.ensures ∙ file_is served_command words (codes "port") c.args.matches.now parsed)
 
 pub returns-in-None-clause-err : goal.returns-in-None-clause-err
-returns-in-None-clause-err c = λ words parsed. record {
-  whole = parsed.whole;
-  wants = given c.get_str.result _ _ c.in-Some.is (c.get_str.ensures ∙ file_is served_command words (codes "listen") c.args.matches.now parsed);
-  without = sym (file_is served_command words (codes "port") c.args.matches.now parsed) ∙ (sym c.get_str-2.ensures ∙ ap (option_map (λ s. s.now)) c.in-None.is);
-}
+returns-in-None-clause-err c = λ words parsed. (
+  parsed.whole,
+  given c.get_str.result _ _ c.in-Some.is (c.get_str.ensures ∙ file_is served_command words (codes "listen") c.args.matches.now parsed),
+  sym (file_is served_command words (codes "port") c.args.matches.now parsed) ∙ (sym c.get_str-2.ensures ∙ ap (option_map (λ s. s.now)) c.in-None.is),
+)

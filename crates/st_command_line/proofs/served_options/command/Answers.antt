@@ -10,12 +10,24 @@ use Rattle.st_command_line.proofs.served_options.command.Goals as goal
 
 pub returns : goal.returns
 returns c =
-    let all = c.root.result ∷ c.port.result ∷ c.socket.result ∷ c.store.result ∷ c.compact.result ∷ c.copy.result ∷ c.copy_every.result ∷ c.connections.result ∷ c.workers.result ∷ c.timeout.result ∷ c.idle.result ∷ c.listen.result ∷ c.names.result ∷ [] in
-    let fit : All FitsChain all = (All-cons FitsChain c.root.result (c.port.result ∷ c.socket.result ∷ c.store.result ∷ c.compact.result ∷ c.copy.result ∷ c.copy_every.result ∷ c.connections.result ∷ c.workers.result ∷ c.timeout.result ∷ c.idle.result ∷ c.listen.result ∷ c.names.result ∷ []) c.root.ensures.fits
-    (All-cons FitsChain c.port.result (c.socket.result ∷ c.store.result ∷ c.compact.result ∷ c.copy.result ∷ c.copy_every.result ∷ c.connections.result ∷ c.workers.result ∷ c.timeout.result ∷ c.idle.result ∷ c.listen.result ∷ c.names.result ∷ []) c.port.ensures.fits
-    (All-cons FitsChain c.socket.result (c.store.result ∷ c.compact.result ∷ c.copy.result ∷ c.copy_every.result ∷ c.connections.result ∷ c.workers.result ∷ c.timeout.result ∷ c.idle.result ∷ c.listen.result ∷ c.names.result ∷ []) c.socket.ensures.fits
-    (All-cons FitsChain c.store.result (c.compact.result ∷ c.copy.result ∷ c.copy_every.result ∷ c.connections.result ∷ c.workers.result ∷ c.timeout.result ∷ c.idle.result ∷ c.listen.result ∷ c.names.result ∷ []) c.store.ensures.fits
-    (All-cons FitsChain c.compact.result (c.copy.result ∷ c.copy_every.result ∷ c.connections.result ∷ c.workers.result ∷ c.timeout.result ∷ c.idle.result ∷ c.listen.result ∷ c.names.result ∷ []) c.compact.ensures.fits
+    let all = c.root.result ∷ c.port.result ∷ c.socket.result ∷ c.store.result ∷ c.compact.result ∷ c.copy.result ∷ c.copy_every.result
+    ∷ c.connections.result ∷ c.workers.result ∷ c.timeout.result ∷ c.idle.result ∷ c.listen.result ∷ c.names.result ∷ [] in
+    let fit : All FitsChain all =
+    (All-cons FitsChain c.root.result
+    (c.port.result ∷ c.socket.result ∷ c.store.result ∷ c.compact.result ∷ c.copy.result ∷ c.copy_every.result ∷ c.connections.result
+    ∷ c.workers.result ∷ c.timeout.result ∷ c.idle.result ∷ c.listen.result ∷ c.names.result ∷ []) c.root.ensures.fits
+    (All-cons FitsChain c.port.result
+    (c.socket.result ∷ c.store.result ∷ c.compact.result ∷ c.copy.result ∷ c.copy_every.result ∷ c.connections.result ∷ c.workers.result
+    ∷ c.timeout.result ∷ c.idle.result ∷ c.listen.result ∷ c.names.result ∷ []) c.port.ensures.fits
+    (All-cons FitsChain c.socket.result
+    (c.store.result ∷ c.compact.result ∷ c.copy.result ∷ c.copy_every.result ∷ c.connections.result ∷ c.workers.result ∷ c.timeout.result
+    ∷ c.idle.result ∷ c.listen.result ∷ c.names.result ∷ []) c.socket.ensures.fits
+    (All-cons FitsChain c.store.result
+    (c.compact.result ∷ c.copy.result ∷ c.copy_every.result ∷ c.connections.result ∷ c.workers.result ∷ c.timeout.result ∷ c.idle.result
+    ∷ c.listen.result ∷ c.names.result ∷ []) c.store.ensures.fits
+    (All-cons FitsChain c.compact.result
+    (c.copy.result ∷ c.copy_every.result ∷ c.connections.result ∷ c.workers.result ∷ c.timeout.result ∷ c.idle.result ∷ c.listen.result
+    ∷ c.names.result ∷ []) c.compact.ensures.fits
     (All-cons FitsChain c.copy.result (c.copy_every.result ∷ c.connections.result ∷ c.workers.result ∷ c.timeout.result ∷ c.idle.result ∷ c.listen.result ∷ c.names.result ∷ []) c.copy.ensures.fits
     (All-cons FitsChain c.copy_every.result (c.connections.result ∷ c.workers.result ∷ c.timeout.result ∷ c.idle.result ∷ c.listen.result ∷ c.names.result ∷ []) c.copy_every.ensures.fits
     (All-cons FitsChain c.connections.result (c.workers.result ∷ c.timeout.result ∷ c.idle.result ∷ c.listen.result ∷ c.names.result ∷ []) c.connections.ensures.fits
@@ -25,7 +37,51 @@ returns c =
     (All-cons FitsChain c.listen.result (c.names.result ∷ []) c.listen.ensures.fits
     (All-cons FitsChain c.names.result ([]) c.names.ensures.fits
     (All-nil FitsChain)))))))))))))) in
-    let chain : AddsInTurn AddsArg c.named.result all c.in_ok-command.command = (c.in_ok-arg.field-0, c.in_ok-arg.ensures, (c.in_ok-arg-2.field-0, c.in_ok-arg-2.ensures, (c.in_ok-arg-3.field-0, c.in_ok-arg-3.ensures, (c.in_ok-arg-4.field-0, c.in_ok-arg-4.ensures, (c.in_ok-arg-5.field-0, c.in_ok-arg-5.ensures, (c.in_ok-arg-6.field-0, c.in_ok-arg-6.ensures, (c.in_ok-arg-7.field-0, c.in_ok-arg-7.ensures, (c.in_ok-arg-8.field-0, c.in_ok-arg-8.ensures, (c.in_ok-arg-9.field-0, c.in_ok-arg-9.ensures, (c.in_ok-arg-10.field-0, c.in_ok-arg-10.ensures, (c.in_ok-arg-11.field-0, c.in_ok-arg-11.ensures, (c.in_ok-arg-12.field-0, c.in_ok-arg-12.ensures, (c.in_ok-command.command, c.in_ok-command.ensures, refl))))))))))))) in
+    let chain : AddsInTurn AddsArg c.named.result all c.in_ok-command.command = (
+      c.in_ok-arg.field-0,
+      c.in_ok-arg.ensures,
+      (
+        c.in_ok-arg-2.field-0,
+        c.in_ok-arg-2.ensures,
+        (
+          c.in_ok-arg-3.field-0,
+          c.in_ok-arg-3.ensures,
+          (
+            c.in_ok-arg-4.field-0,
+            c.in_ok-arg-4.ensures,
+            (
+              c.in_ok-arg-5.field-0,
+              c.in_ok-arg-5.ensures,
+              (
+                c.in_ok-arg-6.field-0,
+                c.in_ok-arg-6.ensures,
+                (
+                  c.in_ok-arg-7.field-0,
+                  c.in_ok-arg-7.ensures,
+                  (
+                    c.in_ok-arg-8.field-0,
+                    c.in_ok-arg-8.ensures,
+                    (
+                      c.in_ok-arg-9.field-0,
+                      c.in_ok-arg-9.ensures,
+                      (
+                        c.in_ok-arg-10.field-0,
+                        c.in_ok-arg-10.ensures,
+                        (
+                          c.in_ok-arg-11.field-0,
+                          c.in_ok-arg-11.ensures,
+                          (c.in_ok-arg-12.field-0, c.in_ok-arg-12.ensures, (c.in_ok-command.command, c.in_ok-command.ensures, refl)),
+                        ),
+                      ),
+                    ),
+                  ),
+                ),
+              ),
+            ),
+          ),
+        ),
+      ),
+    ) in
     let start = with_version (new_app (codes "st_served")) in
     let apart : are_distinct (ids_of all) ≡ true = ap are_distinct (ap₂ ◌∷◌ c.root.ensures.id
     (ap₂ ◌∷◌ c.port.ensures.id

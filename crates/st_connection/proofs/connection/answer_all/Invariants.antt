@@ -1,5 +1,5 @@
 use Rattle.std.proofs.Common.{◌≡◌, ◌-◌, ◌≤◌, length, take, drop, false}
-use Rattle.st_connection.specs.Connection.{Told}
+use Rattle.st_connection.specs.Connection.{WithInterim}
 use Rattle.st_connection.proofs.Blocks.{Gathered}
 use Rattle.st_connection.proofs.connection.answer_all.Given as goal
 
@@ -8,7 +8,9 @@ invariant-items g l =
     let held = g.W.Sink.held in
     let now = g.X.Replies.now in
     record {
-      gathered : Gathered (Told g.X.Replies.answers) (length l.initial.block) false (now l.initial.answerer) (now l.answerer) (g.X.Replies.kept l.answerer) l.text (drop l.used l.text) (held l.initial.writer) (held l.writer) l.initial.written l.written (take l.held l.block);
+      gathered : Gathered (WithInterim g.X.Replies.answers) (length l.initial.block) false (now l.initial.answerer) (now l.answerer)
+          (g.X.Replies.kept l.answerer) l.text (drop l.used l.text) (held l.initial.writer) (held l.writer) l.initial.written l.written
+          (take l.held l.block);
       within : l.used ≤ length l.text;
       held_within : l.held ≤ length l.initial.block;
       room : length l.block ≡ length l.initial.block;

@@ -1,18 +1,20 @@
 use Rattle.std.proofs.Common.{rules, inl, inr, ℕ, List, Option, Err, ◌+◌, ◌-◌, ◌≤◌, take, refl, sym, ap, ◌∙◌, subst, arith}
 use Rattle.std.specs.Io.KnownBytes.{Consumes}
-use Rattle.st_connection.specs.Connection.{Told}
+use Rattle.st_connection.specs.Connection.{WithInterim}
 use borrow.Rule.Slice.PartMut.{put_mid}
 use Rattle.st_connection.proofs.Buffer.{text_after_read, text_after_move, front_length, front_at_most, front_empty, front_some, part_at_most, part_within, piece_at_most, moved_within}
-use Rattle.st_connection.proofs.Turns.{serving_start, text_short, enough, told_still, read_breaks, turns_spent, ends_clean, ends_cut, write_breaks, connection_lost, connection_closes, goes_on_serving, counted_on, some_turn}
+use Rattle.st_connection.proofs.Turns.{serving_start, text_short, enough, told_still, read_breaks, turns_spent, ends_clean, ends_cut, write_breaks}
+use Rattle.st_connection.proofs.Turns.{connection_lost, connection_closes, goes_on_serving, counted_on, some_turn}
 use Rattle.st_connection.proofs.Ahead.{said_within, waits_within}
-use Rattle.st_connection.proofs.Ending.{not_err, on_fault, on_clean, on_cut, on_closed, on_lost, on_turns, unwritten_not_lost, lost_not_unwritten, kept_fault, kept_clean, kept_cut, kept_closed, kept_turns, kept_lost}
+use Rattle.st_connection.proofs.Ending.{not_err, on_fault, on_clean, on_cut, on_closed, on_lost, on_turns, unwritten_not_lost, lost_not_unwritten}
+use Rattle.st_connection.proofs.Ending.{kept_fault, kept_clean, kept_cut, kept_closed, kept_turns, kept_lost}
 use Rattle.st_connection.proofs.connection.serve_connection.Goals as goal
 
 pub reads-init : goal.reads-init
 reads-init g c = record {
   serving = serving_start _ _ _ _;
   within = omega arith;
-  settled = c.requires.answerer_settled;
+  synced = c.requires.answerer_synced;
   answerer_sound = c.requires.answerer_sound;
   block_room = refl;
   reader_sound = c.requires.reader_sound;
@@ -31,11 +33,13 @@ returns-in_default-clause-served g c = read_breaks _ _ _ _ _ _ _ _ _ _ _ c.reads
 
 pub returns-then-filled-eq0-clause-served : goal.returns-then-filled-eq0-clause-served
 returns-then-filled-eq0-clause-served g c =
-    ends_clean _ _ _ _ _ _ _ _ _ _ _ c.reads.invariant.serving _ _ (take c.in-Ok.count c.read.new.buffer) c.in-Ok.ensures.bytes.0 (g.X.Replies.kept c.reads.answerer) _ (front_empty _ _ c.if-count-eq0.true) (front_empty _ _ c.if-filled-eq0.true)
+    ends_clean _ _ _ _ _ _ _ _ _ _ _ c.reads.invariant.serving _ _ (take c.in-Ok.count c.read.new.buffer) c.in-Ok.ensures.bytes.0
+    (g.X.Replies.kept c.reads.answerer) _ (front_empty _ _ c.if-count-eq0.true) (front_empty _ _ c.if-filled-eq0.true)
 
 pub returns-else-filled-eq0-clause-served : goal.returns-else-filled-eq0-clause-served
 returns-else-filled-eq0-clause-served g c =
-    ends_cut _ _ _ _ _ _ _ _ _ _ _ c.reads.invariant.serving _ _ (take c.in-Ok.count c.read.new.buffer) c.in-Ok.ensures.bytes.0 (g.X.Replies.kept c.reads.answerer) _ (front_empty _ _ c.if-count-eq0.true) (front_some _ _ c.reads.invariant.within c.if-filled-eq0.false)
+    ends_cut _ _ _ _ _ _ _ _ _ _ _ c.reads.invariant.serving _ _ (take c.in-Ok.count c.read.new.buffer) c.in-Ok.ensures.bytes.0
+    (g.X.Replies.kept c.reads.answerer) _ (front_empty _ _ c.if-count-eq0.true) (front_some _ _ c.reads.invariant.within c.if-filled-eq0.false)
 
 pub answer_text-requires-clause-room : goal.answer_text-requires-clause-room
 answer_text-requires-clause-room g c =
@@ -53,8 +57,8 @@ answer_text-requires-clause-expected g c =
     let t = text_after_read c.reads.buffer c.read.new.buffer c.reads.filled (c.reads.filled + 65536 - c.reads.filled) c.in-Ok.count c.reads.invariant.within c.in-Ok.ensures.room in
     told_still _ _ _ _ _ _ _ _ _ _ _ c.reads.invariant.serving 0 (take c.in-Ok.count c.read.new.buffer) _ t
 
-pub answer_text-requires-clause-settled : goal.answer_text-requires-clause-settled
-answer_text-requires-clause-settled g c = c.reads.invariant.settled
+pub answer_text-requires-clause-synced : goal.answer_text-requires-clause-synced
+answer_text-requires-clause-synced g c = c.reads.invariant.synced
 
 pub answer_text-requires-clause-sound : goal.answer_text-requires-clause-sound
 answer_text-requires-clause-sound g c = c.reads.invariant.answerer_sound
@@ -63,34 +67,47 @@ pub returns-in-Err-Unwritten-clause-served : goal.returns-in-Err-Unwritten-claus
 returns-in-Err-Unwritten-clause-served g c =
     let t = text_after_read c.reads.buffer c.read.new.buffer c.reads.filled (c.reads.filled + 65536 - c.reads.filled) c.in-Ok.count c.reads.invariant.within c.in-Ok.ensures.room in
     write_breaks _ _ _ _ _ _ _ _ _ _ _ c.reads.invariant.serving _ _ (take c.in-Ok.count c.read.new.buffer) c.in-Ok.ensures.bytes.0 _ _ t _ _ (g.X.Replies.kept c.answer_text.new.answerer) _
-    (c.in-Ok.ensures.ok ∙ c.reads.invariant.reader_sound) (rw c.reads.invariant.block_room at (rw c.in-Err-Unwritten.field-0-is at (c.in-Err-Unwritten.ensures.answered c.reads.invariant.serving.spoken.held c.reads.invariant.serving.spoken.written c.reads.invariant.serving.spoken.wrote c.reads.invariant.serving.spoken.counted)))
+    (c.in-Ok.ensures.ok ∙ c.reads.invariant.reader_sound)
+    (rw c.reads.invariant.block_room at
+    (rw c.in-Err-Unwritten.field-0-is at
+    (c.in-Err-Unwritten.ensures.answered c.reads.invariant.serving.spoken.held c.reads.invariant.serving.spoken.written
+    c.reads.invariant.serving.spoken.wrote c.reads.invariant.serving.spoken.counted)))
 
 pub returns-in-Err-Lost-clause-served : goal.returns-in-Err-Lost-clause-served
 returns-in-Err-Lost-clause-served g c =
     let t = text_after_read c.reads.buffer c.read.new.buffer c.reads.filled (c.reads.filled + 65536 - c.reads.filled) c.in-Ok.count c.reads.invariant.within c.in-Ok.ensures.room in
-    connection_lost _ _ _ _ _ _ _ _ _ _ _ c.reads.invariant.serving _ _ (take c.in-Ok.count c.read.new.buffer) c.in-Ok.ensures.bytes.0 _ _ t _ 0 (g.X.Replies.kept c.answer_text.new.answerer) _ (rw c.in-Err-Lost.field-0-is at (c.in-Err-Lost.ensures.answered c.reads.invariant.serving.spoken.held c.reads.invariant.serving.spoken.written c.reads.invariant.serving.spoken.wrote c.reads.invariant.serving.spoken.counted))
+    connection_lost _ _ _ _ _ _ _ _ _ _ _ c.reads.invariant.serving _ _ (take c.in-Ok.count c.read.new.buffer) c.in-Ok.ensures.bytes.0 _ _ t _ 0
+    (g.X.Replies.kept c.answer_text.new.answerer) _
+    (rw c.in-Err-Lost.field-0-is at
+    (c.in-Err-Lost.ensures.answered c.reads.invariant.serving.spoken.held c.reads.invariant.serving.spoken.written
+    c.reads.invariant.serving.spoken.wrote c.reads.invariant.serving.spoken.counted))
 
 pub returns-in-Ok-Closed-clause-served : goal.returns-in-Ok-Closed-clause-served
 returns-in-Ok-Closed-clause-served g c =
     let t = text_after_read c.reads.buffer c.read.new.buffer c.reads.filled (c.reads.filled + 65536 - c.reads.filled) c.in-Ok.count c.reads.invariant.within c.in-Ok.ensures.room in
     connection_closes _ _ _ _ _ _ _ _ _ _ _ c.reads.invariant.serving _ _ (take c.in-Ok.count c.read.new.buffer) c.in-Ok.ensures.bytes.0 _ _ t _ _ (g.X.Replies.kept c.answer_text.new.answerer) _
-    (rw c.in-Ok-Closed.field-0-is at (c.in-Ok-Closed.ensures.answered c.reads.invariant.serving.spoken.held c.reads.invariant.serving.spoken.written c.reads.invariant.serving.spoken.wrote c.reads.invariant.serving.spoken.counted))
+    (rw c.in-Ok-Closed.field-0-is at
+    (c.in-Ok-Closed.ensures.answered c.reads.invariant.serving.spoken.held c.reads.invariant.serving.spoken.written
+    c.reads.invariant.serving.spoken.wrote c.reads.invariant.serving.spoken.counted))
 
 pub reads-preserved : goal.reads-preserved
 reads-preserved g c =
     let t = text_after_read c.reads.buffer c.read.new.buffer c.reads.filled (c.reads.filled + 65536 - c.reads.filled) c.in-Ok.count c.reads.invariant.within c.in-Ok.ensures.room in
     let b = put_mid c.reads.filled (c.reads.filled + 65536 - c.reads.filled) c.reads.buffer c.read.new.buffer in
-    let answered = c.in-Ok-Waits.ensures.answered c.reads.invariant.serving.spoken.held c.reads.invariant.serving.spoken.written c.reads.invariant.serving.spoken.wrote c.reads.invariant.serving.spoken.counted in
-    let le = waits_within (Told g.X.Replies.answers) 0 _ _ (g.X.Replies.kept c.answer_text.new.answerer) _ _ _ _ _ (c.reads.filled + c.in-Ok.count) (front_at_most b (c.reads.filled + c.in-Ok.count))
+    let answered = c.in-Ok-Waits.ensures.answered c.reads.invariant.serving.spoken.held c.reads.invariant.serving.spoken.written
+    c.reads.invariant.serving.spoken.wrote c.reads.invariant.serving.spoken.counted in
+    let le = waits_within (WithInterim g.X.Replies.answers) 0 _ _ (g.X.Replies.kept c.answer_text.new.answerer) _ _ _ _ _
+    (c.reads.filled + c.in-Ok.count) (front_at_most b (c.reads.filled + c.in-Ok.count))
     _ c.in-Ok-Waits.used _ c.in-Ok-Waits.field-0-is answered in
     let fits = part_within c.reads.buffer c.read.new.buffer c.reads.filled (c.reads.filled + 65536 - c.reads.filled) c.in-Ok.count c.reads.invariant.within c.in-Ok.ensures.room in
     let moved = ap (take (c.reads.filled + c.in-Ok.count - c.in-Ok-Waits.used)) c.copy_within.ensures.after ∙ text_after_move b c.in-Ok-Waits.used (c.reads.filled + c.in-Ok.count) le fits in
     let given = subst (λ (l : Option (List ℕ)). Consumes (g.R.Source.left c.reads.reader) l (take c.in-Ok.count c.read.new.buffer)) (sym c.answered.ensures.bytes) c.in-Ok.ensures.bytes.0 in
     record {
-      serving = goes_on_serving _ _ _ _ _ _ _ _ _ _ _ c.reads.invariant.serving 0 _ (take c.in-Ok.count c.read.new.buffer) given _ _ t _ _ (g.X.Replies.kept c.answer_text.new.answerer) _ c.in-Ok-Waits.used _ c.in-Ok-Waits.field-0-is _ moved
+      serving = goes_on_serving _ _ _ _ _ _ _ _ _ _ _ c.reads.invariant.serving 0 _ (take c.in-Ok.count c.read.new.buffer) given _ _ t _ _
+          (g.X.Replies.kept c.answer_text.new.answerer) _ c.in-Ok-Waits.used _ c.in-Ok-Waits.field-0-is _ moved
           (piece_at_most c.reads.buffer c.read.new.buffer c.reads.filled c.in-Ok.count c.read.auto.buffer c.in-Ok.ensures.room) answered;
       within = moved_within b c.copy_within.new.self (c.reads.filled + c.in-Ok.count) c.in-Ok-Waits.used fits c.copy_within.ensures.len;
-      settled = c.in-Ok-Waits.ensures.settled (not_err _ _);
+      synced = c.in-Ok-Waits.ensures.synced (not_err _ _);
       answerer_sound = c.in-Ok-Waits.ensures.not_lost (not_err _ _);
       block_room = c.in-Ok-Waits.ensures.room_stays ∙ c.reads.invariant.block_room;
       reader_sound = c.answered.ensures.failed ∙ c.in-Ok.ensures.ok ∙ c.reads.invariant.reader_sound;
@@ -103,17 +120,17 @@ pub returns-clause-served : goal.returns-clause-served
 returns-clause-served g c = turns_spent _ _ _ _ _ _ _ _ _ _ _ c.reads.invariant.serving _ (g.X.Replies.kept c.reads.answerer) _
 
 pub returns-in_default-clause-kept : goal.returns-in_default-clause-kept
-returns-in_default-clause-kept g c = kept_fault _ _ _ _ c.reads.invariant.settled c.reads.invariant.answerer_sound
+returns-in_default-clause-kept g c = kept_fault _ _ _ _ c.reads.invariant.synced c.reads.invariant.answerer_sound
 
 pub returns-then-filled-eq0-clause-kept : goal.returns-then-filled-eq0-clause-kept
-returns-then-filled-eq0-clause-kept g c = kept_clean _ _ _ c.reads.invariant.settled c.reads.invariant.answerer_sound
+returns-then-filled-eq0-clause-kept g c = kept_clean _ _ _ c.reads.invariant.synced c.reads.invariant.answerer_sound
 
 pub returns-else-filled-eq0-clause-kept : goal.returns-else-filled-eq0-clause-kept
-returns-else-filled-eq0-clause-kept g c = kept_cut _ _ _ c.reads.invariant.settled c.reads.invariant.answerer_sound
+returns-else-filled-eq0-clause-kept g c = kept_cut _ _ _ c.reads.invariant.synced c.reads.invariant.answerer_sound
 
 pub returns-in-Err-Unwritten-clause-kept : goal.returns-in-Err-Unwritten-clause-kept
 returns-in-Err-Unwritten-clause-kept g c =
-    kept_fault _ _ _ _ (c.in-Err-Unwritten.ensures.settled (unwritten_not_lost _ c.in-Err-Unwritten.field-0-is))
+    kept_fault _ _ _ _ (c.in-Err-Unwritten.ensures.synced (unwritten_not_lost _ c.in-Err-Unwritten.field-0-is))
     (c.in-Err-Unwritten.ensures.not_lost (unwritten_not_lost _ c.in-Err-Unwritten.field-0-is))
 
 pub returns-in-Err-Lost-clause-kept : goal.returns-in-Err-Lost-clause-kept
@@ -121,10 +138,10 @@ returns-in-Err-Lost-clause-kept g c = kept_lost _ _ _ (c.in-Err-Lost.ensures.los
 
 pub returns-in-Ok-Closed-clause-kept : goal.returns-in-Ok-Closed-clause-kept
 returns-in-Ok-Closed-clause-kept g c =
-    kept_closed _ _ _ (c.in-Ok-Closed.ensures.settled (not_err _ _)) (c.in-Ok-Closed.ensures.not_lost (not_err _ _))
+    kept_closed _ _ _ (c.in-Ok-Closed.ensures.synced (not_err _ _)) (c.in-Ok-Closed.ensures.not_lost (not_err _ _))
 
 pub returns-clause-kept : goal.returns-clause-kept
-returns-clause-kept g c = kept_turns _ _ _ c.reads.invariant.settled c.reads.invariant.answerer_sound
+returns-clause-kept g c = kept_turns _ _ _ c.reads.invariant.synced c.reads.invariant.answerer_sound
 
 pub returns-in_default-clause-ends : goal.returns-in_default-clause-ends
 returns-in_default-clause-ends g c = on_fault _ _ _ (inl c.in_default.ensures.err)
@@ -170,9 +187,11 @@ slice_bounds-answer_text-end-in-reads g c =
 
 pub copy_within-requires-clause-start_le_end : goal.copy_within-requires-clause-start_le_end
 copy_within-requires-clause-start_le_end g c =
-    waits_within (Told g.X.Replies.answers) 0 _ _ (g.X.Replies.kept c.answer_text.new.answerer) _ _ _ _ _ (c.reads.filled + c.in-Ok.count)
+    waits_within (WithInterim g.X.Replies.answers) 0 _ _ (g.X.Replies.kept c.answer_text.new.answerer) _ _ _ _ _ (c.reads.filled + c.in-Ok.count)
     (front_at_most (put_mid c.reads.filled (c.reads.filled + 65536 - c.reads.filled) c.reads.buffer c.read.new.buffer) (c.reads.filled + c.in-Ok.count))
-    _ c.in-Ok-Waits.used _ c.in-Ok-Waits.field-0-is (c.in-Ok-Waits.ensures.answered c.reads.invariant.serving.spoken.held c.reads.invariant.serving.spoken.written c.reads.invariant.serving.spoken.wrote c.reads.invariant.serving.spoken.counted)
+    _ c.in-Ok-Waits.used _ c.in-Ok-Waits.field-0-is
+    (c.in-Ok-Waits.ensures.answered c.reads.invariant.serving.spoken.held c.reads.invariant.serving.spoken.written
+    c.reads.invariant.serving.spoken.wrote c.reads.invariant.serving.spoken.counted)
 
 pub copy_within-requires-clause-in_bounds : goal.copy_within-requires-clause-in_bounds
 copy_within-requires-clause-in_bounds g c =
@@ -186,6 +205,8 @@ copy_within-requires-clause-dest_in_bounds g c =
 
 pub overflow_sub-filled : goal.overflow_sub-filled
 overflow_sub-filled g c =
-    waits_within (Told g.X.Replies.answers) 0 _ _ (g.X.Replies.kept c.answer_text.new.answerer) _ _ _ _ _ (c.reads.filled + c.in-Ok.count)
+    waits_within (WithInterim g.X.Replies.answers) 0 _ _ (g.X.Replies.kept c.answer_text.new.answerer) _ _ _ _ _ (c.reads.filled + c.in-Ok.count)
     (front_at_most (put_mid c.reads.filled (c.reads.filled + 65536 - c.reads.filled) c.reads.buffer c.read.new.buffer) (c.reads.filled + c.in-Ok.count))
-    _ c.in-Ok-Waits.used _ c.in-Ok-Waits.field-0-is (c.in-Ok-Waits.ensures.answered c.reads.invariant.serving.spoken.held c.reads.invariant.serving.spoken.written c.reads.invariant.serving.spoken.wrote c.reads.invariant.serving.spoken.counted)
+    _ c.in-Ok-Waits.used _ c.in-Ok-Waits.field-0-is
+    (c.in-Ok-Waits.ensures.answered c.reads.invariant.serving.spoken.held c.reads.invariant.serving.spoken.written
+    c.reads.invariant.serving.spoken.wrote c.reads.invariant.serving.spoken.counted)

@@ -1,5 +1,5 @@
 use Rattle.std.proofs.Common.{◌≡◌, ◌+◌, ◌-◌, ◌^◌, ◌<◌, ◌≤◌, false, length, take, min}
-use Rattle.st_connection.specs.Connection.{Told}
+use Rattle.st_connection.specs.Connection.{WithInterim}
 use Rattle.st_connection.proofs.Turns.{Serving}
 use Rattle.st_connection.proofs.connection.serve_connection.Given as goal
 
@@ -9,9 +9,10 @@ invariant-reads g l =
     let held = g.W.Sink.held in
     let reads = g.R.Source.reads in
     record {
-      serving : Serving (Told g.X.Replies.answers) (g.X.Replies.now l.initial.answerer) (g.X.Replies.now l.answerer) (take l.filled l.buffer) l.told (left l.initial.reader) (left l.reader) (held l.initial.writer) (held l.writer) l.written l.turn;
+      serving : Serving (WithInterim g.X.Replies.answers) (g.X.Replies.now l.initial.answerer) (g.X.Replies.now l.answerer) (take l.filled l.buffer)
+          l.told (left l.initial.reader) (left l.reader) (held l.initial.writer) (held l.writer) l.written l.turn;
       within : l.filled ≤ length l.buffer;
-      settled : g.X.Replies.kept l.answerer ≡ g.X.Replies.now l.answerer;
+      synced : g.X.Replies.kept l.answerer ≡ g.X.Replies.now l.answerer;
       answerer_sound : g.X.Replies.has_failed l.answerer ≡ false;
       block_room : length l.block ≡ length l.initial.block;
       reader_sound : g.R.Source.has_failed l.reader ≡ false;

@@ -11,8 +11,15 @@ pub returns-then-answer-block-clause-passed : goal.returns-then-answer-block-cla
 returns-then-answer-block-clause-passed g c =
     let answer = c.args.answer.now in
     let after = c.copy_from_slice.ensures.after in
-    let front = text_after_read c.args.block.now c.copy_from_slice.new.self c.args.held.now (c.args.held.now + length answer - c.args.held.now) (length answer) c.requires.within (let n = ap length after in omega (arith, n)) in
-    inl (front ∙ ap (λ p. take c.args.held.now c.args.block.now ++ take (length answer) p) after ∙ ap (λ p. take c.args.held.now c.args.block.now ++ p) (take_all (length answer) answer (omega arith)), Appends-nil _, refl, refl)
+    let front = text_after_read c.args.block.now c.copy_from_slice.new.self c.args.held.now (c.args.held.now + length answer - c.args.held.now)
+    (length answer) c.requires.within (let n = ap length after in omega (arith, n)) in
+    inl (
+      front ∙ ap (λ p. take c.args.held.now c.args.block.now ++ take (length answer) p) after
+          ∙ ap (λ p. take c.args.held.now c.args.block.now ++ p) (take_all (length answer) answer (omega arith)),
+      Appends-nil _,
+      refl,
+      refl,
+    )
 
 pub returns-in_err-flush-clause-passed : goal.returns-in_err-flush-clause-passed
 returns-in_err-flush-clause-passed g c =
@@ -21,7 +28,7 @@ returns-in_err-flush-clause-passed g c =
 
 pub returns-in-Ok-clause-passed : goal.returns-in-Ok-clause-passed
 returns-in-Ok-clause-passed g c =
-    all_behind _ _ _ _ _ _ _ _ _ _ _ _ _ c.in_ok-flush.ensures.passed c.in-Ok.ensures.sent refl (c.in_ok-flush.ensures.settled (not_err _ _))
+    all_behind _ _ _ _ _ _ _ _ _ _ _ _ _ c.in_ok-flush.ensures.passed c.in-Ok.ensures.sent refl (c.in_ok-flush.ensures.synced (not_err _ _))
 
 pub returns-in-Err-clause-passed : goal.returns-in-Err-clause-passed
 returns-in-Err-clause-passed g c = sent_behind _ _ _ _ _ _ _ _ _ _ _ _ c.in_ok-flush.ensures.passed c.in-Err.ensures.sent

@@ -3,7 +3,7 @@ use Rattle.std.specs.List.{list_any}
 use Rattle.std.proofs.lemmas.List.{take_all}
 use Rattle.std.proofs.lemmas.List.Folds.{list_any_more}
 use Rattle.st_text.specs.Texts.{same, is_among}
-use Rattle.st_auth.specs.Order.{name_at}
+use Rattle.st_auth.specs.inner.Order.{name_at}
 use Rattle.st_auth.proofs.Search.{places_inside}
 use Rattle.st_sorted.specs.Sorted.{Rises, name_key}
 use Rattle.st_grant.proofs.Sets.{among_with, rises_with}
@@ -27,7 +27,10 @@ loop-place-preserved g c =
           ap (λ names. is_among names name) is
           ∙ among_with new held name
           ∙ ap (λ b. b || same name new) (c.loop-place.invariant.1 name)
-          ∙ ap (λ text. list_any (λ place. same name (name_at c.args.auths.now place)) (take at order) || same name text) (c.in_ok-name.ensures ∙ c.get.ensures ∙ at_any_default c.args.auths.now _ c.get.result.now [] (places_inside c.args.auths.now order c.order-order.ensures at 0 c.loop-place-test.true))
+          ∙ ap (λ text. list_any (λ place. same name (name_at c.args.auths.now place)) (take at order) || same name text)
+          (c.in_ok-name.ensures ∙ c.get.ensures
+          ∙ at_any_default c.args.auths.now _ c.get.result.now []
+          (places_inside c.args.auths.now order c.order-order.ensures at 0 c.loop-place-test.true))
           ∙ sym (list_any_more (λ place. same name (name_at c.args.auths.now place)) order at 0 c.loop-place-test.true),
     )
 

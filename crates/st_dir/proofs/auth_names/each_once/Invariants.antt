@@ -1,7 +1,7 @@
 use Rattle.std.proofs.Common.{◌≡◌, take}
 use Rattle.std.specs.List.{list_any}
 use Rattle.st_text.specs.Texts.{Text, same, is_among}
-use Rattle.st_auth.specs.Order.{name_at}
+use Rattle.st_auth.specs.inner.Order.{name_at}
 use Rattle.st_sorted.specs.Sorted.{Rises, name_key}
 use Rattle.st_dir.proofs.auth_names.each_once.Given as goal
 

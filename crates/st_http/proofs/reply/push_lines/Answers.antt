@@ -19,16 +19,34 @@ pub returns-in_err-push_challenge-clause-grows : goal.returns-in_err-push_challe
 returns-in_err-push_challenge-clause-grows g c = grows_on _ _ _ (grows_on _ _ _ c.push_status_line.ensures.grows c.push_allow.ensures.grows) c.push_challenge.ensures.grows
 
 pub returns-in_err-extend_from_slice-clause-grows : goal.returns-in_err-extend_from_slice-clause-grows
-returns-in_err-extend_from_slice-clause-grows g c = grows_on _ _ _ (grows_on _ _ _ (grows_on _ _ _ c.push_status_line.ensures.grows c.push_allow.ensures.grows) c.push_challenge.ensures.grows) (stays _ _ c.in_err-extend_from_slice.ensures.items)
+returns-in_err-extend_from_slice-clause-grows g c =
+    grows_on _ _ _ (grows_on _ _ _ (grows_on _ _ _ c.push_status_line.ensures.grows c.push_allow.ensures.grows) c.push_challenge.ensures.grows)
+    (stays _ _ c.in_err-extend_from_slice.ensures.items)
 
 pub returns-in_err-push_length-clause-grows : goal.returns-in_err-push_length-clause-grows
-returns-in_err-push_length-clause-grows g c = grows_on _ _ _ (grows_on _ _ _ (grows_on _ _ _ (grows_on _ _ _ c.push_status_line.ensures.grows c.push_allow.ensures.grows) c.push_challenge.ensures.grows) (grows_by _ _ _ c.in_ok-extend_from_slice.ensures.items)) c.push_length.ensures.grows
+returns-in_err-push_length-clause-grows g c =
+    grows_on _ _ _ (grows_on _ _ _
+    (grows_on _ _ _ (grows_on _ _ _ c.push_status_line.ensures.grows c.push_allow.ensures.grows) c.push_challenge.ensures.grows)
+    (grows_by _ _ _ c.in_ok-extend_from_slice.ensures.items)) c.push_length.ensures.grows
 
 pub returns-in_err-push_close-clause-grows : goal.returns-in_err-push_close-clause-grows
-returns-in_err-push_close-clause-grows g c = grows_on _ _ _ (grows_on _ _ _ (grows_on _ _ _ (grows_on _ _ _ (grows_on _ _ _ c.push_status_line.ensures.grows c.push_allow.ensures.grows) c.push_challenge.ensures.grows) (grows_by _ _ _ c.in_ok-extend_from_slice.ensures.items)) c.push_length.ensures.grows) c.push_close.ensures.grows
+returns-in_err-push_close-clause-grows g c =
+    grows_on _ _ _ (grows_on _ _ _
+    (grows_on _ _ _ (grows_on _ _ _ (grows_on _ _ _ c.push_status_line.ensures.grows c.push_allow.ensures.grows) c.push_challenge.ensures.grows)
+    (grows_by _ _ _ c.in_ok-extend_from_slice.ensures.items)) c.push_length.ensures.grows) c.push_close.ensures.grows
 
 pub returns-in_err-extend_from_slice-2-clause-grows : goal.returns-in_err-extend_from_slice-2-clause-grows
-returns-in_err-extend_from_slice-2-clause-grows g c = grows_on _ _ _ (grows_on _ _ _ (grows_on _ _ _ (grows_on _ _ _ (grows_on _ _ _ (grows_on _ _ _ c.push_status_line.ensures.grows c.push_allow.ensures.grows) c.push_challenge.ensures.grows) (grows_by _ _ _ c.in_ok-extend_from_slice.ensures.items)) c.push_length.ensures.grows) c.push_close.ensures.grows) (stays _ _ c.in_err-extend_from_slice-2.ensures.items)
+returns-in_err-extend_from_slice-2-clause-grows g c =
+    grows_on _ _ _ (grows_on _ _ _
+    (grows_on _ _ _ (grows_on _ _ _
+    (grows_on _ _ _ (grows_on _ _ _ c.push_status_line.ensures.grows c.push_allow.ensures.grows) c.push_challenge.ensures.grows)
+    (grows_by _ _ _ c.in_ok-extend_from_slice.ensures.items)) c.push_length.ensures.grows) c.push_close.ensures.grows)
+    (stays _ _ c.in_err-extend_from_slice-2.ensures.items)
 
 pub returns-clause-grows : goal.returns-clause-grows
-returns-clause-grows g c = grows_on _ _ _ (grows_on _ _ _ (grows_on _ _ _ (grows_on _ _ _ (grows_on _ _ _ (grows_on _ _ _ c.push_status_line.ensures.grows c.push_allow.ensures.grows) c.push_challenge.ensures.grows) (grows_by _ _ _ c.in_ok-extend_from_slice.ensures.items)) c.push_length.ensures.grows) c.push_close.ensures.grows) (grows_by _ _ _ c.in_ok-extend_from_slice-2.ensures.items)
+returns-clause-grows g c =
+    grows_on _ _ _ (grows_on _ _ _
+    (grows_on _ _ _ (grows_on _ _ _
+    (grows_on _ _ _ (grows_on _ _ _ c.push_status_line.ensures.grows c.push_allow.ensures.grows) c.push_challenge.ensures.grows)
+    (grows_by _ _ _ c.in_ok-extend_from_slice.ensures.items)) c.push_length.ensures.grows) c.push_close.ensures.grows)
+    (grows_by _ _ _ c.in_ok-extend_from_slice-2.ensures.items)

@@ -1,6 +1,6 @@
 use Rattle.std.proofs.Common.{◌≡◌, take}
 use Rattle.std.specs.List.{sum_by}
-use Rattle.st_index.specs.Counting.{count_of}
+use Rattle.st_index.specs.inner.Counting.{count_of}
 use Rattle.st_index.specs.Rows.{EntryValue}
 use Rattle.st_index.proofs.counting.count.Given as goal
 

@@ -2,7 +2,7 @@ use Rattle.std.proofs.Common.{◌≡◌, ◌+◌, ◌<◌, [], ◌∷◌, length
 use Rattle.std.proofs.lemmas.List.Sums.{count_by-le-length, sum_by-take-le}
 use Rattle.st_index.specs.declared.row.Row.{Row}
 use Rattle.st_index.specs.RowViews.{row_of_view}
-use Rattle.st_index.specs.Counting.{count_of, is_counted}
+use Rattle.st_index.specs.inner.Counting.{count_of, is_counted}
 use Rattle.st_index.proofs.Sums.{sum_all, sum_one_more}
 use Rattle.st_index.proofs.counting.count_rows.Goals as goal
 
@@ -15,7 +15,9 @@ overflow_add-count g c =
     let f = λ (r : Row g.row.A.Denot). cond (is_counted q judges r) 1 0 in
     let below : c.loop-row.row-index < length rows = omega arith in
     let counted : c.count_row-count.result ≡ count_of q (g.J.Judge.judges c.loop-row.judge) (row_of_view c.of.result ∷ []) = c.count_row-count.ensures.count in
-    let here : c.count_row-count.result ≡ count_of q judges (row ∷ []) = counted ∙ ap (λ r. count_of q (g.J.Judge.judges c.loop-row.judge) (r ∷ [])) c.of.ensures ∙ ap (λ j. count_of q j (row ∷ [])) c.loop-row.invariant.same in
+    let here : c.count_row-count.result ≡ count_of q judges (row ∷ []) = counted
+    ∙ ap (λ r. count_of q (g.J.Judge.judges c.loop-row.judge) (r ∷ [])) c.of.ensures
+    ∙ ap (λ j. count_of q j (row ∷ [])) c.loop-row.invariant.same in
     let more = sum_one_more f rows c.loop-row.row-index row below c.row-item.is in
     let most = sum_by-take-le f rows (c.loop-row.row-index + 1) in
     let fits = count_by-le-length (is_counted q judges) rows in
@@ -30,7 +32,9 @@ loop-row-preserved g c =
     let f = λ (r : Row g.row.A.Denot). cond (is_counted q judges r) 1 0 in
     let below : c.loop-row.row-index < length rows = omega arith in
     let counted : c.count_row-count.result ≡ count_of q (g.J.Judge.judges c.loop-row.judge) (row_of_view c.of.result ∷ []) = c.count_row-count.ensures.count in
-    let here : c.count_row-count.result ≡ count_of q judges (row ∷ []) = counted ∙ ap (λ r. count_of q (g.J.Judge.judges c.loop-row.judge) (r ∷ [])) c.of.ensures ∙ ap (λ j. count_of q j (row ∷ [])) c.loop-row.invariant.same in
+    let here : c.count_row-count.result ≡ count_of q judges (row ∷ []) = counted
+    ∙ ap (λ r. count_of q (g.J.Judge.judges c.loop-row.judge) (r ∷ [])) c.of.ensures
+    ∙ ap (λ j. count_of q j (row ∷ [])) c.loop-row.invariant.same in
     let more = sum_one_more f rows c.loop-row.row-index row below c.row-item.is in
     record {
       count = omega (arith, here, more, c.loop-row.invariant.count);

@@ -1,5 +1,5 @@
 use Rattle.std.proofs.Common.{◌≡◌, take}
-use Rattle.st_index.specs.Counting.{count_of}
+use Rattle.st_index.specs.inner.Counting.{count_of}
 use Rattle.st_index.proofs.counting.count_rows.Given as goal
 
 abbrev pub invariant-loop-row : goal.invariant-loop-row

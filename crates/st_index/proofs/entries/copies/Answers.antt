@@ -10,6 +10,7 @@ loop-entry-preserved g c =
     let wide = c.in_ok-push.ensures.capacity in
     let room = c.loop-entry.invariant.room in
     record {
-      items = one_copied es c.loop-entry.copies.items c.push.new.self.items i c.entry-item.result c.in_ok-copy.field-0 below c.entry-item.is c.in_ok-copy.ensures c.loop-entry.invariant.items c.in_ok-push.ensures.items;
+      items = one_copied es c.loop-entry.copies.items c.push.new.self.items i c.entry-item.result c.in_ok-copy.field-0 below c.entry-item.is
+          c.in_ok-copy.ensures c.loop-entry.invariant.items c.in_ok-push.ensures.items;
       room = omega (arith, wide, room);
     }

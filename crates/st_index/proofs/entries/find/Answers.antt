@@ -8,7 +8,11 @@ at_most : (m n : ℕ) → m < n → m ≤ n
 at_most m n lt = omega (arith, lt)
 
 pub returns-in_default-clause-place : goal.returns-in_default-clause-place
-returns-in_default-clause-place g c rises = (λ k d _ lt. all_less (λ (e : EntryValue g.row.A.Denot). e.at) (rank c.args.key) c.args.entries.now (sym c.first_from.ensures ∙ c.in_default.is) k d lt, λ k d le lt. absurd (omega (arith, le, lt)))
+returns-in_default-clause-place g c rises = (
+  λ k d _ lt. all_less (λ (e : EntryValue g.row.A.Denot). e.at) (rank c.args.key) c.args.entries.now (sym c.first_from.ensures ∙ c.in_default.is) k
+      d lt,
+  λ k d le lt. absurd (omega (arith, le, lt)),
+)
 
 pub bounds-entries-place : goal.bounds-entries-place
 bounds-entries-place g c = inside (λ (e : EntryValue g.row.A.Denot). e.at) (rank c.args.key) c.args.entries.now c.in-Some.place (sym c.first_from.ensures ∙ c.in-Some.is)

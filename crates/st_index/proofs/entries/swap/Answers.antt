@@ -1,7 +1,7 @@
 use Rattle.std.proofs.Common.{◌≡◌, refl, set, subst, sym, ap, ◌∙◌}
 use Rattle.std.proofs.lemmas.List.{set-get_or}
 use Rattle.st_index.specs.Rows.{name_of, rank_of, EntryValue, Rises, rows_of}
-use Rattle.st_index.specs.Index.{IsAbsent}
+use Rattle.st_index.specs.inner.Index.{IsAbsent}
 use Rattle.st_index.proofs.Names.{nat_equal}
 use Rattle.st_index.proofs.Taking.{missing_absent, absent_around, swapped_inside, swapped_placed, swapped_entry, changed_rising, around}
 use Rattle.st_index.proofs.entries.swap.Goals as goal

@@ -4,7 +4,7 @@ use Rattle.std.proofs.lemmas.Bool.{eqb-true, eqb-false}
 use Rattle.std.specs.List.{remove}
 use Rattle.st_key.specs.Key.{rank}
 use Rattle.st_index.specs.Rows.{EntryValue, Rises, rows_of}
-use Rattle.st_index.specs.Index.{IsAbsent}
+use Rattle.st_index.specs.inner.Index.{IsAbsent}
 use Rattle.st_index.proofs.Names.{nat_equal}
 use Rattle.st_index.proofs.Taking.{missing_absent, absent_around, taken_adds, emptied, emptied_rows, emptied_rising, changed_rising, taken_entry, taken_placed, around}
 use Rattle.st_index.proofs.entries.take.Goals as goal

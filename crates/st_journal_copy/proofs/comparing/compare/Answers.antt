@@ -1,6 +1,6 @@
-use Rattle.std.proofs.Common.{◌≡◌, ◌+◌, ◌∙◌, List, drop, rules, arith, ap, subst, sym, take}
+use Rattle.std.proofs.Common.{◌≡◌, ◌∙◌, List, drop, rules, arith, ap, take}
 use Rattle.st_journal.specs.declared.record.Record.{Record}
-use Rattle.st_journal_copy.proofs.Pieces.{compared_all, compared_more, compared_none, compared_stays}
+use Rattle.st_journal_copy.proofs.Pieces.{compared_all, compared_more, compared_stays}
 use Rattle.st_journal_copy.proofs.comparing.compare.Goals as goal
 
 pub returns-in_err-some-clause-crash : goal.returns-in_err-some-clause-crash
@@ -12,17 +12,17 @@ returns-in_err-some-clause-crash g c clean left leaves =
 pub returns-clause-given : goal.returns-clause-given
 returns-clause-given g c clean counted =
     let j = g.J.Journal in
-    compared_all (g.S.Source.gives c.pieces.source) (j.list c.args.copy.now) c.pieces.at (c.pieces.invariant.has clean)
+    compared_all (g.S.RecordSource.gives c.pieces.source) (j.list c.args.copy.now) c.pieces.at (c.pieces.invariant.has clean)
     (omega (arith, c.pieces.invariant.low, c.pieces-test.false, counted))
 
 pub returns-clause-crash : goal.returns-clause-crash
 returns-clause-crash g c clean left leaves =
-    g.met.J.Journal.settled c.pieces.copy left clean c.pieces.invariant.ready leaves ∙ c.pieces.invariant.same clean
+    g.met.J.Journal.leaves_list c.pieces.copy left clean c.pieces.invariant.ready leaves ∙ c.pieces.invariant.same clean
 
 pub pieces-preserved : goal.pieces-preserved
 pieces-preserved g c =
     let j = g.J.Journal in
-    let s = g.S.Source in
+    let s = g.S.RecordSource in
     let was : j.misreads c.compare_some.new.copy ≡ 0 → j.misreads c.pieces.copy ≡ 0 = λ clean.
     omega (arith, clean, c.compare_some.ensures.misreads) in
     record {

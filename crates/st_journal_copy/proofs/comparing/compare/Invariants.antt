@@ -9,7 +9,7 @@ decreases-pieces g l = l.count - l.at
 abbrev pub invariant-pieces : goal.invariant-pieces
 invariant-pieces g l =
     let j = g.J.Journal in
-    let s = g.S.Source in
+    let s = g.S.RecordSource in
     record {
       low : l.at ≤ l.count;
       ready : j.is_ready l.copy;

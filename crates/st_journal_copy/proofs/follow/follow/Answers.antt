@@ -7,24 +7,24 @@ returns-in_err-some-clause-crash g c clean counted left leaves =
     let j = g.J.Journal in
     let was : j.misreads c.pieces.copy ≡ 0 = omega (arith, clean, c.append_some.ensures.misreads) in
     let had = c.pieces.invariant.has was counted in
-    left_goes (g.S.Source.gives c.append_some.new.source) (j.list c.args.copy.now) (j.list c.pieces.copy) left c.pieces.now _
-    (goes_stays (g.S.Source.gives c.pieces.source) (g.S.Source.gives c.append_some.new.source) c.append_some.ensures.stays _ _ had.0) had.1 (c.append_some.ensures.crash clean left leaves)
+    left_goes (g.S.RecordSource.gives c.append_some.new.source) (j.list c.args.copy.now) (j.list c.pieces.copy) left c.pieces.now _
+    (goes_stays (g.S.RecordSource.gives c.pieces.source) (g.S.RecordSource.gives c.append_some.new.source) c.append_some.ensures.stays _ _ had.0) had.1 (c.append_some.ensures.crash clean left leaves)
 
 pub returns-in_default-clause-crash : goal.returns-in_default-clause-crash
 returns-in_default-clause-crash g c clean counted left leaves =
     let j = g.J.Journal in
     let was : j.misreads c.pieces.copy ≡ 0 = omega (arith, clean, c.append_some.ensures.misreads) in
     let had = c.pieces.invariant.has was counted in
-    left_goes (g.S.Source.gives c.append_some.new.source) (j.list c.args.copy.now) (j.list c.pieces.copy) left c.pieces.now _
-    (goes_stays (g.S.Source.gives c.pieces.source) (g.S.Source.gives c.append_some.new.source) c.append_some.ensures.stays _ _ had.0) had.1 (c.append_some.ensures.crash clean left leaves)
+    left_goes (g.S.RecordSource.gives c.append_some.new.source) (j.list c.args.copy.now) (j.list c.pieces.copy) left c.pieces.now _
+    (goes_stays (g.S.RecordSource.gives c.pieces.source) (g.S.RecordSource.gives c.append_some.new.source) c.append_some.ensures.stays _ _ had.0) had.1 (c.append_some.ensures.crash clean left leaves)
 
 pub returns-then-some-clause-crash : goal.returns-then-some-clause-crash
 returns-then-some-clause-crash g c clean counted left leaves =
     let j = g.J.Journal in
     let was : j.misreads c.pieces.copy ≡ 0 = omega (arith, clean, c.append_some.ensures.misreads) in
     let had = c.pieces.invariant.has was counted in
-    left_goes (g.S.Source.gives c.append_some.new.source) (j.list c.args.copy.now) (j.list c.pieces.copy) left c.pieces.now _
-    (goes_stays (g.S.Source.gives c.pieces.source) (g.S.Source.gives c.append_some.new.source) c.append_some.ensures.stays _ _ had.0) had.1 (c.append_some.ensures.crash clean left leaves)
+    left_goes (g.S.RecordSource.gives c.append_some.new.source) (j.list c.args.copy.now) (j.list c.pieces.copy) left c.pieces.now _
+    (goes_stays (g.S.RecordSource.gives c.pieces.source) (g.S.RecordSource.gives c.append_some.new.source) c.append_some.ensures.stays _ _ had.0) had.1 (c.append_some.ensures.crash clean left leaves)
 
 pub returns-then-some-clause-goes_on : goal.returns-then-some-clause-goes_on
 returns-then-some-clause-goes_on g c clean counted =
@@ -33,8 +33,8 @@ returns-then-some-clause-goes_on g c clean counted =
     let had = c.pieces.invariant.has was counted in
     let appended = c.in_ok-some.ensures.appended in
     let total : c.in-Some.sum ≡ c.pieces.now + c.in_ok-some.some = search rules in
-    grown (g.S.Source.gives c.append_some.new.source) (j.list c.args.copy.now) (j.list c.pieces.copy) (j.list c.append_some.new.copy) appended.0 c.pieces.now c.in_ok-some.some c.in-Some.sum _
-    (goes_stays (g.S.Source.gives c.pieces.source) (g.S.Source.gives c.append_some.new.source) c.append_some.ensures.stays _ _ had.0) had.1 appended.1 appended.2 (appended.3 clean) total
+    grown (g.S.RecordSource.gives c.append_some.new.source) (j.list c.args.copy.now) (j.list c.pieces.copy) (j.list c.append_some.new.copy) appended.0 c.pieces.now c.in_ok-some.some c.in-Some.sum _
+    (goes_stays (g.S.RecordSource.gives c.pieces.source) (g.S.RecordSource.gives c.append_some.new.source) c.append_some.ensures.stays _ _ had.0) had.1 appended.1 appended.2 (appended.3 clean) total
 
 pub pieces-preserved : goal.pieces-preserved
 pieces-preserved g c =
@@ -47,7 +47,9 @@ pieces-preserved g c =
           let had = c.pieces.invariant.has was counted in
           let appended = c.in_ok-some.ensures.appended in
           let total : c.in-Some.sum ≡ c.pieces.now + c.in_ok-some.some = search rules in
-          grown (g.S.Source.gives c.append_some.new.source) (j.list c.args.copy.now) (j.list c.pieces.copy) (j.list c.append_some.new.copy) appended.0 c.pieces.now c.in_ok-some.some c.in-Some.sum _
-          (goes_stays (g.S.Source.gives c.pieces.source) (g.S.Source.gives c.append_some.new.source) c.append_some.ensures.stays _ _ had.0) had.1 appended.1 appended.2 (appended.3 clean) total;
+          grown (g.S.RecordSource.gives c.append_some.new.source) (j.list c.args.copy.now) (j.list c.pieces.copy) (j.list c.append_some.new.copy)
+          appended.0 c.pieces.now c.in_ok-some.some c.in-Some.sum _
+          (goes_stays (g.S.RecordSource.gives c.pieces.source) (g.S.RecordSource.gives c.append_some.new.source) c.append_some.ensures.stays _ _
+          had.0) had.1 appended.1 appended.2 (appended.3 clean) total;
       stays = λ from most piece gave. c.append_some.ensures.stays from most piece (c.pieces.invariant.stays from most piece gave);
     }

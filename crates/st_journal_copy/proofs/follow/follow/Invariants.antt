@@ -6,7 +6,7 @@ use Rattle.st_journal_copy.proofs.follow.follow.Given as goal
 abbrev pub invariant-pieces : goal.invariant-pieces
 invariant-pieces g l =
     let j = g.J.Journal in
-    let s = g.S.Source in
+    let s = g.S.RecordSource in
     record {
       ready : j.is_ready l.copy;
       misreads : j.misreads l.fn.copy ≤ j.misreads l.copy;

@@ -3,7 +3,7 @@ use Rattle.sqlite_wal.specs.Files.{seen_image}
 use Rattle.sqlite_wal.specs.Reads.{are_clean}
 use Rattle.sqlite_pool.specs.Opening.{IsBlankFile}
 use Rattle.sqlite_store.specs.FileStore.{view}
-use Rattle.st_journal_file.specs.Files.{Finds}
+use Rattle.st_journal_file.specs.inner.Finding.{Finds}
 use Rattle.st_journal_file.proofs.FileLemmas.{clean_files, seen_same, if_two}
 use Rattle.st_journal_file.proofs.files.open_store.Goals as goal
 

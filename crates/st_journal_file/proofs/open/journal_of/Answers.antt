@@ -1,7 +1,7 @@
 use Rattle.std.proofs.Common.{sym, subst}
 use Rattle.sqlite_store.specs.FileStore.{view}
 use Rattle.sqlite_store.specs.Laws.{settled_at}
-use Rattle.st_journal_rows.specs.Ready.{HasTable}
+use Rattle.st_journal_rows.specs.inner.Putting.{HasTable}
 use Rattle.st_journal_rows.proofs.CommitLemmas.{ready_table}
 use Rattle.st_journal_file.proofs.open.journal_of.Goals as goal
 

@@ -4,7 +4,7 @@ use Rattle.sqlite_trees.specs.View.{IsClean}
 use Rattle.sqlite_trees.specs.declared.store.Shape.TheVariants.{Table}
 use Rattle.st_journal_rows.specs.Table.{table_tree, records_in}
 use Rattle.st_journal_rows.specs.Openings.{AreRefused}
-use Rattle.st_journal_rows.specs.Begins.{IsAtRest}
+use Rattle.st_journal_rows.specs.OpenedTable.{IsAtRest}
 use Rattle.st_journal_rows.specs.inner.Taking.{Reads}
 use Rattle.st_journal_rows.proofs.CommitLemmas.{open_of}
 use Rattle.st_journal_rows.proofs.Reading.{resumed, begun, emptied, if_both}

@@ -6,7 +6,7 @@ use Rattle.sqlite_trees.specs.declared.store.Shape.TheVariants.{Table}
 use Rattle.sqlite_trees.specs.View.{View, IsClean, with_cursor, Advances}
 use Rattle.st_journal_rows.specs.Table.{table_tree, row_of}
 use Rattle.st_journal_rows.specs.Openings.{AreRefused}
-use Rattle.st_journal_rows.specs.inner.Telling.{TellsNoOther}
+use Rattle.st_journal_rows.specs.inner.NoOther.{IsNoOther}
 use Rattle.st_journal_rows.proofs.Reading.{starts, behind, reads, ends}
 use Rattle.st_journal_rows.proofs.Others.{refused}
 use Rattle.st_journal_rows.proofs.read.read_all.Goals as goal
@@ -92,4 +92,4 @@ returns-in_err-take-clause-err g c =
     subst (Advances mid new 0 c.next.new.row) c.in-Ok-true.field-0-test (c.in-Ok-true.ensures.ok clean) in
     let first = subst (λ r. IfErr r (AreRefused opening (change ∷ []))) is c.take.ensures.first in
     refused g.R.Replay.applies opening old mid new change c.rows.count c.args.state.now c.rows.state c.next.new.row last.0
-    (c.rows.invariant.has was) moves c.in_ok-change.ensures.ok first (λ low. subst (λ r. IfErr r TellsNoOther) is (c.take.ensures.later low)))
+    (c.rows.invariant.has was) moves c.in_ok-change.ensures.ok first (λ low. subst (λ r. IfErr r IsNoOther) is (c.take.ensures.later low)))

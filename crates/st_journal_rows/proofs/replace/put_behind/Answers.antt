@@ -2,7 +2,7 @@ use Rattle.std.proofs.Common.{◌≡◌, inl, inr, Ok, ap, sym, subst, ◌∙◌
 use Rattle.sqlite_trees.specs.View.{IsClean}
 use Rattle.st_journal.proofs.Rising.{rises_after, rises_before}
 use Rattle.st_journal_rows.specs.Table.{records_in}
-use Rattle.st_journal_rows.specs.Ready.{HasTable}
+use Rattle.st_journal_rows.specs.inner.Putting.{HasTable}
 use Rattle.st_journal_rows.proofs.ViewLemmas.{still_sound}
 use Rattle.st_journal_rows.proofs.CommitLemmas.{on_ok, on_both, on_err_both, ready_table, rolled_back}
 use Rattle.st_journal_rows.proofs.RewriteLemmas.{replaced, put_ready, put_list, put_left, put_table}

@@ -21,7 +21,8 @@ loop-change-preserved g c =
       number = omega (arith, inv.number);
       quiet = quiet_then inv.quiet c.put.ensures.quiet;
       kept = λ clean. kept_then (inv.kept (was clean)) (kept_write (c.in_ok-put.ensures.frame clean));
-      added = λ clean. adds_at (s.view c.args.store.now) mid new c.args.count c.loop-change.change-index c.args.records.now c.change-item.result c.loop-change-test.true (search rules) (inv.added (was clean)) (c.in_ok-put.ensures.frame clean) (search rules);
+      added = λ clean. adds_at (s.view c.args.store.now) mid new c.args.count c.loop-change.change-index c.args.records.now c.change-item.result
+          c.loop-change-test.true (search rules) (inv.added (was clean)) (c.in_ok-put.ensures.frame clean) (search rules);
     }
 
 pub returns-in_err-fill-clause-cause : goal.returns-in_err-fill-clause-cause

@@ -1,4 +1,4 @@
-use Rattle.st_service.proofs.Told.{replies}
+use Rattle.st_service.proofs.Replying.{replies}
 use Rattle.st_journal_store.proofs.answer.answer.Goals as goal
 
 pub returns-clause-told : goal.returns-clause-told

@@ -22,7 +22,11 @@ returns-in_err-namespace g c =
 pub returns-in_err-user : goal.returns-in_err-user
 returns-in_err-user g c =
     let p = err_from_is_err_and c.from_residual-in_err-user.result c.from_residual-in_err-user.ensures.1 in
-    given_then _ _ c.in_ok-text.text.now _ c.in_ok-text.ensures (given_then _ _ c.in_ok-permission.permission _ c.in_ok-permission.ensures (given_then _ _ c.in_ok-namespace.namespace _ c.in_ok-namespace.ensures (denied_then _ _ _ _ _ c.in_err-user.ensures p.1 p.2)))
+    given_then _ _ c.in_ok-text.text.now _ c.in_ok-text.ensures
+    (given_then _ _ c.in_ok-permission.permission _ c.in_ok-permission.ensures
+    (given_then _ _ c.in_ok-namespace.namespace _ c.in_ok-namespace.ensures (denied_then _ _ _ _ _ c.in_err-user.ensures p.1 p.2)))
 
 pub returns : goal.returns
-returns g c = given c.in_ok-text.text.now _ c.in_ok-text.ensures (given c.in_ok-permission.permission _ c.in_ok-permission.ensures (given c.in_ok-namespace.namespace _ c.in_ok-namespace.ensures (given c.in_ok-user.user _ c.in_ok-user.ensures refl)))
+returns g c = given c.in_ok-text.text.now _ c.in_ok-text.ensures
+    (given c.in_ok-permission.permission _ c.in_ok-permission.ensures
+    (given c.in_ok-namespace.namespace _ c.in_ok-namespace.ensures (given c.in_ok-user.user _ c.in_ok-user.ensures refl)))

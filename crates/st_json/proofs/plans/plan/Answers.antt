@@ -22,7 +22,11 @@ returns-in_err-query g c =
 pub returns-in_err-table : goal.returns-in_err-table
 returns-in_err-table g c =
     let p = err_from_is_err_and c.from_residual-in_err-table.result c.from_residual-in_err-table.ensures.1 in
-    given_then _ _ c.in_ok-bounds.bounds _ c.in_ok-bounds.ensures (given_then _ _ c.in_ok-budget.budget _ c.in_ok-budget.ensures (given_then _ _ c.in_ok-query.query _ c.in_ok-query.ensures (denied_then _ _ _ _ _ c.in_err-table.ensures p.1 p.2)))
+    given_then _ _ c.in_ok-bounds.bounds _ c.in_ok-bounds.ensures
+    (given_then _ _ c.in_ok-budget.budget _ c.in_ok-budget.ensures
+    (given_then _ _ c.in_ok-query.query _ c.in_ok-query.ensures (denied_then _ _ _ _ _ c.in_err-table.ensures p.1 p.2)))
 
 pub returns : goal.returns
-returns g c = given c.in_ok-bounds.bounds _ c.in_ok-bounds.ensures (given c.in_ok-budget.budget _ c.in_ok-budget.ensures (given c.in_ok-query.query _ c.in_ok-query.ensures (given c.in_ok-table.table _ c.in_ok-table.ensures refl)))
+returns g c = given c.in_ok-bounds.bounds _ c.in_ok-bounds.ensures
+    (given c.in_ok-budget.budget _ c.in_ok-budget.ensures
+    (given c.in_ok-query.query _ c.in_ok-query.ensures (given c.in_ok-table.table _ c.in_ok-table.ensures refl)))

@@ -21,15 +21,21 @@ returns-in_err-texts g c =
 pub returns-in_err-table : goal.returns-in_err-table
 returns-in_err-table g c =
     let p = err_from_is_err_and c.from_residual-in_err-table.result c.from_residual-in_err-table.ensures.1 in
-    given_then _ _ c.in_ok-id.id.now _ c.in_ok-id.ensures.value (given_then _ _ (texts_among (items_view c.in_ok-texts.texts.now)) _ c.in_ok-texts.ensures (denied_then _ _ _ _ _ c.in_err-table.ensures p.1 p.2))
+    given_then _ _ c.in_ok-id.id.now _ c.in_ok-id.ensures.value
+    (given_then _ _ (texts_among (items_view c.in_ok-texts.texts.now)) _ c.in_ok-texts.ensures
+    (denied_then _ _ _ _ _ c.in_err-table.ensures p.1 p.2))
 
 pub returns-in_err-auths : goal.returns-in_err-auths
 returns-in_err-auths g c =
     let p = err_from_is_err_and c.from_residual-in_err-auths.result c.from_residual-in_err-auths.ensures.1 in
-    given_then _ _ c.in_ok-id.id.now _ c.in_ok-id.ensures.value (given_then _ _ (texts_among (items_view c.in_ok-texts.texts.now)) _ c.in_ok-texts.ensures (given_then _ _ c.in_ok-table.table _ c.in_ok-table.ensures (denied_then _ _ _ _ _ c.in_err-auths.ensures p.1 p.2)))
+    given_then _ _ c.in_ok-id.id.now _ c.in_ok-id.ensures.value
+    (given_then _ _ (texts_among (items_view c.in_ok-texts.texts.now)) _ c.in_ok-texts.ensures
+    (given_then _ _ c.in_ok-table.table _ c.in_ok-table.ensures (denied_then _ _ _ _ _ c.in_err-auths.ensures p.1 p.2)))
 
 pub returns : goal.returns
-returns g c = given c.in_ok-id.id.now _ c.in_ok-id.ensures.value (given (texts_among (items_view c.in_ok-texts.texts.now)) _ c.in_ok-texts.ensures (given c.in_ok-table.table _ c.in_ok-table.ensures (given c.in_ok-auths.auths _ c.in_ok-auths.ensures (rw c.in_ok-owned.ensures refl))))
+returns g c = given c.in_ok-id.id.now _ c.in_ok-id.ensures.value
+    (given (texts_among (items_view c.in_ok-texts.texts.now)) _ c.in_ok-texts.ensures
+    (given c.in_ok-table.table _ c.in_ok-table.ensures (given c.in_ok-auths.auths _ c.in_ok-auths.ensures (rw c.in_ok-owned.ensures refl))))
 
 pub returns-in_err-owned : goal.returns-in_err-owned
 returns-in_err-owned g c =

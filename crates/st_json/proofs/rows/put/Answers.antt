@@ -25,20 +25,33 @@ returns-in_err-text g c =
 pub returns-in_err-note : goal.returns-in_err-note
 returns-in_err-note g c =
     let p = err_from_is_err_and c.from_residual-in_err-note.result c.from_residual-in_err-note.ensures.1 in
-    given_then _ _ c.in_ok-id.id.now _ c.in_ok-id.ensures.value (given_then _ _ c.in_ok-point.point _ c.in_ok-point.ensures (given_then _ _ c.in_ok-text.text.now _ c.in_ok-text.ensures (denied_then _ _ _ _ _ c.in_err-note.ensures.value p.1 p.2)))
+    given_then _ _ c.in_ok-id.id.now _ c.in_ok-id.ensures.value
+    (given_then _ _ c.in_ok-point.point _ c.in_ok-point.ensures
+    (given_then _ _ c.in_ok-text.text.now _ c.in_ok-text.ensures (denied_then _ _ _ _ _ c.in_err-note.ensures.value p.1 p.2)))
 
 pub returns-in_err-label : goal.returns-in_err-label
 returns-in_err-label g c =
     let p = err_from_is_err_and c.from_residual-in_err-label.result c.from_residual-in_err-label.ensures.1 in
-    given_then _ _ c.in_ok-id.id.now _ c.in_ok-id.ensures.value (given_then _ _ c.in_ok-point.point _ c.in_ok-point.ensures (given_then _ _ c.in_ok-text.text.now _ c.in_ok-text.ensures (given_then _ _ c.in_ok-note.note.now _ c.in_ok-note.ensures.value (denied_then _ _ _ _ _ c.in_err-label.ensures p.1 p.2))))
+    given_then _ _ c.in_ok-id.id.now _ c.in_ok-id.ensures.value
+    (given_then _ _ c.in_ok-point.point _ c.in_ok-point.ensures
+    (given_then _ _ c.in_ok-text.text.now _ c.in_ok-text.ensures
+    (given_then _ _ c.in_ok-note.note.now _ c.in_ok-note.ensures.value (denied_then _ _ _ _ _ c.in_err-label.ensures p.1 p.2))))
 
 pub returns-in_err-table : goal.returns-in_err-table
 returns-in_err-table g c =
     let p = err_from_is_err_and c.from_residual-in_err-table.result c.from_residual-in_err-table.ensures.1 in
-    given_then _ _ c.in_ok-id.id.now _ c.in_ok-id.ensures.value (given_then _ _ c.in_ok-point.point _ c.in_ok-point.ensures (given_then _ _ c.in_ok-text.text.now _ c.in_ok-text.ensures (given_then _ _ c.in_ok-note.note.now _ c.in_ok-note.ensures.value (given_then _ _ c.in_ok-label.label _ c.in_ok-label.ensures (denied_then _ _ _ _ _ c.in_err-table.ensures p.1 p.2)))))
+    given_then _ _ c.in_ok-id.id.now _ c.in_ok-id.ensures.value
+    (given_then _ _ c.in_ok-point.point _ c.in_ok-point.ensures
+    (given_then _ _ c.in_ok-text.text.now _ c.in_ok-text.ensures
+    (given_then _ _ c.in_ok-note.note.now _ c.in_ok-note.ensures.value
+    (given_then _ _ c.in_ok-label.label _ c.in_ok-label.ensures (denied_then _ _ _ _ _ c.in_err-table.ensures p.1 p.2)))))
 
 pub returns : goal.returns
-returns g c = given c.in_ok-id.id.now _ c.in_ok-id.ensures.value (given c.in_ok-point.point _ c.in_ok-point.ensures (given c.in_ok-text.text.now _ c.in_ok-text.ensures (given c.in_ok-note.note.now _ c.in_ok-note.ensures.value (given c.in_ok-label.label _ c.in_ok-label.ensures (given c.in_ok-table.table _ c.in_ok-table.ensures (rw c.in_ok-row.ensures refl))))))
+returns g c = given c.in_ok-id.id.now _ c.in_ok-id.ensures.value
+    (given c.in_ok-point.point _ c.in_ok-point.ensures
+    (given c.in_ok-text.text.now _ c.in_ok-text.ensures
+    (given c.in_ok-note.note.now _ c.in_ok-note.ensures.value
+    (given c.in_ok-label.label _ c.in_ok-label.ensures (given c.in_ok-table.table _ c.in_ok-table.ensures (rw c.in_ok-row.ensures refl))))))
 
 pub returns-in_err-row : goal.returns-in_err-row
 returns-in_err-row g c =

@@ -24,12 +24,21 @@ returns-in_err-texts g c =
 pub returns-in_err-user : goal.returns-in_err-user
 returns-in_err-user g c =
     let p = err_from_is_err_and c.from_residual-in_err-user.result c.from_residual-in_err-user.ensures.1 in
-    given_then _ _ c.in_ok-text.text.now _ c.in_ok-text.ensures (given_then _ _ c.in_ok-digest.digest _ c.in_ok-digest.ensures (given_then _ _ (texts_among (items_view c.in_ok-texts.texts.now)) _ c.in_ok-texts.ensures (denied_then _ _ _ _ _ c.in_err-user.ensures p.1 p.2)))
+    given_then _ _ c.in_ok-text.text.now _ c.in_ok-text.ensures
+    (given_then _ _ c.in_ok-digest.digest _ c.in_ok-digest.ensures
+    (given_then _ _ (texts_among (items_view c.in_ok-texts.texts.now)) _ c.in_ok-texts.ensures
+    (denied_then _ _ _ _ _ c.in_err-user.ensures p.1 p.2)))
 
 pub returns-in_err-auths : goal.returns-in_err-auths
 returns-in_err-auths g c =
     let p = err_from_is_err_and c.from_residual-in_err-auths.result c.from_residual-in_err-auths.ensures.1 in
-    given_then _ _ c.in_ok-text.text.now _ c.in_ok-text.ensures (given_then _ _ c.in_ok-digest.digest _ c.in_ok-digest.ensures (given_then _ _ (texts_among (items_view c.in_ok-texts.texts.now)) _ c.in_ok-texts.ensures (given_then _ _ c.in_ok-user.user _ c.in_ok-user.ensures (denied_then _ _ _ _ _ c.in_err-auths.ensures p.1 p.2))))
+    given_then _ _ c.in_ok-text.text.now _ c.in_ok-text.ensures
+    (given_then _ _ c.in_ok-digest.digest _ c.in_ok-digest.ensures
+    (given_then _ _ (texts_among (items_view c.in_ok-texts.texts.now)) _ c.in_ok-texts.ensures
+    (given_then _ _ c.in_ok-user.user _ c.in_ok-user.ensures (denied_then _ _ _ _ _ c.in_err-auths.ensures p.1 p.2))))
 
 pub returns : goal.returns
-returns g c = given c.in_ok-text.text.now _ c.in_ok-text.ensures (given c.in_ok-digest.digest _ c.in_ok-digest.ensures (given (texts_among (items_view c.in_ok-texts.texts.now)) _ c.in_ok-texts.ensures (given c.in_ok-user.user _ c.in_ok-user.ensures (given c.in_ok-auths.auths _ c.in_ok-auths.ensures refl))))
+returns g c = given c.in_ok-text.text.now _ c.in_ok-text.ensures
+    (given c.in_ok-digest.digest _ c.in_ok-digest.ensures
+    (given (texts_among (items_view c.in_ok-texts.texts.now)) _ c.in_ok-texts.ensures
+    (given c.in_ok-user.user _ c.in_ok-user.ensures (given c.in_ok-auths.auths _ c.in_ok-auths.ensures refl))))

@@ -15,7 +15,9 @@ pub returns-clause-some : goal.returns-clause-some
 returns-clause-some c =
     let v = c.args.items.now in
     one_more v _ 0 _ _ (omega arith) c.x0-item.is (search rules) (one_more v _ 1 _ _ (omega arith) c.x1-item.is (search rules) (one_more v _ 2 _ _ (omega arith) c.y0-item.is (search rules)
-    (one_more v _ 3 _ _ (omega arith) c.y1-item.is (search rules) (one_more v _ 4 _ _ (omega arith) c.t0-item.is (search rules) (one_more v _ 5 _ _ (omega arith) c.t1-item.is (search rules) (no_more v 6 (omega arith)))))))
+    (one_more v _ 3 _ _ (omega arith) c.y1-item.is (search rules)
+    (one_more v _ 4 _ _ (omega arith) c.t0-item.is (search rules)
+    (one_more v _ 5 _ _ (omega arith) c.t1-item.is (search rules) (no_more v 6 (omega arith)))))))
 
 pub returns-in_err-as_u64-clause-none : goal.returns-in_err-as_u64-clause-none
 returns-in_err-as_u64-clause-none c = not_six c.args.items.now _ 0 _ (omega arith) c.x0-item.is (search rules)

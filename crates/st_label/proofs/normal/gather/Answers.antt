@@ -12,10 +12,15 @@ loop-tree-init g c = ([], sym (append-nil _), ap (map tree_view) c.new-all.ensur
 
 pub loop-tree-preserved : goal.loop-tree-preserved
 loop-tree-preserved g c =
-    let i = c.loop-tree.invariant in
-    (tree_view c.in-Some.tree ∷ i.0, one_popped c.args.trees.items c.loop-tree.trees.items c.pop.new.self.items c.in-Some.tree i.0 i.1 c.in-Some.ensures.items, c.in_ok-all.ensures ∙ ap (insert_all (parts (op_view c.args.operator) (tree_view c.in-Some.tree))) i.2)
+    let i = c.loop-tree.invariant in (
+      tree_view c.in-Some.tree ∷ i.0,
+      one_popped c.args.trees.items c.loop-tree.trees.items c.pop.new.self.items c.in-Some.tree i.0 i.1 c.in-Some.ensures.items,
+      c.in_ok-all.ensures ∙ ap (insert_all (parts (op_view c.args.operator) (tree_view c.in-Some.tree))) i.2,
+    )
 
 pub returns : goal.returns
 returns g c =
     let i = c.loop-tree.invariant in
-    i.2 ∙ ap (gathered (op_view c.args.operator)) (sym (all_popped c.args.trees.items c.loop-tree.trees.items i.0 i.1 (nothing_left c.loop-tree.trees.items (vec_len c.loop-tree.trees) (omega (arith, c.loop-tree.trees.ok.0)) c.in_default.ensures.variant.1)))
+    i.2 ∙ ap (gathered (op_view c.args.operator))
+    (sym (all_popped c.args.trees.items c.loop-tree.trees.items i.0 i.1
+    (nothing_left c.loop-tree.trees.items (vec_len c.loop-tree.trees) (omega (arith, c.loop-tree.trees.ok.0)) c.in_default.ensures.variant.1)))

@@ -17,15 +17,18 @@ returns-in-Err-TooDeep-clause-fault g c =
     (c.requires, deep_at (g.N.Names.among c.args.names.now) c.args.text.now c.loop-at.at (stage_of c.loop-at.pass) deep.2 deep.1 c.loop-at-test.true c.loop-at.invariant deep.0 deep.3)
 
 pub loop-at-preserved : goal.loop-at-preserved
-loop-at-preserved g c = further (g.N.Names.among c.args.names.now) c.args.text.now c.loop-at.at (stage_of c.loop-at.pass) (stage_of c.step.new.self) c.loop-at-test.true c.loop-at.invariant c.in-Ok.ensures
+loop-at-preserved g c = further (g.N.Names.among c.args.names.now) c.args.text.now c.loop-at.at (stage_of c.loop-at.pass) (stage_of c.step.new.self)
+    c.loop-at-test.true c.loop-at.invariant c.in-Ok.ensures
 
 pub returns-in-Some-clause-label : goal.returns-in-Some-clause-label
 returns-in-Some-clause-label g c =
-    let whole = ends_well (g.N.Names.among c.args.names.now) c.args.text.now c.loop-at.at (stage_of c.loop-at.pass) c.in-Some.truth c.requires c.loop-at-test.false c.loop-at.invariant (sym c.finish.ensures ∙ c.in-Some.is) in whole.0
+    let whole = ends_well (g.N.Names.among c.args.names.now) c.args.text.now c.loop-at.at (stage_of c.loop-at.pass) c.in-Some.truth c.requires
+    c.loop-at-test.false c.loop-at.invariant (sym c.finish.ensures ∙ c.in-Some.is) in whole.0
 
 pub returns-in-Some-clause-truth : goal.returns-in-Some-clause-truth
 returns-in-Some-clause-truth g c =
-    let whole = ends_well (g.N.Names.among c.args.names.now) c.args.text.now c.loop-at.at (stage_of c.loop-at.pass) c.in-Some.truth c.requires c.loop-at-test.false c.loop-at.invariant (sym c.finish.ensures ∙ c.in-Some.is) in whole.1
+    let whole = ends_well (g.N.Names.among c.args.names.now) c.args.text.now c.loop-at.at (stage_of c.loop-at.pass) c.in-Some.truth c.requires
+    c.loop-at-test.false c.loop-at.invariant (sym c.finish.ensures ∙ c.in-Some.is) in whole.1
 
 pub returns-in-None-clause-fault : goal.returns-in-None-clause-fault
 returns-in-None-clause-fault g c =

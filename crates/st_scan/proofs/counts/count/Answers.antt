@@ -3,7 +3,7 @@ use Rattle.std.proofs.lemmas.List.Elements.{All-cons, All-nil}
 use Rattle.std.proofs.lemmas.List.Sums.{length-filter}
 use Rattle.st_label.specs.Reading.{is_true}
 use Rattle.st_text.specs.Texts.{is_among}
-use Rattle.st_index.specs.Counting.{count_of}
+use Rattle.st_index.specs.inner.Counting.{count_of}
 use Rattle.st_scan.specs.Visible.{is_visible_inside}
 use Rattle.st_scan.proofs.Counting.{one_field}
 use Rattle.st_scan.proofs.counts.count.Goals as goal

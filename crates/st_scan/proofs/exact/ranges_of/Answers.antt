@@ -15,6 +15,7 @@ loop-part-preserved g c k held =
     elim (any_last (has_exact k) c.loop-part.parts.items _ one) [
       | inl before ↦ c.loop-part.invariant k before
       | inr last ↦
-          any_at (λ y. nat_le y.bin_lo k.bin && nat_le k.bin y.bin_hi && list_any (is_exact_in k.address) y.ranges) plan i x l (subst (λ xs. x ≡ get_or xs i x) c.parts-part-items.ensures c.part-item.is)
+          any_at (λ y. nat_le y.bin_lo k.bin && nat_le k.bin y.bin_hi && list_any (is_exact_in k.address) y.ranges) plan i x l
+          (subst (λ xs. x ≡ get_or xs i x) c.parts-part-items.ensures c.part-item.is)
           (subst (λ rs. (nat_le x.bin_lo k.bin && nat_le k.bin x.bin_hi && list_any (is_exact_in k.address) rs) ≡ true) c.as_slice.ensures last)
     ]

@@ -2,10 +2,10 @@ use Rattle.std.proofs.Common.{◌+◌, ◌<◌, ◌≤◌, refl, sym, subst, ◌
 use Rattle.st_key.specs.declared.key.Key.{Key}
 use Rattle.st_key.specs.Key.{IsBefore, rank}
 use Rattle.st_key.specs.Period.{bins_of}
-use Rattle.st_bigmin.specs.First.{IsFirstFrom}
+use Rattle.st_bigmin.specs.inner.First.{IsFirstFrom}
 use Rattle.st_box.specs.Query.{HasKey}
-use Rattle.st_index.specs.Fields.{Counts}
-use Rattle.st_index.specs.Index.{rows_between}
+use Rattle.st_index.specs.inner.Fields.{Counts}
+use Rattle.st_index.specs.inner.Index.{rows_between}
 use Rattle.st_scan.specs.inner.Steps.{rank_or_end}
 use Rattle.st_scan.proofs.Counting.{CountedIn, in_all, in_end, in_more, in_none}
 use Rattle.st_scan.proofs.Keys.{after_place, bin_below, from_rank, rank_before, rank_from}
@@ -13,7 +13,8 @@ use Rattle.st_scan.proofs.few.count_few.Goals as goal
 
 pub keys-init : goal.keys-init
 keys-init g c = record {
-  counted = in_none c.new-test.result.period (g.F.Fields.query c.args.fields.now) (g.J.Judge.judges c.args.judge.now) (g.F.Fields.field_of c.args.fields.now) (g.I.RowIndex.content c.args.index.now) c.args.counts.now c.requires.none;
+  counted = in_none c.new-test.result.period (g.F.Fields.query c.args.fields.now) (g.J.Judge.judges c.args.judge.now)
+      (g.F.Fields.field_of c.args.fields.now) (g.I.RowIndex.content c.args.index.now) c.args.counts.now c.requires.none;
   same = refl;
 }
 
@@ -65,7 +66,8 @@ returns-clause-counts g c = λ _.
     let field_of = g.F.Fields.field_of c.args.fields.now in
     let content = g.I.RowIndex.content c.args.index.now in
     let old = c.args.counts.now in
-    in_end period q judges field_of content old c.keys.counts (subst (λ o. CountedIn period q judges field_of content old (rank_or_end period o) c.keys.counts) c.in_default.is c.keys.invariant.counted)
+    in_end period q judges field_of content old c.keys.counts
+    (subst (λ o. CountedIn period q judges field_of content old (rank_or_end period o) c.keys.counts) c.in_default.is c.keys.invariant.counted)
 
 pub after-from-requires : goal.after-from-requires
 after-from-requires g c =

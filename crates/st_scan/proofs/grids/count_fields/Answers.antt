@@ -1,7 +1,7 @@
 use Rattle.std.proofs.Common.{◌≡◌, ℕ, refl, sym, subst}
 use Rattle.std.proofs.lemmas.List.Elements.{All-replicate}
 use Rattle.std.specs.List.{All}
-use Rattle.st_index.specs.Fields.{Counts}
+use Rattle.st_index.specs.inner.Fields.{Counts}
 use Rattle.st_scan.proofs.Counting.{same_zeros}
 use Rattle.st_scan.proofs.grids.count_fields.Goals as goal
 

@@ -4,7 +4,7 @@ use Rattle.std.proofs.lemmas.List.Elements.{All-replicate}
 use Rattle.std.specs.List.{All}
 use Rattle.st_label.specs.Reading.{is_true}
 use Rattle.st_text.specs.Texts.{is_among}
-use Rattle.st_index.specs.Fields.{Counts}
+use Rattle.st_index.specs.inner.Fields.{Counts}
 use Rattle.st_scan.specs.Grids.{field_of}
 use Rattle.st_scan.proofs.Fields.{are_grid}
 use Rattle.st_scan.proofs.grids.grid.Goals as goal
@@ -24,7 +24,8 @@ returns-clause-grid g c =
     ap (λ n. take n (counts ++ drop (length counts) held.items)) whole ∙ take-append_seam counts (drop (length counts) held.items) in
     let zeros = subst (All (λ (n : ℕ). n ≡ 0)) (sym (c.deref_mut.ensures.value ∙ c.in_ok-counts.ensures.items_if_clones_equal (λ y e. e))) (All-replicate (λ (n : ℕ). n ≡ 0) (nx * ny) 0 refl) in
     let old = c.deref_mut.result.now in
-    let found = subst₂ (λ columns lines. Counts q (λ label. is_true (is_among c.new-sight.result.verdicts) label) (field_of q columns lines) content old counts) c.new.ensures.shares c.new-2.ensures.shares c.count_fields.ensures in
+    let found = subst₂ (λ columns lines. Counts q (λ label. is_true (is_among c.new-sight.result.verdicts) label) (field_of q columns lines) content
+    old counts) c.new.ensures.shares c.new-2.ensures.shares c.count_fields.ensures in
     let by = subst (λ names. Counts q (λ label. is_true (is_among names) label) (field_of q nx ny) content old counts) c.new-sight.ensures found in
     kept ∙ are_grid q nx ny auths content old counts zeros by size
 

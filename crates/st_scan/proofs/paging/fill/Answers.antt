@@ -34,7 +34,8 @@ rows-preserved-then-ask g c =
     let put = ap (map row_of_view) c.in_ok-push.ensures.items ∙ map-append row_of_view before (c.in-Some.row ∷ []) in
     record {
       fills = subst (λ rs. Fills shown c.args.limit rs c.next.new.self.left all) (sym put)
-          (fill_push shown c.args.limit rows c.next.new.self.left all (row_of_view c.in-Some.row) fills (shown_so _ c.rows.verdicts c.args.verdicts.now _ _ c.if-is_past.ensures c.if-ask.ensures.value c.label.ensures c.rows.invariant.set)
+          (fill_push shown c.args.limit rows c.next.new.self.left all (row_of_view c.in-Some.row) fills
+          (shown_so _ c.rows.verdicts c.args.verdicts.now _ _ c.if-is_past.ensures c.if-ask.ensures.value c.label.ensures c.rows.invariant.set)
           (λ e. c.if-len-limit.false (c.len.ensures ∙ c.rows.rows.ok.0 ∙ sym (length-map before row_of_view) ∙ e)));
       set = c.ask.ensures.set ∙ c.rows.invariant.set;
     }

@@ -7,7 +7,8 @@ use Rattle.st_scan.proofs.paging.fill.Given as goal
 
 abbrev pub invariant-rows : goal.invariant-rows
 invariant-rows g l = record {
-  fills : Fills (is_shown l.period (option_copied l.after) l.initial.verdicts) l.limit (map row_of_view l.rows.items) l.walk.left (filter (is_shown l.period (option_copied l.after) l.initial.verdicts) l.initial.walk.left);
+  fills : Fills (is_shown l.period (option_copied l.after) l.initial.verdicts) l.limit (map row_of_view l.rows.items) l.walk.left
+      (filter (is_shown l.period (option_copied l.after) l.initial.verdicts) l.initial.walk.left);
   set : l.verdicts ≡ l.initial.verdicts;
 }
 

@@ -24,7 +24,8 @@ returns-in_default-open_next-clause-none g c =
 
 pub overflow_add-result : goal.overflow_add-result
 overflow_add-result g c =
-    let fits = step_fits c.args.test.now.period c.args.test.now.query (g.I.RowIndex.content c.args.index.now) (g.I.RowIndex.regions c.args.index.now) c.args.at c.in-Some.from c.in-Some-open_next.entries.now _ c.in-Some.is
+    let fits = step_fits c.args.test.now.period c.args.test.now.query (g.I.RowIndex.content c.args.index.now) (g.I.RowIndex.regions c.args.index.now)
+    c.args.at c.in-Some.from c.in-Some-open_next.entries.now _ c.in-Some.is
     c.in-Some-open_next.ensures.some c.requires.follow c.requires.at c.requires.rows c.requires.few in
     omega (arith, fits)
 
@@ -40,7 +41,8 @@ returns-clause-some g c =
     let next = rank_or_end w c.in-Some-open_next.next in
     let o = c.in-Some-open_next.ensures.some in
     record {
-      at = subst (λ xs. IsAt w q regions (rank p.start) xs entries next (p.opened + 1)) (sym c.requires.rows) (step_at w q content regions p from entries next c.in-Some.is o c.requires.follow c.requires.at c.requires.rows);
+      at = subst (λ xs. IsAt w q regions (rank p.start) xs entries next (p.opened + 1)) (sym c.requires.rows)
+          (step_at w q content regions p from entries next c.in-Some.is o c.requires.follow c.requires.at c.requires.rows);
       start = refl;
       spent = c.requires.rows;
       left =

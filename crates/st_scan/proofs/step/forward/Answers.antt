@@ -8,12 +8,14 @@ use Rattle.st_scan.proofs.step.forward.Goals as goal
 pub returns-in-Some-clause-at : goal.returns-in-Some-clause-at
 returns-in-Some-clause-at g c =
     let spent = no_items (viewed c.regions.at.rows) (eqb-true _ _ (sym c.is_empty.ensures ∙ c.regions-test.true)) in
-    entered_at c.args.test.now.period c.args.test.now.query (g.I.RowIndex.content c.args.index.now) (g.I.RowIndex.regions c.args.index.now) c.regions.at _ _ c.in-Some.ensures.some c.regions.invariant.at spent
+    entered_at c.args.test.now.period c.args.test.now.query (g.I.RowIndex.content c.args.index.now) (g.I.RowIndex.regions c.args.index.now)
+    c.regions.at _ _ c.in-Some.ensures.some c.regions.invariant.at spent
 
 pub returns-in-Some-clause-left : goal.returns-in-Some-clause-left
 returns-in-Some-clause-left g c =
     let spent = no_items (viewed c.regions.at.rows) (eqb-true _ _ (sym c.is_empty.ensures ∙ c.regions-test.true)) in
-    entered_left c.args.test.now.period c.args.test.now.query (g.I.RowIndex.content c.args.index.now) (g.I.RowIndex.regions c.args.index.now) c.regions.at _ _ c.in-Some.ensures.some c.regions.invariant.at spent
+    entered_left c.args.test.now.period c.args.test.now.query (g.I.RowIndex.content c.args.index.now) (g.I.RowIndex.regions c.args.index.now)
+    c.regions.at _ _ c.in-Some.ensures.some c.regions.invariant.at spent
     ∙ c.regions.invariant.left
 
 pub returns-in-Some-clause-over : goal.returns-in-Some-clause-over

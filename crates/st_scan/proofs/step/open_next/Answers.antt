@@ -1,7 +1,7 @@
 use Rattle.std.proofs.Common.{◌+◌, ◌<◌, sym, subst}
 use Rattle.st_key.specs.Key.{rank}
 use Rattle.st_key.specs.Period.{bins_of}
-use Rattle.st_index.specs.Index.{IsLeafAt, region}
+use Rattle.st_index.specs.inner.Index.{IsLeafAt, region}
 use Rattle.st_scan.proofs.Keys.{after_place, bin_below, from_rank, rank_before, rank_from}
 use Rattle.st_scan.proofs.Regions.{is_in}
 use Rattle.st_scan.proofs.step.open_next.Goals as goal

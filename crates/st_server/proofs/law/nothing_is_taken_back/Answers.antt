@@ -1,18 +1,16 @@
-use mathlib.Core.List.{IsPrefix}
-use Rattle.st_hall_press.proofs.Fronts.{prefix_trans}
 use Rattle.st_hall_group_commit.proofs.Batches.{again}
 use Rattle.st_hall_station.proofs.Growing.{out_kept, run_kept}
 use Rattle.st_server.proofs.Chained.{each_so}
 use Rattle.st_server.proofs.law.nothing_is_taken_back.Goals as goal
 
 pub returns-clause-each : goal.returns-clause-each
-returns-clause-each g c = λ hold stations workers kept. each_so g.H.HallName.start g.M.Commits.keeps hold kept g.C.Client.call stations workers
+returns-clause-each g c = λ start hold stations workers kept. each_so start hold kept g.C.Client.call stations workers
 
 pub returns-clause-out : goal.returns-clause-out
-returns-clause-out g c = λ start kept. run_kept start (λ seen. IsPrefix seen kept) (λ front list begins has. prefix_trans front list kept begins has)
+returns-clause-out g c = λ start kept. run_kept start kept
 
 pub returns-clause-lost : goal.returns-clause-lost
-returns-clause-lost g c = λ start kept. out_kept start (λ seen. IsPrefix seen kept) (λ front list begins has. prefix_trans front list kept begins has)
+returns-clause-lost g c = λ start kept. out_kept start kept
 
 pub returns-clause-found : goal.returns-clause-found
 returns-clause-found g c = λ first start found kept list left. again first start found kept list left

@@ -1,6 +1,6 @@
 use denote.Param.Send.{sendable, given_sync}
 use Rattle.std.proofs.Crossing.{crosses}
-use Rattle.st_command_line.specs.ServedArguments.{place_text}
+use Rattle.st_command_line.specs.ServedArguments.{address_text}
 use Rattle.st_hall.proofs.Crossing.{clerk}
 use Rattle.st_server.proofs.Widening.{narrowed}
 use Rattle.st_command_line.specs.declared.fault.Fault.TheVariants.{NoMemory, NoPlace}
@@ -13,7 +13,7 @@ serve_at-requires-sync-M g c κs within = let r = given_sync 4 g.row.R c.type_bo
 pub returns-in-Ok-clause-told : goal.returns-in-Ok-clause-told
 returns-in-Ok-clause-told g c =
     let said = c.args.said.now in
-    narrowed (place_text said.place) said.connections (g.O.Write.contents c.args.output.now) (g.O.Write.contents c.serve_at.new.output) c.serve_at.result
+    narrowed (address_text said.bind_address) said.connections (g.O.Write.contents c.args.output.now) (g.O.Write.contents c.serve_at.new.output) c.serve_at.result
     c.serve_at.ensures.failed c.serve_at.ensures.told
 
 pub returns-in-Err-NoPlace-clause-attended : goal.returns-in-Err-NoPlace-clause-attended

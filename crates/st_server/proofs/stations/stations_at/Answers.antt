@@ -1,4 +1,4 @@
-use Rattle.std.specs.Prelude.{◌≡◌, ◌+◌, ◌<◌, get_or, length, vec_items, vec_len}
+use Rattle.std.specs.Prelude.{◌≡◌, ◌+◌, get_or, length, vec_items, vec_len}
 use Rattle.std.proofs.Common.{rules, arith, below_more, sym, subst}
 use Rattle.st_server.specs.Attending.{new_station}
 use Rattle.st_server.proofs.stations.stations_at.Goals as goal

@@ -1,4 +1,3 @@
-use Rattle.std.proofs.Common.{◌≡◌}
 use Rattle.st_server_peer.specs.Meeting.{Met}
 use Rattle.st_server_workers.proofs.working.answer_at_door.Given as goal
 

@@ -8,7 +8,8 @@ returns-in-Some-clause-items g c =
     let value = c.deref.ensures.value in
     let d = c.remove.result in
     c.remove.ensures.items
-    ∙ taken_out g.W.Wanted.item_key (g.W.Wanted.test c.args.wanted.now) c.args.items.now.items c.in-Some.place d (rw value at c.in-Some.ensures.alone) (rw value at c.in-Some.ensures.some) (rw value at (c.in-Some.ensures.found d))
+    ∙ taken_out g.W.Wanted.item_key (g.W.Wanted.test c.args.wanted.now) c.args.items.now.items c.in-Some.place d (rw value at c.in-Some.ensures.alone)
+    (rw value at c.in-Some.ensures.some) (rw value at (c.in-Some.ensures.found d))
 
 pub returns-in-Some-clause-sorted : goal.returns-in-Some-clause-sorted
 returns-in-Some-clause-sorted g c =

@@ -2,7 +2,7 @@ use Rattle.std.proofs.Common.{subst, sym}
 use Rattle.std.proofs.lemmas.Result.{err_from_is_err_and}
 use Rattle.sqlite_wal.specs.Files.{image_at}
 use Rattle.st_command.specs.Opening.{IsOfStore}
-use Rattle.st_store_file.specs.Holding.{HoldStore}
+use Rattle.st_journal_file.specs.Opening.{HoldStore}
 use Rattle.st_store_file.proofs.Short.{none_before, shortened_by}
 use Rattle.st_store_file.proofs.file.shorten_file.Goals as goal
 

@@ -1,9 +1,9 @@
 use Rattle.std.specs.Borrow.{Bor}
-use Rattle.std.proofs.Common.{◌⊎◌, List, inl, inr, map, string_bytes, subst, sym}
+use Rattle.std.proofs.Common.{◌⊎◌, List, inl, inr, map, subst, sym}
 use Rattle.std.proofs.lemmas.Result.{IfErr-weaker, IfOk-weaker}
 use Rattle.st_text.specs.Texts.{Text}
 use Rattle.st_command_line.specs.Common.{RefusesWords, SaysRoot}
-use Rattle.st_command_line.specs.ServedArguments.{RefusesServedWords, SaysServed, served_command}
+use Rattle.st_command_line.specs.ServedArguments.{RefusesServedWords, served_command}
 use Rattle.st_command_line.specs.declared.fault.Fault.{Fault}
 use Rattle.st_command_line.proofs.Numbers.{widens}
 use Rattle.st_store_file.specs.Asking.{IsNotDone}
@@ -17,18 +17,20 @@ refused words fault (inr why) = inr why
 
 pub returns-clause-ok : goal.returns-clause-ok
 returns-clause-ok g c =
-    let words = map string_bytes c.args.words.now in
-    let said = c.in_ok-said.said in
-    let says : SaysServed words said = c.in_ok-said.ensures.ok in
+    let said = c.args.said.now in
+    IfOk-weaker c.shorten_asked.result _ _
+    (λ journal f words says.
     let root = subst (λ (names : List (Bor Text)). SaysRoot served_command words said.digest.now (map (λ name. name.now) names)) (sym c.as_slice.ensures.value)
     says.root in
-    IfOk-weaker c.shorten_asked.result _ _ (λ journal f. f served_command words (record { root = root; store_is = says.store_is; compacts_is = says.compacts_is; stored = says.stored })) c.shorten_asked.ensures.ok
+    f served_command words (record { root = root; store_is = says.store_is; compacts_is = says.compacts_is; stored = says.stored }))
+    c.shorten_asked.ensures.ok
 
 pub returns-clause-err : goal.returns-clause-err
 returns-clause-err g c =
-    let words = map string_bytes c.args.words.now in
-    let said = c.in_ok-said.said in
-    let says : SaysServed words said = c.in_ok-said.ensures.ok in
+    let said = c.args.said.now in
+    IfErr-weaker c.shorten_asked.result _ _
+    (λ fault f words says.
     let root = subst (λ (names : List (Bor Text)). SaysRoot served_command words said.digest.now (map (λ name. name.now) names)) (sym c.as_slice.ensures.value)
     says.root in
-    IfErr-weaker c.shorten_asked.result _ _ (λ fault f. refused words fault (f served_command words (record { root = root; store_is = says.store_is; compacts_is = says.compacts_is; stored = says.stored }))) c.shorten_asked.ensures.err
+    refused words fault (f served_command words (record { root = root; store_is = says.store_is; compacts_is = says.compacts_is; stored = says.stored })))
+    c.shorten_asked.ensures.err

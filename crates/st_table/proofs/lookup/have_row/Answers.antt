@@ -1,6 +1,6 @@
 use Rattle.std.proofs.Common.{◌≡◌, ap, subst, ◌∙◌}
 use Rattle.st_key.specs.Key.{rank}
-use Rattle.st_index.specs.Index.{IsAbsent}
+use Rattle.st_index.specs.inner.Index.{IsAbsent}
 use Rattle.st_index.specs.declared.row.Row.{Row}
 use Rattle.st_index.specs.Rows.{EntryValue, Name, name_of, rank_of, rows_of}
 use Rattle.st_index.proofs.Names.{nat_equal}

@@ -1,6 +1,6 @@
 use Rattle.std.proofs.Common.{◌≡◌, [], ap, sym, ◌∙◌}
 use Rattle.st_key.specs.Key.{rank}
-use Rattle.st_index.specs.Index.{region}
+use Rattle.st_index.specs.inner.Index.{region}
 use Rattle.st_index.specs.Rows.{EntryValue, Name}
 use Rattle.st_index.proofs.Names.{nat_equal}
 use Rattle.st_index.proofs.Taking.{missing_key}

@@ -3,7 +3,7 @@ use Rattle.std.proofs.lemmas.Map.Lookups.{exact_unsigned}
 use Rattle.std.specs.Cmp.{nat_cmp_total, tied_itself}
 use Rattle.std.specs.Ordering.{nat_cmp}
 use Rattle.st_key.specs.Key.{rank}
-use Rattle.st_index.specs.Index.{Holds}
+use Rattle.st_index.specs.inner.Index.{Holds}
 use Rattle.st_index.specs.Order.{InScanOrder}
 use Rattle.st_index.specs.declared.row.Row.{Row}
 use Rattle.st_index.specs.Rows.{name_of, rank_of}
@@ -36,7 +36,9 @@ replace-requires g c =
     let row : Row g.row.I-Alloc.Denot = g.I.Row.AsRow.value c.args.row in
     let at : IsAt period (rank c.in-Some.old) (name_of row) rows = subst (λ b. IsFound period b (name_of row) rows) c.in-Some.is c.requires.found in
     let equal : rank c.in-Some.old ≡ rank_of period row =
-    exact_unsigned (rank c.in-Some.old) (rank c.key-key.result) (sym c.compare.ensures ∙ c.in-Equal.is) ∙ (c.key-key.ensures.value ∙ ap (λ p. rank_of p c.as_row.result.now) c.period.ensures.value ∙ ap (λ (r : Row g.row.I-Alloc.Denot). rank_of period r) c.as_row.ensures) in
+    exact_unsigned (rank c.in-Some.old) (rank c.key-key.result) (sym c.compare.ensures ∙ c.in-Equal.is)
+    ∙ (c.key-key.ensures.value ∙ ap (λ p. rank_of p c.as_row.result.now) c.period.ensures.value
+    ∙ ap (λ (r : Row g.row.I-Alloc.Denot). rank_of period r) c.as_row.ensures) in
     subst (λ k. Holds period k (name_of row) rows) equal (holds period (rank c.in-Some.old) (name_of row) rows at)
 
 pub insert-requires-in_default-compare : goal.insert-requires-in_default-compare
@@ -45,7 +47,9 @@ insert-requires-in_default-compare g c =
     let rows = g.I.RowIndex.content c.args.index.now in
     let row : Row g.row.I-Alloc.Denot = g.I.Row.AsRow.value c.args.row in
     let at : IsAt period (rank c.in-Some.old) (name_of row) rows = subst (λ b. IsFound period b (name_of row) rows) c.in-Some.is c.requires.found in
-    let key : rank c.key-key.result ≡ rank_of period row = (c.key-key.ensures.value ∙ ap (λ p. rank_of p c.as_row.result.now) c.period.ensures.value ∙ ap (λ (r : Row g.row.I-Alloc.Denot). rank_of period r) c.as_row.ensures) in
+    let key : rank c.key-key.result ≡ rank_of period row =
+    (c.key-key.ensures.value ∙ ap (λ p. rank_of p c.as_row.result.now) c.period.ensures.value
+    ∙ ap (λ (r : Row g.row.I-Alloc.Denot). rank_of period r) c.as_row.ensures) in
     let apart : rank_of period row ≡ rank c.in-Some.old → ⊥ =
     λ e. c.in_default-compare.not-Equal (c.compare.ensures ∙ ap (λ n. nat_cmp n (rank c.key-key.result)) (sym e ∙ sym key) ∙ tied_itself nat_cmp_total (rank c.key-key.result)) in
     record {
@@ -72,7 +76,9 @@ returns-in_default-compare g c =
     let new = g.I.RowIndex.content c.remove.new.self in
     let row : Row g.row.I-Alloc.Denot = g.I.Row.AsRow.value c.args.row in
     let at : IsAt period (rank c.in-Some.old) (name_of row) rows = subst (λ b. IsFound period b (name_of row) rows) c.in-Some.is c.requires.found in
-    let key : rank c.key-key.result ≡ rank_of period row = (c.key-key.ensures.value ∙ ap (λ p. rank_of p c.as_row.result.now) c.period.ensures.value ∙ ap (λ (r : Row g.row.I-Alloc.Denot). rank_of period r) c.as_row.ensures) in
+    let key : rank c.key-key.result ≡ rank_of period row =
+    (c.key-key.ensures.value ∙ ap (λ p. rank_of p c.as_row.result.now) c.period.ensures.value
+    ∙ ap (λ (r : Row g.row.I-Alloc.Denot). rank_of period r) c.as_row.ensures) in
     let apart : rank_of period row ≡ rank c.in-Some.old → ⊥ =
     λ e. c.in_default-compare.not-Equal (c.compare.ensures ∙ ap (λ n. nat_cmp n (rank c.key-key.result)) (sym e ∙ sym key) ∙ tied_itself nat_cmp_total (rank c.key-key.result)) in
     let id = c.as_str.ensures.value ∙ c.of-name.ensures.id in
@@ -80,7 +86,8 @@ returns-in_default-compare g c =
     let own = ap (λ (r : Row g.row.I-Alloc.Denot). name_of r) c.as_row-in_default-compare.ensures in
     let name : record { id = c.as_str.result.now; label = c.as_str-in_default-compare.result.now } ≡ name_of row = (λ i. record { id = id i; label = label i }) ∙ own in
     record {
-      rows = put_away period (g.I.RowIndex.period_of c.insert-in_default-compare.new.self) (rank c.in-Some.old) (record { id = c.as_str.result.now; label = c.as_str-in_default-compare.result.now }) row rows mid new c.remove.result
+      rows = put_away period (g.I.RowIndex.period_of c.insert-in_default-compare.new.self) (rank c.in-Some.old)
+          (record { id = c.as_str.result.now; label = c.as_str-in_default-compare.result.now }) row rows mid new c.remove.result
           c.insert-in_default-compare.ensures.period name c.insert-in_default-compare.ensures.adds c.insert-in_default-compare.ensures.lawful.in_order at apart
           c.remove.ensures.some c.remove.ensures.placed c.remove.ensures.named c.remove.ensures.absent;
       period = c.remove.ensures.period ∙ c.insert-in_default-compare.ensures.period;

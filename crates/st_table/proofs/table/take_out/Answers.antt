@@ -1,7 +1,7 @@
 use Rattle.std.proofs.Common.{◌≡◌, ◌<◌, ◌^◌, ◌∙◌, Option, IfSome, IfNone, sym, refl, subst, arith}
 use Rattle.st_key.specs.Key.{rank}
 use Rattle.st_index.specs.declared.row.Row.{Row}
-use Rattle.st_index.specs.Index.{Adds, IsAbsent}
+use Rattle.st_index.specs.inner.Index.{Adds, IsAbsent}
 use Rattle.st_index.specs.Rows.{Name, rank_of}
 use Rattle.st_table.specs.inner.Places.{number_at, place_of}
 use Rattle.st_table.specs.Table.{is_named}
@@ -36,7 +36,8 @@ returns-then-is_some g c =
     let gone : IfSome out (λ (r : R). Adds r new rows) = subst (λ xs. IfSome out (λ (r : R). Adds r new xs)) c.keys.invariant.2 c.remove.ensures.some in
     let placed : IfSome out (λ (r : R). rank_of period r ≡ key) = subst (λ p. IfSome out (λ (r : R). rank_of p r ≡ key)) c.keys.invariant.1 c.remove.ensures.placed in
     let absent : IfNone out (IsAbsent period key name rows) =
-    subst (λ xs. IfNone out (IsAbsent period key name xs)) c.keys.invariant.2 (subst (λ p. IfNone out (IsAbsent p key name (g.I.RowIndex.content c.keys.index))) c.keys.invariant.1 c.remove.ensures.absent) in
+    subst (λ xs. IfNone out (IsAbsent period key name xs)) c.keys.invariant.2
+    (subst (λ p. IfNone out (IsAbsent p key name (g.I.RowIndex.content c.keys.index))) c.keys.invariant.1 c.remove.ensures.absent) in
     let there = was_there period key name rows new out (sym c.is_some.ensures ∙ c.if-is_some.true) gone placed c.remove.ensures.named in
     let at = found_at c.args.places.now.seed period c.args.places.now.numbers rows c.requires.tied name c.requires.once key there in
     record {
@@ -57,7 +58,8 @@ keys-preserved g c =
     let gone = was_none (g.I.RowIndex.period_of c.args.index.now) c.remove.result none c.remove.ensures.absent in
     let same = was_none (g.I.RowIndex.period_of c.args.index.now) c.remove.result none c.remove.ensures.none in
     let absent = subst (λ n. IsAbsent period n name rows) c.key_at-key.ensures
-    (subst (λ xs. IsAbsent period (rank c.key_at-key.result) name xs) c.keys.invariant.2 (subst (λ p. IsAbsent p (rank c.key_at-key.result) name (g.I.RowIndex.content c.keys.index)) c.keys.invariant.1 gone)) in (
+    (subst (λ xs. IsAbsent period (rank c.key_at-key.result) name xs) c.keys.invariant.2
+    (subst (λ p. IsAbsent p (rank c.key_at-key.result) name (g.I.RowIndex.content c.keys.index)) c.keys.invariant.1 gone)) in (
       omega (arith, below),
       c.remove.ensures.period ∙ c.keys.invariant.1,
       same ∙ c.keys.invariant.2,

@@ -1,13 +1,13 @@
 use Rattle.std.proofs.Common.{◌≡◌, List, length, get_or, refl, sym, ap, subst, ◌∙◌, arith, rules}
 use Rattle.st_index.specs.declared.row.Row.{Row}
-use Rattle.st_index.specs.Fields.{CanAdd, Counts}
+use Rattle.st_index.specs.inner.Fields.{CanAdd, Counts}
 use Rattle.st_index.specs.Rows.{rows_of}
 use Rattle.st_tally.specs.declared.spots.Spot.{Spot}
-use Rattle.st_tally.specs.inner.Marks.{Tells}
+use Rattle.st_tally.specs.inner.Marks.{IsTested}
 use Rattle.st_tally.proofs.ByMarks.{one_entry, rows_of_one}
 use Rattle.st_tally.proofs.Fielding.{marked_counts, marked_fits, marked_spot}
 use Rattle.st_tally.proofs.Placing.{read_at, there_is}
-use Rattle.st_tally.proofs.Telling.{none_in_field_at}
+use Rattle.st_tally.proofs.Tested.{none_in_field_at}
 use Rattle.st_tally.proofs.field_marked.count_at.Goals as goal
 
 abbrev first : Spot
@@ -22,7 +22,7 @@ returns-then-not-inside-clause-counts g c = λ e h.
     let numbers : length marks.numbers ≡ 32 = search rules in
     let spots : length marks.spots ≡ 32 = search rules in
     none_in_field_at q (g.J.Judge.judges c.args.judge.now) c.args.verdicts.now.marks.now.labels.items c.args.entries.now marks c.requires.marked
-    c.args.at e h (omega (arith, w, m, numbers)) (omega (arith, w, m, spots)) (subst (Tells q marks c.args.at) c.if-not-inside.true c.requires.told)
+    c.args.at e h (omega (arith, w, m, numbers)) (omega (arith, w, m, spots)) (subst (IsTested q marks c.args.at) c.if-not-inside.true c.requires.tested)
     (g.F.Fields.field_of c.args.fields.now) c.args.counts.now
 
 pub count_numbered-requires-clause-spot : goal.count_numbered-requires-clause-spot
@@ -52,9 +52,9 @@ count_numbered-requires-clause-inside g c = λ point is.
     let spots : length marks.spots ≡ 32 = search rules in
     let number = c.from-index.result in
     let spot = get_or marks.spots at first in
-    let told = c.requires.told number spot (read_at marks.numbers at 0 number (omega (arith, w, m, numbers)) c.from-index.ensures)
+    let tested = c.requires.tested number spot (read_at marks.numbers at 0 number (omega (arith, w, m, numbers)) c.from-index.ensures)
     (read_at marks.spots at first spot (omega (arith, w, m, spots)) refl) in
-    sym (told.1 (omega (arith, c.if-index-lt-MAX_NUMBERS.true)) point is) ∙ c.if-not-inside.false
+    sym (tested.1 (omega (arith, c.if-index-lt-MAX_NUMBERS.true)) point is) ∙ c.if-not-inside.false
 
 pub count_numbered-requires-clause-fits : goal.count_numbered-requires-clause-fits
 count_numbered-requires-clause-fits g c =
@@ -97,5 +97,6 @@ count-requires-clause-fits g c =
 
 pub returns-clause-counts : goal.returns-clause-counts
 returns-clause-counts g c = λ e h.
-    subst (λ (rs : List (Row g.row.A.Denot)). Counts (g.F.Fields.query c.args.fields.now) (g.J.Judge.judges c.args.judge.now) (g.F.Fields.field_of c.args.fields.now) rs c.args.counts.now c.count.new.counts)
+    subst (λ (rs : List (Row g.row.A.Denot)). Counts (g.F.Fields.query c.args.fields.now) (g.J.Judge.judges c.args.judge.now)
+    (g.F.Fields.field_of c.args.fields.now) rs c.args.counts.now c.count.new.counts)
     (ap rows_of (one_entry c.args.entries.now c.args.at e h) ∙ rows_of_one e) c.count.ensures.counts

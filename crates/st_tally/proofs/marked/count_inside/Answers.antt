@@ -1,5 +1,5 @@
 use Rattle.std.proofs.Common.{◌+◌, ◌<◌, ◌≤◌, length, subst, ◌∙◌, arith}
-use Rattle.st_index.specs.Counting.{count_of}
+use Rattle.st_index.specs.inner.Counting.{count_of}
 use Rattle.st_index.specs.Rows.{EntryValue}
 use Rattle.st_tally.specs.inner.Marks.{MakeUp}
 use Rattle.st_tally.proofs.Placing.{there_is}
@@ -19,10 +19,14 @@ overflow_add-count g c =
     let given = c.requires.marked in
     let below : at < length entries = omega (arith, c.loop-at-test.true, c.loop-at.auto.at-end) in
     let some = there_is entries at below in
-    let now = subst (λ j. MakeUp j given.0 c.tally_inside_at-count.result (count_of q j some.0.rows) c.loop-at.tally c.tally_inside_at-count.new.tally) c.loop-at.invariant.same (c.tally_inside_at-count.ensures.count given.0 some.0 given.1 some.1) in
-    let next = counted_next (λ (x : EntryValue g.row.A.Denot). x.rows) entries at q judges given.0 some.0 c.loop-at.count c.tally_inside_at-count.result c.args.tally.now c.loop-at.tally c.tally_inside_at-count.new.tally
+    let now = subst (λ j. MakeUp j given.0 c.tally_inside_at-count.result (count_of q j some.0.rows) c.loop-at.tally
+    c.tally_inside_at-count.new.tally) c.loop-at.invariant.same (c.tally_inside_at-count.ensures.count given.0 some.0 given.1 some.1) in
+    let next = counted_next (λ (x : EntryValue g.row.A.Denot). x.rows) entries at q judges given.0 some.0 c.loop-at.count
+    c.tally_inside_at-count.result c.args.tally.now c.loop-at.tally c.tally_inside_at-count.new.tally
     below some.1.1 (c.loop-at.invariant.count given.0 given.1) now in
-    let fits = counted_fits (λ (x : EntryValue g.row.A.Denot). x.rows) entries (at + 1) q judges given.0 (c.loop-at.count + c.tally_inside_at-count.result) 18446744073709551616 c.args.tally.now c.tally_inside_at-count.new.tally next c.requires.fits in
+    let fits = counted_fits (λ (x : EntryValue g.row.A.Denot). x.rows) entries (at + 1) q judges given.0
+    (c.loop-at.count + c.tally_inside_at-count.result) 18446744073709551616 c.args.tally.now c.tally_inside_at-count.new.tally next
+    c.requires.fits in
     omega (arith, fits)
 
 pub loop-at-preserved : goal.loop-at-preserved
@@ -35,8 +39,10 @@ loop-at-preserved g c =
     let some = there_is entries at below in
     record {
       count = λ labels are.
-          let now = subst (λ j. MakeUp j labels c.tally_inside_at-count.result (count_of q j some.0.rows) c.loop-at.tally c.tally_inside_at-count.new.tally) c.loop-at.invariant.same (c.tally_inside_at-count.ensures.count labels some.0 are some.1) in
-          counted_next (λ (x : EntryValue g.row.A.Denot). x.rows) entries at q judges labels some.0 c.loop-at.count c.tally_inside_at-count.result c.args.tally.now c.loop-at.tally c.tally_inside_at-count.new.tally
+          let now = subst (λ j. MakeUp j labels c.tally_inside_at-count.result (count_of q j some.0.rows) c.loop-at.tally
+          c.tally_inside_at-count.new.tally) c.loop-at.invariant.same (c.tally_inside_at-count.ensures.count labels some.0 are some.1) in
+          counted_next (λ (x : EntryValue g.row.A.Denot). x.rows) entries at q judges labels some.0 c.loop-at.count c.tally_inside_at-count.result
+          c.args.tally.now c.loop-at.tally c.tally_inside_at-count.new.tally
           below some.1.1 (c.loop-at.invariant.count labels are) now;
       most = most_next (λ (x : EntryValue g.row.A.Denot). x.rows) entries at some.0 _ _ _ below some.1.1 c.loop-at.invariant.most (c.tally_inside_at-count.ensures.most some.0 some.1);
       same = c.tally_inside_at-count.ensures.same ∙ c.loop-at.invariant.same;

@@ -1,10 +1,10 @@
 use Rattle.std.proofs.Common.{◌≡◌, ◌+◌, ◌<◌, ◌≤◌, length, subst, ◌∙◌, arith, rules}
-use Rattle.st_index.specs.Counting.{count_of}
+use Rattle.st_index.specs.inner.Counting.{count_of}
 use Rattle.st_index.specs.Rows.{EntryValue}
-use Rattle.st_tally.specs.inner.Marks.{MakeUp, Tells}
+use Rattle.st_tally.specs.inner.Marks.{MakeUp, IsTested}
 use Rattle.st_tally.proofs.Placing.{there_is}
 use Rattle.st_tally.proofs.Tallied.{counted_all, counted_fits, counted_next, most_all, most_fits, most_next}
-use Rattle.st_tally.proofs.Telling.{none_at, none_to}
+use Rattle.st_tally.proofs.Tested.{none_at, none_to}
 use Rattle.st_tally.proofs.marked.count_marked.Goals as goal
 
 pub returns-then-not-has_some-clause-count : goal.returns-then-not-has_some-clause-count
@@ -19,13 +19,13 @@ returns-then-not-has_some-clause-count g c = λ labels are.
     let none = none_to q judges es (length es) (omega arith) (λ i e h.
     let l = h.0 in
     none_at q judges labels es marks are i e h (omega (arith, l, m, numbers)) (omega (arith, l, m, spots))
-    (subst (Tells q marks i) (c.has_some.ensures c.if-not-has_some.true i) (c.told-told.ensures q i c.new.ensures (omega (arith, l, m))))) in
+    (subst (IsTested q marks i) (c.has_some.ensures c.if-not-has_some.true i) (c.test_marks-tested.ensures q i c.new.ensures (omega (arith, l, m))))) in
     counted_all (λ (x : EntryValue g.row.A.Denot). x.rows) es (length es) q judges labels 0 c.args.tally.now c.args.tally.now (omega arith) (omega (arith, none))
 
-pub tally_at-count-requires-clause-told : goal.tally_at-count-requires-clause-told
-tally_at-count-requires-clause-told g c =
+pub tally_at-count-requires-clause-tested : goal.tally_at-count-requires-clause-tested
+tally_at-count-requires-clause-tested g c =
     let m = c.requires.not_more in
-    c.told-told.ensures c.args.query.now c.loop-at.at c.new.ensures (omega (arith, m, c.loop-at-test.true, c.loop-at.auto.at-end))
+    c.test_marks-tested.ensures c.args.query.now c.loop-at.at c.new.ensures (omega (arith, m, c.loop-at-test.true, c.loop-at.auto.at-end))
 
 pub tally_at-count-requires-clause-fits : goal.tally_at-count-requires-clause-fits
 tally_at-count-requires-clause-fits g c = λ e h.
@@ -40,10 +40,13 @@ overflow_add-count g c =
     let given = c.requires.marked in
     let below : at < length entries = omega (arith, c.loop-at-test.true, c.loop-at.auto.at-end) in
     let some = there_is entries at below in
-    let now = subst (λ j. MakeUp j given.0 c.tally_at-count.result (count_of q j some.0.rows) c.loop-at.tally c.tally_at-count.new.tally) c.loop-at.invariant.same (c.tally_at-count.ensures.count given.0 some.0 given.1 some.1) in
-    let next = counted_next (λ (x : EntryValue g.row.A.Denot). x.rows) entries at q judges given.0 some.0 c.loop-at.count c.tally_at-count.result c.args.tally.now c.loop-at.tally c.tally_at-count.new.tally
+    let now = subst (λ j. MakeUp j given.0 c.tally_at-count.result (count_of q j some.0.rows) c.loop-at.tally c.tally_at-count.new.tally)
+    c.loop-at.invariant.same (c.tally_at-count.ensures.count given.0 some.0 given.1 some.1) in
+    let next = counted_next (λ (x : EntryValue g.row.A.Denot). x.rows) entries at q judges given.0 some.0 c.loop-at.count c.tally_at-count.result
+    c.args.tally.now c.loop-at.tally c.tally_at-count.new.tally
     below some.1.1 (c.loop-at.invariant.count given.0 given.1) now in
-    let fits = counted_fits (λ (x : EntryValue g.row.A.Denot). x.rows) entries (at + 1) q judges given.0 (c.loop-at.count + c.tally_at-count.result) 18446744073709551616 c.args.tally.now c.tally_at-count.new.tally next c.requires.fits in
+    let fits = counted_fits (λ (x : EntryValue g.row.A.Denot). x.rows) entries (at + 1) q judges given.0 (c.loop-at.count + c.tally_at-count.result)
+    18446744073709551616 c.args.tally.now c.tally_at-count.new.tally next c.requires.fits in
     omega (arith, fits)
 
 pub loop-at-preserved : goal.loop-at-preserved
@@ -56,7 +59,8 @@ loop-at-preserved g c =
     let some = there_is entries at below in
     record {
       count = λ labels are.
-          let now = subst (λ j. MakeUp j labels c.tally_at-count.result (count_of q j some.0.rows) c.loop-at.tally c.tally_at-count.new.tally) c.loop-at.invariant.same (c.tally_at-count.ensures.count labels some.0 are some.1) in
+          let now = subst (λ j. MakeUp j labels c.tally_at-count.result (count_of q j some.0.rows) c.loop-at.tally c.tally_at-count.new.tally)
+          c.loop-at.invariant.same (c.tally_at-count.ensures.count labels some.0 are some.1) in
           counted_next (λ (x : EntryValue g.row.A.Denot). x.rows) entries at q judges labels some.0 c.loop-at.count c.tally_at-count.result c.args.tally.now c.loop-at.tally c.tally_at-count.new.tally
           below some.1.1 (c.loop-at.invariant.count labels are) now;
       most = most_next (λ (x : EntryValue g.row.A.Denot). x.rows) entries at some.0 _ _ _ below some.1.1 c.loop-at.invariant.most (c.tally_at-count.ensures.most some.0 some.1);

@@ -40,8 +40,8 @@ returns-then-index-tally-clause-count g c = λ labels e are h.
     let most_numbers = c.requires.few in
     let low = c.if-index-tally.true in
     let mark = mark_at labels c.args.entries.now marks c.args.at e number spot.0 are h (omega (arith, w, m, numbers)) c.from-index.ensures spot.1 in
-    let told = c.requires.told number spot.0 (read_at marks.numbers c.args.at 0 number (omega (arith, w, m, numbers)) c.from-index.ensures) spot.1 in
-    tallied_at q labels e number marks.week spot.0 mark c.args.inside (told.1 (omega (arith, low, most_numbers)))
+    let tested = c.requires.tested number spot.0 (read_at marks.numbers c.args.at 0 number (omega (arith, w, m, numbers)) c.from-index.ensures) spot.1 in
+    tallied_at q labels e number marks.week spot.0 mark c.args.inside (tested.1 (omega (arith, low, most_numbers)))
     (g.J.Judge.judges c.args.judge.now) tally c.from.result (omega (arith, low, most_numbers)) low (c.from.ensures ∙ byte_is _)
 
 pub returns-then-index-tally-clause-most : goal.returns-then-index-tally-clause-most
@@ -75,9 +75,9 @@ returns-then-not-inside-clause-count g c = λ labels e are h.
     let spots : length marks.spots ≡ 32 = search rules in
     let spot = there_is marks.spots c.args.at (omega (arith, w, m, spots)) in
     let mark = mark_at labels c.args.entries.now marks c.args.at e number spot.0 are h (omega (arith, w, m, numbers)) (λ i. number) spot.1 in
-    let told = c.requires.told number spot.0 (read_at marks.numbers c.args.at 0 number (omega (arith, w, m, numbers)) (λ i. number)) spot.1 in
-    let few = told.0 c.if-not-inside.true in
-    let none = outside_at q labels e number marks.week spot.0 mark c.args.inside (told.1 few) (g.J.Judge.judges c.args.judge.now) few c.if-not-inside.true in
+    let tested = c.requires.tested number spot.0 (read_at marks.numbers c.args.at 0 number (omega (arith, w, m, numbers)) (λ i. number)) spot.1 in
+    let few = tested.0 c.if-not-inside.true in
+    let none = outside_at q labels e number marks.week spot.0 mark c.args.inside (tested.1 few) (g.J.Judge.judges c.args.judge.now) few c.if-not-inside.true in
     omega (arith, none)
 
 pub count_at-requires-clause-fits : goal.count_at-requires-clause-fits

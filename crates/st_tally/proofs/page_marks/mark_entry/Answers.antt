@@ -17,7 +17,9 @@ returns-clause-mark g c = λ number spot a b few.
       sym c.rows.ensures ∙ ap viewed c.in-One.is,
       subst (λ s. IsSpotOf page.week s row.point) (sym (at_changed page.spots at c.in-Some.spot spot (omega (arith, c.requires, spots)) b))
           (subst (IsSpotOf page.week c.in-Some.spot) c.point.ensures c.in-Some.ensures.some),
-      λ low. subst (λ m. HasAt c.number_of.new.labels.items m row.label) (sym same) (subst (λ l. HasAt c.number_of.new.labels.items c.number_of.result l) c.label.ensures (c.number_of.ensures.number (subst (λ m. m < 512) same low))),
+      λ low. subst (λ m. HasAt c.number_of.new.labels.items m row.label) (sym same)
+          (subst (λ l. HasAt c.number_of.new.labels.items c.number_of.result l) c.label.ensures
+          (c.number_of.ensures.number (subst (λ m. m < 512) same low))),
     )
 
 pub returns-2-clause-others : goal.returns-2-clause-others

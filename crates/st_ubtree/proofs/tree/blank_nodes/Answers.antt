@@ -1,4 +1,4 @@
-use Rattle.st_ubtree.proofs.Settling.{blank_more, length_more}
+use Rattle.st_ubtree.proofs.Halving.{blank_more, length_more}
 use Rattle.st_ubtree.proofs.tree.blank_nodes.Goals as goal
 
 pub loop-at-preserved : goal.loop-at-preserved

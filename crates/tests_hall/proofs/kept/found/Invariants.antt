@@ -2,7 +2,7 @@ use Rattle.tests_hall.proofs.kept.found.Given as goal
 
 -- the hall that is opened here
 abbrev pub ghosts-found_by-H-HallName : goal.ghosts-found_by-H-HallName
-ghosts-found_by-H-HallName g a = record { start = a.both.0; book = a.name.seen.book }
+ghosts-found_by-H-HallName g a = record { start = a.both.0; book = a.name.seen.book; mark = a.name.mark.name }
 
 abbrev pub ghosts-found_by-H-Ledger : goal.ghosts-found_by-H-Ledger
 ghosts-found_by-H-Ledger g a = record { name = a.name.blank.name; parts = a.workers }

@@ -2,12 +2,14 @@ use Rattle.std.proofs.Common.{rules, ◌≡◌, sym}
 use Rattle.std.specs.Cmp.Lexicographic.{slice_cmp}
 use Rattle.std.specs.Ordering.{nat_cmp}
 use Rattle.std.specs.declared.cmp.Ordering.TheVariants.{Less, Equal, Greater}
-use Rattle.st_auth.specs.Order.{name_at}
+use Rattle.st_auth.specs.inner.Order.{name_at}
 use Rattle.st_auth.proofs.Merge.{at_first, after_step}
 use Rattle.st_auth.proofs.auths.Auths.has_all.Goals as goal
 
 pub theirs-init : goal.theirs-init
-theirs-init g c = rw (c.as_slice-ours.ensures.value, c.as_slice-theirs.ensures.value) (at_first c.self.inside.names.items c.other.inside.names.items c.self.inside.order.items c.other.inside.order.items c.self.invariant.0 c.other.invariant.0)
+theirs-init g c = rw (c.as_slice-ours.ensures.value, c.as_slice-theirs.ensures.value)
+    (at_first c.self.inside.names.items c.other.inside.names.items c.self.inside.order.items c.other.inside.order.items c.self.invariant.0
+    c.other.invariant.0)
 
 pub theirs-preserved-in-Less : goal.theirs-preserved-in-Less
 theirs-preserved-in-Less g c =

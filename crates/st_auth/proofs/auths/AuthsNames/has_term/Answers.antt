@@ -3,7 +3,7 @@ use Rattle.std.specs.Cmp.Lexicographic.{slice_cmp}
 use Rattle.std.specs.Ordering.{nat_cmp}
 use Rattle.std.proofs.lemmas.Fn.{always_returns_same}
 use Rattle.st_text.specs.Texts.{Text, is_among}
-use Rattle.st_auth.specs.Order.{name_at}
+use Rattle.st_auth.specs.inner.Order.{name_at}
 use Rattle.st_auth.proofs.Search.{found}
 use Rattle.st_auth.proofs.auths.AuthsNames.has_term.Goals as goal
 

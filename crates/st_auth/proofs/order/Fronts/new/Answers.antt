@@ -14,5 +14,7 @@ loop-name-preserved g c =
     )
 
 pub invariant_of-result : goal.invariant_of-result
-invariant_of-result g c =
-    (c.loop-name.invariant.0 ∙ ap (map front) (take_all c.loop-name.name-index c.args.names.now (search rules)), all_are_bytes c.args.names.now (λ place inside. c.loop-name.invariant.1 place (search rules)))
+invariant_of-result g c = (
+  c.loop-name.invariant.0 ∙ ap (map front) (take_all c.loop-name.name-index c.args.names.now (search rules)),
+  all_are_bytes c.args.names.now (λ place inside. c.loop-name.invariant.1 place (search rules)),
+)

@@ -1,5 +1,5 @@
 use Rattle.std.proofs.Common.{◌≡◌, ℕ, ◌<◌, map, take}
-use Rattle.st_auth.specs.Order.{name_at}
+use Rattle.st_auth.specs.inner.Order.{name_at}
 use Rattle.st_auth.specs.inner.Fronts.{AreBytes, front}
 use Rattle.st_auth.proofs.order.Fronts.new.Given as goal
 

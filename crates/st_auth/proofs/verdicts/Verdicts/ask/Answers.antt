@@ -5,11 +5,11 @@ use Rattle.st_auth.proofs.verdicts.Verdicts.ask.Goals.{then-not-is_same+in-Ok, e
 
 pub invariant_of-self : goal.invariant_of-self
 invariant_of-self g c =
-    let held : AreHeld c.if-not-is_same.self-inside.auths c.if-not-is_same.self-inside.long.cache = elim c.if-not-is_same.branch [
+    let held : AreHeld c.if-not-is_same.self-inside.auths c.if-not-is_same.self-inside.long.recent = elim c.if-not-is_same.branch [
       | then-not-is_same+in-Ok w ↦ rw w.self-inside-is (w.forget-then-not-is_same.ensures.held w.in-Ok.copy)
       | else-not-is_same w ↦ rw w.self-inside-is c.self.invariant.0
     ] in
-    let known : AreKnown kept_text c.if-not-is_same.self-inside.auths c.if-not-is_same.self-inside.long.table.known.items = elim c.if-not-is_same.branch [
+    let known : AreKnown kept_text c.if-not-is_same.self-inside.auths c.if-not-is_same.self-inside.long.cache.known.items = elim c.if-not-is_same.branch [
       | then-not-is_same+in-Ok w ↦ rw w.self-inside-is (w.forget-then-not-is_same.ensures.known w.in-Ok.copy)
       | else-not-is_same w ↦ rw w.self-inside-is c.self.invariant.2
     ] in
@@ -17,11 +17,11 @@ invariant_of-self g c =
 
 pub ask-requires-in-None : goal.ask-requires-in-None
 ask-requires-in-None g c =
-    let held : AreHeld c.if-not-is_same.self-inside.auths c.if-not-is_same.self-inside.long.cache = elim c.if-not-is_same.branch [
+    let held : AreHeld c.if-not-is_same.self-inside.auths c.if-not-is_same.self-inside.long.recent = elim c.if-not-is_same.branch [
       | then-not-is_same+in-Ok w ↦ rw w.self-inside-is (w.forget-then-not-is_same.ensures.held w.in-Ok.copy)
       | else-not-is_same w ↦ rw w.self-inside-is c.self.invariant.0
     ] in
-    let known : AreKnown kept_text c.if-not-is_same.self-inside.auths c.if-not-is_same.self-inside.long.table.known.items = elim c.if-not-is_same.branch [
+    let known : AreKnown kept_text c.if-not-is_same.self-inside.auths c.if-not-is_same.self-inside.long.cache.known.items = elim c.if-not-is_same.branch [
       | then-not-is_same+in-Ok w ↦ rw w.self-inside-is (w.forget-then-not-is_same.ensures.known w.in-Ok.copy)
       | else-not-is_same w ↦ rw w.self-inside-is c.self.invariant.2
     ] in

@@ -1,6 +1,6 @@
 use Rattle.std.proofs.Common.{◌^◌, ◌<◌, ◌∙◌, arith}
 use Rattle.st_key.proofs.PeriodLemmas.{period}
-use Rattle.st_box.specs.Query.{first_offset_of, last_offset_of}
+use Rattle.st_box.specs.inner.Bins.{first_offset_of, last_offset_of}
 use Rattle.st_box.proofs.KeyTests.{first_below, last_below}
 use Rattle.st_box.proofs.Lanes.{apart, same_spot, spread_is}
 use Rattle.st_box.proofs.key_test.KeyTest.corners_in.Goals as goal

@@ -13,7 +13,8 @@ returns-then-has_place c =
       λ held.
           same.0 (place, subst (λ b. IsTimeIn q w b k.address) c.bin.ensures.value (subst (λ a. IsTimeIn q w c.bin.result a) c.address-then-has_place.ensures.value (c.has_time.ensures.0 held))),
       λ there.
-          c.has_time.ensures.1 (subst (λ b. IsTimeIn q w b c.address-then-has_place.result) (sym c.bin.ensures.value) (subst (λ a. IsTimeIn q w k.bin a) (sym c.address-then-has_place.ensures.value) (same.1 there).1)),
+          c.has_time.ensures.1 (subst (λ b. IsTimeIn q w b c.address-then-has_place.result) (sym c.bin.ensures.value)
+          (subst (λ a. IsTimeIn q w k.bin a) (sym c.address-then-has_place.ensures.value) (same.1 there).1)),
     )
 
 pub returns-else-has_place : goal.returns-else-has_place

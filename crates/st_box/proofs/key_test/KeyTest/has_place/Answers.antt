@@ -9,8 +9,10 @@ returns-then-is_between c =
     let test = c.args.self.now in
     let q = test.query in
     let a = c.args.address in
-    let x = between test.x_first test.x_last c.spread_in.result q.x0 q.x1 (x_of a) test.x_first_is test.x_last_is c.spread_in.ensures (omega (arith, q.x_ordered, q.x_in_range)) q.x_in_range (gather-lt 21 a) in
-    let y = between test.y_first test.y_last c.spread_in-then-is_between.result q.y0 q.y1 (y_of a) test.y_first_is test.y_last_is c.spread_in-then-is_between.ensures (omega (arith, q.y_ordered, q.y_in_range)) q.y_in_range (gather-lt 21 (a / 2)) in
+    let x = between test.x_first test.x_last c.spread_in.result q.x0 q.x1 (x_of a) test.x_first_is test.x_last_is c.spread_in.ensures
+    (omega (arith, q.x_ordered, q.x_in_range)) q.x_in_range (gather-lt 21 a) in
+    let y = between test.y_first test.y_last c.spread_in-then-is_between.result q.y0 q.y1 (y_of a) test.y_first_is test.y_last_is
+    c.spread_in-then-is_between.ensures (omega (arith, q.y_ordered, q.y_in_range)) q.y_in_range (gather-lt 21 (a / 2)) in
     let in_x = x.0 (c.is_between.ensures.0 c.if-is_between.true) in (
       λ held.
           let in_y = y.0 (c.is_between-then-is_between.ensures.0 held) in
@@ -23,7 +25,8 @@ returns-else-is_between c =
     let test = c.args.self.now in
     let q = test.query in
     let a = c.args.address in
-    let x = between test.x_first test.x_last c.spread_in.result q.x0 q.x1 (x_of a) test.x_first_is test.x_last_is c.spread_in.ensures (omega (arith, q.x_ordered, q.x_in_range)) q.x_in_range (gather-lt 21 a) in (
+    let x = between test.x_first test.x_last c.spread_in.result q.x0 q.x1 (x_of a) test.x_first_is test.x_last_is c.spread_in.ensures
+    (omega (arith, q.x_ordered, q.x_in_range)) q.x_in_range (gather-lt 21 a) in (
       λ held. absurd (let clash : false ≡ true = sym c.if-is_between.false ∙ held in cc),
       λ there. c.is_between.ensures.1 (x.1 (there.x_from, there.x_to)),
     )

@@ -2,7 +2,7 @@ use Rattle.std.proofs.Common.{◌≡◌, ◌/◌, ◌≤◌, true, false, sym, �
 use Rattle.st_key.specs.Morton.{offset_of}
 use Rattle.st_key.proofs.MortonLemmas.{gather-lt}
 use Rattle.st_key.proofs.PeriodLemmas.{period}
-use Rattle.st_box.specs.Query.{first_offset_of, last_offset_of}
+use Rattle.st_box.specs.inner.Bins.{first_offset_of, last_offset_of}
 use Rattle.st_box.proofs.KeyTests.{between, first_below, last_below}
 use Rattle.st_box.proofs.key_test.KeyTest.has_time.Goals as goal
 
@@ -15,7 +15,8 @@ returns-then-has_bin c =
     let bins = c.has_bin.ensures.0 c.if-has_bin.true in
     let few = (period w).levels in
     let t =
-    between c.first_in.result c.last_in.result c.spread_in.result (first_offset_of w q.t0 c.args.bin) (last_offset_of w q.t1 c.args.bin) (offset_of a) c.first_in.ensures c.last_in.ensures c.spread_in.ensures
+    between c.first_in.result c.last_in.result c.spread_in.result (first_offset_of w q.t0 c.args.bin) (last_offset_of w q.t1 c.args.bin) (offset_of a)
+    c.first_in.ensures c.last_in.ensures c.spread_in.ensures
     (omega (arith, few, first_below w q.t0 c.args.bin)) (omega (arith, few, last_below w q.t1 c.args.bin)) (gather-lt 21 (a / 4)) in (
       λ held.
           let inside = t.0 (c.is_between.ensures.0 held) in

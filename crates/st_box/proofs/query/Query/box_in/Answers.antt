@@ -11,7 +11,8 @@ invariant_of-result c =
     record {
       x_ordered = q.x_ordered;
       y_ordered = q.y_ordered;
-      offset_ordered = offsets_ordered c.args.period c.args.bin q.t0 q.t1 c.first_offset.result c.last_offset.result c.first_offset.ensures.starts c.last_offset.ensures.ends q.t_ordered c.requires.from_first c.requires.to_last;
+      offset_ordered = offsets_ordered c.args.period c.args.bin q.t0 q.t1 c.first_offset.result c.last_offset.result c.first_offset.ensures.starts
+          c.last_offset.ensures.ends q.t_ordered c.requires.from_first c.requires.to_last;
       x_in_range = q.x_in_range;
       y_in_range = q.y_in_range;
       offset_in_range = omega (arith, w.levels);

@@ -3,7 +3,7 @@ use Rattle.std.specs.Prelude.{option_map, unwrap_or}
 use Rattle.std.proofs.lemmas.Result.{err_from_is_err_and}
 use Rattle.clap.specs.Words.{all_of, first_of, found_of}
 use Rattle.clap.proofs.WalkLemmas.{first_value-rows, raw_values-rows}
-use Rattle.st_command_line.specs.Common.{says_true}
+use Rattle.st_command_line.specs.inner.Commands.{says_true}
 use Rattle.st_command_line.specs.ServedArguments.{RefusesServedWords, served_command}
 use Rattle.st_command_line.proofs.Numbers.{widens}
 use Rattle.st_command_line.proofs.Refusing.{names_given}
@@ -28,11 +28,11 @@ returns-in_err-copy_every-clause-err c =
     let p = err_from_is_err_and c.from_residual-in_err-copy_every.result c.from_residual-in_err-copy_every.ensures.1 in
     rw p.1 (subst (RefusesServedWords words) (sym p.2) (c.in_err-copy_every.ensures.err words c.in_ok-matches.ensures.ok))
 
-pub returns-in_err-place-clause-err : goal.returns-in_err-place-clause-err
-returns-in_err-place-clause-err c =
+pub returns-in_err-bind_address-clause-err : goal.returns-in_err-bind_address-clause-err
+returns-in_err-bind_address-clause-err c =
     let words = map string_bytes c.args.words.now in
-    let p = err_from_is_err_and c.from_residual-in_err-place.result c.from_residual-in_err-place.ensures.1 in
-    rw p.1 (subst (RefusesServedWords words) (sym p.2) (c.in_err-place.ensures.err words c.in_ok-matches.ensures.ok))
+    let p = err_from_is_err_and c.from_residual-in_err-bind_address.result c.from_residual-in_err-bind_address.ensures.1 in
+    rw p.1 (subst (RefusesServedWords words) (sym p.2) (c.in_err-bind_address.ensures.err words c.in_ok-matches.ensures.ok))
 
 pub returns-in_err-connections-clause-err : goal.returns-in_err-connections-clause-err
 returns-in_err-connections-clause-err c =
@@ -73,9 +73,12 @@ returns-clause-ok c =
       root = record {
         whole = parsed.whole;
         digits_are = sym (ap (first_of (codes "root")) parsed.rows_are) ∙ (sym (first_value-rows found (codes "root")) ∙ (sym c.get_str.ensures ∙ ap (option_map (λ s. s.now)) c.in-Some.is));
-        names_are = ap (λ rows. unwrap_or (all_of (codes "NAME") rows) []) (sym parsed.rows_are) ∙ (ap (λ o. unwrap_or o []) (sym (raw_values-rows found (codes "NAME"))) ∙ (names_given _ c.get_strs.result _ c.unwrap_or-names.result c.get_strs.ensures c.unwrap_or-names.ensures refl ∙ ap (map (λ name. name.now)) (sym c.in_ok-from_slice.ensures.items)));
+        names_are = ap (λ rows. unwrap_or (all_of (codes "NAME") rows) []) (sym parsed.rows_are)
+            ∙ (ap (λ o. unwrap_or o []) (sym (raw_values-rows found (codes "NAME")))
+            ∙ (names_given _ c.get_strs.result _ c.unwrap_or-names.result c.get_strs.ensures c.unwrap_or-names.ensures refl
+            ∙ ap (map (λ name. name.now)) (sym c.in_ok-from_slice.ensures.items)));
       };
-      place_is = c.in_ok-place.ensures.ok words parsed;
+      bind_address_is = c.in_ok-bind_address.ensures.ok words parsed;
       store_is = ap (first_of (codes "store")) (sym parsed.rows_are) ∙ (sym (first_value-rows found (codes "store")) ∙ sym c.get_str-store.ensures);
       compacts_is = ap says_true (sym (file_is served_command words (codes "compact") c.in_ok-matches.matches parsed)) ∙ sym c.flag-compacts.ensures;
       stored = c.in_ok-check_wants.ensures.store words parsed;

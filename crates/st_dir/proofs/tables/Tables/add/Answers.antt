@@ -14,9 +14,12 @@ invariant_of-self g c = subst (Rises table_key) (sym c.in_default.ensures.items)
 pub invariant_of-self-2 : goal.invariant_of-self-2
 invariant_of-self-2 g c =
     let value = c.deref.ensures.value in
-    let none : NoneOf (λ other. same other.table c.args.info.table) c.self.inside.tables.items = none_from_find table_key (λ other. same other.table c.args.info.table) c.self.inside.tables.items (rw (sym c.self.view_is) at c.requires) in
+    let none : NoneOf (λ other. same other.table c.args.info.table) c.self.inside.tables.items =
+    none_from_find table_key (λ other. same other.table c.args.info.table) c.self.inside.tables.items (rw (sym c.self.view_is) at c.requires) in
     subst (Rises table_key) (sym c.in-Ok.ensures.items)
-    (rises_in table_key c.args.info (λ other. same other.table c.args.info.table) (λ other e. own_name other.table c.args.info.table e) c.self.inside.tables.items c.place_of-place.result c.self.invariant (rw c.as_str.ensures.value at (rw value at c.place_of-place.ensures.place)) none)
+    (rises_in table_key c.args.info (λ other. same other.table c.args.info.table) (λ other e. own_name other.table c.args.info.table e)
+    c.self.inside.tables.items c.place_of-place.result c.self.invariant
+    (rw c.as_str.ensures.value at (rw value at c.place_of-place.ensures.place)) none)
 
 pub returns-clause-ok : goal.returns-clause-ok
 returns-clause-ok g c =

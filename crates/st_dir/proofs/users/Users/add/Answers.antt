@@ -13,9 +13,12 @@ invariant_of-self g c = subst (Rises user_key) (sym c.in_default.ensures.items) 
 pub invariant_of-self-2 : goal.invariant_of-self-2
 invariant_of-self-2 g c =
     let value = c.deref.ensures.value in
-    let none : NoneOf (λ other. same other.name c.args.user.name) c.self.inside.users.items = none_from_find user_key (λ other. same other.name c.args.user.name) c.self.inside.users.items (rw (sym c.self.view_is) at c.requires) in
+    let none : NoneOf (λ other. same other.name c.args.user.name) c.self.inside.users.items =
+    none_from_find user_key (λ other. same other.name c.args.user.name) c.self.inside.users.items (rw (sym c.self.view_is) at c.requires) in
     subst (Rises user_key) (sym c.in-Ok.ensures.items)
-    (rises_in user_key c.args.user (λ other. same other.name c.args.user.name) (λ other e. own_name other.name c.args.user.name e) c.self.inside.users.items c.place_of-place.result c.self.invariant (rw c.as_str.ensures.value at (rw value at c.place_of-place.ensures.place)) none)
+    (rises_in user_key c.args.user (λ other. same other.name c.args.user.name) (λ other e. own_name other.name c.args.user.name e)
+    c.self.inside.users.items c.place_of-place.result c.self.invariant (rw c.as_str.ensures.value at (rw value at c.place_of-place.ensures.place))
+    none)
 
 pub returns-clause-ok : goal.returns-clause-ok
 returns-clause-ok g c =

@@ -1,8 +1,5 @@
-use Rattle.st_hall.proofs.Deciding.{never_lost, surely}
+use Rattle.st_hall.proofs.Deciding.{never_lost}
 use Rattle.st_hall.proofs.commits.MutexClerkCommits.change.Goals as goal
-
-pub returns-clause-settled : goal.returns-clause-settled
-returns-clause-settled g c = surely _ c.decide.result
 
 pub returns-clause-lost : goal.returns-clause-lost
 returns-clause-lost g c = never_lost c.decide.result c.decide.ensures.busy

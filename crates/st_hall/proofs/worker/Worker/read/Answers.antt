@@ -6,5 +6,4 @@ invariant_of-self g c = (
   prefix_trans c.self.inside.learnt c.self.inside.desk.seen c.read.new.desk.seen c.self.invariant.0 c.read.ensures.seen,
   c.self.invariant.1,
   c.self.invariant.2,
-  c.self.invariant.3,
 )

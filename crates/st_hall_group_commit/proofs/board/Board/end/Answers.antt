@@ -3,6 +3,3 @@ use Rattle.st_hall_group_commit.proofs.board.Board.end.Goals as goal
 
 pub returns : goal.returns
 returns g c = search rules
-
-pub invariant_of-self : goal.invariant_of-self
-invariant_of-self g c = search rules

@@ -13,7 +13,9 @@ pub invariant_of-self-2 : goal.invariant_of-self-2
 invariant_of-self-2 g c =
     let q = c.in_ok-queue.ensures.queued in
     let shown = ap (λ d. d.shown.value) c.queue.ensures.desk in
-    let p = publishes g.H.HallName.start c.queue.new.writer.desk.shown.value c.replace_with.new.dest.desk.shown.value (drop c.queue.new.writer.behind c.queue.new.writer.log.items) (drop c.replace_with.new.dest.behind c.replace_with.new.dest.log.items) c.self.inside.front c.replace_with.result
+    let p = publishes g.H.HallName.start c.queue.new.writer.desk.shown.value c.replace_with.new.dest.desk.shown.value
+    (drop c.queue.new.writer.behind c.queue.new.writer.log.items) (drop c.replace_with.new.dest.behind c.replace_with.new.dest.log.items)
+    c.self.inside.front c.replace_with.result
     (rw shown (c.self.invariant.0)) (rw (shown, q.0) (c.self.invariant.1)) c.replace_with.ensures in
     (p.0, rw (q.1) (p.1))
 
@@ -22,7 +24,9 @@ returns-clause-published g c =
     let q = c.in_ok-queue.ensures.queued in
     let shown = ap (λ d. d.shown.value) c.queue.ensures.desk in
     rw (sym (ap (λ (r : Printed). r.published) c.self.view_is), sym (ap (λ (v : _). v.list) shown))
-    (published_list g.H.HallName.start c.queue.new.writer.desk.shown.value c.replace_with.new.dest.desk.shown.value (drop c.queue.new.writer.behind c.queue.new.writer.log.items) (drop c.replace_with.new.dest.behind c.replace_with.new.dest.log.items) c.self.inside.front c.replace_with.result
+    (published_list g.H.HallName.start c.queue.new.writer.desk.shown.value c.replace_with.new.dest.desk.shown.value
+    (drop c.queue.new.writer.behind c.queue.new.writer.log.items) (drop c.replace_with.new.dest.behind c.replace_with.new.dest.log.items)
+    c.self.inside.front c.replace_with.result
     (rw shown (c.self.invariant.0)) (rw (shown, q.0) (c.self.invariant.1)) c.replace_with.ensures)
 
 pub returns-clause-grows : goal.returns-clause-grows
@@ -30,5 +34,7 @@ returns-clause-grows g c =
     let q = c.in_ok-queue.ensures.queued in
     let shown = ap (λ d. d.shown.value) c.queue.ensures.desk in
     rw (sym (ap (λ (r : Printed). r.published) c.self.view_is), sym (ap (λ (v : _). v.list) shown))
-    (published_grows g.H.HallName.start c.queue.new.writer.desk.shown.value c.replace_with.new.dest.desk.shown.value (drop c.queue.new.writer.behind c.queue.new.writer.log.items) (drop c.replace_with.new.dest.behind c.replace_with.new.dest.log.items) c.self.inside.front c.replace_with.result
+    (published_grows g.H.HallName.start c.queue.new.writer.desk.shown.value c.replace_with.new.dest.desk.shown.value
+    (drop c.queue.new.writer.behind c.queue.new.writer.log.items) (drop c.replace_with.new.dest.behind c.replace_with.new.dest.log.items)
+    c.self.inside.front c.replace_with.result
     (rw shown (c.self.invariant.0)) (rw (shown, q.0) (c.self.invariant.1)) c.replace_with.ensures)

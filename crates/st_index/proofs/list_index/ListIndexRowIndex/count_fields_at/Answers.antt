@@ -2,9 +2,9 @@ use Rattle.std.proofs.Common.{◌≡◌, ℕ, ◌+◌, ◌<◌, ◌≤◌, lengt
 use Rattle.std.proofs.lemmas.Bool.{ltb-false}
 use Rattle.st_key.specs.declared.period.Period.{Period}
 use Rattle.st_key.specs.Key.{rank}
-use Rattle.st_index.specs.ListValue.{ListValue}
-use Rattle.st_index.specs.Fields.{CanAdd, Counts}
-use Rattle.st_index.specs.Index.{rows_between, rows_from}
+use Rattle.st_index.specs.inner.ListValue.{ListValue}
+use Rattle.st_index.specs.inner.Fields.{CanAdd, Counts}
+use Rattle.st_index.specs.inner.Index.{rows_between, rows_from}
 use Rattle.st_index.specs.Rows.{key_end, rows_of}
 use Rattle.st_index.proofs.Ranges.{between_all, from_all}
 use Rattle.st_index.proofs.Taking.{rows_below}
@@ -39,7 +39,8 @@ returns-clause-counts g c =
 
 pub returns-clause-has_key : goal.returns-clause-has_key
 returns-clause-has_key g c =
-    in_range c.self.inside.period c.args.self.now.period (rank c.args._key) (rank c.last-last.result) c.last-last.ensures.rank (ap (λ (v : ListValue g.row.A.Denot). v.period) c.self.view_is) c.requires.key
+    in_range c.self.inside.period c.args.self.now.period (rank c.args._key) (rank c.last-last.result) c.last-last.ensures.rank
+    (ap (λ (v : ListValue g.row.A.Denot). v.period) c.self.view_is) c.requires.key
 
 pub returns-clause-within : goal.returns-clause-within
 returns-clause-within g c =

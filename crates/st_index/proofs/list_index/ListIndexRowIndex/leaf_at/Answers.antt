@@ -1,9 +1,9 @@
 use Rattle.std.proofs.Common.{◌≡◌, ◌+◌, ◌-◌, [], subst, sym, ap, arith}
 use Rattle.std.proofs.lemmas.List.{append-nil}
 use Rattle.st_key.specs.Key.{rank}
-use Rattle.st_index.specs.ListValue.{ListValue}
+use Rattle.st_index.specs.inner.ListValue.{ListValue}
 use Rattle.st_index.specs.Rows.{Rises, key_end, rows_of}
-use Rattle.st_index.specs.Index.{region}
+use Rattle.st_index.specs.inner.Index.{region}
 use Rattle.st_index.proofs.list_index.ListIndexRowIndex.leaf_at.Goals as goal
 
 pub returns-clause-leaf : goal.returns-clause-leaf

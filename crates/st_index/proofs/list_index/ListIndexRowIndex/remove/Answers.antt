@@ -17,7 +17,9 @@ pub returns-clause-lawful : goal.returns-clause-lawful
 returns-clause-lawful g c =
     let n : c.self.inside.len < 2 ^ 64 = c.self.invariant.2 in
     let shorter = adds_length c.in_ok-row.row _ _ c.in_ok-row.ensures.some.0 in
-    lawful c.self.inside.period c.take.new.entries.items (c.take.ensures.rising c.self.inside.period 0 (key_end c.self.inside.period) c.self.invariant.0) (omega (arith, n, c.self.invariant.1, shorter))
+    lawful c.self.inside.period c.take.new.entries.items
+    (c.take.ensures.rising c.self.inside.period 0 (key_end c.self.inside.period) c.self.invariant.0)
+    (omega (arith, n, c.self.invariant.1, shorter))
 
 pub invariant_of-self-2 : goal.invariant_of-self-2
 invariant_of-self-2 g c =

@@ -1,6 +1,6 @@
 use Rattle.std.proofs.Common.{◌<◌, ◌^◌, ◌∙◌, refl, sym, arith}
 use Rattle.st_index.specs.Rows.{key_end, name_of, rank_of, rows_of}
-use Rattle.st_index.specs.Index.{Holds}
+use Rattle.st_index.specs.inner.Index.{Holds}
 use Rattle.st_index.proofs.Listing.{lawful, swaps_length}
 use Rattle.st_index.proofs.Taking.{absent_held}
 use Rattle.st_index.proofs.list_index.ListIndexRowIndex.replace.Goals as goal
@@ -20,7 +20,9 @@ pub returns-clause-lawful : goal.returns-clause-lawful
 returns-clause-lawful g c =
     let n : c.self.inside.len < 2 ^ 64 = c.self.invariant.2 in
     let same = swaps_length c.in-Ok.out c.args.row _ _ c.in-Ok.ensures.ok.0 in
-    lawful c.self.inside.period c.swap.new.entries.items (c.swap.ensures.rising c.self.inside.period 0 (key_end c.self.inside.period) refl c.self.invariant.0) (omega (arith, n, c.self.invariant.1, same))
+    lawful c.self.inside.period c.swap.new.entries.items
+    (c.swap.ensures.rising c.self.inside.period 0 (key_end c.self.inside.period) refl c.self.invariant.0)
+    (omega (arith, n, c.self.invariant.1, same))
 
 pub invariant_of-self : goal.invariant_of-self
 invariant_of-self g c =

@@ -33,7 +33,7 @@ returns-clause-read g c = if_one c.read_back.result (λ records found clean.
     let ready = c.requires.ready was in
     found clean (records_in old.trees) ready.rows.rows
     ∙ of_changes c.args.from c.args.most (records_in old.trees)
-    ∙ ap (λ (t : Trees). take c.args.most (drop c.args.from (changes_in t))) ready.settled) c.read_back.ensures.found
+    ∙ ap (λ (t : Trees). take c.args.most (drop c.args.from (changes_in t))) ready.is_committed) c.read_back.ensures.found
 
 pub returns-clause-lost : goal.returns-clause-lost
 returns-clause-lost g c clean is =

@@ -3,7 +3,7 @@ use Rattle.sqlite_disk.specs.Events.{Event, replay}
 use Rattle.sqlite_wal.specs.Recovery.{Image}
 use Rattle.sqlite_trees.specs.View.{IsClean}
 use Rattle.sqlite_store.specs.FileStore.{view}
-use Rattle.st_journal_file.specs.Files.{Finds}
+use Rattle.st_journal_file.specs.inner.Finding.{Finds}
 use Rattle.st_journal_file.proofs.FileLemmas.{if_one, if_two}
 use Rattle.st_journal_file.proofs.Opened.{opened}
 use Rattle.st_journal_file.proofs.open.FileJournal+FileFrom+S.open.Goals as goal

@@ -6,4 +6,5 @@ use Rattle.st_label.proofs.truth.Pass.start.Goals as goal
 
 pub returns-then-len-ge-MAX_DEPTH : goal.returns-then-len-ge-MAX_DEPTH
 returns-then-len-ge-MAX_DEPTH c =
-    deep (reverse c.args.self.now.outer.items) c.args.self.now.level c.args.at (class_view c.args.class) (ap class_view c.in-Open.is) (omega (arith, length-reverse c.args.self.now.outer.items, c.len.ensures.value, c.if-len-ge-MAX_DEPTH.true))
+    deep (reverse c.args.self.now.outer.items) c.args.self.now.level c.args.at (class_view c.args.class) (ap class_view c.in-Open.is)
+    (omega (arith, length-reverse c.args.self.now.outer.items, c.len.ensures.value, c.if-len-ge-MAX_DEPTH.true))

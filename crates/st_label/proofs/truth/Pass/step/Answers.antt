@@ -6,7 +6,8 @@ use Rattle.st_label.proofs.truth.Pass.step.Goals as goal
 
 pub returns-in_default : goal.returns-in_default
 returns-in_default g c =
-    word_passes (g.N.Names.among c.args.names.now) c.args.text.now c.args.at (reverse c.args.self.now.outer.items) c.args.self.now.level c.args.self.now.unit c.in-Word.from _ _ _ _ c.behind.result c.class_of-class.ensures c.in-Word.is
+    word_passes (g.N.Names.among c.args.names.now) c.args.text.now c.args.at (reverse c.args.self.now.outer.items) c.args.self.now.level
+    c.args.self.now.unit c.in-Word.from _ _ _ _ c.behind.result c.class_of-class.ensures c.in-Word.is
     (c.has_term-truth.ensures ∙ ap (g.N.Names.among c.args.names.now) c.word.ensures) (not_plain c.class_of-class.result c.in_default.not-Plain) c.behind.ensures
 
 pub returns-else-from-at : goal.returns-else-from-at
@@ -16,4 +17,5 @@ returns-else-from-at g c =
 
 pub returns-in-Done : goal.returns-in-Done
 returns-in-Done g c =
-    done_passes (g.N.Names.among c.args.names.now) c.args.text.now c.args.at (reverse c.args.self.now.outer.items) c.args.self.now.level c.args.self.now.unit c.in-Done.truth _ _ _ c.behind-in-Done.result c.class_of-class.ensures c.in-Done.is c.behind-in-Done.ensures
+    done_passes (g.N.Names.among c.args.names.now) c.args.text.now c.args.at (reverse c.args.self.now.outer.items) c.args.self.now.level
+    c.args.self.now.unit c.in-Done.truth _ _ _ c.behind-in-Done.result c.class_of-class.ensures c.in-Done.is c.behind-in-Done.ensures

@@ -2,8 +2,8 @@ use Rattle.std.proofs.Common.{◌∙◌, sym, ap, subst}
 use Rattle.st_key.specs.Key.{rank}
 use Rattle.st_index.specs.RowViews.{row_of_view}
 use Rattle.st_index.specs.Rows.{rank_of}
-use Rattle.st_scan.specs.Regions.{Count, Meets}
-use Rattle.st_scan.specs.Walks.{MeetsUpTo}
+use Rattle.st_scan.specs.inner.Regions.{Count, Meets}
+use Rattle.st_scan.specs.inner.Walks.{MeetsUpTo}
 use Rattle.st_scan.specs.inner.Steps.{AreExact}
 use Rattle.st_scan.proofs.Positions.{given_at, given_opened}
 use Rattle.st_scan.proofs.walk.Walk.next.Goals as goal
@@ -32,7 +32,8 @@ invariant_of-self-2 g c = record {
   own_exact = c.make_after.ensures;
   follow = c.self.invariant.follow;
   few = c.self.invariant.few;
-  at = given_at c.self.inside.test.period c.self.inside.test.query (g.I.RowIndex.content c.self.inside.index.now) (g.I.RowIndex.regions c.self.inside.index.now) c.forward.new.at _ _ c.forward.ensures.at c.in-Some.ensures.some;
+  at = given_at c.self.inside.test.period c.self.inside.test.query (g.I.RowIndex.content c.self.inside.index.now)
+      (g.I.RowIndex.regions c.self.inside.index.now) c.forward.new.at _ _ c.forward.ensures.at c.in-Some.ensures.some;
 }
 
 pub returns-clause-opened : goal.returns-clause-opened

@@ -1,5 +1,5 @@
 use Rattle.std.proofs.Common.{refl, inl, inr}
-use Rattle.st_service.proofs.Told.{not_found, replies_unrouted, replies_mismatched}
+use Rattle.st_service.proofs.Replying.{not_found, replies_unrouted, replies_mismatched}
 use Rattle.st_service.proofs.answer.Answer.of_unrouted.Goals as goal
 
 pub returns-in-Found-clause-routed : goal.returns-in-Found-clause-routed

@@ -1,5 +1,5 @@
 use Rattle.std.proofs.Common.{ℕ, List, sym, ap, subst, ◌∙◌}
-use Rattle.st_table.specs.inner.Places.{HasNoZero, PlacesValue}
+use Rattle.st_table.specs.inner.Places.{HasNoZero}
 use Rattle.st_table.proofs.Copying.{cloned}
 use Rattle.st_table.proofs.places.Places.copy.Goals as goal
 

@@ -4,7 +4,11 @@ use Rattle.st_table.proofs.Keys.{adds_more, adds_none, keeps_all, keeps_more, ke
 use Rattle.st_table.proofs.places.Places.keys.Goals as goal
 
 pub places-init : goal.places-init
-places-init g c = (omega arith, keeps_none c.args.self.now.numbers c.new-keys.result.numbers c.args.hash, adds_none c.args.self.now.numbers c.new-keys.result.numbers c.args.hash c.new-keys.ensures.none)
+places-init g c = (
+  omega arith,
+  keeps_none c.args.self.now.numbers c.new-keys.result.numbers c.args.hash,
+  adds_none c.args.self.now.numbers c.new-keys.result.numbers c.args.hash c.new-keys.ensures.none,
+)
 
 pub places-preserved : goal.places-preserved
 places-preserved g c =

@@ -39,7 +39,8 @@ invariant_of-self-2 g c =
     let hash : c.name_hash-hash.result ≡ name_hash seed name.id name.label = c.name_hash-hash.ensures.value ∙ ap (λ s. name_hash s name.id name.label) c.seed.ensures in
     let is : new ≡ without_named name.id name.label rows = c.in-Some.ensures.rows in
     let tied : IsTied seed period fewer new =
-    tied_delete seed period c.name_hash-hash.result c.self.inside.places.numbers fewer c.in-Some.stand.key name rows new hash is c.in-Some.ensures.found c.delete.ensures.numbers c.self.invariant.0 in (
+    tied_delete seed period c.name_hash-hash.result c.self.inside.places.numbers fewer c.in-Some.stand.key name rows new hash is
+    c.in-Some.ensures.found c.delete.ensures.numbers c.self.invariant.0 in (
       subst (λ s. IsTied s (g.I.RowIndex.period_of c.take_out.new.index) fewer new) (sym c.delete.ensures.seed)
           (subst (λ p. IsTied seed p fewer new) (sym c.in-Some.ensures.period) tied),
       subst (λ xs. HasEachOnce xs) (sym is) (once_without period name.id name.label rows c.self.invariant.1),

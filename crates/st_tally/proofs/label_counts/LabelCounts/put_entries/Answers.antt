@@ -20,7 +20,8 @@ loop-entry-preserved g c =
 
 pub returns : goal.returns
 returns g c = λ h.
-    let all = more_all (λ (judges : Text → Bool) (e : EntryValue g.row.A.Denot). labelled judges e.rows) c.args.entries.now c.loop-entry.entry-index c.loop-entry-test.false c.args.self.now c.loop-entry.self c.loop-entry.invariant h in (
+    let all = more_all (λ (judges : Text → Bool) (e : EntryValue g.row.A.Denot). labelled judges e.rows) c.args.entries.now c.loop-entry.entry-index
+    c.loop-entry-test.false c.args.self.now c.loop-entry.self c.loop-entry.invariant h in (
       all.0,
       λ judges.
           let n = all.1 judges in

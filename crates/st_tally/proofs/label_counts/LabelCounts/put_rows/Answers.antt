@@ -16,4 +16,5 @@ loop-row-preserved g c =
     c.args.self.now c.loop-row.self c.put.new.self c.loop-row.invariant c.put.ensures
 
 pub returns : goal.returns
-returns g c = more_all (λ (judges : Text → Bool) (r : Row g.row.A.Denot). cond (judges r.label) 1 0) c.args.rows.now c.loop-row.row-index c.loop-row-test.false c.args.self.now c.loop-row.self c.loop-row.invariant
+returns g c = more_all (λ (judges : Text → Bool) (r : Row g.row.A.Denot). cond (judges r.label) 1 0) c.args.rows.now c.loop-row.row-index
+    c.loop-row-test.false c.args.self.now c.loop-row.self c.loop-row.invariant

@@ -1,5 +1,5 @@
 use Rattle.std.proofs.Common.{◌<◌, ◌≤◌, length, refl, sym, subst, arith}
-use Rattle.st_tally.specs.Pages.{entries_of_pages}
+use Rattle.st_tally.specs.inner.Pages.{entries_of_pages}
 use Rattle.st_tally.specs.inner.Marks.{AreMarkedBy, AreMarks}
 use Rattle.st_tally.proofs.Marking.{marked_off, marked_set, marked_unknown}
 use Rattle.st_tally.proofs.Placing.{set_read}

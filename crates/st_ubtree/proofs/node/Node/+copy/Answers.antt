@@ -3,7 +3,7 @@ use Rattle.std.proofs.lemmas.List.{take_all}
 use Rattle.st_key.specs.Key.{rank}
 use Rattle.st_index.specs.Rows.{rows_of}
 use Rattle.st_index.proofs.Copied.{one_copied}
-use Rattle.st_tally.specs.Pages.{NodeValue, rows_of_pages}
+use Rattle.st_tally.specs.inner.Pages.{NodeValue, rows_of_pages}
 use Rattle.st_tally.specs.inner.Marks.{AreMarked}
 use Rattle.st_tally.specs.inner.Sums.{Sums}
 use Rattle.st_ubtree.specs.inner.Firsts.{AreFirsts}
@@ -20,7 +20,8 @@ pub copy-requires-in-loop-kid : goal.copy-requires-in-loop-kid
 copy-requires-in-loop-kid g t c κs within =
     let kids = c.in-Inner.kids.items in
     let xs = c.as_slice-kid-items.result.now in
-    let good : IsInnerNode (rank c.self.inside.first) c.self.inside.height kids (vec_capacity c.in-Inner.kids) = subst (IsNode (rank c.self.inside.first) c.self.inside.height) c.in-Inner.is c.self.invariant.0 in
+    let good : IsInnerNode (rank c.self.inside.first) c.self.inside.height kids (vec_capacity c.in-Inner.kids) =
+    subst (IsNode (rank c.self.inside.first) c.self.inside.height) c.in-Inner.is c.self.invariant.0 in
     let kid = c.kid-item.result in
     let i = c.loop-kid.kid-index in
     let below : i < length xs = omega arith in
@@ -39,13 +40,15 @@ loop-kid-preserved g t c =
     let wide = c.in_ok-push-in-Inner.ensures.capacity in
     let room = c.loop-kid.invariant.room in
     record {
-      items = one_copied xs c.loop-kid.copies.items c.push.new.self.items i c.kid-item.result c.in_ok-other-in-Inner.other below c.kid-item.is c.in_ok-other-in-Inner.ensures c.loop-kid.invariant.items c.in_ok-push-in-Inner.ensures.items;
+      items = one_copied xs c.loop-kid.copies.items c.push.new.self.items i c.kid-item.result c.in_ok-other-in-Inner.other below c.kid-item.is
+          c.in_ok-other-in-Inner.ensures c.loop-kid.invariant.items c.in_ok-push-in-Inner.ensures.items;
       room = omega (arith, wide, room);
     }
 
 pub invariant_of-result : goal.invariant_of-result
 invariant_of-result g t c =
-    let good : IsPageNode c.self.inside.height (length c.in-Page.entries.items) (vec_capacity c.in-Page.entries) = subst (IsNode (rank c.self.inside.first) c.self.inside.height) c.in-Page.is c.self.invariant.0 in
+    let good : IsPageNode c.self.inside.height (length c.in-Page.entries.items) (vec_capacity c.in-Page.entries) =
+    subst (IsNode (rank c.self.inside.first) c.self.inside.height) c.in-Page.is c.self.invariant.0 in
     let same = c.in_ok-copies-in-Page.ensures.items ∙ c.as_slice.ensures.value in
     let len = ap length same in
     let few = good.not_more in
@@ -68,7 +71,8 @@ returns-in_ok-sum-in-Inner g t c =
 pub invariant_of-result-in-Inner : goal.invariant_of-result-in-Inner
 invariant_of-result-in-Inner g t c =
     let kids = c.in-Inner.kids.items in
-    let good : IsInnerNode (rank c.self.inside.first) c.self.inside.height kids (vec_capacity c.in-Inner.kids) = subst (IsNode (rank c.self.inside.first) c.self.inside.height) c.in-Inner.is c.self.invariant.0 in
+    let good : IsInnerNode (rank c.self.inside.first) c.self.inside.height kids (vec_capacity c.in-Inner.kids) =
+    subst (IsNode (rank c.self.inside.first) c.self.inside.height) c.in-Inner.is c.self.invariant.0 in
     let xs = c.as_slice-kid-items.result.now in
     let copies = c.loop-kid.copies.items in
     let same : copies ≡ kids = c.loop-kid.invariant.items ∙ take_all c.loop-kid.kid-index xs c.loop-kid-test.false ∙ c.as_slice-kid-items.ensures.value in

@@ -1,44 +1,45 @@
-use Rattle.std.proofs.Common.{◌≡◌, ◌+◌, ◌<◌, length, get_or, sym, ap, subst, ◌∙◌, arith, rules, vec_capacity}
+use Rattle.std.proofs.Common.{◌≡◌, ◌+◌, ◌<◌, length, get_or, sym, ap, subst, ◌∙◌, arith, rules}
 use Rattle.std.proofs.lemmas.List.Sums.{count_by-le-length, sum_by-take-le}
 use Rattle.st_key.specs.Key.{rank}
-use Rattle.st_index.specs.Counting.{count_of, is_counted}
+use Rattle.st_index.specs.inner.Counting.{count_of, is_counted}
 use Rattle.st_index.specs.Rows.{rows_of}
 use Rattle.st_index.proofs.Sums.{sum_all, sum_one_more}
-use Rattle.st_tally.specs.Pages.{NodeValue, rows_of_pages}
+use Rattle.st_tally.specs.inner.Pages.{NodeValue, rows_of_pages}
 use Rattle.st_ubtree.specs.inner.Kids.{pages_of}
 use Rattle.std.specs.List.{All}
 use Rattle.st_tally.specs.inner.Marks.{AreMarked}
-use Rattle.st_ubtree.specs.inner.Nodes.{IsInnerNode, IsNode, rows_under}
-use Rattle.st_ubtree.proofs.Keeping.{count_of_kids, fewer_in_kid, rows_are}
+use Rattle.st_ubtree.specs.inner.Nodes.{rows_under}
+use Rattle.st_ubtree.proofs.Keeping.{count_of_kids, fewer_in_kid}
 use Rattle.st_ubtree.proofs.Firsts.{marks_in}
 use Rattle.st_ubtree.proofs.Lifting.{that_kid}
 use Rattle.st_ubtree.proofs.Needing.{lower_kid}
+use Rattle.st_ubtree.proofs.Viewed.{inner_good, viewed}
 use Rattle.st_ubtree.proofs.node.Node.+count.Goals as goal
 
 pub returns-then-not-meets-clause-count : goal.returns-then-not-meets-clause-count
 returns-then-not-meets-clause-count g t c =
-    let rows : rows_of_pages c.args.self.now.pages ≡ rows_under c.self.inside.kids = ap (λ (v : NodeValue g.row.A.Denot). rows_of_pages v.pages) (sym c.self.view_is) ∙ sym (rows_are (rank c.self.inside.first) c.self.inside.kids) in
+    let rows = (viewed (rank c.self.inside.first) c.self.inside.height c.self.inside.kids c.self.view_is).rows in
     let judges = g.J.Judge.judges c.args.judge.now in
     sym (ap (count_of c.args.query.now judges) rows ∙ c.meets.ensures (rows_under c.self.inside.kids) judges c.self.invariant.1 c.if-not-meets.true)
 
 pub count_inside-requires : goal.count_inside-requires
 count_inside-requires g t c =
-    let rows : rows_of_pages c.args.self.now.pages ≡ rows_under c.self.inside.kids = ap (λ (v : NodeValue g.row.A.Denot). rows_of_pages v.pages) (sym c.self.view_is) ∙ sym (rows_are (rank c.self.inside.first) c.self.inside.kids) in
+    let rows = (viewed (rank c.self.inside.first) c.self.inside.height c.self.inside.kids c.self.view_is).rows in
     (rows_under c.self.inside.kids, c.self.invariant.1, subst (λ xs. length xs < 18446744073709551616) rows c.requires)
 
 pub returns-in-Some-clause-count : goal.returns-in-Some-clause-count
 returns-in-Some-clause-count g t c =
-    let rows : rows_of_pages c.args.self.now.pages ≡ rows_under c.self.inside.kids = ap (λ (v : NodeValue g.row.A.Denot). rows_of_pages v.pages) (sym c.self.view_is) ∙ sym (rows_are (rank c.self.inside.first) c.self.inside.kids) in
+    let rows = (viewed (rank c.self.inside.first) c.self.inside.height c.self.inside.kids c.self.view_is).rows in
     c.in-Some.ensures.some (rows_under c.self.inside.kids) c.self.invariant.1 ∙ sym (ap (count_of c.args.query.now (g.J.Judge.judges c.args.judge.now)) rows)
 
 pub count-requires : goal.count-requires
 count-requires g t c =
-    let rows : rows_of_pages c.args.self.now.pages ≡ rows_under c.self.inside.kids = ap (λ (v : NodeValue g.row.A.Denot). rows_of_pages v.pages) (sym c.self.view_is) ∙ sym (rows_are (rank c.self.inside.first) c.self.inside.kids) in
+    let rows = (viewed (rank c.self.inside.first) c.self.inside.height c.self.inside.kids c.self.view_is).rows in
     subst (λ xs. length xs < 18446744073709551616) (rows ∙ ap rows_under c.in-Page.is ∙ ap rows_of (sym c.as_slice.ensures.value)) c.requires
 
 pub returns-in-Page-clause-count : goal.returns-in-Page-clause-count
 returns-in-Page-clause-count g t c =
-    let rows : rows_of_pages c.args.self.now.pages ≡ rows_under c.self.inside.kids = ap (λ (v : NodeValue g.row.A.Denot). rows_of_pages v.pages) (sym c.self.view_is) ∙ sym (rows_are (rank c.self.inside.first) c.self.inside.kids) in
+    let rows = (viewed (rank c.self.inside.first) c.self.inside.height c.self.inside.kids c.self.view_is).rows in
     let q = c.args.query.now in
     c.count.ensures.count
     ∙ ap (λ j. count_of q j (rows_of c.as_slice.result.now)) c.count_inside.ensures.same
@@ -46,17 +47,18 @@ returns-in-Page-clause-count g t c =
 
 pub count-sum-requires : goal.count-sum-requires
 count-sum-requires g t c κs within =
-    let rows : rows_of_pages c.args.self.now.pages ≡ rows_under c.self.inside.kids = ap (λ (v : NodeValue g.row.A.Denot). rows_of_pages v.pages) (sym c.self.view_is) ∙ sym (rows_are (rank c.self.inside.first) c.self.inside.kids) in
+    let rows = (viewed (rank c.self.inside.first) c.self.inside.height c.self.inside.kids c.self.view_is).rows in
     let kids = c.in-Inner.kids.items in
     let xs = c.as_slice-kid-items.result.now in
-    let good : IsInnerNode (rank c.self.inside.first) c.self.inside.height kids (vec_capacity c.in-Inner.kids) = subst (IsNode (rank c.self.inside.first) c.self.inside.height) c.in-Inner.is c.self.invariant.0 in
-    let all : rows_of_pages c.args.self.now.pages ≡ rows_of_pages (pages_of xs) = rows ∙ ap rows_under c.in-Inner.is ∙ ap (λ ks. rows_of_pages (pages_of ks)) (sym c.as_slice-kid-items.ensures.value) in
+    let good = inner_good (rank c.self.inside.first) c.self.inside.height c.in-Inner.is c.self.invariant.0 in
+    let all : rows_of_pages c.args.self.now.pages ≡ rows_of_pages (pages_of xs) = rows ∙ ap rows_under c.in-Inner.is
+    ∙ ap (λ ks. rows_of_pages (pages_of ks)) (sym c.as_slice-kid-items.ensures.value) in
     let judges = g.J.Judge.judges c.count_inside.new.judge in
     let f = λ (v : NodeValue g.row.A.Denot). count_of c.args.query.now judges (rows_of_pages v.pages) in
     let kid = c.kid-item.result in
     let i = c.loop-kid.kid-index in
     let below : i < length xs = omega arith in
-    let tall : c.args.self.now.height ≡ c.self.inside.height = ap (λ (v : NodeValue g.row.A.Denot). v.height) (sym c.self.view_is) in
+    let tall = (viewed (rank c.self.inside.first) c.self.inside.height c.self.inside.kids c.self.view_is).tall in
     let each = good.each in
     let there = subst (λ ks. i < length ks) c.as_slice-kid-items.ensures.value below in
     let read = subst (λ ks. kid ≡ get_or ks i kid) c.as_slice-kid-items.ensures.value c.kid-item.is in
@@ -69,11 +71,12 @@ count-sum-requires g t c κs within =
 
 pub overflow_add-sum : goal.overflow_add-sum
 overflow_add-sum g t c =
-    let rows : rows_of_pages c.args.self.now.pages ≡ rows_under c.self.inside.kids = ap (λ (v : NodeValue g.row.A.Denot). rows_of_pages v.pages) (sym c.self.view_is) ∙ sym (rows_are (rank c.self.inside.first) c.self.inside.kids) in
+    let rows = (viewed (rank c.self.inside.first) c.self.inside.height c.self.inside.kids c.self.view_is).rows in
     let kids = c.in-Inner.kids.items in
     let xs = c.as_slice-kid-items.result.now in
-    let good : IsInnerNode (rank c.self.inside.first) c.self.inside.height kids (vec_capacity c.in-Inner.kids) = subst (IsNode (rank c.self.inside.first) c.self.inside.height) c.in-Inner.is c.self.invariant.0 in
-    let all : rows_of_pages c.args.self.now.pages ≡ rows_of_pages (pages_of xs) = rows ∙ ap rows_under c.in-Inner.is ∙ ap (λ ks. rows_of_pages (pages_of ks)) (sym c.as_slice-kid-items.ensures.value) in
+    let good = inner_good (rank c.self.inside.first) c.self.inside.height c.in-Inner.is c.self.invariant.0 in
+    let all : rows_of_pages c.args.self.now.pages ≡ rows_of_pages (pages_of xs) = rows ∙ ap rows_under c.in-Inner.is
+    ∙ ap (λ ks. rows_of_pages (pages_of ks)) (sym c.as_slice-kid-items.ensures.value) in
     let judges = g.J.Judge.judges c.count_inside.new.judge in
     let f = λ (v : NodeValue g.row.A.Denot). count_of c.args.query.now judges (rows_of_pages v.pages) in
     let kid = c.kid-item.result in
@@ -90,11 +93,12 @@ overflow_add-sum g t c =
 
 pub loop-kid-preserved : goal.loop-kid-preserved
 loop-kid-preserved g t c =
-    let rows : rows_of_pages c.args.self.now.pages ≡ rows_under c.self.inside.kids = ap (λ (v : NodeValue g.row.A.Denot). rows_of_pages v.pages) (sym c.self.view_is) ∙ sym (rows_are (rank c.self.inside.first) c.self.inside.kids) in
+    let rows = (viewed (rank c.self.inside.first) c.self.inside.height c.self.inside.kids c.self.view_is).rows in
     let kids = c.in-Inner.kids.items in
     let xs = c.as_slice-kid-items.result.now in
-    let good : IsInnerNode (rank c.self.inside.first) c.self.inside.height kids (vec_capacity c.in-Inner.kids) = subst (IsNode (rank c.self.inside.first) c.self.inside.height) c.in-Inner.is c.self.invariant.0 in
-    let all : rows_of_pages c.args.self.now.pages ≡ rows_of_pages (pages_of xs) = rows ∙ ap rows_under c.in-Inner.is ∙ ap (λ ks. rows_of_pages (pages_of ks)) (sym c.as_slice-kid-items.ensures.value) in
+    let good = inner_good (rank c.self.inside.first) c.self.inside.height c.in-Inner.is c.self.invariant.0 in
+    let all : rows_of_pages c.args.self.now.pages ≡ rows_of_pages (pages_of xs) = rows ∙ ap rows_under c.in-Inner.is
+    ∙ ap (λ ks. rows_of_pages (pages_of ks)) (sym c.as_slice-kid-items.ensures.value) in
     let judges = g.J.Judge.judges c.count_inside.new.judge in
     let f = λ (v : NodeValue g.row.A.Denot). count_of c.args.query.now judges (rows_of_pages v.pages) in
     let kid = c.kid-item.result in
@@ -109,11 +113,12 @@ loop-kid-preserved g t c =
 
 pub returns-after-loop-kid-clause-count : goal.returns-after-loop-kid-clause-count
 returns-after-loop-kid-clause-count g t c =
-    let rows : rows_of_pages c.args.self.now.pages ≡ rows_under c.self.inside.kids = ap (λ (v : NodeValue g.row.A.Denot). rows_of_pages v.pages) (sym c.self.view_is) ∙ sym (rows_are (rank c.self.inside.first) c.self.inside.kids) in
+    let rows = (viewed (rank c.self.inside.first) c.self.inside.height c.self.inside.kids c.self.view_is).rows in
     let kids = c.in-Inner.kids.items in
     let xs = c.as_slice-kid-items.result.now in
-    let good : IsInnerNode (rank c.self.inside.first) c.self.inside.height kids (vec_capacity c.in-Inner.kids) = subst (IsNode (rank c.self.inside.first) c.self.inside.height) c.in-Inner.is c.self.invariant.0 in
-    let all : rows_of_pages c.args.self.now.pages ≡ rows_of_pages (pages_of xs) = rows ∙ ap rows_under c.in-Inner.is ∙ ap (λ ks. rows_of_pages (pages_of ks)) (sym c.as_slice-kid-items.ensures.value) in
+    let good = inner_good (rank c.self.inside.first) c.self.inside.height c.in-Inner.is c.self.invariant.0 in
+    let all : rows_of_pages c.args.self.now.pages ≡ rows_of_pages (pages_of xs) = rows ∙ ap rows_under c.in-Inner.is
+    ∙ ap (λ ks. rows_of_pages (pages_of ks)) (sym c.as_slice-kid-items.ensures.value) in
     let judges = g.J.Judge.judges c.count_inside.new.judge in
     let f = λ (v : NodeValue g.row.A.Denot). count_of c.args.query.now judges (rows_of_pages v.pages) in
     c.loop-kid.invariant.sum
@@ -128,7 +133,7 @@ returns-after-loop-kid-clause-same g t c = c.loop-kid.invariant.same ∙ c.count
 pub count_pages-requires-clause-lowest : goal.count_pages-requires-clause-lowest
 count_pages-requires-clause-lowest g t c =
     let kids = c.in-Inner.kids.items in
-    let good : IsInnerNode (rank c.self.inside.first) c.self.inside.height kids (vec_capacity c.in-Inner.kids) = subst (IsNode (rank c.self.inside.first) c.self.inside.height) c.in-Inner.is c.self.invariant.0 in
+    let good = inner_good (rank c.self.inside.first) c.self.inside.height c.in-Inner.is c.self.invariant.0 in
     let one : c.self.inside.height ≡ 1 = c.if-self-eq1.true in
     let higher = good.higher in
     let low : good.below ≡ 0 = omega (arith, one, higher) in
@@ -136,20 +141,23 @@ count_pages-requires-clause-lowest g t c =
 
 pub count_pages-requires-clause-fits : goal.count_pages-requires-clause-fits
 count_pages-requires-clause-fits g t c =
-    let rows : rows_of_pages c.args.self.now.pages ≡ rows_under c.self.inside.kids = ap (λ (v : NodeValue g.row.A.Denot). rows_of_pages v.pages) (sym c.self.view_is) ∙ sym (rows_are (rank c.self.inside.first) c.self.inside.kids) in
+    let rows = (viewed (rank c.self.inside.first) c.self.inside.height c.self.inside.kids c.self.view_is).rows in
     let xs = c.as_slice-then-self-eq1.result.now in
-    let all : rows_of_pages c.args.self.now.pages ≡ rows_of_pages (pages_of xs) = rows ∙ ap rows_under c.in-Inner.is ∙ ap (λ ks. rows_of_pages (pages_of ks)) (sym c.as_slice-then-self-eq1.ensures.value) in
+    let all : rows_of_pages c.args.self.now.pages ≡ rows_of_pages (pages_of xs) = rows ∙ ap rows_under c.in-Inner.is
+    ∙ ap (λ ks. rows_of_pages (pages_of ks)) (sym c.as_slice-then-self-eq1.ensures.value) in
     subst (λ rs. length rs < 18446744073709551616) all c.requires
 
 pub count_pages-requires-clause-marked : goal.count_pages-requires-clause-marked
 count_pages-requires-clause-marked g t c =
-    subst (AreMarked c.deref.result.now.marks) (sym c.as_slice-then-self-eq1.ensures.value) (marks_in c.self.inside.kids c.in-Inner.kids c.in-Inner.aside c.deref.result.now c.in-Inner.is c.deref.ensures c.self.invariant.2)
+    subst (AreMarked c.deref.result.now.marks) (sym c.as_slice-then-self-eq1.ensures.value)
+    (marks_in c.self.inside.kids c.in-Inner.kids c.in-Inner.aside c.deref.result.now c.in-Inner.is c.deref.ensures c.self.invariant.2)
 
 pub returns-then-self-eq1-clause-count : goal.returns-then-self-eq1-clause-count
 returns-then-self-eq1-clause-count g t c =
-    let rows : rows_of_pages c.args.self.now.pages ≡ rows_under c.self.inside.kids = ap (λ (v : NodeValue g.row.A.Denot). rows_of_pages v.pages) (sym c.self.view_is) ∙ sym (rows_are (rank c.self.inside.first) c.self.inside.kids) in
+    let rows = (viewed (rank c.self.inside.first) c.self.inside.height c.self.inside.kids c.self.view_is).rows in
     let xs = c.as_slice-then-self-eq1.result.now in
-    let all : rows_of_pages c.args.self.now.pages ≡ rows_of_pages (pages_of xs) = rows ∙ ap rows_under c.in-Inner.is ∙ ap (λ ks. rows_of_pages (pages_of ks)) (sym c.as_slice-then-self-eq1.ensures.value) in
+    let all : rows_of_pages c.args.self.now.pages ≡ rows_of_pages (pages_of xs) = rows ∙ ap rows_under c.in-Inner.is
+    ∙ ap (λ ks. rows_of_pages (pages_of ks)) (sym c.as_slice-then-self-eq1.ensures.value) in
     c.count_pages.ensures.count
     ∙ ap (λ j. count_of c.args.query.now j (rows_of_pages (pages_of xs))) c.count_inside.ensures.same
     ∙ sym (ap (count_of c.args.query.now (g.J.Judge.judges c.args.judge.now)) all)

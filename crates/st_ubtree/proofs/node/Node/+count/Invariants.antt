@@ -1,7 +1,7 @@
 use Rattle.std.proofs.Common.{◌≡◌, take}
 use Rattle.std.specs.List.{sum_by}
-use Rattle.st_index.specs.Counting.{count_of}
-use Rattle.st_tally.specs.Pages.{NodeValue, rows_of_pages}
+use Rattle.st_index.specs.inner.Counting.{count_of}
+use Rattle.st_tally.specs.inner.Pages.{NodeValue, rows_of_pages}
 use Rattle.st_ubtree.proofs.node.Node.+count.Given as goal
 
 abbrev pub decreases-count : goal.decreases-count

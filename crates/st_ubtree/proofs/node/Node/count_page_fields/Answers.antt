@@ -5,22 +5,22 @@ use Rattle.std.specs.List.{All}
 use Rattle.st_key.specs.Key.{rank}
 use Rattle.st_box.specs.Query.{is_inside}
 use Rattle.st_index.specs.declared.row.Row.{Row}
-use Rattle.st_index.specs.Counting.{count_of, is_counted}
-use Rattle.st_index.specs.Fields.{CanAdd}
+use Rattle.st_index.specs.inner.Counting.{count_of, is_counted}
+use Rattle.st_index.specs.inner.Fields.{CanAdd}
 use Rattle.st_index.specs.Rows.{rows_of}
 use Rattle.st_index.proofs.Tallying.{counts_in_one, counts_none}
-use Rattle.st_tally.specs.Pages.{NodeValue, rows_of_pages, entries_of_pages}
+use Rattle.st_tally.specs.inner.Pages.{NodeValue, rows_of_pages, entries_of_pages}
 use Rattle.st_tally.specs.inner.Marks.{AreMarks}
 use Rattle.st_tally.specs.inner.Sums.{AreInside}
 use Rattle.st_ubtree.specs.inner.Nodes.{pages_under, rows_under, width_of}
 use Rattle.st_ubtree.proofs.Counting.{node_fits}
 use Rattle.st_tally.proofs.Fielding.{all_in_one, counts_by}
-use Rattle.st_ubtree.proofs.Keeping.{rows_are}
+use Rattle.st_ubtree.proofs.Viewed.{viewed}
 use Rattle.st_ubtree.proofs.node.Node.count_page_fields.Goals as goal
 
 pub returns-then-not-meets-clause-counts : goal.returns-then-not-meets-clause-counts
 returns-then-not-meets-clause-counts g c =
-    let rows : rows_of_pages c.args.self.now.pages ≡ rows_under c.self.inside.kids = ap (λ (v : NodeValue g.row.A.Denot). rows_of_pages v.pages) (sym c.self.view_is) ∙ sym (rows_are (rank c.self.inside.first) c.self.inside.kids) in
+    let rows = (viewed (rank c.self.inside.first) c.self.inside.height c.self.inside.kids c.self.view_is).rows in
     let judges = g.J.Judge.judges c.args.judge.now in
     let none = c.meets.ensures (rows_under c.self.inside.kids) judges c.self.invariant.1 c.if-not-meets.true in
     counts_none (g.F.Fields.query c.args.fields.now) judges (g.F.Fields.field_of c.args.fields.now) (rows_of_pages c.args.self.now.pages) c.args.counts.now
@@ -32,7 +32,7 @@ count_page-rows-requires-clause-fits g c =
 
 pub returns-clause-counts : goal.returns-clause-counts
 returns-clause-counts g c =
-    let rows : rows_of_pages c.args.self.now.pages ≡ rows_under c.self.inside.kids = ap (λ (v : NodeValue g.row.A.Denot). rows_of_pages v.pages) (sym c.self.view_is) ∙ sym (rows_are (rank c.self.inside.first) c.self.inside.kids) in
+    let rows = (viewed (rank c.self.inside.first) c.self.inside.height c.self.inside.kids c.self.view_is).rows in
     let q = g.F.Fields.query c.args.fields.now in
     let judges = g.J.Judge.judges c.args.judge.now in
     let field_of = g.F.Fields.field_of c.args.fields.now in
@@ -46,12 +46,12 @@ returns-clause-counts g c =
 
 pub count-requires-clause-fits : goal.count-requires-clause-fits
 count-requires-clause-fits g c =
-    let rows : rows_of_pages c.args.self.now.pages ≡ rows_under c.self.inside.kids = ap (λ (v : NodeValue g.row.A.Denot). rows_of_pages v.pages) (sym c.self.view_is) ∙ sym (rows_are (rank c.self.inside.first) c.self.inside.kids) in
+    let rows = (viewed (rank c.self.inside.first) c.self.inside.height c.self.inside.kids c.self.view_is).rows in
     subst (λ (rs : List (Row g.row.A.Denot)). CanAdd (length rs) c.args.counts.now) (rows ∙ ap rows_under c.in-Page.is ∙ ap rows_of (sym c.as_slice-entries.ensures.value)) c.requires.fits
 
 pub returns-in_default-page-clause-counts : goal.returns-in_default-page-clause-counts
 returns-in_default-page-clause-counts g c =
-    let rows : rows_of_pages c.args.self.now.pages ≡ rows_under c.self.inside.kids = ap (λ (v : NodeValue g.row.A.Denot). rows_of_pages v.pages) (sym c.self.view_is) ∙ sym (rows_are (rank c.self.inside.first) c.self.inside.kids) in
+    let rows = (viewed (rank c.self.inside.first) c.self.inside.height c.self.inside.kids c.self.view_is).rows in
     let q = g.F.Fields.query c.args.fields.now in
     let judges = g.J.Judge.judges c.args.judge.now in
     let field_of = g.F.Fields.field_of c.args.fields.now in
@@ -60,7 +60,7 @@ returns-in_default-page-clause-counts g c =
 
 pub count_inside-requires-clause-fits : goal.count_inside-requires-clause-fits
 count_inside-requires-clause-fits g c =
-    let rows : rows_of_pages c.args.self.now.pages ≡ rows_under c.self.inside.kids = ap (λ (v : NodeValue g.row.A.Denot). rows_of_pages v.pages) (sym c.self.view_is) ∙ sym (rows_are (rank c.self.inside.first) c.self.inside.kids) in
+    let rows = (viewed (rank c.self.inside.first) c.self.inside.height c.self.inside.kids c.self.view_is).rows in
     subst (λ (rs : List (Row g.row.A.Denot)). CanAdd (length rs) c.args.counts.now) (rows ∙ ap rows_under c.in-Page.is ∙ ap rows_of (sym c.as_slice-entries.ensures.value)) c.requires.fits
 
 pub count_inside-requires-clause-marked : goal.count_inside-requires-clause-marked
@@ -88,7 +88,7 @@ count_inside-requires-clause-inside g c =
 
 pub returns-then-lies_in-clause-counts : goal.returns-then-lies_in-clause-counts
 returns-then-lies_in-clause-counts g c =
-    let rows : rows_of_pages c.args.self.now.pages ≡ rows_under c.self.inside.kids = ap (λ (v : NodeValue g.row.A.Denot). rows_of_pages v.pages) (sym c.self.view_is) ∙ sym (rows_are (rank c.self.inside.first) c.self.inside.kids) in
+    let rows = (viewed (rank c.self.inside.first) c.self.inside.height c.self.inside.kids c.self.view_is).rows in
     let q = g.F.Fields.query c.args.fields.now in
     let judges = g.J.Judge.judges c.args.judge.now in
     let field_of = g.F.Fields.field_of c.args.fields.now in
@@ -97,7 +97,7 @@ returns-then-lies_in-clause-counts g c =
 
 pub count_marked-requires-clause-fits : goal.count_marked-requires-clause-fits
 count_marked-requires-clause-fits g c =
-    let rows : rows_of_pages c.args.self.now.pages ≡ rows_under c.self.inside.kids = ap (λ (v : NodeValue g.row.A.Denot). rows_of_pages v.pages) (sym c.self.view_is) ∙ sym (rows_are (rank c.self.inside.first) c.self.inside.kids) in
+    let rows = (viewed (rank c.self.inside.first) c.self.inside.height c.self.inside.kids c.self.view_is).rows in
     subst (λ (rs : List (Row g.row.A.Denot)). CanAdd (length rs) c.args.counts.now) (rows ∙ ap rows_under c.in-Page.is ∙ ap rows_of (sym c.as_slice-entries.ensures.value)) c.requires.fits
 
 pub count_marked-requires-clause-marked : goal.count_marked-requires-clause-marked
@@ -112,7 +112,7 @@ count_marked-requires-clause-marked g c =
 
 pub returns-2-clause-counts : goal.returns-2-clause-counts
 returns-2-clause-counts g c =
-    let rows : rows_of_pages c.args.self.now.pages ≡ rows_under c.self.inside.kids = ap (λ (v : NodeValue g.row.A.Denot). rows_of_pages v.pages) (sym c.self.view_is) ∙ sym (rows_are (rank c.self.inside.first) c.self.inside.kids) in
+    let rows = (viewed (rank c.self.inside.first) c.self.inside.height c.self.inside.kids c.self.view_is).rows in
     let q = g.F.Fields.query c.args.fields.now in
     let judges = g.J.Judge.judges c.args.judge.now in
     let field_of = g.F.Fields.field_of c.args.fields.now in

@@ -1,11 +1,12 @@
 use Rattle.std.proofs.Common.{◌≡◌, ◌∷◌, [], sym, ap, subst, ◌∙◌, vec_capacity, length, Some, arith, ◌+◌, ◌≤◌, ℕ, Vec, vec_len}
 use Rattle.st_key.specs.Key.{rank}
-use Rattle.st_tally.specs.Pages.{NodeValue, page_node}
-use Rattle.st_ubtree.specs.inner.Nodes.{IsInnerNode, IsNode, IsPageNode, node_value, pages_under, width_of}
+use Rattle.st_tally.specs.inner.Pages.{NodeValue, page_node}
+use Rattle.st_ubtree.specs.inner.Nodes.{IsNode, IsPageNode, node_value, pages_under, width_of}
 use Rattle.st_ubtree.specs.inner.Shrinking.{Joins}
 use Rattle.st_ubtree.proofs.Joining.{join_of_pages}
 use Rattle.st_ubtree.proofs.Needing.{page_short, splits_alone}
 use Rattle.st_ubtree.proofs.Splitting.{page}
+use Rattle.st_ubtree.proofs.Viewed.{inner_good, page_good}
 use Rattle.st_ubtree.proofs.node.Node.halve.Goals as goal
 use Rattle.st_ubtree.proofs.node.Node.halve.Goals.{in_default-via-in-Page+in_default, in_default-via-in_default}
 
@@ -21,7 +22,8 @@ returns-clause-joins g c =
     let good : IsPageNode c.self.inside.height (length left) (vec_capacity c.in-Page-Page.left) = subst (IsNode first c.self.inside.height) c.in-Page-Page.is-0 c.self.invariant.0 in
     let low = good.lowest in
     let old : page_node first c.self.inside.height left ≡ c.args.self.now = ap (node_value first c.self.inside.height) (sym c.in-Page-Page.is-0) ∙ c.self.view_is in
-    let pages : c.args.right.pages ≡ page (rank c.right.inside.first) right ∷ [] = ap (λ (v : NodeValue g.row.A.Denot). v.pages) (sym c.right.view_is) ∙ ap (pages_under (rank c.right.inside.first)) c.in-Page-Page.is-1 in
+    let pages : c.args.right.pages ≡ page (rank c.right.inside.first) right ∷ [] = ap (λ (v : NodeValue g.row.A.Denot). v.pages) (sym c.right.view_is)
+    ∙ ap (pages_under (rank c.right.inside.first)) c.in-Page-Page.is-1 in
     let new = c.halve_pages-right.new.left.items in
     let r = c.halve_pages-right.result in
     let j = join_of_pages first (rank c.right.inside.first) c.self.inside.height left right new (Some r) c.args.right low pages c.halve_pages-right.ensures.joins in
@@ -37,12 +39,12 @@ pub unreachable-requires : goal.unreachable-requires
 unreachable-requires g c =
     elim c.in_default.branch [
       | in_default-via-in-Page+in_default w ↦
-          let good : IsInnerNode (rank c.right.inside.first) c.right.inside.height w.in_default.field-0-1.items (vec_capacity w.in_default.field-0-1) = subst (IsNode (rank c.right.inside.first) c.right.inside.height) w.in_default.is-1 c.right.invariant.0 in
+          let good = inner_good (rank c.right.inside.first) c.right.inside.height w.in_default.is-1 c.right.invariant.0 in
           let height = ap (λ (v : NodeValue g.row.A.Denot). v.height) c.right.view_is ∙ c.requires.right.same_height in
           let higher = good.higher in
           omega (arith, height, higher)
       | in_default-via-in_default w ↦
-          let good : IsInnerNode (rank c.self.inside.first) c.self.inside.height w.in_default.field-0-0.items (vec_capacity w.in_default.field-0-0) = subst (IsNode (rank c.self.inside.first) c.self.inside.height) w.in_default.is-0 c.self.invariant.0 in
+          let good = inner_good (rank c.self.inside.first) c.self.inside.height w.in_default.is-0 c.self.invariant.0 in
           let height = ap (λ (v : NodeValue g.row.A.Denot). v.height) c.self.view_is ∙ c.requires.left.same_height in
           let higher = good.higher in
           omega (arith, height, higher)
@@ -50,17 +52,17 @@ unreachable-requires g c =
 
 pub invariant_of-self : goal.invariant_of-self
 invariant_of-self g c =
-    let good : IsPageNode c.self.inside.height (length c.in-Page-Page.left.items) (vec_capacity c.in-Page-Page.left) = subst (IsNode (rank c.self.inside.first) c.self.inside.height) c.in-Page-Page.is-0 c.self.invariant.0 in
+    let good = page_good (rank c.self.inside.first) c.self.inside.height c.in-Page-Page.is-0 c.self.invariant.0 in
     (record { lowest = good.lowest; not_more = c.halve_pages-right.ensures.joins.not_more; room = c.halve_pages-right.ensures.room }, c.renew.ensures, tt, tt)
 
 pub halve_pages-right-requires-clause-right_room : goal.halve_pages-right-requires-clause-right_room
 halve_pages-right-requires-clause-right_room g c =
-    let good : IsPageNode c.right.inside.height (length c.in-Page-Page.right.items) (vec_capacity c.in-Page-Page.right) = subst (IsNode (rank c.right.inside.first) c.right.inside.height) c.in-Page-Page.is-1 c.right.invariant.0 in
+    let good = page_good (rank c.right.inside.first) c.right.inside.height c.in-Page-Page.is-1 c.right.invariant.0 in
     good.room
 
 pub halve_pages-right-requires-clause-left_room : goal.halve_pages-right-requires-clause-left_room
 halve_pages-right-requires-clause-left_room g c =
-    let good : IsPageNode c.self.inside.height (length c.in-Page-Page.left.items) (vec_capacity c.in-Page-Page.left) = subst (IsNode (rank c.self.inside.first) c.self.inside.height) c.in-Page-Page.is-0 c.self.invariant.0 in
+    let good = page_good (rank c.self.inside.first) c.self.inside.height c.in-Page-Page.is-0 c.self.invariant.0 in
     good.room
 
 pub halve_pages-right-requires-clause-both : goal.halve_pages-right-requires-clause-both

@@ -1,29 +1,32 @@
 use Rattle.std.proofs.Common.{◌≡◌, ◌∷◌, [], length, subst, sym, ap, ◌∙◌, arith, vec_capacity}
 use Rattle.st_key.specs.Key.{rank}
-use Rattle.st_tally.specs.Pages.{NodeValue}
+use Rattle.st_tally.specs.inner.Pages.{NodeValue}
 use Rattle.st_ubtree.specs.inner.Kids.{pages_of}
 use Rattle.st_ubtree.specs.inner.Nodes.{IsNode, IsInnerNode, IsPageNode, inner_node, node_value, pages_under, rows_under, width_of}
-use Rattle.st_tally.specs.Pages.{page_node}
+use Rattle.st_tally.specs.inner.Pages.{page_node}
 use Rattle.st_ubtree.specs.inner.Shrinking.{KidsJoin}
 use Rattle.st_tally.specs.inner.Sums.{Sums}
 use Rattle.st_ubtree.proofs.Joining.{both_kids, join_of_kids, join_of_pages, joined_each, joined_head, held_both, held_worn}
 use Rattle.st_ubtree.proofs.Splitting.{page}
+use Rattle.st_ubtree.proofs.Viewed.{inner_good, page_good}
 use Rattle.st_ubtree.proofs.node.Node.join.Goals as goal
 use Rattle.st_ubtree.proofs.node.Node.join.Goals.{in_default-via-in-Page+in_default, in_default-via-in-Inner+in_default}
 
 pub join_kids-requires-clause-kids : goal.join_kids-requires-clause-kids
 join_kids-requires-clause-kids g c =
-    let same : c.right.inside.height ≡ c.self.inside.height = ap (λ (v : NodeValue g.row.A.Denot). v.height) c.right.view_is ∙ c.requires.right.same_height ∙ ap (λ (v : NodeValue g.row.A.Denot). v.height) (sym c.self.view_is) in
+    let same : c.right.inside.height ≡ c.self.inside.height = ap (λ (v : NodeValue g.row.A.Denot). v.height) c.right.view_is
+    ∙ c.requires.right.same_height ∙ ap (λ (v : NodeValue g.row.A.Denot). v.height) (sym c.self.view_is) in
     let old = c.in-Inner-Inner.left.items in
     let right = c.in-Inner-Inner.right.items in
-    let good : IsInnerNode (rank c.self.inside.first) c.self.inside.height old (vec_capacity c.in-Inner-Inner.left) = subst (IsNode (rank c.self.inside.first) c.self.inside.height) c.in-Inner-Inner.is-0 c.self.invariant.0 in
-    let other : IsInnerNode (rank c.right.inside.first) c.right.inside.height right (vec_capacity c.in-Inner-Inner.right) = subst (IsNode (rank c.right.inside.first) c.right.inside.height) c.in-Inner-Inner.is-1 c.right.invariant.0 in
+    let good = inner_good (rank c.self.inside.first) c.self.inside.height c.in-Inner-Inner.is-0 c.self.invariant.0 in
+    let other : IsInnerNode (rank c.right.inside.first) c.right.inside.height right (vec_capacity c.in-Inner-Inner.right) =
+    subst (IsNode (rank c.right.inside.first) c.right.inside.height) c.in-Inner-Inner.is-1 c.right.invariant.0 in
     let all = both_kids (rank c.self.inside.first) (rank c.right.inside.first) c.self.inside.height c.right.inside.height old right _ _ same good other in
     record { below = good.below; higher = same ∙ good.higher; each = all }
 
 pub invariant_of-self : goal.invariant_of-self
 invariant_of-self g c =
-    let good : IsPageNode c.self.inside.height (length c.in-Page-Page.left.items) (vec_capacity c.in-Page-Page.left) = subst (IsNode (rank c.self.inside.first) c.self.inside.height) c.in-Page-Page.is-0 c.self.invariant.0 in (
+    let good = page_good (rank c.self.inside.first) c.self.inside.height c.in-Page-Page.is-0 c.self.invariant.0 in (
       record { lowest = good.lowest; not_more = c.join_pages.ensures.joins.not_more; room = c.join_pages.ensures.room },
       c.join_pages.ensures.sum,
       tt,
@@ -32,11 +35,13 @@ invariant_of-self g c =
 
 pub invariant_of-self-in-Inner-this : goal.invariant_of-self-in-Inner-this
 invariant_of-self-in-Inner-this g c =
-    let same : c.right.inside.height ≡ c.self.inside.height = ap (λ (v : NodeValue g.row.A.Denot). v.height) c.right.view_is ∙ c.requires.right.same_height ∙ ap (λ (v : NodeValue g.row.A.Denot). v.height) (sym c.self.view_is) in
+    let same : c.right.inside.height ≡ c.self.inside.height = ap (λ (v : NodeValue g.row.A.Denot). v.height) c.right.view_is
+    ∙ c.requires.right.same_height ∙ ap (λ (v : NodeValue g.row.A.Denot). v.height) (sym c.self.view_is) in
     let old = c.in-Inner-Inner.left.items in
     let right = c.in-Inner-Inner.right.items in
-    let good : IsInnerNode (rank c.self.inside.first) c.self.inside.height old (vec_capacity c.in-Inner-Inner.left) = subst (IsNode (rank c.self.inside.first) c.self.inside.height) c.in-Inner-Inner.is-0 c.self.invariant.0 in
-    let other : IsInnerNode (rank c.right.inside.first) c.right.inside.height right (vec_capacity c.in-Inner-Inner.right) = subst (IsNode (rank c.right.inside.first) c.right.inside.height) c.in-Inner-Inner.is-1 c.right.invariant.0 in
+    let good = inner_good (rank c.self.inside.first) c.self.inside.height c.in-Inner-Inner.is-0 c.self.invariant.0 in
+    let other : IsInnerNode (rank c.right.inside.first) c.right.inside.height right (vec_capacity c.in-Inner-Inner.right) =
+    subst (IsNode (rank c.right.inside.first) c.right.inside.height) c.in-Inner-Inner.is-1 c.right.invariant.0 in
     let all = both_kids (rank c.self.inside.first) (rank c.right.inside.first) c.self.inside.height c.right.inside.height old right _ _ same good other in
     let new = c.join_kids.new.left.items in
     let j = c.join_kids.ensures.joins in (
@@ -56,21 +61,27 @@ invariant_of-self-in-Inner-this g c =
 
 pub returns-in-Page-Page : goal.returns-in-Page-Page
 returns-in-Page-Page g c =
-    let good : IsPageNode c.self.inside.height (length c.in-Page-Page.left.items) (vec_capacity c.in-Page-Page.left) = subst (IsNode (rank c.self.inside.first) c.self.inside.height) c.in-Page-Page.is-0 c.self.invariant.0 in
+    let good = page_good (rank c.self.inside.first) c.self.inside.height c.in-Page-Page.is-0 c.self.invariant.0 in
     let left = c.in-Page-Page.left.items in
     let right = c.in-Page-Page.right.items in
     let old : page_node (rank c.self.inside.first) c.self.inside.height left ≡ c.args.self.now =
     ap (node_value (rank c.self.inside.first) c.self.inside.height) (sym c.in-Page-Page.is-0) ∙ c.self.view_is in
-    let pages : c.args.right.pages ≡ page (rank c.right.inside.first) right ∷ [] = ap (λ (v : NodeValue g.row.A.Denot). v.pages) (sym c.right.view_is) ∙ ap (pages_under (rank c.right.inside.first)) c.in-Page-Page.is-1 in
-    rw (← old) (record { joins = join_of_pages (rank c.self.inside.first) (rank c.right.inside.first) c.self.inside.height left right c.join_pages.new.left.items c.join_pages.result c.args.right good.lowest pages c.join_pages.ensures.joins })
+    let pages : c.args.right.pages ≡ page (rank c.right.inside.first) right ∷ [] = ap (λ (v : NodeValue g.row.A.Denot). v.pages) (sym c.right.view_is)
+    ∙ ap (pages_under (rank c.right.inside.first)) c.in-Page-Page.is-1 in
+    rw (← old) (record {
+      joins = join_of_pages (rank c.self.inside.first) (rank c.right.inside.first) c.self.inside.height left right
+          c.join_pages.new.left.items c.join_pages.result c.args.right good.lowest pages c.join_pages.ensures.joins;
+    })
 
 pub returns-in-Inner-Inner : goal.returns-in-Inner-Inner
 returns-in-Inner-Inner g c =
-    let same : c.right.inside.height ≡ c.self.inside.height = ap (λ (v : NodeValue g.row.A.Denot). v.height) c.right.view_is ∙ c.requires.right.same_height ∙ ap (λ (v : NodeValue g.row.A.Denot). v.height) (sym c.self.view_is) in
+    let same : c.right.inside.height ≡ c.self.inside.height = ap (λ (v : NodeValue g.row.A.Denot). v.height) c.right.view_is
+    ∙ c.requires.right.same_height ∙ ap (λ (v : NodeValue g.row.A.Denot). v.height) (sym c.self.view_is) in
     let old = c.in-Inner-Inner.left.items in
     let right = c.in-Inner-Inner.right.items in
-    let good : IsInnerNode (rank c.self.inside.first) c.self.inside.height old (vec_capacity c.in-Inner-Inner.left) = subst (IsNode (rank c.self.inside.first) c.self.inside.height) c.in-Inner-Inner.is-0 c.self.invariant.0 in
-    let other : IsInnerNode (rank c.right.inside.first) c.right.inside.height right (vec_capacity c.in-Inner-Inner.right) = subst (IsNode (rank c.right.inside.first) c.right.inside.height) c.in-Inner-Inner.is-1 c.right.invariant.0 in
+    let good = inner_good (rank c.self.inside.first) c.self.inside.height c.in-Inner-Inner.is-0 c.self.invariant.0 in
+    let other : IsInnerNode (rank c.right.inside.first) c.right.inside.height right (vec_capacity c.in-Inner-Inner.right) =
+    subst (IsNode (rank c.right.inside.first) c.right.inside.height) c.in-Inner-Inner.is-1 c.right.invariant.0 in
     let all = both_kids (rank c.self.inside.first) (rank c.right.inside.first) c.self.inside.height c.right.inside.height old right _ _ same good other in
     let new = c.join_kids.new.left.items in
     let made : inner_node (rank c.self.inside.first) c.self.inside.height old ≡ c.args.self.now =
@@ -103,12 +114,12 @@ join_pages-requires-clause-both g c =
 
 pub join_pages-requires-clause-left_room : goal.join_pages-requires-clause-left_room
 join_pages-requires-clause-left_room g c =
-    let good : IsPageNode c.self.inside.height (length c.in-Page-Page.left.items) (vec_capacity c.in-Page-Page.left) = subst (IsNode (rank c.self.inside.first) c.self.inside.height) c.in-Page-Page.is-0 c.self.invariant.0 in
+    let good = page_good (rank c.self.inside.first) c.self.inside.height c.in-Page-Page.is-0 c.self.invariant.0 in
     good.room
 
 pub join_pages-requires-clause-right_room : goal.join_pages-requires-clause-right_room
 join_pages-requires-clause-right_room g c =
-    let good : IsPageNode c.right.inside.height (length c.in-Page-Page.right.items) (vec_capacity c.in-Page-Page.right) = subst (IsNode (rank c.right.inside.first) c.right.inside.height) c.in-Page-Page.is-1 c.right.invariant.0 in
+    let good = page_good (rank c.right.inside.first) c.right.inside.height c.in-Page-Page.is-1 c.right.invariant.0 in
     good.room
 
 pub join_kids-requires-clause-left : goal.join_kids-requires-clause-left
@@ -129,26 +140,32 @@ join_kids-requires-clause-both g c =
 
 pub join_kids-requires-clause-left_room : goal.join_kids-requires-clause-left_room
 join_kids-requires-clause-left_room g c =
-    let good : IsInnerNode (rank c.self.inside.first) c.self.inside.height c.in-Inner-Inner.left.items (vec_capacity c.in-Inner-Inner.left) = subst (IsNode (rank c.self.inside.first) c.self.inside.height) c.in-Inner-Inner.is-0 c.self.invariant.0 in
+    let good = inner_good (rank c.self.inside.first) c.self.inside.height c.in-Inner-Inner.is-0 c.self.invariant.0 in
     good.room
 
 pub join_kids-requires-clause-right_room : goal.join_kids-requires-clause-right_room
 join_kids-requires-clause-right_room g c =
-    let good : IsInnerNode (rank c.right.inside.first) c.right.inside.height c.in-Inner-Inner.right.items (vec_capacity c.in-Inner-Inner.right) = subst (IsNode (rank c.right.inside.first) c.right.inside.height) c.in-Inner-Inner.is-1 c.right.invariant.0 in
+    let good = inner_good (rank c.right.inside.first) c.right.inside.height c.in-Inner-Inner.is-1 c.right.invariant.0 in
     good.room
 
 pub unreachable-requires : goal.unreachable-requires
 unreachable-requires g c =
-    let same : c.right.inside.height ≡ c.self.inside.height = ap (λ (v : NodeValue g.row.A.Denot). v.height) c.right.view_is ∙ c.requires.right.same_height ∙ ap (λ (v : NodeValue g.row.A.Denot). v.height) (sym c.self.view_is) in
+    let same : c.right.inside.height ≡ c.self.inside.height = ap (λ (v : NodeValue g.row.A.Denot). v.height) c.right.view_is
+    ∙ c.requires.right.same_height ∙ ap (λ (v : NodeValue g.row.A.Denot). v.height) (sym c.self.view_is) in
     elim c.in_default.branch [
       | in_default-via-in-Page+in_default w ↦
-          let page : IsPageNode c.self.inside.height (length w.in_default.field-0-0.items) (vec_capacity w.in_default.field-0-0) = subst (IsNode (rank c.self.inside.first) c.self.inside.height) w.in_default.is-0 c.self.invariant.0 in
-          let inner : IsInnerNode (rank c.right.inside.first) c.right.inside.height w.in_default.field-0-1.items (vec_capacity w.in_default.field-0-1) = subst (IsNode (rank c.right.inside.first) c.right.inside.height) w.in_default.is-1 c.right.invariant.0 in
+          let page : IsPageNode c.self.inside.height (length w.in_default.field-0-0.items) (vec_capacity w.in_default.field-0-0) =
+          subst (IsNode (rank c.self.inside.first) c.self.inside.height) w.in_default.is-0 c.self.invariant.0 in
+          let inner : IsInnerNode (rank c.right.inside.first) c.right.inside.height w.in_default.field-0-1.items
+          (vec_capacity w.in_default.field-0-1) =
+          subst (IsNode (rank c.right.inside.first) c.right.inside.height) w.in_default.is-1 c.right.invariant.0 in
           let lowest = page.lowest in let higher = inner.higher in
           omega (arith, same, lowest, higher)
       | in_default-via-in-Inner+in_default w ↦
-          let inner : IsInnerNode (rank c.self.inside.first) c.self.inside.height w.in_default.field-0-0.items (vec_capacity w.in_default.field-0-0) = subst (IsNode (rank c.self.inside.first) c.self.inside.height) w.in_default.is-0 c.self.invariant.0 in
-          let page : IsPageNode c.right.inside.height (length w.in_default.field-0-1.items) (vec_capacity w.in_default.field-0-1) = subst (IsNode (rank c.right.inside.first) c.right.inside.height) w.in_default.is-1 c.right.invariant.0 in
+          let inner : IsInnerNode (rank c.self.inside.first) c.self.inside.height w.in_default.field-0-0.items (vec_capacity w.in_default.field-0-0) =
+          subst (IsNode (rank c.self.inside.first) c.self.inside.height) w.in_default.is-0 c.self.invariant.0 in
+          let page : IsPageNode c.right.inside.height (length w.in_default.field-0-1.items) (vec_capacity w.in_default.field-0-1) =
+          subst (IsNode (rank c.right.inside.first) c.right.inside.height) w.in_default.is-1 c.right.invariant.0 in
           let lowest = page.lowest in let higher = inner.higher in
           omega (arith, same, lowest, higher)
     ]

@@ -1,15 +1,16 @@
-use Rattle.std.proofs.Common.{subst, sym, ap, ◌∙◌, arith, rules, vec_capacity}
+use Rattle.std.proofs.Common.{sym, ap, ◌∙◌, arith, rules}
 use Rattle.st_key.specs.Key.{rank}
-use Rattle.st_tally.specs.Pages.{NodeValue}
-use Rattle.st_ubtree.specs.inner.Nodes.{IsInnerNode, IsNode, pages_under}
-use Rattle.st_ubtree.proofs.Settling.{last_kid}
+use Rattle.st_tally.specs.inner.Pages.{NodeValue}
+use Rattle.st_ubtree.specs.inner.Nodes.{pages_under}
+use Rattle.st_ubtree.proofs.Halving.{last_kid}
+use Rattle.st_ubtree.proofs.Viewed.{inner_good}
 use Rattle.st_ubtree.proofs.node.Node.lower.Goals as goal
 use Rattle.st_ubtree.proofs.node.Node.lower.Goals.{in_default-via-in-Page-1, in_default-via-in-Inner+else-len-eq1}
 
 pub returns-in-Some-clause-wide : goal.returns-in-Some-clause-wide
 returns-in-Some-clause-wide g c =
     let kids = c.in-Inner.kids.items in
-    let good : IsInnerNode (rank c.self.inside.first) c.self.inside.height kids (vec_capacity c.in-Inner.kids) = subst (IsNode (rank c.self.inside.first) c.self.inside.height) c.in-Inner.is c.self.invariant.0 in
+    let good = inner_good (rank c.self.inside.first) c.self.inside.height c.in-Inner.is c.self.invariant.0 in
     let kid = last_kid good.below kids c.pop.new.self.items c.in-Some.only good.each c.in-Some.ensures.items in
     let same = ap (λ (v : NodeValue g.row.A.Denot). v.width) c.only.view_is in
     let wide = kid.not_less in
@@ -18,7 +19,7 @@ returns-in-Some-clause-wide g c =
 pub returns-in-Some-clause-lower : goal.returns-in-Some-clause-lower
 returns-in-Some-clause-lower g c =
     let kids = c.in-Inner.kids.items in
-    let good : IsInnerNode (rank c.self.inside.first) c.self.inside.height kids (vec_capacity c.in-Inner.kids) = subst (IsNode (rank c.self.inside.first) c.self.inside.height) c.in-Inner.is c.self.invariant.0 in
+    let good = inner_good (rank c.self.inside.first) c.self.inside.height c.in-Inner.is c.self.invariant.0 in
     let kid = last_kid good.below kids c.pop.new.self.items c.in-Some.only good.each c.in-Some.ensures.items in
     let top = ap (λ (v : NodeValue g.row.A.Denot). v.height) c.self.view_is in
     let same = ap (λ (v : NodeValue g.row.A.Denot). v.height) c.only.view_is in
@@ -31,7 +32,7 @@ returns-in_default-clause-wide g c =
     elim c.in_default.branch [
       | in_default-via-in-Page-1 w ↦ search rules
       | in_default-via-in-Inner+else-len-eq1 w ↦
-          let good : IsInnerNode (rank c.self.inside.first) c.self.inside.height w.in-Inner.kids.items (vec_capacity w.in-Inner.kids) = subst (IsNode (rank c.self.inside.first) c.self.inside.height) w.in-Inner.is c.self.invariant.0 in
+          let good = inner_good (rank c.self.inside.first) c.self.inside.height w.in-Inner.is c.self.invariant.0 in
           let some = good.not_less in
           let width = ap (λ (v : NodeValue g.row.A.Denot). v.width) w.self-is in
           λ tall. omega (arith, some, width, w.len.ensures, w.if-len-eq1.false)

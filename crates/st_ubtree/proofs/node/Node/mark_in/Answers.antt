@@ -1,14 +1,15 @@
-use Rattle.std.proofs.Common.{◌≡◌, ◌≤◌, length, sym, ap, subst, ◌∙◌, vec_capacity}
+use Rattle.std.proofs.Common.{◌≡◌, ◌≤◌, length, sym, ap, subst, ◌∙◌}
 use Rattle.std.proofs.lemmas.List.{append-nil}
 use Rattle.st_key.specs.Key.{rank}
-use Rattle.st_tally.specs.Pages.{NodeValue, entries_of_pages}
-use Rattle.st_ubtree.specs.inner.Nodes.{IsNode, IsPageNode, pages_under}
+use Rattle.st_tally.specs.inner.Pages.{NodeValue, entries_of_pages}
+use Rattle.st_ubtree.specs.inner.Nodes.{pages_under}
 use Rattle.st_tally.proofs.Placing.{same_at}
+use Rattle.st_ubtree.proofs.Viewed.{page_good}
 use Rattle.st_ubtree.proofs.node.Node.mark_in.Goals as goal
 
 pub mark-requires : goal.mark-requires
 mark-requires g c =
-    let good : IsPageNode c.self.inside.height (length c.in-Page.entries.items) (vec_capacity c.in-Page.entries) = subst (IsNode (rank c.self.inside.first) c.self.inside.height) c.in-Page.is c.self.invariant.0 in
+    let good = page_good (rank c.self.inside.first) c.self.inside.height c.in-Page.is c.self.invariant.0 in
     subst (λ es. length es ≤ 32) (sym c.as_slice.ensures.value) good.not_more
 
 pub returns-in-Page : goal.returns-in-Page

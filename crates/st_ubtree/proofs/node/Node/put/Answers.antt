@@ -3,7 +3,7 @@ use Rattle.st_key.specs.Key.{rank}
 use Rattle.st_ubtree.specs.inner.Growing.{AreBlank}
 use Rattle.st_ubtree.specs.inner.Splits.{splits}
 use Rattle.st_ubtree.proofs.Needing.{made_full, made_less}
-use Rattle.st_ubtree.proofs.Settling.{blank_last}
+use Rattle.st_ubtree.proofs.Halving.{blank_last}
 use Rattle.st_ubtree.proofs.node.Node.put.Goals as goal
 
 pub insert-requires-clause-enough : goal.insert-requires-clause-enough

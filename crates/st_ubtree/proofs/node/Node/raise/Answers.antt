@@ -1,7 +1,7 @@
 use Rattle.std.proofs.Common.{◌≡◌, ◌≤◌, vec_len, vec_capacity, ◌+◌, ◌∷◌, ◌++◌, [], length, subst, sym, ap, ◌∙◌, arith}
 use Rattle.std.specs.List.{All}
 use Rattle.st_key.specs.Key.{rank}
-use Rattle.st_tally.specs.Pages.{NodeValue, rows_of_pages}
+use Rattle.st_tally.specs.inner.Pages.{NodeValue, rows_of_pages}
 use Rattle.st_tally.specs.inner.Sums.{Sums}
 use Rattle.st_ubtree.specs.inner.Kids.{HeadAt, IsKid, pages_of}
 use Rattle.std.proofs.lemmas.List.{append-nil}
@@ -9,6 +9,7 @@ use Rattle.st_tally.specs.inner.Marks.{AreMarked}
 use Rattle.st_ubtree.specs.inner.Nodes.{AreMarkedUnder, IsNode, node_value, rows_under}
 use Rattle.st_ubtree.proofs.Lifting.{both}
 use Rattle.st_ubtree.specs.inner.Firsts.{AreFirsts, AreFirstsUnder}
+use Rattle.st_ubtree.proofs.Viewed.{viewed}
 use Rattle.st_ubtree.proofs.node.Node.raise.Goals as goal
 
 pub invariant_of-self : goal.invariant_of-self
@@ -18,7 +19,7 @@ invariant_of-self g c =
     ap (node_value (rank c.self.inside.first) c.self.inside.height) c.replace-kids.ensures.value ∙ c.self.view_is in
     let is : c.push-2.new.self.items ≡ c.args.self.now ∷ c.args.right ∷ [] =
     c.in-Ok-push.ensures.items ∙ ap (λ t. t ++ c.args.right ∷ []) (c.in-Ok.ensures.items ∙ ap (λ t. t ++ left ∷ []) c.requires.empty) ∙ ap (λ v. v ∷ c.args.right ∷ []) left_is in
-    let tall : c.args.self.now.height ≡ c.self.inside.height = ap (λ (v : NodeValue g.row.A.Denot). v.height) (sym c.self.view_is) in
+    let tall = (viewed (rank c.self.inside.first) c.self.inside.height c.self.inside.kids c.self.view_is).tall in
     let first : c.args.self.now.first ≡ rank c.self.inside.first = ap (λ (v : NodeValue g.row.A.Denot). v.first) (sym c.self.view_is) in
     let each : All (IsKid c.args.self.now.height) (c.args.self.now ∷ c.args.right ∷ []) = both c.args.self.now.height c.args.self.now c.args.right c.requires.kids.0 c.requires.kids.1 in
     let wide = ap length is in
@@ -34,7 +35,8 @@ invariant_of-self g c =
         not_more = omega (arith, wide);
         room = omega (arith, a, b, room);
       },
-      subst (λ ks. Sums c.add_kids.new.sum (rows_of_pages (pages_of ks))) c.as_slice.ensures.value (c.add_kids.ensures [] (subst (λ s. Sums s []) (sym c.replace-sum.ensures.after) c.new-none.ensures)),
+      subst (λ ks. Sums c.add_kids.new.sum (rows_of_pages (pages_of ks))) c.as_slice.ensures.value
+          (c.add_kids.ensures [] (subst (λ s. Sums s []) (sym c.replace-sum.ensures.after) c.new-none.ensures)),
       subst (AreMarked c.fill.new.self.marks) c.as_slice-2.ensures.value c.fill.ensures.marks,
       subst (AreFirsts c.fill.new.self.firsts) c.as_slice-2.ensures.value c.fill.ensures.firsts,
     )

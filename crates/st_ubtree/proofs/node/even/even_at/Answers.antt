@@ -16,7 +16,8 @@ halve-right-requires-clause-both g c =
     let kids = c.args.kids.now.items in
     let left = c.in-Some.left in
     let fits : HasPairAt kids left = subst (λ ks. HasPairAt ks left) c.as_slice.ensures.value c.in-Some.ensures in
-    let q = taken_pair 0 left kids c.remove-right.new.self.items c.index_mut-kid.result.now c.remove-right.result (any_pair 0 left kids c.requires.pages fits.0) c.remove-right.ensures.items c.remove-right.ensures.value c.index_mut-kid.ensures.value in
+    let q = taken_pair 0 left kids c.remove-right.new.self.items c.index_mut-kid.result.now c.remove-right.result
+    (any_pair 0 left kids c.requires.pages fits.0) c.remove-right.ensures.items c.remove-right.ensures.value c.index_mut-kid.ensures.value in
     pair_fits 0 left kids c.remove-right.new.self.items c.index_mut-kid.result.now c.remove-right.result q fits
 
 pub returns-clause-evens : goal.returns-clause-evens
@@ -28,7 +29,10 @@ returns-clause-evens g c =
     let kid = c.index_mut-kid.result.now in
     let right = c.remove-right.result in
     let q = taken_pair 0 left kids rest kid right (any_pair 0 left kids c.requires.pages fits.0) c.remove-right.ensures.items c.remove-right.ensures.value c.index_mut-kid.ensures.value in
-    rw c.in-Ok.ensures.items (kids_even_pair 0 left kids rest kid right c.halve-right.new.self c.halve-right.result c.requires.pages q (pair_joins 0 left kids rest kid right c.halve-right.new.self c.halve-right.result q c.halve-right.ensures.joins) c.halve-right.ensures.left c.halve-right.ensures.right)
+    rw c.in-Ok.ensures.items
+    (kids_even_pair 0 left kids rest kid right c.halve-right.new.self c.halve-right.result c.requires.pages q
+    (pair_joins 0 left kids rest kid right c.halve-right.new.self c.halve-right.result q c.halve-right.ensures.joins) c.halve-right.ensures.left
+    c.halve-right.ensures.right)
 
 pub returns-clause-marks : goal.returns-clause-marks
 returns-clause-marks g c = λ marked.
@@ -63,7 +67,8 @@ returns-clause-firsts g c = λ h.
     let same = length-set rest left v in
     let firsts = subst (AreFirsts c.remove_at.new.self) (sym c.remove-right.ensures.items) (c.remove_at.ensures kids fits.0 h) in
     let kept = firsts_set c.remove_at.new.self rest left c.index_mut-kid.result.now v c.index_mut-kid.ensures.value c.halve-right.ensures.joins.first firsts in
-    subst (AreFirsts c.insert_at.new.self) (sym c.in-Ok.ensures.items) (c.insert_at.ensures (set rest left v) (omega (arith, fits.0, fewer, count, same)) (omega (arith, most, fewer, count, same)) kept)
+    subst (AreFirsts c.insert_at.new.self) (sym c.in-Ok.ensures.items)
+    (c.insert_at.ensures (set rest left v) (omega (arith, fits.0, fewer, count, same)) (omega (arith, most, fewer, count, same)) kept)
 
 pub halve-right-requires-clause-right : goal.halve-right-requires-clause-right
 halve-right-requires-clause-right g c =

@@ -1,6 +1,6 @@
 use Rattle.std.proofs.Common.{◌≡◌, ◌≤◌, length, ap, ◌∙◌, arith}
 use Rattle.st_key.specs.Key.{rank}
-use Rattle.st_tally.specs.Pages.{NodeValue}
+use Rattle.st_tally.specs.inner.Pages.{NodeValue}
 use Rattle.st_ubtree.specs.inner.Splits.{splits}
 use Rattle.st_ubtree.proofs.Joining.{page_beside}
 use Rattle.st_ubtree.proofs.Needing.{page_short, splits_alone}

@@ -1,8 +1,8 @@
 use Rattle.std.proofs.Common.{◌<◌, ◌≤◌, List, length, refl, sym, ap, subst, ◌∙◌, arith, Bor}
 use Rattle.st_index.specs.declared.row.Row.{Row}
-use Rattle.st_index.specs.Fields.{CanAdd, Counts}
+use Rattle.st_index.specs.inner.Fields.{CanAdd, Counts}
 use Rattle.st_index.proofs.Tallying.{far_all, far_fits, far_next, far_none}
-use Rattle.st_tally.specs.Pages.{NodeValue, rows_of_pages}
+use Rattle.st_tally.specs.inner.Pages.{NodeValue, rows_of_pages}
 use Rattle.st_tally.specs.declared.marks.Marks.{Marks}
 use Rattle.st_tally.specs.inner.Marks.{AreMarked}
 use Rattle.st_ubtree.proofs.Keeping.{rows_of_kids}
@@ -19,7 +19,8 @@ pub count_page_fields-requires-clause-fits : goal.count_page_fields-requires-cla
 count_page_fields-requires-clause-fits g c =
     let kids = c.args.kids.now in
     let below : c.loop-at.at < length kids = omega (arith, c.loop-at-test.true, c.loop-at.auto.at-end) in
-    far_fits (g.F.Fields.query c.args.fields.now) (g.J.Judge.judges c.args.judge.now) (g.F.Fields.field_of c.args.fields.now) (λ (v : NodeValue g.row.A.Denot). rows_of_pages v.pages) kids c.loop-at.at c.index-kids-at.result c.args.counts.now c.loop-at.counts
+    far_fits (g.F.Fields.query c.args.fields.now) (g.J.Judge.judges c.args.judge.now) (g.F.Fields.field_of c.args.fields.now)
+    (λ (v : NodeValue g.row.A.Denot). rows_of_pages v.pages) kids c.loop-at.at c.index-kids-at.result c.args.counts.now c.loop-at.counts
     c.loop-at.invariant.far below c.index-kids-at.is (subst (λ (rs : List (Row g.row.A.Denot)). CanAdd (length rs) c.args.counts.now) (rows_of_kids kids) c.requires.fits)
 
 pub count_page_fields-requires-clause-marked : goal.count_page_fields-requires-clause-marked
@@ -53,8 +54,11 @@ loop-at-preserved g c =
     let kid = c.index-kids-at.result in
     let below : at < length kids = omega (arith, c.loop-at-test.true, c.loop-at.auto.at-end) in
     record {
-      far = far_next q (g.J.Judge.judges c.args.judge.now) field_of (λ (v : NodeValue g.row.A.Denot). rows_of_pages v.pages) kids at kid c.args.counts.now c.loop-at.counts c.count_page_fields.new.counts
-          c.loop-at.invariant.far below c.index-kids-at.is (subst (λ j. Counts q j field_of (rows_of_pages kid.pages) c.loop-at.counts c.count_page_fields.new.counts) c.loop-at.invariant.same c.count_page_fields.ensures.counts);
+      far = far_next q (g.J.Judge.judges c.args.judge.now) field_of (λ (v : NodeValue g.row.A.Denot). rows_of_pages v.pages) kids at kid
+          c.args.counts.now c.loop-at.counts c.count_page_fields.new.counts
+          c.loop-at.invariant.far below c.index-kids-at.is
+          (subst (λ j. Counts q j field_of (rows_of_pages kid.pages) c.loop-at.counts c.count_page_fields.new.counts) c.loop-at.invariant.same
+          c.count_page_fields.ensures.counts);
       same = c.count_page_fields.ensures.same ∙ c.loop-at.invariant.same;
       marks = c.count_page_fields.ensures.marks ∙ c.loop-at.invariant.marks;
       known = known_by (g.J.Judge.judges c.args.judge.now) (g.J.Judge.judges c.loop-at.judge) c.loop-at.verdicts.marks c.none-verdicts.result.marks c.count_page_fields.new.verdicts.found

@@ -1,12 +1,13 @@
 use Rattle.std.proofs.Common.{◌≡◌}
 use Rattle.st_index.proofs.Tallying.{SoFar}
-use Rattle.st_tally.specs.Pages.{NodeValue, rows_of_pages}
+use Rattle.st_tally.specs.inner.Pages.{NodeValue, rows_of_pages}
 use Rattle.st_tally.specs.inner.Marks.{AreKnown}
 use Rattle.st_ubtree.proofs.node.fields.count_pages.Given as goal
 
 abbrev pub invariant-loop-at : goal.invariant-loop-at
 invariant-loop-at g l = record {
-  far : SoFar (g.F.Fields.query l.fields) (g.J.Judge.judges l.initial.judge) (g.F.Fields.field_of l.fields) (λ (v : NodeValue g.row.A.Denot). rows_of_pages v.pages) l.kids l.at l.initial.counts l.counts;
+  far : SoFar (g.F.Fields.query l.fields) (g.J.Judge.judges l.initial.judge) (g.F.Fields.field_of l.fields)
+      (λ (v : NodeValue g.row.A.Denot). rows_of_pages v.pages) l.kids l.at l.initial.counts l.counts;
   same : g.J.Judge.judges l.judge ≡ g.J.Judge.judges l.initial.judge;
   marks : l.verdicts.marks ≡ l.initial.verdicts.marks;
   known : AreKnown (g.J.Judge.judges l.initial.judge) l.initial.verdicts.marks.now.labels.items l.verdicts.found;

@@ -1,7 +1,7 @@
 use Rattle.std.proofs.Common.{◌≡◌, ◌<◌, length, drop, take, subst, sym, ap, ◌∙◌, vec_len, arith, Some}
 use Rattle.std.proofs.lemmas.List.{length-drop}
 use Rattle.st_key.specs.Key.{rank}
-use Rattle.st_tally.specs.Pages.{page_node}
+use Rattle.st_tally.specs.inner.Pages.{page_node}
 use Rattle.st_ubtree.specs.inner.Growing.{IsBlankPage, PageGrows}
 use Rattle.st_ubtree.proofs.Splitting.{held_full, page_cut, page_grows}
 use Rattle.st_ubtree.proofs.Needing.{page_filled, page_overfull}
@@ -46,21 +46,27 @@ pub unreachable-requires : goal.unreachable-requires
 unreachable-requires g c =
     let o = c.requires.rising in
     let more : 32 < vec_len c.put.new.entries = subst (λ n. 32 < n) c.len.ensures c.if-len-le32.false in
-    let blank = subst (λ p. IsBlankPage p) c.in_default.is (c.requires.page (page_filled (rank c.args.key) c.args.entries.now c.put.new.entries c.requires.not_more c.put.ensures.at_most_one more ((rw (← c.requires.key) at c.put.ensures.new_key) o.0 o.1 o.2 o.3))) in
+    let blank = subst (λ p. IsBlankPage p) c.in_default.is
+    (c.requires.page (page_filled (rank c.args.key) c.args.entries.now c.put.new.entries c.requires.not_more c.put.ensures.at_most_one more
+    ((rw (← c.requires.key) at c.put.ensures.new_key) o.0 o.1 o.2 o.3))) in
     blank
 
 pub split_at-upper-requires-clause-empty : goal.split_at-upper-requires-clause-empty
 split_at-upper-requires-clause-empty g c =
     let o = c.requires.rising in
     let more : 32 < vec_len c.put.new.entries = subst (λ n. 32 < n) c.len.ensures c.if-len-le32.false in
-    let blank = subst (λ p. IsBlankPage p) c.in-Some.is (c.requires.page (page_filled (rank c.args.key) c.args.entries.now c.put.new.entries c.requires.not_more c.put.ensures.at_most_one more ((rw (← c.requires.key) at c.put.ensures.new_key) o.0 o.1 o.2 o.3))) in
+    let blank = subst (λ p. IsBlankPage p) c.in-Some.is
+    (c.requires.page (page_filled (rank c.args.key) c.args.entries.now c.put.new.entries c.requires.not_more c.put.ensures.at_most_one more
+    ((rw (← c.requires.key) at c.put.ensures.new_key) o.0 o.1 o.2 o.3))) in
     blank.0
 
 pub split_at-upper-requires-clause-room : goal.split_at-upper-requires-clause-room
 split_at-upper-requires-clause-room g c =
     let o = c.requires.rising in
     let more : 32 < vec_len c.put.new.entries = subst (λ n. 32 < n) c.len.ensures c.if-len-le32.false in
-    let blank = subst (λ p. IsBlankPage p) c.in-Some.is (c.requires.page (page_filled (rank c.args.key) c.args.entries.now c.put.new.entries c.requires.not_more c.put.ensures.at_most_one more ((rw (← c.requires.key) at c.put.ensures.new_key) o.0 o.1 o.2 o.3))) in
+    let blank = subst (λ p. IsBlankPage p) c.in-Some.is
+    (c.requires.page (page_filled (rank c.args.key) c.args.entries.now c.put.new.entries c.requires.not_more c.put.ensures.at_most_one more
+    ((rw (← c.requires.key) at c.put.ensures.new_key) o.0 o.1 o.2 o.3))) in
     let full = held_full c.args.entries.now c.put.new.entries c.requires.not_more c.put.ensures.at_most_one more in
     let room = blank.1 in
     omega (arith, c.put.new.entries.ok.0, full, room)
@@ -69,7 +75,9 @@ pub page-requires-clause-room : goal.page-requires-clause-room
 page-requires-clause-room g c =
     let o = c.requires.rising in
     let more : 32 < vec_len c.put.new.entries = subst (λ n. 32 < n) c.len.ensures c.if-len-le32.false in
-    let blank = subst (λ p. IsBlankPage p) c.in-Some.is (c.requires.page (page_filled (rank c.args.key) c.args.entries.now c.put.new.entries c.requires.not_more c.put.ensures.at_most_one more ((rw (← c.requires.key) at c.put.ensures.new_key) o.0 o.1 o.2 o.3))) in
+    let blank = subst (λ p. IsBlankPage p) c.in-Some.is
+    (c.requires.page (page_filled (rank c.args.key) c.args.entries.now c.put.new.entries c.requires.not_more c.put.ensures.at_most_one more
+    ((rw (← c.requires.key) at c.put.ensures.new_key) o.0 o.1 o.2 o.3))) in
     let room = blank.1 in
     let kept = c.split_at-upper.ensures.to_capacity in
     omega (arith, room, kept)

@@ -2,11 +2,11 @@ use Rattle.std.proofs.Common.{◌≡◌, ◌≤◌, length, subst, sym, ap, refl
 use Rattle.std.specs.List.{All}
 use Rattle.st_key.specs.Key.{rank}
 use Rattle.st_index.proofs.Climbing.{all_right}
-use Rattle.st_tally.specs.Pages.{NodeValue, rows_of_pages}
+use Rattle.st_tally.specs.inner.Pages.{NodeValue, rows_of_pages}
 use Rattle.st_tally.specs.inner.Sums.{Sums}
 use Rattle.st_ubtree.specs.inner.Kids.{HeadAt, IsKid, pages_of}
 use Rattle.st_ubtree.proofs.Keeping.{sums_shared, sums_whole}
-use Rattle.st_ubtree.proofs.Settling.{head_there, held_at, kids_start, kids_wide}
+use Rattle.st_ubtree.proofs.Halving.{head_there, held_at, kids_start, kids_wide}
 use Rattle.st_ubtree.specs.inner.Firsts.{AreFirsts}
 use Rattle.st_tally.specs.inner.Marks.{AreMarked}
 use Rattle.st_ubtree.proofs.node.join.join_kids.Goals as goal
@@ -16,7 +16,9 @@ invariant_of-result g c =
     let left = c.share-are_two.new.left.items in
     let rest = c.share-are_two.new.right.items in
     let wide : (16 ≤ length rest) × (length rest ≤ 32) = c.share-are_two.ensures.some c.if-not-are_two.false in
-    let each : All (IsKid c.requires.kids.below) rest = all_right (IsKid c.requires.kids.below) left rest (subst (All (IsKid c.requires.kids.below)) (sym c.share-are_two.ensures.kept) c.requires.kids.each) in
+    let each : All (IsKid c.requires.kids.below) rest =
+    all_right (IsKid c.requires.kids.below) left rest
+    (subst (All (IsKid c.requires.kids.below)) (sym c.share-are_two.ensures.kept) c.requires.kids.each) in
     let least : HeadAt c.index-least.result.now.first rest = head_there rest 0 c.index-least.result.now (let a = wide.0 in omega (arith, a)) c.index-least.ensures in
     let first : c.index-least.result.now.first ≡ rank c.least.inside.first = ap (λ (v : NodeValue g.row.A.Denot). v.first) (sym c.least.view_is) in (
       record {
@@ -62,7 +64,16 @@ returns-clause-joins g c =
       kept = c.share-are_two.ensures.kept;
       not_less = c.share-are_two.ensures.left.0;
       not_more = c.share-are_two.ensures.left.1;
-      beside = (record { same_height = refl; not_less = wide.0; not_more = wide.1; starts = kids_start i.below (rank c.least.inside.first) rest i.each i.head; filled = kids_wide i.below rest i.each }, refl);
+      beside = (
+        record {
+          same_height = refl;
+          not_less = wide.0;
+          not_more = wide.1;
+          starts = kids_start i.below (rank c.least.inside.first) rest i.each i.head;
+          filled = kids_wide i.below rest i.each;
+        },
+        refl,
+      );
     }
 
 pub index-least-requires : goal.index-least-requires

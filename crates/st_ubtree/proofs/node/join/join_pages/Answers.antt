@@ -3,7 +3,7 @@ use Rattle.st_key.specs.Key.{rank}
 use Rattle.st_index.specs.Rows.{rows_of}
 use Rattle.st_tally.specs.inner.Sums.{Sums}
 use Rattle.st_ubtree.proofs.Joining.{page_beside}
-use Rattle.st_ubtree.proofs.Settling.{held_at}
+use Rattle.st_ubtree.proofs.Halving.{held_at}
 use Rattle.st_ubtree.proofs.node.join.join_pages.Goals as goal
 
 pub returns-clause-joins : goal.returns-clause-joins

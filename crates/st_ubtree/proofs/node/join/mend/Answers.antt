@@ -1,6 +1,6 @@
 use Rattle.std.proofs.Common.{◌+◌, ◌<◌, ◌∷◌, set, length, length-append, length-set, sym, ap, subst, ◌∙◌, arith}
 use Rattle.std.proofs.lemmas.List.Edits.{length-remove}
-use Rattle.st_tally.specs.Pages.{NodeValue}
+use Rattle.st_tally.specs.inner.Pages.{NodeValue}
 use Rattle.st_ubtree.specs.inner.Firsts.{AreFirsts}
 use Rattle.st_tally.specs.inner.Marks.{AreMarked, ClosesAt}
 use Rattle.st_ubtree.proofs.Evening.{pair_set}
@@ -18,7 +18,8 @@ returns-in_default-clause-mends g c = λ below w.
     let rest = c.remove-right.new.self.items in
     let kid = c.index_mut-kid.result.now in
     let right = c.remove-right.result in
-    let q = paired below c.args.at left kids rest w c.index-kid.result.now kid right c.index-kid.ensures low fits c.pair_of-left.ensures.beside c.remove-right.ensures.items c.remove-right.ensures.value c.index_mut-kid.ensures.value in
+    let q = paired below c.args.at left kids rest w c.index-kid.result.now kid right c.index-kid.ensures low fits c.pair_of-left.ensures.beside
+    c.remove-right.ensures.items c.remove-right.ensures.value c.index_mut-kid.ensures.value in
     mends_alone below left kids rest kid right c.join.new.self q c.in_default.ensures.joins
 
 pub returns-clause-mends : goal.returns-clause-mends
@@ -30,7 +31,8 @@ returns-clause-mends g c = λ below w.
     let rest = c.remove-right.new.self.items in
     let kid = c.index_mut-kid.result.now in
     let right = c.remove-right.result in
-    let q = paired below c.args.at left kids rest w c.index-kid.result.now kid right c.index-kid.ensures low fits c.pair_of-left.ensures.beside c.remove-right.ensures.items c.remove-right.ensures.value c.index_mut-kid.ensures.value in
+    let q = paired below c.args.at left kids rest w c.index-kid.result.now kid right c.index-kid.ensures low fits c.pair_of-left.ensures.beside
+    c.remove-right.ensures.items c.remove-right.ensures.value c.index_mut-kid.ensures.value in
     rw c.in-Ok.ensures.items (mends_both below left kids rest kid right c.join.new.self c.in-Some.right q c.in-Some.ensures.joins)
 
 pub join-requires-clause-worn : goal.join-requires-clause-worn
@@ -43,7 +45,8 @@ join-requires-clause-worn g c =
     let rest = c.remove-right.new.self.items in
     let kid = c.index_mut-kid.result.now in
     let right = c.remove-right.result in
-    let q = paired below c.args.at left kids rest c.requires.worn.1 c.index-kid.result.now kid right c.index-kid.ensures low fits c.pair_of-left.ensures.beside c.remove-right.ensures.items c.remove-right.ensures.value c.index_mut-kid.ensures.value in
+    let q = paired below c.args.at left kids rest c.requires.worn.1 c.index-kid.result.now kid right c.index-kid.ensures low fits
+    c.pair_of-left.ensures.beside c.remove-right.ensures.items c.remove-right.ensures.value c.index_mut-kid.ensures.value in
     (joins_worn below left kids rest kid right q).0
 
 pub join-requires-clause-right : goal.join-requires-clause-right
@@ -56,7 +59,8 @@ join-requires-clause-right g c =
     let rest = c.remove-right.new.self.items in
     let kid = c.index_mut-kid.result.now in
     let right = c.remove-right.result in
-    let q = paired below c.args.at left kids rest c.requires.worn.1 c.index-kid.result.now kid right c.index-kid.ensures low fits c.pair_of-left.ensures.beside c.remove-right.ensures.items c.remove-right.ensures.value c.index_mut-kid.ensures.value in
+    let q = paired below c.args.at left kids rest c.requires.worn.1 c.index-kid.result.now kid right c.index-kid.ensures low fits
+    c.pair_of-left.ensures.beside c.remove-right.ensures.items c.remove-right.ensures.value c.index_mut-kid.ensures.value in
     (joins_worn below left kids rest kid right q).1
 
 pub join-requires-clause-both : goal.join-requires-clause-both
@@ -69,7 +73,8 @@ join-requires-clause-both g c =
     let rest = c.remove-right.new.self.items in
     let kid = c.index_mut-kid.result.now in
     let right = c.remove-right.result in
-    let q = paired below c.args.at left kids rest c.requires.worn.1 c.index-kid.result.now kid right c.index-kid.ensures low fits c.pair_of-left.ensures.beside c.remove-right.ensures.items c.remove-right.ensures.value c.index_mut-kid.ensures.value in
+    let q = paired below c.args.at left kids rest c.requires.worn.1 c.index-kid.result.now kid right c.index-kid.ensures low fits
+    c.pair_of-left.ensures.beside c.remove-right.ensures.items c.remove-right.ensures.value c.index_mut-kid.ensures.value in
     (joins_worn below left kids rest kid right q).2
 
 pub returns-then-width-ge16-clause-mends : goal.returns-then-width-ge16-clause-mends
@@ -89,7 +94,8 @@ returns-in_default-clause-marks g c = λ marked.
     let rest = c.remove-right.new.self.items in
     let kid = c.index_mut-kid.result.now in
     let right = c.remove-right.result in
-    let q = paired below c.args.at left kids rest c.requires.worn.1 c.index-kid.result.now kid right c.index-kid.ensures low fits c.pair_of-left.ensures.beside c.remove-right.ensures.items c.remove-right.ensures.value c.index_mut-kid.ensures.value in
+    let q = paired below c.args.at left kids rest c.requires.worn.1 c.index-kid.result.now kid right c.index-kid.ensures low fits
+    c.pair_of-left.ensures.beside c.remove-right.ensures.items c.remove-right.ensures.value c.index_mut-kid.ensures.value in
     let v = c.join.new.self in
     let mid = set kids left v in
     let there : left + 1 < length mid = let n = length-set kids left v in omega (arith, fits, n) in
@@ -106,7 +112,8 @@ returns-clause-marks g c = λ marked.
     let rest = c.remove-right.new.self.items in
     let kid = c.index_mut-kid.result.now in
     let right = c.remove-right.result in
-    let q = paired below c.args.at left kids rest c.requires.worn.1 c.index-kid.result.now kid right c.index-kid.ensures low fits c.pair_of-left.ensures.beside c.remove-right.ensures.items c.remove-right.ensures.value c.index_mut-kid.ensures.value in
+    let q = paired below c.args.at left kids rest c.requires.worn.1 c.index-kid.result.now kid right c.index-kid.ensures low fits
+    c.pair_of-left.ensures.beside c.remove-right.ensures.items c.remove-right.ensures.value c.index_mut-kid.ensures.value in
     let v = c.join.new.self in
     let s = c.in-Some.right in
     let mid = set kids left v in
@@ -135,7 +142,8 @@ returns-clause-firsts g c = λ h.
     let same = length-set rest left c.join.new.self in
     let firsts = subst (AreFirsts c.remove_at.new.self) (sym c.remove-right.ensures.items) (c.remove_at.ensures kids fits h) in
     let kept = firsts_set c.remove_at.new.self rest left c.index_mut-kid.result.now c.join.new.self c.index_mut-kid.ensures.value c.in-Some.ensures.joins.first firsts in
-    subst (AreFirsts c.insert_at.new.self) (sym c.in-Ok.ensures.items) (c.insert_at.ensures (set rest left c.join.new.self) (omega (arith, fits, fewer, count, same)) (omega (arith, most, fewer, count, same)) kept)
+    subst (AreFirsts c.insert_at.new.self) (sym c.in-Ok.ensures.items)
+    (c.insert_at.ensures (set rest left c.join.new.self) (omega (arith, fits, fewer, count, same)) (omega (arith, most, fewer, count, same)) kept)
 
 pub pair_of-left-requires-clause-at : goal.pair_of-left-requires-clause-at
 pair_of-left-requires-clause-at g c =

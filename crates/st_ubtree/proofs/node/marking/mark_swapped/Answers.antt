@@ -1,6 +1,6 @@
 use Rattle.std.proofs.Common.{◌≡◌, IfOk, subst}
 use Rattle.st_index.specs.inner.Changes.{IsChange}
-use Rattle.st_tally.specs.Pages.{entries_of_pages}
+use Rattle.st_tally.specs.inner.Pages.{entries_of_pages}
 use Rattle.st_ubtree.proofs.node.marking.mark_swapped.Goals as goal
 
 pub returns-in-Ok : goal.returns-in-Ok

@@ -1,8 +1,8 @@
 use Rattle.std.proofs.Common.{◌+◌, ◌<◌, ◌≤◌, length, ap, subst, ◌∙◌, arith}
 use Rattle.std.proofs.lemmas.List.Sums.{count_by-le-length}
 use Rattle.std.specs.List.{flat_map, sum}
-use Rattle.st_index.specs.Counting.{count_of, is_counted}
-use Rattle.st_tally.specs.Pages.{NodeValue, rows_of_pages}
+use Rattle.st_index.specs.inner.Counting.{count_of, is_counted}
+use Rattle.st_tally.specs.inner.Pages.{NodeValue, rows_of_pages}
 use Rattle.st_tally.specs.inner.Marks.{MakeUp}
 use Rattle.st_ubtree.proofs.Keeping.{rows_of_kids}
 use Rattle.st_tally.proofs.Tallied.{counted_all, counted_fits, counted_next, most_fits, most_next, whole}
@@ -18,7 +18,9 @@ tally_page-rest-requires-clause-marked g c = (c.args.kids.now, c.requires.marked
 pub tally_page-rest-requires-clause-fits : goal.tally_page-rest-requires-clause-fits
 tally_page-rest-requires-clause-fits g c =
     let kids = c.args.kids.now in
-    let less = subst (λ rs. length rs < 18446744073709551616) (rows_of_kids kids) c.requires.fits in let none = c.requires.none in let fits : sum c.args.tally.now + length (flat_map (λ (v : NodeValue g.row.A.Denot). rows_of_pages v.pages) kids) < 18446744073709551616 = omega (arith, less, none) in
+    let less = subst (λ rs. length rs < 18446744073709551616) (rows_of_kids kids) c.requires.fits in let none =
+    c.requires.none in let fits : sum c.args.tally.now + length (flat_map (λ (v : NodeValue g.row.A.Denot). rows_of_pages v.pages) kids)
+    < 18446744073709551616 = omega (arith, less, none) in
     most_fits (λ (v : NodeValue g.row.A.Denot). rows_of_pages v.pages) kids c.loop-at.at c.index-kids-at.result _ _ 18446744073709551616 c.loop-at-test.true c.index-kids-at.is
     c.loop-at.invariant.most fits
 
@@ -30,11 +32,15 @@ overflow_add-rest g c =
     let labels = c.args.marks.now.labels.items in
     let at = c.loop-at.at in
     let kid = c.index-kids-at.result in
-    let less = subst (λ rs. length rs < 18446744073709551616) (rows_of_kids kids) c.requires.fits in let none = c.requires.none in let fits : sum c.args.tally.now + length (flat_map (λ (v : NodeValue g.row.A.Denot). rows_of_pages v.pages) kids) < 18446744073709551616 = omega (arith, less, none) in
-    let now = subst (λ j. MakeUp j labels c.tally_page-rest.result (count_of q j (rows_of_pages kid.pages)) c.loop-at.tally c.tally_page-rest.new.tally) c.loop-at.invariant.same c.tally_page-rest.ensures.count in
+    let less = subst (λ rs. length rs < 18446744073709551616) (rows_of_kids kids) c.requires.fits in let none =
+    c.requires.none in let fits : sum c.args.tally.now + length (flat_map (λ (v : NodeValue g.row.A.Denot). rows_of_pages v.pages) kids)
+    < 18446744073709551616 = omega (arith, less, none) in
+    let now = subst (λ j. MakeUp j labels c.tally_page-rest.result (count_of q j (rows_of_pages kid.pages)) c.loop-at.tally
+    c.tally_page-rest.new.tally) c.loop-at.invariant.same c.tally_page-rest.ensures.count in
     let next = counted_next (λ (v : NodeValue g.row.A.Denot). rows_of_pages v.pages) kids at q judges labels kid c.loop-at.rest c.tally_page-rest.result _ c.loop-at.tally c.tally_page-rest.new.tally
     c.loop-at-test.true c.index-kids-at.is c.loop-at.invariant.count now in
-    let few = counted_fits (λ (v : NodeValue g.row.A.Denot). rows_of_pages v.pages) kids (at + 1) q judges labels (c.loop-at.rest + c.tally_page-rest.result) 18446744073709551616 _ c.tally_page-rest.new.tally next fits in
+    let few = counted_fits (λ (v : NodeValue g.row.A.Denot). rows_of_pages v.pages) kids (at + 1) q judges labels
+    (c.loop-at.rest + c.tally_page-rest.result) 18446744073709551616 _ c.tally_page-rest.new.tally next fits in
     omega (arith, few)
 
 pub loop-at-preserved : goal.loop-at-preserved
@@ -45,7 +51,8 @@ loop-at-preserved g c =
     let labels = c.args.marks.now.labels.items in
     let at = c.loop-at.at in
     let kid = c.index-kids-at.result in
-    let now = subst (λ j. MakeUp j labels c.tally_page-rest.result (count_of q j (rows_of_pages kid.pages)) c.loop-at.tally c.tally_page-rest.new.tally) c.loop-at.invariant.same c.tally_page-rest.ensures.count in
+    let now = subst (λ j. MakeUp j labels c.tally_page-rest.result (count_of q j (rows_of_pages kid.pages)) c.loop-at.tally
+    c.tally_page-rest.new.tally) c.loop-at.invariant.same c.tally_page-rest.ensures.count in
     record {
       count = counted_next (λ (v : NodeValue g.row.A.Denot). rows_of_pages v.pages) kids at q judges labels kid c.loop-at.rest c.tally_page-rest.result _ c.loop-at.tally c.tally_page-rest.new.tally
           c.loop-at-test.true c.index-kids-at.is c.loop-at.invariant.count now;

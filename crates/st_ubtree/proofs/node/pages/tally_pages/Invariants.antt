@@ -1,7 +1,7 @@
 use Rattle.std.proofs.Common.{◌≡◌, ◌+◌, ◌≤◌, length, take}
 use Rattle.std.specs.List.{sum, sum_by}
-use Rattle.st_index.specs.Counting.{count_of}
-use Rattle.st_tally.specs.Pages.{NodeValue, rows_of_pages}
+use Rattle.st_index.specs.inner.Counting.{count_of}
+use Rattle.st_tally.specs.inner.Pages.{NodeValue, rows_of_pages}
 use Rattle.st_tally.specs.inner.Marks.{MakeUp}
 use Rattle.st_ubtree.proofs.node.pages.tally_pages.Given as goal
 

@@ -1,6 +1,6 @@
 use Rattle.std.proofs.Common.{◌+◌, ◌<◌, ◌++◌, length, take, sym, ap, subst, arith, ◌∙◌}
 use Rattle.std.proofs.lemmas.List.{append-nil, take_all}
-use Rattle.st_tally.specs.Pages.{NodeValue, rows_of_pages}
+use Rattle.st_tally.specs.inner.Pages.{NodeValue, rows_of_pages}
 use Rattle.st_ubtree.specs.inner.Kids.{pages_of}
 use Rattle.st_tally.specs.inner.Sums.{Sums}
 use Rattle.st_ubtree.proofs.Keeping.{rows_of_kids}
@@ -22,4 +22,6 @@ loop-kid-preserved g c = λ rows sums.
     subst (Sums c.add_to.new.sum) (here ∙ next ∙ there) (c.add_to.ensures (rows ++ rows_of_pages (pages_of (take i kids))) (c.loop-kid.invariant rows sums))
 
 pub returns : goal.returns
-returns g c = λ rows sums. subst (Sums c.loop-kid.sum) (ap (λ ks. rows ++ rows_of_pages (pages_of ks)) (take_all c.loop-kid.kid-index c.args.kids.now c.loop-kid-test.false)) (c.loop-kid.invariant rows sums)
+returns g c = λ rows sums. subst (Sums c.loop-kid.sum)
+    (ap (λ ks. rows ++ rows_of_pages (pages_of ks)) (take_all c.loop-kid.kid-index c.args.kids.now c.loop-kid-test.false))
+    (c.loop-kid.invariant rows sums)

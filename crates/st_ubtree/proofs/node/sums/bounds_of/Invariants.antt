@@ -1,7 +1,7 @@
 use Rattle.std.proofs.Common.{take}
 use Rattle.std.specs.List.{All}
 use Rattle.st_index.specs.declared.row.Row.{Row}
-use Rattle.st_tally.specs.Pages.{rows_of_pages}
+use Rattle.st_tally.specs.inner.Pages.{rows_of_pages}
 use Rattle.st_ubtree.specs.inner.Kids.{pages_of}
 use Rattle.st_tally.specs.inner.Sums.{IsWithin}
 use Rattle.st_ubtree.proofs.node.sums.bounds_of.Given as goal

@@ -1,5 +1,5 @@
 use Rattle.std.proofs.Common.{[]}
-use Rattle.st_tally.specs.Pages.{rows_of_pages}
+use Rattle.st_tally.specs.inner.Pages.{rows_of_pages}
 use Rattle.st_ubtree.specs.inner.Kids.{pages_of}
 use Rattle.st_ubtree.proofs.node.sums.part.Goals as goal
 

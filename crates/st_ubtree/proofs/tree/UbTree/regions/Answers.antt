@@ -2,8 +2,8 @@ use Rattle.std.proofs.Common.{◌≡◌, ◌<◌, map, subst, ap, arith}
 use Rattle.st_key.specs.Key.{rank}
 use Rattle.st_index.specs.Rows.{key_end}
 use Rattle.st_index.proofs.Listing.{some_keys}
-use Rattle.st_ubtree.specs.Ranges.{region_in}
-use Rattle.st_ubtree.specs.Trees.{TreeValue, regions_of}
+use Rattle.st_ubtree.specs.inner.Ranges.{region_in}
+use Rattle.st_ubtree.specs.inner.Trees.{TreeValue, regions_of}
 use Rattle.st_ubtree.proofs.Lawful.{spans_follow}
 use Rattle.st_ubtree.proofs.Walking.{IsWalked, Walks, left_less, walks_first, walks_on}
 use Rattle.st_ubtree.proofs.tree.UbTree.regions.Goals as goal
@@ -11,7 +11,9 @@ use Rattle.st_ubtree.proofs.tree.UbTree.regions.Goals as goal
 pub loop-next-init : goal.loop-next-init
 loop-next-init g c =
     let p = c.self.inside.period in
-    rw (c.new-ranges.ensures.items, ← c.self.view_is) (walks_first (key_end p) (regions_of (key_end p) c.self.inside.root.pages) (spans_follow p 0 (key_end p) c.self.inside.root.pages c.self.invariant.spans) (some_keys p))
+    rw (c.new-ranges.ensures.items, ← c.self.view_is)
+    (walks_first (key_end p) (regions_of (key_end p) c.self.inside.root.pages)
+    (spans_follow p 0 (key_end p) c.self.inside.root.pages c.self.invariant.spans) (some_keys p))
 
 pub leaf_at-leaf-requires : goal.leaf_at-leaf-requires
 leaf_at-leaf-requires g c =
@@ -27,7 +29,8 @@ loop-next-smaller g c =
     let all = regions_of hi c.args.self.now.root.pages in
     let w : IsWalked hi all (map region_in c.loop-next.ranges.items) (rank c.in-Some.key) = subst (Walks hi all (map region_in c.loop-next.ranges.items)) c.in-Some.is c.loop-next.invariant in
     let same : c.self.inside.period ≡ p = ap (λ (t : TreeValue g.row.A.Denot). t.period) c.self.view_is in
-    rw c.in-Some.is (left_less p c.in-Some.key c.leaf_at-leaf.result.last c.after-next.result w.below c.leaf_at-leaf.ensures.leaf.to c.after-next.ensures.rank (rw same at c.after-next.ensures.in_period))
+    rw c.in-Some.is (left_less p c.in-Some.key c.leaf_at-leaf.result.last c.after-next.result w.below c.leaf_at-leaf.ensures.leaf.to
+    c.after-next.ensures.rank (rw same at c.after-next.ensures.in_period))
 
 pub loop-next-preserved : goal.loop-next-preserved
 loop-next-preserved g c =
@@ -36,7 +39,10 @@ loop-next-preserved g c =
     let all = regions_of hi c.args.self.now.root.pages in
     let w : IsWalked hi all (map region_in c.loop-next.ranges.items) (rank c.in-Some.key) = subst (Walks hi all (map region_in c.loop-next.ranges.items)) c.in-Some.is c.loop-next.invariant in
     let same : c.self.inside.period ≡ p = ap (λ (t : TreeValue g.row.A.Denot). t.period) c.self.view_is in
-    rw c.in_ok-push.ensures.items (walks_on p all c.loop-next.ranges.items c.in-Some.key (record { first = c.leaf_at-leaf.result.first; last = c.leaf_at-leaf.result.last }) c.after-next.result w c.leaf_at-leaf.ensures.of_regions c.leaf_at-leaf.ensures.leaf.from c.leaf_at-leaf.ensures.leaf.to (rw same at c.after-next.ensures.last) c.after-next.ensures.rank (rw same at c.after-next.ensures.in_period))
+    rw c.in_ok-push.ensures.items
+    (walks_on p all c.loop-next.ranges.items c.in-Some.key (record { first = c.leaf_at-leaf.result.first; last = c.leaf_at-leaf.result.last })
+    c.after-next.result w c.leaf_at-leaf.ensures.of_regions c.leaf_at-leaf.ensures.leaf.from c.leaf_at-leaf.ensures.leaf.to
+    (rw same at c.after-next.ensures.last) c.after-next.ensures.rank (rw same at c.after-next.ensures.in_period))
 
 pub returns : goal.returns
 returns g c =

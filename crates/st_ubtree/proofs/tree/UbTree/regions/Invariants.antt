@@ -1,7 +1,7 @@
 use Rattle.std.proofs.Common.{map}
 use Rattle.st_index.specs.Rows.{key_end}
-use Rattle.st_ubtree.specs.Ranges.{region_in}
-use Rattle.st_ubtree.specs.Trees.{regions_of}
+use Rattle.st_ubtree.specs.inner.Ranges.{region_in}
+use Rattle.st_ubtree.specs.inner.Trees.{regions_of}
 use Rattle.st_ubtree.proofs.Walking.{Walks, left}
 use Rattle.st_ubtree.proofs.tree.UbTree.regions.Given as goal
 

@@ -1,6 +1,6 @@
 use Rattle.std.proofs.Common.{◌≡◌, ◌<◌, ◌^◌, length, arith}
 use Rattle.st_index.proofs.Tallying.{zero_at}
-use Rattle.st_tally.specs.Pages.{rows_of_pages}
+use Rattle.st_tally.specs.inner.Pages.{rows_of_pages}
 use Rattle.st_ubtree.proofs.tree.UbTreeRowIndex.count_fields.Goals as goal
 
 pub count_fields-requires-clause-fits : goal.count_fields-requires-clause-fits

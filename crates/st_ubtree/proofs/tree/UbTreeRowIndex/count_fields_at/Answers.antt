@@ -1,10 +1,10 @@
 use Rattle.std.proofs.Common.{◌≡◌, ◌+◌, ◌<◌, ◌≤◌, length, sym, subst, ◌∙◌, arith}
 use Rattle.std.proofs.lemmas.Bool.{ltb-false, ltb-true}
 use Rattle.st_key.specs.Key.{rank}
-use Rattle.st_index.specs.Fields.{CanAdd}
-use Rattle.st_index.specs.Index.{rows_from}
+use Rattle.st_index.specs.inner.Fields.{CanAdd}
+use Rattle.st_index.specs.inner.Index.{rows_from}
 use Rattle.st_index.specs.Rows.{key_end}
-use Rattle.st_tally.specs.Pages.{NodeValue, rows_of_pages}
+use Rattle.st_tally.specs.inner.Pages.{NodeValue, rows_of_pages}
 use Rattle.st_ubtree.specs.inner.Growing.{IsPartIn}
 use Rattle.st_ubtree.proofs.Parts.{part_few, part_from, part_rows, part_to, part_within}
 use Rattle.st_ubtree.proofs.tree.UbTreeRowIndex.count_fields_at.Goals as goal
@@ -18,7 +18,8 @@ count_fields-requires-clause-fits g c =
     let end : rank c.last.result + 1 ≡ key_end p = c.last.ensures.rank in
     let part : IsPartIn (rank c.args.key) pages (rank c.last.result) node.first last node.pages = c.lowest_at.ensures in
     let late : rank c.args.from ≤ rank c.first-first.result = ltb-false (rank c.first-first.result) (rank c.args.from) (sym c.is_before.ensures ∙ c.if-is_before.false) in
-    let few = part_few p (rank c.args.key) (rank c.last.result) node.first last pages node.pages part c.self.invariant.spans end (rank c.args.from) (subst (λ n. rank c.args.from ≤ n) c.first-first.ensures late) in
+    let few = part_few p (rank c.args.key) (rank c.last.result) node.first last pages node.pages part c.self.invariant.spans end (rank c.args.from)
+    (subst (λ n. rank c.args.from ≤ n) c.first-first.ensures late) in
     let fits : CanAdd (length (rows_from p (rank c.args.from) (rows_of_pages pages))) c.args.counts.now = rw (← c.self.view_is) at c.requires.fits in
     λ field. let a = fits field in omega (arith, a, few)
 

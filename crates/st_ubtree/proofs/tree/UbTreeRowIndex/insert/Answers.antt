@@ -1,8 +1,8 @@
 use Rattle.std.proofs.Common.{◌+◌, ◌≤◌, ap, arith}
 use Rattle.st_key.specs.Key.{rank}
 use Rattle.st_index.specs.Rows.{name_of}
-use Rattle.st_index.specs.Index.{IsAbsent}
-use Rattle.st_tally.specs.Pages.{rows_of_pages}
+use Rattle.st_index.specs.inner.Index.{IsAbsent}
+use Rattle.st_tally.specs.inner.Pages.{rows_of_pages}
 use Rattle.st_ubtree.specs.inner.Evening.{Evens}
 use Rattle.st_ubtree.specs.inner.Growing.{IsBlankPage}
 use Rattle.st_ubtree.specs.inner.Splits.{made_nodes, splits}
@@ -52,7 +52,9 @@ invariant_of-self g c =
     let root = c.self.inside.root in
     let absent : IsAbsent c.self.inside.period (rank c.key-key.result) (name_of c.args.row) (rows_of_pages root.pages) = rw key (rw (← c.self.view_is) at c.requires.absent) in
     let grows = reshaped_grows (rank c.key-key.result) c.args.row root.pages c.even_if.new.self.pages c.put.new.self.pages evens.by c.put.ensures.grows in
-    tree_grows c.self.inside.period (rank c.key-key.result) c.args.row root c.widen_if-2.new.self c.self.inside.len c.self.invariant (rw (← c.widen_if-2.ensures) at c.put.ensures.wide) c.count_keys.ensures.keys (rw (← c.widen_if-2.ensures) at grows) key c.key-key.ensures.in_period absent (rw (← c.self.view_is) at c.requires.room.count)
+    tree_grows c.self.inside.period (rank c.key-key.result) c.args.row root c.widen_if-2.new.self c.self.inside.len c.self.invariant
+    (rw (← c.widen_if-2.ensures) at c.put.ensures.wide) c.count_keys.ensures.keys (rw (← c.widen_if-2.ensures) at grows) key
+    c.key-key.ensures.in_period absent (rw (← c.self.view_is) at c.requires.room.count)
 
 pub returns-clause-lawful : goal.returns-clause-lawful
 returns-clause-lawful g c = lawful_tree c.self.inside.period c.widen_if-2.new.self (c.self.inside.len + 1) (invariant_of-self g c)

@@ -8,10 +8,12 @@ pub returns-clause-leaf : goal.returns-clause-leaf
 returns-clause-leaf g c =
     let end : rank c.last.result + 1 ≡ key_end c.self.inside.period = c.last.ensures.rank in
     let below : rank c.args.key < key_end c.self.inside.period = rw (← c.self.view_is) at c.requires in
-    rw (← c.self.view_is) (leaf_at_key c.self.inside.period (rank c.args.key) (rank c.last.result) (rank c.leaf_at.result.first) (rank c.leaf_at.result.last) c.self.inside.root.pages c.leaf_at.result.entries.now c.leaf_at.ensures c.self.invariant.spans end below)
+    rw (← c.self.view_is) (leaf_at_key c.self.inside.period (rank c.args.key) (rank c.last.result) (rank c.leaf_at.result.first)
+    (rank c.leaf_at.result.last) c.self.inside.root.pages c.leaf_at.result.entries.now c.leaf_at.ensures c.self.invariant.spans end below)
 
 pub returns-clause-of_regions : goal.returns-clause-of_regions
 returns-clause-of_regions g c =
     let end : rank c.last.result + 1 ≡ key_end c.self.inside.period = c.last.ensures.rank in
     let below : rank c.args.key < key_end c.self.inside.period = rw (← c.self.view_is) at c.requires in
-    rw (← c.self.view_is) (leaf_of_regions c.self.inside.period (rank c.args.key) (rank c.last.result) (rank c.leaf_at.result.first) (rank c.leaf_at.result.last) c.self.inside.root.pages c.leaf_at.result.entries.now c.leaf_at.ensures c.self.invariant.spans end below)
+    rw (← c.self.view_is) (leaf_of_regions c.self.inside.period (rank c.args.key) (rank c.last.result) (rank c.leaf_at.result.first)
+    (rank c.leaf_at.result.last) c.self.inside.root.pages c.leaf_at.result.entries.now c.leaf_at.ensures c.self.invariant.spans end below)

@@ -1,7 +1,7 @@
 use Rattle.std.proofs.Common.{◌≡◌, ◌<◌, length, sym, ap, ◌∙◌, arith, vec_capacity}
 use Rattle.std.specs.List.{All}
 use Rattle.st_index.specs.Rows.{EntryValue, rank_of}
-use Rattle.st_tally.specs.Pages.{entries_of_pages}
+use Rattle.st_tally.specs.inner.Pages.{entries_of_pages}
 use Rattle.st_ubtree.specs.inner.Splits.{made_nodes, split_nodes, splits}
 use Rattle.st_ubtree.proofs.tree.UbTreeRowIndex.prepare.Goals as goal
 

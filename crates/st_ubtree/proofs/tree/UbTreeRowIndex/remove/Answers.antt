@@ -2,9 +2,9 @@ use Rattle.std.proofs.Common.{◌-◌, inl, inr, subst, sym, arith}
 use Rattle.std.proofs.lemmas.Bool.{cases_lt}
 use Rattle.st_key.specs.Key.{rank}
 use Rattle.st_index.specs.Rows.{key_end}
-use Rattle.st_index.specs.Index.{IsAbsent}
+use Rattle.st_index.specs.inner.Index.{IsAbsent}
 use Rattle.st_index.proofs.Listing.{adds_length}
-use Rattle.st_tally.specs.Pages.{rows_of_pages}
+use Rattle.st_tally.specs.inner.Pages.{rows_of_pages}
 use Rattle.st_ubtree.specs.inner.Shrinking.{DropsFrom}
 use Rattle.st_ubtree.proofs.Lawful.{absent_past, lawful_tree, tree_shrinks}
 use Rattle.st_ubtree.proofs.tree.UbTreeRowIndex.remove.Goals as goal
@@ -15,7 +15,9 @@ returns-in_err-row-clause-lawful g c = rw c.in_err-row.ensures.none (lawful_tree
 pub returns-clause-lawful : goal.returns-clause-lawful
 returns-clause-lawful g c =
     let drops = subst (DropsFrom (rank c.args.key) c.in_ok-row.row c.self.inside.root.pages) (sym c.lower.ensures.pages) c.in_ok-row.ensures.some.by in
-    lawful_tree c.self.inside.period c.lower.new.self (c.self.inside.len - 1) (tree_shrinks c.self.inside.period (rank c.args.key) c.in_ok-row.row c.self.inside.root c.lower.new.self c.self.inside.len c.self.invariant c.lower.ensures.wide c.count_keys.ensures.keys drops)
+    lawful_tree c.self.inside.period c.lower.new.self (c.self.inside.len - 1)
+    (tree_shrinks c.self.inside.period (rank c.args.key) c.in_ok-row.row c.self.inside.root c.lower.new.self c.self.inside.len c.self.invariant
+    c.lower.ensures.wide c.count_keys.ensures.keys drops)
 
 pub returns-in_err-row-clause-absent : goal.returns-in_err-row-clause-absent
 returns-in_err-row-clause-absent g c =

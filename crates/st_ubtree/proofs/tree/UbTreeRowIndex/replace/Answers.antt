@@ -1,9 +1,9 @@
 use Rattle.std.proofs.Common.{◌∙◌, arith}
 use Rattle.st_key.specs.Key.{rank}
 use Rattle.st_index.specs.Rows.{key_end, name_of, rank_of}
-use Rattle.st_index.specs.Index.{Holds}
+use Rattle.st_index.specs.inner.Index.{Holds}
 use Rattle.st_index.proofs.Taking.{absent_held}
-use Rattle.st_tally.specs.Pages.{rows_of_pages}
+use Rattle.st_tally.specs.inner.Pages.{rows_of_pages}
 use Rattle.st_ubtree.proofs.Lawful.{lawful_tree, tree_trades}
 use Rattle.st_ubtree.proofs.tree.UbTreeRowIndex.replace.Goals as goal
 
@@ -20,7 +20,10 @@ returns-clause-lawful g c =
     let same = keeps.height in
     let broad = keeps.width in
     let wide = c.self.invariant.wide in
-    lawful_tree c.self.inside.period c.replace.new.self c.self.inside.len (tree_trades c.self.inside.period (rank c.key-key.result) c.args.row c.self.inside.root c.replace.new.self c.self.inside.len c.self.invariant (λ tall. let two = wide (omega (arith, same, tall)) in omega (arith, broad, two)) c.count_keys.ensures.keys c.in-Ok.out c.in-Ok.ensures.ok c.key-key.ensures.value)
+    lawful_tree c.self.inside.period c.replace.new.self c.self.inside.len
+    (tree_trades c.self.inside.period (rank c.key-key.result) c.args.row c.self.inside.root c.replace.new.self c.self.inside.len c.self.invariant
+    (λ tall. let two = wide (omega (arith, same, tall)) in omega (arith, broad, two)) c.count_keys.ensures.keys c.in-Ok.out c.in-Ok.ensures.ok
+    c.key-key.ensures.value)
 
 pub invariant_of-self : goal.invariant_of-self
 invariant_of-self g c =
@@ -28,7 +31,9 @@ invariant_of-self g c =
     let same = keeps.height in
     let broad = keeps.width in
     let wide = c.self.invariant.wide in
-    tree_trades c.self.inside.period (rank c.key-key.result) c.args.row c.self.inside.root c.replace.new.self c.self.inside.len c.self.invariant (λ tall. let two = wide (omega (arith, same, tall)) in omega (arith, broad, two)) c.count_keys.ensures.keys c.in-Ok.out c.in-Ok.ensures.ok c.key-key.ensures.value
+    tree_trades c.self.inside.period (rank c.key-key.result) c.args.row c.self.inside.root c.replace.new.self c.self.inside.len c.self.invariant
+    (λ tall. let two = wide (omega (arith, same, tall)) in omega (arith, broad, two)) c.count_keys.ensures.keys c.in-Ok.out c.in-Ok.ensures.ok
+    c.key-key.ensures.value
 
 pub returns-clause-swaps : goal.returns-clause-swaps
 returns-clause-swaps g c = rw (← c.self.view_is) c.in-Ok.ensures.ok.swaps

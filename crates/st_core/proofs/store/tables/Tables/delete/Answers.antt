@@ -13,7 +13,9 @@ invariant_of-self g c =
     let i = c.position-place.result in
     let t : Shelf g.row.A.Denot = c.index_mut.result.now in
     let value = c.deref.ensures.value in
-    let s : Stands name ts i t = stands name ts i t (rw value at c.position-place.ensures.alone) (rw value at c.position-place.ensures.inside) (rw value at c.position-place.ensures.found) c.index_mut.ensures.value in
+    let s : Stands name ts i t =
+    stands name ts i t (rw value at c.position-place.ensures.alone) (rw value at c.position-place.ensures.inside)
+    (rw value at c.position-place.ensures.found) c.index_mut.ensures.value in
     let u : Shelf g.row.A.Denot = c.delete.new.self in
     same_rises name ts i t s u (ap heading_of c.delete.ensures) c.self.invariant
 
@@ -24,7 +26,9 @@ returns g c =
     let i = c.position-place.result in
     let t : Shelf g.row.A.Denot = c.index_mut.result.now in
     let value = c.deref.ensures.value in
-    let s : Stands name ts i t = stands name ts i t (rw value at c.position-place.ensures.alone) (rw value at c.position-place.ensures.inside) (rw value at c.position-place.ensures.found) c.index_mut.ensures.value in
+    let s : Stands name ts i t =
+    stands name ts i t (rw value at c.position-place.ensures.alone) (rw value at c.position-place.ensures.inside)
+    (rw value at c.position-place.ensures.found) c.index_mut.ensures.value in
     let u : Shelf g.row.A.Denot = c.delete.new.self in
     delete_is name ts i t s u c.args.id.now c.args.label.now c.delete.ensures
     ∙ ap (λ (v : TablesValue g.row.A.Denot). record v { rows = without_row name c.args.id.now c.args.label.now v.rows }) c.self.view_is

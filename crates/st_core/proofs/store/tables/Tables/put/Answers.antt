@@ -15,7 +15,9 @@ invariant_of-self g c =
     let i = c.position-place.result in
     let t : Shelf g.row.A.Denot = c.index_mut.result.now in
     let value = c.deref.ensures.value in
-    let s : Stands name ts i t = stands name ts i t (rw value at c.position-place.ensures.alone) (rw value at c.position-place.ensures.inside) (rw value at c.position-place.ensures.found) c.index_mut.ensures.value in
+    let s : Stands name ts i t =
+    stands name ts i t (rw value at c.position-place.ensures.alone) (rw value at c.position-place.ensures.inside)
+    (rw value at c.position-place.ensures.found) c.index_mut.ensures.value in
     let u : Shelf g.row.A.Denot = c.put.new.self in
     either_way c.put.result c.put.ensures.ok c.put.ensures.err
     (λ e. same_rises name ts i t s u (ap heading_of e) c.self.invariant)
@@ -28,7 +30,9 @@ returns-clause-ok g c =
     let i = c.position-place.result in
     let t : Shelf g.row.A.Denot = c.index_mut.result.now in
     let value = c.deref.ensures.value in
-    let s : Stands name ts i t = stands name ts i t (rw value at c.position-place.ensures.alone) (rw value at c.position-place.ensures.inside) (rw value at c.position-place.ensures.found) c.index_mut.ensures.value in
+    let s : Stands name ts i t =
+    stands name ts i t (rw value at c.position-place.ensures.alone) (rw value at c.position-place.ensures.inside)
+    (rw value at c.position-place.ensures.found) c.index_mut.ensures.value in
     let u : Shelf g.row.A.Denot = c.put.new.self in
     let row : Row g.row.A.Denot = c.args.row.now in
     on_ok_weaker c.put.result (λ e. put_is name ts i t s u row c.put.ensures.in_order e
@@ -41,6 +45,8 @@ returns-clause-err g c =
     let i = c.position-place.result in
     let t : Shelf g.row.A.Denot = c.index_mut.result.now in
     let value = c.deref.ensures.value in
-    let s : Stands name ts i t = stands name ts i t (rw value at c.position-place.ensures.alone) (rw value at c.position-place.ensures.inside) (rw value at c.position-place.ensures.found) c.index_mut.ensures.value in
+    let s : Stands name ts i t =
+    stands name ts i t (rw value at c.position-place.ensures.alone) (rw value at c.position-place.ensures.inside)
+    (rw value at c.position-place.ensures.found) c.index_mut.ensures.value in
     let u : Shelf g.row.A.Denot = c.put.new.self in
     on_err_weaker c.put.result (λ e. left name ts i t s u e ∙ c.self.view_is) c.put.ensures.err

@@ -13,7 +13,9 @@ invariant_of-self g c =
     let i = c.position-place.result in
     let t : Shelf g.row.A.Denot = c.index_mut.result.now in
     let value = c.deref.ensures.value in
-    let s : Stands name ts i t = stands name ts i t (rw value at c.position-place.ensures.alone) (rw value at c.position-place.ensures.inside) (rw value at c.position-place.ensures.found) c.index_mut.ensures.value in
+    let s : Stands name ts i t =
+    stands name ts i t (rw value at c.position-place.ensures.alone) (rw value at c.position-place.ensures.inside)
+    (rw value at c.position-place.ensures.found) c.index_mut.ensures.value in
     let u : Shelf g.row.A.Denot = c.rebuild.new.self in
     either_way c.rebuild.result c.rebuild.ensures.ok c.rebuild.ensures.err
     (λ e. rebuilt_rises name ts i t s u c.args.period e c.self.invariant)
@@ -26,7 +28,9 @@ returns-clause-ok g c =
     let i = c.position-place.result in
     let t : Shelf g.row.A.Denot = c.index_mut.result.now in
     let value = c.deref.ensures.value in
-    let s : Stands name ts i t = stands name ts i t (rw value at c.position-place.ensures.alone) (rw value at c.position-place.ensures.inside) (rw value at c.position-place.ensures.found) c.index_mut.ensures.value in
+    let s : Stands name ts i t =
+    stands name ts i t (rw value at c.position-place.ensures.alone) (rw value at c.position-place.ensures.inside)
+    (rw value at c.position-place.ensures.found) c.index_mut.ensures.value in
     let u : Shelf g.row.A.Denot = c.rebuild.new.self in
     on_ok_weaker c.rebuild.result (λ e. rebuild_is name ts i t s u c.args.period c.rebuild.ensures.each_once e
     ∙ ap (λ (v : TablesValue g.row.A.Denot). record v { headings = headings_with name c.args.period v.headings }) c.self.view_is) c.rebuild.ensures.ok
@@ -38,6 +42,8 @@ returns-clause-err g c =
     let i = c.position-place.result in
     let t : Shelf g.row.A.Denot = c.index_mut.result.now in
     let value = c.deref.ensures.value in
-    let s : Stands name ts i t = stands name ts i t (rw value at c.position-place.ensures.alone) (rw value at c.position-place.ensures.inside) (rw value at c.position-place.ensures.found) c.index_mut.ensures.value in
+    let s : Stands name ts i t =
+    stands name ts i t (rw value at c.position-place.ensures.alone) (rw value at c.position-place.ensures.inside)
+    (rw value at c.position-place.ensures.found) c.index_mut.ensures.value in
     let u : Shelf g.row.A.Denot = c.rebuild.new.self in
     on_err_weaker c.rebuild.result (λ e. left name ts i t s u e ∙ c.self.view_is) c.rebuild.ensures.err

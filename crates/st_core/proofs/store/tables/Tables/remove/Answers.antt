@@ -13,7 +13,9 @@ invariant_of-self g c =
     let i = c.position-place.result in
     let t : Shelf g.row.A.Denot = c.remove.result in
     let value = c.deref.ensures.value in
-    let s : Stands name ts i t = stands name ts i t (rw value at c.position-place.ensures.alone) (rw value at c.position-place.ensures.inside) (rw value at c.position-place.ensures.found) c.remove.ensures.value in
+    let s : Stands name ts i t =
+    stands name ts i t (rw value at c.position-place.ensures.alone) (rw value at c.position-place.ensures.inside)
+    (rw value at c.position-place.ensures.found) c.remove.ensures.value in
     subst (λ items. Rises heading_key (headings_in items)) (sym c.remove.ensures.items) (removed_rises name ts i t s c.self.invariant)
 
 pub returns : goal.returns
@@ -23,5 +25,7 @@ returns g c =
     let i = c.position-place.result in
     let t : Shelf g.row.A.Denot = c.remove.result in
     let value = c.deref.ensures.value in
-    let s : Stands name ts i t = stands name ts i t (rw value at c.position-place.ensures.alone) (rw value at c.position-place.ensures.inside) (rw value at c.position-place.ensures.found) c.remove.ensures.value in
+    let s : Stands name ts i t =
+    stands name ts i t (rw value at c.position-place.ensures.alone) (rw value at c.position-place.ensures.inside)
+    (rw value at c.position-place.ensures.found) c.remove.ensures.value in
     ap (λ (items : List (Shelf g.row.A.Denot)). tables_in items) c.remove.ensures.items ∙ remove_is name ts i t s ∙ ap (tables_without name) c.self.view_is

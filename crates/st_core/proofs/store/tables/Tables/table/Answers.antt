@@ -15,7 +15,9 @@ returns-clause-period g c =
     let i = c.position-place.result in
     let t : Shelf g.row.A.Denot = c.index.result.now in
     let value = c.deref.ensures.value in
-    let s : Stands name ts i t = stands name ts i t (rw value at c.position-place.ensures.alone) (rw value at c.position-place.ensures.inside) (rw value at c.position-place.ensures.found) c.index.ensures in
+    let s : Stands name ts i t =
+    stands name ts i t (rw value at c.position-place.ensures.alone) (rw value at c.position-place.ensures.inside)
+    (rw value at c.position-place.ensures.found) c.index.ensures in
     subst (λ (v : TablesValue g.row.A.Denot). heading_named name v.headings ≡ Some (record { table = name; period = c.table.result.now.period })) c.self.view_is
     (heading_is name ts i t s ∙ ap (λ (v : TableValue g.row.A.Denot). Some (record { table = name; period = v.period })) (sym c.table.ensures.value))
 
@@ -26,7 +28,9 @@ returns-clause-scans g c =
     let i = c.position-place.result in
     let t : Shelf g.row.A.Denot = c.index.result.now in
     let value = c.deref.ensures.value in
-    let s : Stands name ts i t = stands name ts i t (rw value at c.position-place.ensures.alone) (rw value at c.position-place.ensures.inside) (rw value at c.position-place.ensures.found) c.index.ensures in
+    let s : Stands name ts i t =
+    stands name ts i t (rw value at c.position-place.ensures.alone) (rw value at c.position-place.ensures.inside)
+    (rw value at c.position-place.ensures.found) c.index.ensures in
     λ test.
     subst (λ (w : TableValue g.row.A.Denot). in_order (scan_key w.period) (filter test (rows_in_table name c.args.self.now.rows)) ≡ filter test w.rows) (sym c.table.ensures.value)
     (subst (λ (v : TablesValue g.row.A.Denot). in_order (scan_key t.table.period) (filter test (rows_in_table name v.rows)) ≡ filter test t.table.rows) c.self.view_is
@@ -39,7 +43,9 @@ returns-clause-gets g c =
     let i = c.position-place.result in
     let t : Shelf g.row.A.Denot = c.index.result.now in
     let value = c.deref.ensures.value in
-    let s : Stands name ts i t = stands name ts i t (rw value at c.position-place.ensures.alone) (rw value at c.position-place.ensures.inside) (rw value at c.position-place.ensures.found) c.index.ensures in
+    let s : Stands name ts i t =
+    stands name ts i t (rw value at c.position-place.ensures.alone) (rw value at c.position-place.ensures.inside)
+    (rw value at c.position-place.ensures.found) c.index.ensures in
     λ id test.
     subst (λ (w : TableValue g.row.A.Denot). rows_by_label id test (rows_in_table name c.args.self.now.rows) ≡ rows_by_label id test w.rows) (sym c.table.ensures.value)
     (subst (λ (v : TablesValue g.row.A.Denot). rows_by_label id test (rows_in_table name v.rows) ≡ rows_by_label id test t.table.rows) c.self.view_is

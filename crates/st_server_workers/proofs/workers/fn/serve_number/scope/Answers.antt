@@ -1,5 +1,5 @@
 use denote.Param.Send.{sendable, given_sync}
-use Rattle.std.specs.Prelude.{◌≡◌, ◌+◌, ◌<◌, ◌≤◌, get_or, length, vec_items, vec_len}
+use Rattle.std.specs.Prelude.{◌≡◌, ◌+◌, get_or, length, vec_items, vec_len}
 use Rattle.std.specs.Vec.Iter.{into_iter_items}
 use Rattle.std.proofs.Common.{rules, arith, below_more, ap, sym, subst, ◌∙◌}
 use Rattle.st_server_peer.specs.Meeting.{Met}

@@ -1,6 +1,6 @@
 use Rattle.std.proofs.Common.{◌≡◌, ◌<◌, ◌∷◌, ◌++◌, [], length, map, take, sym, ap, ◌∙◌, arith}
 use Rattle.std.proofs.lemmas.List.{length-map, length-take-le, map-append, map_more, take_all}
-use Rattle.st_tally.specs.Pages.{NodeValue}
+use Rattle.st_tally.specs.inner.Pages.{NodeValue}
 use Rattle.st_ubtree.specs.declared.node.firsts.First.{First}
 use Rattle.st_ubtree.proofs.Firsts.{number}
 use Rattle.st_ubtree.proofs.node.firsts.Firsts.renew.Goals as goal

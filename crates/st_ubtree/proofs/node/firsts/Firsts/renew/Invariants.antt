@@ -1,5 +1,5 @@
 use Rattle.std.proofs.Common.{◌≡◌, map, take}
-use Rattle.st_tally.specs.Pages.{NodeValue}
+use Rattle.st_tally.specs.inner.Pages.{NodeValue}
 use Rattle.st_ubtree.proofs.Firsts.{number}
 use Rattle.st_ubtree.proofs.node.firsts.Firsts.renew.Given as goal
 

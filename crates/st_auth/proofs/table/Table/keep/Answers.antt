@@ -1,5 +1,0 @@
-use Rattle.std.proofs.Common.{rules}
-use Rattle.st_auth.proofs.table.Table.keep.Goals as goal
-
-pub returns-then-number-count : goal.returns-then-number-count
-returns-then-number-count g c = search rules

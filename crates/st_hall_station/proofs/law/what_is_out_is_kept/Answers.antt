@@ -1,0 +1,5 @@
+use Rattle.st_hall_station.proofs.Growing.{out_kept}
+use Rattle.st_hall_station.proofs.law.what_is_out_is_kept.Goals as goal
+
+pub returns : goal.returns
+returns c start kept = out_kept start kept

@@ -1,5 +1,0 @@
-use Rattle.std.proofs.Common.{rules}
-use Rattle.st_hall_station.proofs.station.Answerer.is_stranger.Goals as goal
-
-pub returns-clause-stranger : goal.returns-clause-stranger
-returns-clause-stranger g c = search rules

@@ -1,0 +1,2 @@
+-- Invariants of representations, machines and stages of the code: no reader has to believe what stands here.
+pub mod Lanes

@@ -1,4 +1,0 @@
-use Rattle.st_server.proofs.served.serve_words.Goals as goal
-
-pub returns-in-Err : goal.returns-in-Err
-returns-in-Err g c = rw c.give_up.ensures c.in-Err.ensures
