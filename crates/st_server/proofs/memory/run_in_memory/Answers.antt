@@ -17,7 +17,7 @@ returns-in_err-both g c = λ words says.
     rw p.1 (inr (record { fault = p.0; why = subst (RefusesServedWords words) (sym p.2) why; status_is = refl; idle = refl }))
 
 pub open_hall-requires-clause-named : goal.open_hall-requires-clause-named
-open_hall-requires-clause-named g c κs within = (refl, refl)
+open_hall-requires-clause-named g c κs within = (refl, refl, refl)
 
 pub open_hall-requires-clause-workers : goal.open_hall-requires-clause-workers
 open_hall-requires-clause-workers g c κs within = (c.of-name.ensures, refl, c.worker_count-workers.ensures.some)

@@ -1,4 +1,4 @@
-use Rattle.std.proofs.Common.{◌≡◌, Err, List, Ok, Result, Some, OnOk, ap, inr, rules, subst}
+use Rattle.std.proofs.Common.{◌≡◌, Err, List, Ok, Result, Some, OnOk, ap, inr, rules, subst, sym, ◌∙◌}
 use mathlib.Core.List.{IsPrefix}
 use Rattle.st_hall.specs.Steps.{Ask}
 use Rattle.st_hall_press.proofs.Fronts.{prefix_length, prefix_whole}
@@ -6,7 +6,7 @@ use Rattle.st_command_line.specs.ServedArguments.{address_text}
 use Rattle.st_server_workers.proofs.Telling.{all_told}
 use Rattle.st_server_workers.specs.Working.{WorkedEach}
 use Rattle.st_server.specs.Attending.{KeptWhole}
-use Rattle.st_server.proofs.Idle.{idle}
+use Rattle.st_server.proofs.Idle.{idle, of_some}
 use Rattle.st_server.proofs.Joining.{as_one}
 use Rattle.st_server.proofs.Widening.{widened, not_lost}
 use Rattle.st_server.proofs.serving.announce.Goals as goal
@@ -21,10 +21,10 @@ returns-in-Err-clause-failed g c = λ lost.
     let said = c.args.said.now in
     absurd (not_lost (address_text said.bind_address) said.connections (g.O.Write.contents c.args.output.now) (g.O.Write.contents c.begin.new.output) (Err c.in-Err.fault) c.in-Err.ensures.err lost)
 
-pub returns-clause-told : goal.returns-clause-told
-returns-clause-told g c =
+pub returns-in-Ok-finish-clause-told : goal.returns-in-Ok-finish-clause-told
+returns-in-Ok-finish-clause-told g c =
     let said = c.args.said.now in
-    let ok : said.connections ≡ Some c.in_ok-number.number = search rules in
+    let ok : said.connections ≡ Some c.in-Ok-finish.number = search rules in
     widened (address_text said.bind_address) said.connections (g.O.Write.contents c.args.output.now) (g.O.Write.contents c.tell.new.output) c.tell.result
     (all_told (address_text said.bind_address) _ said.connections (g.O.Write.contents c.args.output.now) (g.O.Write.contents c.begin.new.output)
     (g.O.Write.contents c.tell.new.output) c.tell.result c.in-Ok.ensures.ok ok c.tell.ensures.ok c.tell.ensures.err)
@@ -44,11 +44,12 @@ given (Err e) p = tt
 whole : (kept list known : List Ask) → known ≡ list → IsPrefix known kept → IsPrefix kept list → kept ≡ list
 whole kept list known is has begins = prefix_whole kept list begins (prefix_length list kept (subst (λ (l : List Ask). IsPrefix l kept) is has))
 
-pub returns-in-Err-2-clause-attended : goal.returns-in-Err-2-clause-attended
-returns-in-Err-2-clause-attended g c =
+pub returns-clause-attended : goal.returns-clause-attended
+returns-clause-attended g c =
     let workers = c.attend_and_copy-attended.result.workers.items in
-    let each : WorkedEach g.T.Attend.serves g.C.Client.call c.args.attendants.items workers = search rules in
-    let joined = c.in_ok-joined in let kept = c.in_ok-kept in
+    let each : WorkedEach g.T.Attend.serves g.C.Client.call c.args.attendants.items workers =
+        of_some workers _ (sym c.attend_and_copy-attended.result.workers.ok.0) c.attend_and_copy-attended.ensures.each (sym c.is_empty.ensures ∙ c.if-is_empty.false) in
+    let joined = c.in_ok-joined in let kept = c.in_ok-kept-in-Err-finish in
     let one = as_one g.M.Commits.leaves g.T.Attend.serves g.C.Client.call g.T.AtDesk.standing c.args.attendants.items workers
     joined.joined.synced.items joined.joined.list kept.kept each joined.ensures.one joined.ensures.synced kept.ensures.has kept.ensures.leaves in
     record {
@@ -60,16 +61,17 @@ returns-in-Err-2-clause-attended g c =
       number = tt;
     }
 
-pub returns-in-Ok-2-clause-attended : goal.returns-in-Ok-2-clause-attended
-returns-in-Ok-2-clause-attended g c =
+pub returns-in-Ok-finish-clause-attended : goal.returns-in-Ok-finish-clause-attended
+returns-in-Ok-finish-clause-attended g c =
     let workers = c.attend_and_copy-attended.result.workers.items in
-    let each : WorkedEach g.T.Attend.serves g.C.Client.call c.args.attendants.items workers = search rules in
-    let joined = c.in_ok-joined in let kept = c.in_ok-kept in
+    let each : WorkedEach g.T.Attend.serves g.C.Client.call c.args.attendants.items workers =
+        of_some workers _ (sym c.attend_and_copy-attended.result.workers.ok.0) c.attend_and_copy-attended.ensures.each (sym c.is_empty.ensures ∙ c.if-is_empty.false) in
+    let joined = c.in_ok-joined in let kept = c.in_ok-kept-in-Ok-finish in
     let one = as_one g.M.Commits.leaves g.T.Attend.serves g.C.Client.call g.T.AtDesk.standing c.args.attendants.items workers
     joined.joined.synced.items joined.joined.list kept.kept each joined.ensures.one joined.ensures.synced kept.ensures.has kept.ensures.leaves in
     let all = as_one (KeptWhole g.M.Commits.leaves) g.T.Attend.serves g.C.Client.call g.T.AtDesk.standing c.args.attendants.items workers
     joined.joined.synced.items joined.joined.list kept.kept each joined.ensures.one joined.ensures.synced kept.ensures.has
-    (whole kept.kept joined.joined.list _ c.in-Ok-2.ensures.ok.1 kept.ensures.known kept.ensures.begins, kept.ensures.leaves) in
+    (whole kept.kept joined.joined.list _ c.in-Ok-finish.ensures.ok.1 kept.ensures.known kept.ensures.begins, kept.ensures.leaves) in
     record {
       workers = workers;
       each = c.attend_and_copy-attended.ensures.each;
