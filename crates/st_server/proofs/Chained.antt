@@ -1,6 +1,6 @@
 -- What was kept of each connection that the workers of a hall served is kept in the end.
 use Rattle.std.proofs.Common.{◌≡◌, ◌≢◌, ℕ, Bool, true, false, List, [], ◌∷◌, Option, Some, None, refl, sym, subst, ◌∙◌, arith}
-use Rattle.std.specs.Prelude.{◌<◌, ◌+◌, Result, Ok, Err, length, slice_index_or}
+use Rattle.std.specs.Prelude.{Result, Ok, Err, slice_index_or}
 use Rattle.std.specs.List.{All}
 use mathlib.Core.List.{IsPrefix}
 use Rattle.st_connection.specs.Streams.{Streams}
@@ -16,7 +16,7 @@ use Rattle.st_hall_station.specs.Standing.{ServesKept, ServesSound}
 use Rattle.st_hall_station.proofs.Growing.{run_grows}
 use Rattle.st_server_workers.specs.Working.{WorkedEach}
 use Rattle.st_server_workers.specs.declared.working.Worked.{Worked}
-use Rattle.st_server.specs.Attending.{AreNew, ServesWithin, new_station, synced_of}
+use Rattle.st_server.specs.Attending.{AreNew, ServesWithin, synced_of}
 
 -- unless a sync failed, all that was seen was kept
 abbrev pub IsSynced : Standing → Type 0

@@ -48,7 +48,7 @@ pub returns-clause-attended : goal.returns-clause-attended
 returns-clause-attended g c =
     let workers = c.attend_and_copy-attended.result.workers.items in
     let each : WorkedEach g.T.Attend.serves g.C.Client.call c.args.attendants.items workers =
-        of_some workers _ (sym c.attend_and_copy-attended.result.workers.ok.0) c.attend_and_copy-attended.ensures.each (sym c.is_empty.ensures ∙ c.if-is_empty.false) in
+    of_some workers _ (sym c.attend_and_copy-attended.result.workers.ok.0) c.attend_and_copy-attended.ensures.each (sym c.is_empty.ensures ∙ c.if-is_empty.false) in
     let joined = c.in_ok-joined in let kept = c.in_ok-kept-in-Err-finish in
     let one = as_one g.M.Commits.leaves g.T.Attend.serves g.C.Client.call g.T.AtDesk.standing c.args.attendants.items workers
     joined.joined.synced.items joined.joined.list kept.kept each joined.ensures.one joined.ensures.synced kept.ensures.has kept.ensures.leaves in
@@ -65,7 +65,7 @@ pub returns-in-Ok-finish-clause-attended : goal.returns-in-Ok-finish-clause-atte
 returns-in-Ok-finish-clause-attended g c =
     let workers = c.attend_and_copy-attended.result.workers.items in
     let each : WorkedEach g.T.Attend.serves g.C.Client.call c.args.attendants.items workers =
-        of_some workers _ (sym c.attend_and_copy-attended.result.workers.ok.0) c.attend_and_copy-attended.ensures.each (sym c.is_empty.ensures ∙ c.if-is_empty.false) in
+    of_some workers _ (sym c.attend_and_copy-attended.result.workers.ok.0) c.attend_and_copy-attended.ensures.each (sym c.is_empty.ensures ∙ c.if-is_empty.false) in
     let joined = c.in_ok-joined in let kept = c.in_ok-kept-in-Ok-finish in
     let one = as_one g.M.Commits.leaves g.T.Attend.serves g.C.Client.call g.T.AtDesk.standing c.args.attendants.items workers
     joined.joined.synced.items joined.joined.list kept.kept each joined.ensures.one joined.ensures.synced kept.ensures.has kept.ensures.leaves in
