@@ -11,26 +11,21 @@ use st_command_line::{ServedArguments, give_up, refuse, words_of};
 use st_store_file::shorten_for_served;
 use std::process::ExitCode;
 
-// Makes the list of the store short where that is asked for, and serves.
-fn serve(rt: &HostRuntime, said: &ServedArguments<'_>) -> u8 {
+fn main(rt: HostRuntime) -> ExitCode {
     let mut output = rt.stdout();
     let mut faults = rt.stderr();
-    match shorten_for_served(rt, Unknown, said, &mut faults) {
-        Ok(journal) => {
-            drop(journal);
-            serve_files(rt, rt, Unknown, said, &mut output, &mut faults)
-        }
-        Err(fault) => give_up("st_served", fault, &mut faults),
-    }
-}
-
-fn main(rt: HostRuntime) -> ExitCode {
     let status = match words_of(&rt) {
         Ok(words) => match ServedArguments::read(rt.alloc(), &words) {
-            Ok(said) => serve(&rt, &said),
-            Err(fault) => refuse("st_served", fault, &mut rt.stdout(), &mut rt.stderr()),
+            Ok(said) => match shorten_for_served(&rt, Unknown, &said, &mut faults) {
+                Ok(journal) => {
+                    drop(journal);
+                    serve_files(&rt, &rt, Unknown, &said, &mut output, &mut faults)
+                }
+                Err(fault) => give_up("st_served", fault, &mut faults),
+            },
+            Err(fault) => refuse("st_served", fault, &mut output, &mut faults),
         },
-        Err(fault) => give_up("st_served", fault, &mut rt.stderr()),
+        Err(fault) => give_up("st_served", fault, &mut faults),
     };
     ExitCode::from(status)
 }
