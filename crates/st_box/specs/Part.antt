@@ -26,16 +26,18 @@ cut_to q bin_lo bin_hi from to = record {
   last = record { x = q.x1; y = q.y1; offset = to };
 }
 
--- one part when the span is in one bin; else its first bin, the whole bins between (if any) and its last bin
+-- the whole bins between two, if any, with this offset at their end
+abbrev pub whole_bins : Query → (end first last : ℕ) → List Cut
+whole_bins q end first last = if nat_lt (first + 1) last then cut_to q (first + 1) (last - 1) 0 end ∷ [] else []
+
+-- one part when the span is in one bin; else its first bin, the whole bins between and its last bin
+abbrev pub cuts_between : Query → (end first last from to : ℕ) → List Cut
+cuts_between q end first last from to =
+    if nat_eq first last then cut_to q first last from to ∷ [] else
+    cut_to q first first from end ∷ whole_bins q end first last ++ cut_to q last last 0 to ∷ []
+
+-- the parts of a query's span, by its bins and offsets
 unfoldable pub cuts_of : Period → Query → List Cut
 cuts_of period q =
     let seconds = seconds_of period in
-    let first = q.t0 / seconds in
-    let last = q.t1 / seconds in
-    let from = q.t0 % seconds in
-    let to = q.t1 % seconds in
-    if nat_eq first last
-    then cut_to q first last from to ∷ []
-    else cut_to q first first from (seconds - 1)
-    ∷ (if nat_lt (first + 1) last then cut_to q (first + 1) (last - 1) 0 (seconds - 1) ∷ [] else [])
-    ++ cut_to q last last 0 to ∷ []
+    cuts_between q (seconds - 1) (q.t0 / seconds) (q.t1 / seconds) (q.t0 % seconds) (q.t1 % seconds)

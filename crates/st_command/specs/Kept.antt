@@ -3,6 +3,8 @@ use Rattle.std.specs.Prelude.{◌≡◌, ◌≢◌, ℕ, Option, Some, is_some, 
 use Rattle.std.specs.declared.alloc.Global.{Global}
 use Rattle.st_core.specs.State.{State}
 use Rattle.st_journal.specs.declared.record.Record.{Record}
+use Rattle.st_journal.specs.declared.journal.Journal.{Ghosts}
+use Rattle.st_journal.specs.Leaving.{LeavesOnly}
 use Rattle.st_journal.specs.Faults.{FaultsRise}
 use Rattle.st_journal.specs.Replays.{Replays}
 use Rattle.st_service.specs.Answers.{Answers}
@@ -30,24 +32,23 @@ status_after (Err broken) loss = 5
 -- is kept, unless a change was lost, and then its answer was not written. Whatever is left if the process ends leads from the first
 -- state to that after all that was kept, or after the lost change too. The disk is why a change was lost only where it failed or refused
 -- more often than `begun`.
-pub record ServesStored {J : Type 0} (list : J → List Record) (misreads faults : J → ℕ) (may_leave : J → List Record → Type 0)
-    (first : State Global) (begun : ℕ) (before : State Global) (s : Streams) (status : ℕ) : Type 0 where
+pub record ServesStored {J : Type 0} (journals : Ghosts J) (first : State Global) (begun : ℕ) (before : State Global) (s : Streams)
+    (status : ℕ) : Type 0 where
   pub ended : Result Ended IoFault
   pub after : Keeping J
   pub served : ServedWithin Answers 0 before (answered after) after.kept s ended
   pub ends : EndsOn MAX_READS s ended
   pub kept : KeptUnlessLost after.kept (answered after) (is_some after.loss) ended
-  pub stands : ended ≢ Ok Lost → misreads after.journal ≡ 0 → Replays Applies first (list after.journal) after.kept
-  pub leaves : misreads after.journal ≡ 0 → (left : List Record) → may_leave after.journal left
-      → LeadTo first after.kept (answered after) left
-  pub disk : misreads after.journal ≡ 0 → after.loss ≡ Some Disk → FaultsRise begun (faults after.journal)
+  pub stands : ended ≢ Ok Lost → journals.misreads after.journal ≡ 0 → Replays Applies first (journals.list after.journal) after.kept
+  pub leaves : LeavesOnly journals after.journal (λ left. LeadTo first after.kept (answered after) left)
+  pub disk : journals.misreads after.journal ≡ 0 → after.loss ≡ Some Disk → FaultsRise begun (journals.faults after.journal)
   pub status_is : status ≡ status_after ended after.loss
 
 -- a journal was opened, and the connection was served from the state after its changes
-pub record IsOpened {J : Type 0} (holds : List ℕ → List Record → Type 0) (list : J → List Record) (misreads faults : J → ℕ)
-    (may_leave : J → List Record → Type 0) (opening : List ℕ) (first : State Global) (s : Streams) (status : ℕ) : Type 0 where
+pub record IsOpened {J : Type 0} (holds : List ℕ → List Record → Type 0) (journals : Ghosts J) (opening : List ℕ) (first : State Global)
+    (s : Streams) (status : ℕ) : Type 0 where
   pub journal : J
   pub before : State Global
-  pub found : misreads journal ≡ 0 → holds opening (list journal)
-  pub made : misreads journal ≡ 0 → Replays Applies first (list journal) before
-  pub serves : ServesStored list misreads faults may_leave first (faults journal) before s status
+  pub found : journals.misreads journal ≡ 0 → holds opening (journals.list journal)
+  pub made : journals.misreads journal ≡ 0 → Replays Applies first (journals.list journal) before
+  pub serves : ServesStored journals first (journals.faults journal) before s status

@@ -9,6 +9,7 @@ use Rattle.st_connection.specs.declared.connection.TheConstants.{MAX_READS}
 use Rattle.st_connection.specs.declared.connection.Ended.{Ended}
 use Rattle.st_connection.specs.declared.connection.IoFault.{IoFault}
 use Rattle.st_journal.specs.declared.record.Record.{Record}
+use Rattle.st_journal.specs.declared.journal.Journal.{Ghosts}
 use Rattle.st_command_line.specs.Common.{RefusesWords, path_in}
 use Rattle.st_command_line.specs.RunArguments.{SaysRun, run_command}
 use Rattle.st_command_line.specs.declared.run_arguments.RunArguments.{RunArguments}
@@ -36,8 +37,8 @@ pub record IsServed (words : List Text) (s : Streams) (status : ℕ) : Type 0 wh
 
 -- The arguments name a store at a path, and open the state that its changes lead on from. Its journal was opened, or it was not, and
 -- nothing was read or written.
-pub record IsKept {J : Type 0} (holds : (path opening : List ℕ) → List Record → Type 0) (list : J → List Record) (misreads faults : J → ℕ)
-    (may_leave : J → List Record → Type 0) (words : List Text) (s : Streams) (status : ℕ) : Type 0 where
+pub record IsKept {J : Type 0} (holds : (path opening : List ℕ) → List Record → Type 0) (journals : Ghosts J) (words : List Text)
+    (s : Streams) (status : ℕ) : Type 0 where
   pub said : RunArguments
   pub says : SaysRun words said
   pub path : Text
@@ -45,11 +46,10 @@ pub record IsKept {J : Type 0} (holds : (path opening : List ℕ) → List Recor
   pub first : State Global
   pub opening : Text
   pub opens : OpensWith said.digest.now (map (λ name. name.now) said.names.items) first opening
-  pub ends : IsOpened (holds path) list misreads faults may_leave opening first s status ⊎ Fails IsOfStore (AreUntouched s) status
+  pub ends : IsOpened (holds path) journals opening first s status ⊎ Fails IsOfStore (AreUntouched s) status
 
 -- it was one of these, or the arguments are refused, and nothing was read or written
-abbrev pub Ran : {J : Type 0} → ((path opening : List ℕ) → List Record → Type 0) → (J → List Record) → (misreads faults : J → ℕ)
-    → (J → List Record → Type 0) → List Text → Streams → ℕ → Type 0
-Ran holds list misreads faults may_leave words s status =
+abbrev pub Ran : {J : Type 0} → ((path opening : List ℕ) → List Record → Type 0) → Ghosts J → List Text → Streams → ℕ → Type 0
+Ran holds journals words s status =
     IsServed words s status
-    ⊎ (Fails (RefusesWords run_command words) (AreUntouched s) status ⊎ IsKept holds list misreads faults may_leave words s status)
+    ⊎ (Fails (RefusesWords run_command words) (AreUntouched s) status ⊎ IsKept holds journals words s status)

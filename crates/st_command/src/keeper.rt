@@ -17,6 +17,7 @@ pub trait Keeper<J: Journal + Drop> {
     fn open<R: Replay>(self, path: &str, opening: &str, state: &mut R) -> Result<J, Fault>
         ensures ready { IfOk result J.is_ready }
         ensures found { IfOk result (λ journal. J.misreads journal ≡ 0 → holds self path.now opening.now (J.list journal)) }
-        ensures made { IfOk result (λ journal. J.misreads journal ≡ 0 → Replays R.applies state.old (J.list journal) state.new) }
+        ensures made { IfOk result (λ journal. J.misreads journal ≡ 0
+            → Replays R.applies state.old (J.list journal) state.new) }
         ensures fault { IfErr result IsOfStore };
 }

@@ -58,9 +58,8 @@ fn converse_kept<B: Beginning + Since, J: Journal + Drop, C: Clock, R: Source, W
     requires sound { service.old.loss ≡ None }
     requires reader_sound { R.has_failed reader.old ≡ false }
     requires writer_sound { W.has_failed writer.old ≡ false }
-    ensures { ServesStored J.list J.misreads J.faults J.may_leave B.first B.faults service.old.kept
-        (streams R.left R.reads R.has_ended R.has_failed W.held W.has_failed reader.old reader.new writer.old writer.new)
-        (exit_status_after result) }
+    ensures { ServesStored J.Journal B.first B.faults service.old.kept
+        (streams R.Source W.Sink reader.old reader.new writer.old writer.new) (exit_status_after result) }
 {
     let ended = service.serve(reader, writer);
     end_after(ended, service.loss())
@@ -80,12 +79,10 @@ fn serve_opened<B: Beginning + Since, J: Journal + Drop, C: Clock, R: Source, W:
     requires counts { B.faults ≤ J.faults journal }
     requires reader_sound { R.has_failed reader.old ≡ false }
     requires writer_sound { W.has_failed writer.old ≡ false }
-    ensures { ServesStored J.list J.misreads J.faults J.may_leave B.first B.faults store
-        (streams R.left R.reads R.has_ended R.has_failed W.held W.has_failed reader.old reader.new writer.old writer.new)
+    ensures { ServesStored J.Journal B.first B.faults store (streams R.Source W.Sink reader.old reader.new writer.old writer.new)
         (exit_status_after result)
         ⊎ Fails IsOfStore
-        (AreUntouched (streams R.left R.reads R.has_ended R.has_failed W.held W.has_failed reader.old reader.new writer.old writer.new))
-        (exit_status_after result) }
+        (AreUntouched (streams R.Source W.Sink reader.old reader.new writer.old writer.new)) (exit_status_after result) }
 {
     let mut service = DurableService::<B, J, C>::new(alloc, clock, store, journal)?;
     converse_kept(&mut service, reader, writer)
@@ -111,13 +108,11 @@ pub(crate) fn serve_kept<
     requires first { state ≡ B.first }
     requires reader_sound { R.has_failed reader.old ≡ false }
     requires writer_sound { W.has_failed writer.old ≡ false }
-    ensures { IsOpened (K.holds keeper location.now.path.now) J.list J.misreads J.faults J.may_leave
+    ensures { IsOpened (K.holds keeper location.now.path.now) J.Journal
         (string_bytes location.now.opening) B.first
-        (streams R.left R.reads R.has_ended R.has_failed W.held W.has_failed reader.old reader.new writer.old writer.new)
-        (exit_status_after result)
+        (streams R.Source W.Sink reader.old reader.new writer.old writer.new) (exit_status_after result)
         ⊎ Fails IsOfStore
-        (AreUntouched (streams R.left R.reads R.has_ended R.has_failed W.held W.has_failed reader.old reader.new writer.old writer.new))
-        (exit_status_after result) }
+        (AreUntouched (streams R.Source W.Sink reader.old reader.new writer.old writer.new)) (exit_status_after result) }
 {
     let journal = keeper.open(location.path, location.opening.as_str(), &mut state)?;
     let store = state.into_store();

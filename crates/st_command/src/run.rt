@@ -28,8 +28,7 @@ fn converse<R: Source, W: Sink>(
 ) -> Result<(), Fault>
     requires reader_sound { R.has_failed reader.old ≡ false }
     requires writer_sound { W.has_failed writer.old ≡ false }
-    ensures { Serves service.old service.new
-        (streams R.left R.reads R.has_ended R.has_failed W.held W.has_failed reader.old reader.new writer.old writer.new)
+    ensures { Serves service.old service.new (streams R.Source W.Sink reader.old reader.new writer.old writer.new)
         (exit_status_after result) }
 {
     let ended = service.serve(reader, writer);
@@ -48,12 +47,9 @@ fn run_in_memory<R: Source, W: Sink>(
     requires reader_sound { R.has_failed reader.old ≡ false }
     requires writer_sound { W.has_failed writer.old ≡ false }
     ensures { (words : List Text) → SaysRun words said.now
-        → IsServed words
-        (streams R.left R.reads R.has_ended R.has_failed W.held W.has_failed reader.old reader.new writer.old writer.new)
-        (exit_status_after result)
+        → IsServed words (streams R.Source W.Sink reader.old reader.new writer.old writer.new) (exit_status_after result)
         ⊎ Fails (RefusesWords run_command words)
-        (AreUntouched (streams R.left R.reads R.has_ended R.has_failed W.held W.has_failed reader.old reader.new writer.old writer.new))
-        (exit_status_after result) }
+        (AreUntouched (streams R.Source W.Sink reader.old reader.new writer.old writer.new)) (exit_status_after result) }
 {
     let mut service = service_for(alloc, seed, said.digest, &said.names)?;
     converse(&mut service, reader, writer)
@@ -75,10 +71,8 @@ fn run_kept<J: Journal + Drop, K: Keeper<J> + Drop, C: Clock, R: Source, W: Sink
     requires writer_sound { W.has_failed writer.old ≡ false }
     ensures { (words : List Text) → SaysRun words said.now
         → Fails (RefusesWords run_command words)
-        (AreUntouched (streams R.left R.reads R.has_ended R.has_failed W.held W.has_failed reader.old reader.new writer.old writer.new))
-        (exit_status_after result)
-        ⊎ IsKept (K.holds keeper) J.list J.misreads J.faults J.may_leave words
-        (streams R.left R.reads R.has_ended R.has_failed W.held W.has_failed reader.old reader.new writer.old writer.new)
+        (AreUntouched (streams R.Source W.Sink reader.old reader.new writer.old writer.new)) (exit_status_after result)
+        ⊎ IsKept (K.holds keeper) J.Journal words (streams R.Source W.Sink reader.old reader.new writer.old writer.new)
         (exit_status_after result) }
 {
     let (state, opening) = replayed_for(alloc, seed, said.digest, &said.names)?;
@@ -99,8 +93,7 @@ fn run<J: Journal + Drop, K: Keeper<J> + Drop, C: Clock, R: Source, W: Sink>(
     requires reader_sound { R.has_failed reader.old ≡ false }
     requires writer_sound { W.has_failed writer.old ≡ false }
     ensures { (words : List Text) → SaysRun words said.now
-        → Ran (K.holds keeper) J.list J.misreads J.faults J.may_leave words
-        (streams R.left R.reads R.has_ended R.has_failed W.held W.has_failed reader.old reader.new writer.old writer.new)
+        → Ran (K.holds keeper) J.Journal words (streams R.Source W.Sink reader.old reader.new writer.old writer.new)
         (exit_status_after result) }
 {
     match said.store {
@@ -134,8 +127,7 @@ pub fn run_with<J: Journal + Drop, K: Keeper<J> + Drop, C: Clock, R: Source, W: 
     requires reader_sound { R.has_failed reader.old ≡ false }
     requires writer_sound { W.has_failed writer.old ≡ false }
     ensures { (words : List Text) → SaysRun words said.now
-        → Ran (K.holds keeper) J.list J.misreads J.faults J.may_leave words
-        (streams R.left R.reads R.has_ended R.has_failed W.held W.has_failed reader.old reader.new writer.old writer.new)
+        → Ran (K.holds keeper) J.Journal words (streams R.Source W.Sink reader.old reader.new writer.old writer.new)
         result }
 {
     match run(clock, alloc, seed, keeper, said, reader, writer) {

@@ -1,6 +1,6 @@
 -- What both command lines have, `--root DIGEST`, `--store FILE`, `--compact` and `[NAME]...`: what the words say by it, and why they
 -- are refused.
-use Rattle.std.specs.Prelude.{◌≡◌, ◌⊎◌, ℕ, ℤ, Bool, List, [], ◌∷◌, Option, Some, None, Ok, IsErr, IsSome, codes, true, false}
+use Rattle.std.specs.Prelude.{◌≡◌, ◌⊎◌, ℕ, ℤ, Bool, List, [], Option, Some, None, Ok, IsErr, IsSome, codes, true, false}
 use Rattle.std.specs.Prelude.{option_map, unwrap_or}
 use Rattle.std.specs.Option.{option_map_or}
 use Rattle.std.specs.Borrow.{Bor}
@@ -71,7 +71,7 @@ RefusesWords app words (Usage error) = IsAmong (kind_of error) (fault_of app wor
 RefusesWords app words WantsStore = (fault_of app words ≡ []) × WantsAStore app words × (file_of (codes "store") app words ≡ None)
 RefusesWords app words BadDigest = (digits : Text) × (names : List Text) × SaysRoot app words digits names × IsErr (decode_sized digits 32)
 RefusesWords app words BadName =
-    (digits : Text) × (names : List Text) × SaysRoot app words digits names × (digest : List ℕ) × (decode_sized digits 32 ≡ Ok digest)
-    × (place : ℕ) × (first_bad names ≡ Some place)
+    (digits : Text) × (names : List Text) × SaysRoot app words digits names × (hash : List ℕ) × (decode_sized digits 32 ≡ Ok hash)
+    × (at : ℕ) × (first_bad names ≡ Some at)
 RefusesWords app words NoMemory = Unit {0}
 RefusesWords app words _ = ⊥

@@ -1,7 +1,7 @@
 -- The command line `st_served --root DIGEST (--port P [--listen ADDRESS] | --socket PATH) [--store FILE] [--compact] [--copy FILE]
 -- [--copy-every SECONDS] [--connections N] [--workers N] [--timeout SECONDS] [--idle SECONDS] [NAME]...`: what its words say, and why
 -- words are refused.
-use Rattle.std.specs.Prelude.{◌≡◌, ◌<◌, ◌^◌, ℕ, List, [], ◌∷◌, Option, Some, None, IsSome}
+use Rattle.std.specs.Prelude.{◌≡◌, ◌<◌, ◌^◌, ℕ, List, [], ◌∷◌, ◌++◌, Option, Some, None, IsSome}
 use Rattle.std.specs.Prelude.{codes, decimal, if◌then◌else◌, is_some, map, max, pos, true, unwrap_or}
 use Rattle.std.specs.Str.Parse.{IsNumeral, digits_value, without_leading_plus}
 use Rattle.std.specs.Net.Addr.{ipv4_octets}
@@ -10,7 +10,7 @@ use Rattle.std.specs.Net.Socket.{v4_ip}
 use Rattle.std.specs.declared.net.ipv4_addr.Ipv4Addr.{Ipv4Addr}
 use Rattle.std.specs.declared.net.socket_addr.SocketAddrV4.{SocketAddrV4}
 use Rattle.std.specs.List.{fold}
-use Rattle.clap.specs.Words.{App, fault_of, matches_of, new_app, one_of, with_rule}
+use Rattle.clap.specs.Words.{App, Rule, fault_of, matches_of, new_app, one_of, with_rule}
 use Rattle.st_text.specs.Texts.{Text, is_among}
 use Rattle.st_command_line.specs.declared.fault.Fault.{Fault}
 use Rattle.st_command_line.specs.declared.fault.Fault.TheVariants.{BadAddress, BadNumber, WantsCopy, WantsBindAddress, WantsPort}
@@ -21,22 +21,26 @@ use Rattle.st_command_line.specs.Common as common
 use Rattle.st_command_line.specs.Common.{SaysRoot, NamesItsStore, file_of, has_flag, path_in}
 use Rattle.st_command_line.specs.Common.{compact_flag, name_operand, number_rule, option_rule, root_option, with_version}
 
+-- whose the server is, and where it listens
+abbrev pub place_rules : List Rule
+place_rules = root_option ∷ number_rule (codes "port") (pos 1) (pos 65535) ∷ option_rule (codes "socket") ∷ []
+
+-- its store, and the copy of it
+abbrev pub store_rules : List Rule
+store_rules =
+    option_rule (codes "store") ∷ compact_flag ∷ option_rule (codes "copy") ∷ number_rule (codes "copy-every") (pos 1) (pos 3600) ∷ []
+
+-- how many clients it meets, and by how many workers
+abbrev pub count_rules : List Rule
+count_rules = number_rule (codes "connections") (pos 0) (pos 1000) ∷ number_rule (codes "workers") (pos 1) (pos 256) ∷ []
+
+-- how many seconds it waits for a client
+abbrev pub time_rules : List Rule
+time_rules = number_rule (codes "timeout") (pos 1) (pos 3600) ∷ number_rule (codes "idle") (pos 1) (pos 3600) ∷ []
+
 abbrev pub served_command : App
-served_command = fold with_rule (with_version (new_app (codes "st_served"))) (
-    root_option
-    ∷ number_rule (codes "port") (pos 1) (pos 65535)
-    ∷ option_rule (codes "socket")
-    ∷ option_rule (codes "store")
-    ∷ compact_flag
-    ∷ option_rule (codes "copy")
-    ∷ number_rule (codes "copy-every") (pos 1) (pos 3600)
-    ∷ number_rule (codes "connections") (pos 0) (pos 1000)
-    ∷ number_rule (codes "workers") (pos 1) (pos 256)
-    ∷ number_rule (codes "timeout") (pos 1) (pos 3600)
-    ∷ number_rule (codes "idle") (pos 1) (pos 3600)
-    ∷ option_rule (codes "listen")
-    ∷ name_operand
-    ∷ [])
+served_command = fold with_rule (with_version (new_app (codes "st_served")))
+    (place_rules ++ store_rules ++ count_rules ++ time_rules ++ option_rule (codes "listen") ∷ name_operand ∷ [])
 
 -- the text writes a number below 2^16 in decimal digits
 pub record Writes (text : Text) (number : ℕ) : Type 0 where
@@ -88,8 +92,7 @@ pub record SaysServed (words : List Text) (said : ServedArguments) : Type 0 wher
 
 -- the options that take a number, and the one that takes an address
 abbrev pub number_options : List Text
-number_options =
-    codes "port" ∷ codes "copy-every" ∷ codes "connections" ∷ codes "workers" ∷ codes "timeout" ∷ codes "idle" ∷ []
+number_options = codes "port" ∷ codes "copy-every" ∷ codes "connections" ∷ codes "workers" ∷ codes "timeout" ∷ codes "idle" ∷ []
 
 abbrev pub address_options : List Text
 address_options = codes "listen" ∷ []

@@ -3,14 +3,11 @@ use Rattle.std.proofs.Common.{◌≡◌, ◌∙◌, ℕ, ◌+◌, ◌<◌, ◌�
 use Rattle.std.proofs.lemmas.List.{drop-append-le}
 use Rattle.std.proofs.lemmas.List.Folds.{list_any-append}
 use Rattle.std.proofs.lemmas.Grind.{common_steps}
-use Rattle.httparse.specs.Grammar.{RequestHead}
-use Rattle.st_http.specs.declared.fields.Reason.{Reason}
-use Rattle.st_http.specs.Fields.{closes_after}
-use Rattle.st_http.specs.First.{First, IsItem, message, fault, more, IsFirst, fields_of, size_of}
-use Rattle.st_http.specs.Items.{after_message, Items, none, faulty, last, next}
+use Rattle.st_http.specs.First.{First, IsItem, message, fault, more, IsFirst, size_of}
+use Rattle.st_http.specs.Items.{Items, none, last, next, after_item, closes}
 use Rattle.st_http.proofs.FirstLemmas.{first_unique, first_kept}
 use Rattle.st_http.proofs.ItemLemmas.{message_size}
-use Rattle.st_connection.specs.Items.{closes, after_item, is_closed, BeginsWith}
+use Rattle.st_connection.specs.Items.{is_closed, BeginsWith}
 
 -- what follows a text follows what its item leaves
 after_grows : (text after : List ℕ) (item : First) → IsFirst text item → IsItem item → closes item ≡ false
@@ -73,26 +70,19 @@ few_items text (item ∷ items) rest (is, some, ends, later) o =
     let tail = few_items (after_item text item) items rest later (rest_open item items o) in
     let shorter = after_shorter text item is some (first_open item items o) in omega (arith, tail, shorter)
 
-message_whole : (text : List ℕ) (h : RequestHead) (body : List ℕ) (bare : Bool) (items : List First) (rest : List ℕ)
-    → IsFirst text (message h body bare) → (closes_after h.minor (fields_of h) ≡ true → items ≡ []) → BeginsWith (after_message text h body) items rest
-    → (closes_after h.minor (fields_of h) ≡ false → Items (after_message text h body) items rest) → Items text (message h body bare ∷ items) rest
+item_whole : (text : List ℕ) (item : First) (items : List First) (rest : List ℕ) → IsFirst text item → IsItem item
+    → (closes item ≡ true → items ≡ []) → BeginsWith (after_item text item) items rest
+    → (closes item ≡ false → Items (after_item text item) items rest) → Items text (item ∷ items) rest
 unfolding BeginsWith
-message_whole text h body bare items rest is ends later others = go (closes_after h.minor (fields_of h)) refl
+item_whole text item items rest is some ends later others = go (closes item) refl
   where
-    single : (after : List First) → after ≡ [] → BeginsWith (after_message text h body) after rest → closes_after h.minor (fields_of h) ≡ true
-        → Items text (message h body bare ∷ after) rest
-    single [] e b closing = subst (λ (t : List ℕ). Items text (message h body bare ∷ []) t) (sym b) (last is closing)
+    single : (after : List First) → after ≡ [] → BeginsWith (after_item text item) after rest → closes item ≡ true → Items text (item ∷ after) rest
+    single [] e b closing = subst (λ (t : List ℕ). Items text (item ∷ []) t) (sym b) (last is some closing)
     single (other ∷ after) e b closing = cc
 
-    go : (t : Bool) → closes_after h.minor (fields_of h) ≡ t → Items text (message h body bare ∷ items) rest
+    go : (t : Bool) → closes item ≡ t → Items text (item ∷ items) rest
     go true e = single items (ends e) later e
     go false e = next is e (others e)
-
-fault_whole : (text : List ℕ) (reason : Reason) (bare : Bool) (items : List First) (rest : List ℕ) → IsFirst text (fault reason bare)
-    → items ≡ [] → BeginsWith text items rest → Items text (fault reason bare ∷ items) rest
-unfolding BeginsWith
-fault_whole text reason bare [] rest is e b = subst (λ (t : List ℕ). Items text (fault reason bare ∷ []) t) (sym b) (faulty is)
-fault_whole text reason bare (other ∷ items) rest is e b = cc
 
 open_after : (item : First) (items : List First) → closes item ≡ false → is_closed items ≡ false → is_closed (item ∷ items) ≡ false
 open_after item items a b = grind (arith, common_steps, a, b)
@@ -102,11 +92,9 @@ pub items_whole : (text : List ℕ) (items : List First) (rest : List ℕ) → B
     → (waits : Bool) → (is_closed items ≡ false → IsFirst rest (more waits)) → Items text items rest
 unfolding BeginsWith
 items_whole text [] rest b flag waits = subst (λ (t : List ℕ). Items t [] rest) b (none (waits refl))
-items_whole text (message h body bare ∷ items) rest (is, some, ends, later) flag waits =
-    message_whole text h body bare items rest is ends later
-    (λ stays. items_whole (after_message text h body) items rest later flag (λ o. waits (open_after (message h body bare) items stays o)))
-items_whole text (fault reason bare ∷ items) rest (is, some, ends, later) flag waits = fault_whole text reason bare items rest is (ends refl) later
-items_whole text (more due ∷ items) rest (is, some, ends, later) flag waits = absurd some
+items_whole text (item ∷ items) rest (is, some, ends, later) flag waits =
+    item_whole text item items rest is some ends later
+    (λ stays. items_whole (after_item text item) items rest later flag (λ o. waits (open_after item items stays o)))
 
 -- an item that closes is the last
 ends_there : (item only : First) (items : List First) → item ≡ only → closes only ≡ true → (closes item ≡ true → items ≡ [])
@@ -119,14 +107,12 @@ front_of : {text : List ℕ} {all : List First} {end : List ℕ} → Items text 
 unfolding BeginsWith
 front_of {text} {all} {end} q [] rest b = (all, refl)
 front_of (none {text} {waits} f) (item ∷ items) rest (is, some, ends, later) = absurd (subst IsItem (first_unique text item (more waits) is f) some)
-front_of (faulty {text} {reason} {bare} f) (item ∷ items) rest (is, some, ends, later) =
-    ends_there item (fault reason bare) items (first_unique text item (fault reason bare) is f) refl ends
-front_of (last {text} {h} {body} {bare} f closing) (item ∷ items) rest (is, some, ends, later) =
-    ends_there item (message h body bare) items (first_unique text item (message h body bare) is f) closing ends
-front_of (next {text} {h} {body} {bare} {items = tail_items} f stays tail) (item ∷ items) rest (is, some, ends, later) =
-    let e : item ≡ message h body bare = first_unique text item (message h body bare) is f in
-    let tail_begins : BeginsWith (after_message text h body) items rest = subst (λ (i : First). BeginsWith (after_item text i) items rest) e later in
-    let r = front_of {text = after_message text h body} tail items rest tail_begins in
+front_of (last {text} {item = only} f some_too closing) (item ∷ items) rest (is, some, ends, later) =
+    ends_there item only items (first_unique text item only is f) closing ends
+front_of (next {text} {item = only} {items = tail_items} f stays tail) (item ∷ items) rest (is, some, ends, later) =
+    let e : item ≡ only = first_unique text item only is f in
+    let tail_begins : BeginsWith (after_item text only) items rest = subst (λ (i : First). BeginsWith (after_item text i) items rest) e later in
+    let r = front_of {text = after_item text only} tail items rest tail_begins in
     (r.0, ap (λ (i : First). i ∷ tail_items) (sym e) ∙ ap (λ (l : List First). item ∷ l) r.1)
 
 pub begins_front : (text : List ℕ) (items all : List First) (rest end : List ℕ) → BeginsWith text items rest → Items text all end

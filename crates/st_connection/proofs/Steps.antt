@@ -5,9 +5,10 @@ use Rattle.st_http.specs.declared.message.Take.TheVariants as takes
 use Rattle.st_http.specs.declared.message.Message.{Message}
 use Rattle.st_http.specs.declared.message.Fault.{Fault}
 use Rattle.st_http.specs.declared.message.Take.{Take}
-use Rattle.st_http.specs.Message.{Takes, Represents, RepresentsMessage}
+use Rattle.st_http.specs.Message.{RepresentsMessage}
+use Rattle.st_http.specs.inner.Takes.{Takes, Represents}
 use Rattle.st_http.specs.First.{First, message, fault, more, IsFirst, expects, size_of}
-use Rattle.st_http.specs.Items.{after_message}
+use Rattle.st_http.specs.Items.{after_item}
 use Rattle.st_http.proofs.FirstLemmas.{first_unique}
 use Rattle.st_http.proofs.ItemLemmas.{message_size}
 use Rattle.st_connection.specs.Connection.{WithInterim}
@@ -81,7 +82,7 @@ module _ {S : Type 0} (step : S → First → List ℕ → S → Type 0) (old ne
     pub message_one : (rest : List ℕ) × One (WithInterim step) m.close old new text rest (interim told ++ answer)
     message_one =
         let f = finds_message text m used takes in (
-          after_message text f.head f.body,
+          after_item text (message f.head f.body m.bare),
           record {
             item = message f.head f.body m.bare;
             is = f.is;

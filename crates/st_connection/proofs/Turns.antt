@@ -96,9 +96,11 @@ module _ {S : Type 0} (step : S → First → List ℕ → S → Type 0) (old no
     wrote = wrote_all;
     ending = (
       s.spoken.whole.begins,
-      counts,
-      (interim told, inr (more told, s.waits, refl), reaches_all hold s.spoken.whole.answers (interim told)),
-      (λ e. (all_items, s.spoken.whole.ends, says_all)),
+      (
+        counts,
+        (interim told, inr (more told, s.waits, refl), reaches_all hold s.spoken.whole.answers (interim told)),
+        (λ e. (all_items, s.spoken.whole.ends, says_all)),
+      ),
     );
   }
 
@@ -173,7 +175,7 @@ module _ {S : Type 0} (step : S → First → List ℕ → S → Type 0) (old no
             run = b.run;
             sent = b.sent;
             wrote = b.wrote;
-            ending = (b.begins, omega (arith, b.counted), (b.said, b.may, b.reaches), (λ e. absurd (let k : true ≡ false = cc (sound, e) in cc)));
+            ending = (b.begins, (omega (arith, b.counted), (b.said, b.may, b.reaches), (λ e. absurd (let k : true ≡ false = cc (sound, e) in cc))));
           }
 
       pub connection_lost : {ro rn : ℕ} {he wf : Bool} (kept : S) (failed : Bool) → Loses (WithInterim step) now new kept longer s.spoken.held hm

@@ -97,6 +97,20 @@ pub record KeptPast {S : Type 0} (step : Answering S) (old kept new : S) (items 
   pub front : AreOut step old mid items answers sent
   pub amid : Amid step mid kept new front.others front.back
 
+-- All that was read is answered, and the connection goes on.
+abbrev pub AllAnswered : List ℕ → List First → List ℕ → List (List ℕ) → List ℕ → Type 0
+AllAnswered given items rest answers sent = Items given items rest × (is_closed items ≡ false) × SaysAll rest answers sent
+
+-- What was sent is a front of the answers, and perhaps an interim response, that lacks at most so many bytes.
+abbrev pub LacksAtMost : ℕ → List ℕ → List (List ℕ) → List ℕ → Type 0
+LacksAtMost hold rest answers sent = (said : List ℕ) × ((said ≡ []) ⊎ Ahead rest said) × ReachesWithin hold answers said sent
+
+-- A read or a write failed. What was sent is a front of the answers that lacks at most so many bytes, and where it was a read, all of them.
+abbrev pub BreaksWithin : ℕ → IoFault → Bool → List ℕ → List First → List ℕ → List (List ℕ) → List ℕ → Type 0
+BreaksWithin hold broken failed given items rest answers sent =
+    (broken.written ≡ length sent) × LacksAtMost hold rest answers sent
+    × (failed ≡ true → AllAnswered given items rest answers sent)
+
 -- How a call ends that holds back at most so many bytes of answers, by what was read, answered and written.
 abbrev pub EndsWithin : {S : Type 0} → Answering S → ℕ → S → S → S → Result Ended IoFault → Bool
     → List ℕ → List First → List ℕ → List (List ℕ) → List ℕ → Type 0
@@ -106,14 +120,11 @@ EndsWithin step hold old new kept (Ok Closed) read_failed given items rest answe
     Items given items rest × (is_closed items ≡ true) × (sent ≡ concat answers)
 EndsWithin step hold old new kept (Ok Cut) read_failed given items rest answers sent =
     Items given items rest × (is_closed items ≡ false) × (rest ≢ []) × SaysAll rest answers sent
-EndsWithin step hold old new kept (Ok TurnsSpent) read_failed given items rest answers sent =
-    Items given items rest × (is_closed items ≡ false) × SaysAll rest answers sent
+EndsWithin step hold old new kept (Ok TurnsSpent) read_failed given items rest answers sent = AllAnswered given items rest answers sent
 EndsWithin step hold old new kept (Ok Lost) read_failed given items rest answers sent =
     BeginsWith given items rest × KeptPast step old kept new items answers sent
 EndsWithin step hold old new kept (Err broken) read_failed given items rest answers sent =
-    BeginsWith given items rest × (broken.written ≡ length sent)
-    × ((said : List ℕ) × ((said ≡ []) ⊎ Ahead rest said) × ReachesWithin hold answers said sent)
-    × (read_failed ≡ true → Items given items rest × (is_closed items ≡ false) × SaysAll rest answers sent)
+    BeginsWith given items rest × BreaksWithin hold broken read_failed given items rest answers sent
 
 -- What the reader gave begins with items. They got answers, each behind its interim response, and led from the old state to the new
 -- one. What was sent is these answers, or a front of them that lacks at most so many bytes, as the end says. The answerer keeps the state

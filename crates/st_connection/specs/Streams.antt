@@ -1,5 +1,7 @@
 -- What a call does to the reader and the writer that it serves.
 use Rattle.std.specs.Prelude.{◌≡◌, ℕ, Bool, false, Option, List}
+use Rattle.st_connection.specs.declared.streams.Sink as sink
+use Rattle.st_connection.specs.declared.streams.Source as source
 
 -- A reader and a writer, before a call and after it. Of the reader: the bytes that are left, where they are known, how many reads were
 -- made, whether the last one met the end, and whether one failed. Of the writer: the bytes that it took, and whether a write failed.
@@ -14,19 +16,18 @@ pub record Streams : Type 0 where
   pub held_new : Option (List ℕ)
   pub write_failed : Bool
 
--- the streams of a call, by what a source and a sink tell of themselves
-abbrev pub streams : {R W : Type 0} → (R → Option (List ℕ)) → (R → ℕ) → (R → Bool) → (R → Bool) → (W → Option (List ℕ)) → (W → Bool)
-    → R → R → W → W → Streams
-streams left reads has_ended read_failed held write_failed reader_old reader_new writer_old writer_new = record {
-  left_old = left reader_old;
-  left_new = left reader_new;
-  reads_old = reads reader_old;
-  reads_new = reads reader_new;
-  has_ended = has_ended reader_new;
-  read_failed = read_failed reader_new;
-  held_old = held writer_old;
-  held_new = held writer_new;
-  write_failed = write_failed writer_new;
+-- the streams of a call
+abbrev pub streams : {R W : Type 0} → source.Ghosts R → sink.Ghosts W → (reader_old reader_new : R) → (writer_old writer_new : W) → Streams
+streams of_reader of_writer reader_old reader_new writer_old writer_new = record {
+  left_old = of_reader.left reader_old;
+  left_new = of_reader.left reader_new;
+  reads_old = of_reader.reads reader_old;
+  reads_new = of_reader.reads reader_new;
+  has_ended = of_reader.has_ended reader_new;
+  read_failed = of_reader.has_failed reader_new;
+  held_old = of_writer.held writer_old;
+  held_new = of_writer.held writer_new;
+  write_failed = of_writer.has_failed writer_new;
 }
 
 -- Nothing was read or written.

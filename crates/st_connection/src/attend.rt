@@ -27,11 +27,9 @@ pub trait Attend {
     ) -> Result<Ended, IoFault>
         requires reader_sound { R.has_failed reader.old ≡ false }
         requires writer_sound { S.has_failed writer.old ≡ false }
-        ensures served { serves self.old self.new
-            (streams R.left R.reads R.has_ended R.has_failed S.held S.has_failed reader.old reader.new writer.old writer.new) result }
+        ensures served { serves self.old self.new (streams R.Source S.Sink reader.old reader.new writer.old writer.new) result }
         ensures grows { grows self.old self.new }
-        ensures ends { EndsOn MAX_READS
-            (streams R.left R.reads R.has_ended R.has_failed S.held S.has_failed reader.old reader.new writer.old writer.new) result };
+        ensures ends { EndsOn MAX_READS (streams R.Source S.Sink reader.old reader.new writer.old writer.new) result };
 
     // One that served nothing is as it was.
     ghost stays: { (s : Self) → grows s s };

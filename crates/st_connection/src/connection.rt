@@ -79,7 +79,8 @@ fn answer_next<X: Replies, W: Sink>(
     requires sound { X.has_failed answerer.old ≡ false }
     ensures answered { AnsweredNext (WithInterim X.answers) false (X.now answerer.old) (X.now answerer.new)
         (X.kept answerer.old) (X.kept answerer.new) text.now
-        (W.held writer.old) (W.held writer.new) written.old written.new (take held.old block.old) (take held.new block.new) result }
+        (W.held writer.old) (W.held writer.new) written.old written.new (take held.old block.old)
+        (take held.new block.new) result }
     ensures unwritten { result ≡ Err Stopped.Unwritten → W.has_failed writer.new ≡ true }
     ensures synced { result ≡ Err Stopped.Unwritten → X.kept answerer.new ≡ X.now answerer.new }
     ensures lost { result ≡ Err Stopped.Lost → X.has_failed answerer.new ≡ true }
@@ -187,10 +188,9 @@ pub fn serve_connection<X: Replies, R: Source, W: Sink>(
     requires reader_sound { R.has_failed reader.old ≡ false }
     requires writer_sound { W.has_failed writer.old ≡ false }
     ensures served { ServedWithin X.answers (length block.old) (X.now answerer.old) (X.now answerer.new) (X.kept answerer.new)
-        (streams R.left R.reads R.has_ended R.has_failed W.held W.has_failed reader.old reader.new writer.old writer.new) result }
+        (streams R.Source W.Sink reader.old reader.new writer.old writer.new) result }
     ensures kept { KeptUnlessLost (X.kept answerer.new) (X.now answerer.new) (X.has_failed answerer.new) result }
-    ensures ends { EndsOn MAX_READS
-        (streams R.left R.reads R.has_ended R.has_failed W.held W.has_failed reader.old reader.new writer.old writer.new) result }
+    ensures ends { EndsOn MAX_READS (streams R.Source W.Sink reader.old reader.new writer.old writer.new) result }
 {
     let mut written: u128 = 0;
     let mut filled = 0;

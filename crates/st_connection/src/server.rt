@@ -69,10 +69,9 @@ impl<X: Replies + Drop, A: Allocator + Copy> Server<X, A> {
         requires reader_sound { R.has_failed reader.old ≡ false }
         requires writer_sound { W.has_failed writer.old ≡ false }
         ensures served { ServedWithin X.answers 0 (X.now self.old) (X.now self.new) (X.kept self.new)
-            (streams R.left R.reads R.has_ended R.has_failed W.held W.has_failed reader.old reader.new writer.old writer.new) result }
+            (streams R.Source W.Sink reader.old reader.new writer.old writer.new) result }
         ensures kept { KeptUnlessLost (X.kept self.new) (X.now self.new) (X.has_failed self.new) result }
-        ensures ends { EndsOn MAX_READS
-            (streams R.left R.reads R.has_ended R.has_failed W.held W.has_failed reader.old reader.new writer.old writer.new) result }
+        ensures ends { EndsOn MAX_READS (streams R.Source W.Sink reader.old reader.new writer.old writer.new) result }
     {
         serve_connection(
             &mut self.answerer,

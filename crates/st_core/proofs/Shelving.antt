@@ -16,8 +16,10 @@ use Rattle.st_dir.proofs.Sorted.{changed, found, none_found, none_from_find, put
 use Rattle.st_dir.proofs.Keys.{own_name}
 use Rattle.st_index.specs.declared.row.Row.{Row}
 use Rattle.st_index.specs.Order.{InScanOrder, scan_key}
-use Rattle.st_table.specs.Rows.{Held, all_held, full_name, put_row, rows_in_table, without_row, without_table}
-use Rattle.st_table.specs.Table.{HasEachOnce, rows_by_label, with_row, without_named}
+use Rattle.st_table.specs.Rows.{Held, full_name, put_row, rows_in_table, without_row, without_table}
+use Rattle.st_table.specs.inner.Joined.{all_held}
+use Rattle.st_table.specs.Table.{rows_by_label, with_row, without_named}
+use Rattle.st_table.specs.inner.Once.{HasEachOnce}
 use Rattle.st_table.proofs.Storing.{elsewhere, table_put, table_delete, table_dropped, resorted}
 use Rattle.st_table.proofs.Reading.{seen_is}
 use Rattle.st_table.proofs.Getting.{got_is}

@@ -48,7 +48,7 @@ nobody_there : map (told (fresh []))
     ≡ Reply.Refused (Refusal.NoUser (codes "zoe")) ∷ Reply.Refused (Refusal.NoUser (codes "zoe")) ∷ Reply.Refused (Refusal.NoUser (codes "zoe")) ∷ Reply.Refused (Refusal.NoUser (codes "zoe")) ∷ []
 nobody_there = refl
 
--- nobody drops oneself, however many permissions one has
+-- you cannot drop yourself, whatever your permissions
 oneself : told (fresh []) (asks "root" (Request.DropUser (codes "root"))) ≡ denied Denial.OwnSelf
 oneself = refl
 

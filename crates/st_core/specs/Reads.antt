@@ -22,8 +22,7 @@ use Rattle.st_core.specs.State.{State}
 
 -- the visible rows of the table inside the query, in scan order
 abbrev pub rows_inside : {A : Type 0} → State A → Text → Query → List Text → List (Row A)
-rows_inside s table query auths =
-    in_order (scan_key (period_of s.directory table)) (visible_rows query auths (rows_in_table table s.rows))
+rows_inside s table query auths = in_order (scan_key (period_of s.directory table)) (visible_rows query auths (rows_in_table table s.rows))
 
 -- the first rows, and whether more follow
 abbrev pub page_of : {A : Type 0} → ℕ → List (Row A) → Reply A

@@ -1,5 +1,5 @@
 -- One step of the server, and a run of them.
-use Rattle.std.specs.Prelude.{ℕ, List, [], ◌∷◌, ◌++◌, if◌then◌else◌, Option, Some, None, Bool, false}
+use Rattle.std.specs.Prelude.{◌≡◌, ℕ, List, [], ◌∷◌, ◌++◌, if◌then◌else◌, Option, Some, None, Bool, true, false}
 use Rattle.circular_buffer.specs.Buffer.{keep_last}
 use Rattle.st_text.specs.Texts.{Text}
 use Rattle.st_dir.specs.Directory.{Directory, has_digest}
@@ -50,6 +50,16 @@ result_of (Some refusal) = number_of refusal
 abbrev pub audit_after : {A : Type 0} → Text → Request A → ℕ → List Entry → List Entry
 audit_after asker request result entries =
     if is_change request then keep_last 1024 (entries ++ entry_of asker request result ∷ []) else entries
+
+-- the entry of what a user asks: it says what the policy answers
+abbrev pub entry_for : {A : Type 0} → State A → Text → Request A → Entry
+entry_for s asker request = entry_of asker request (result_of (refusal_of s.directory asker request))
+
+-- a user whose token holds asks for this change
+pub record Submits {A : Type 0} (s : State A) (asked : Asked A) (asker : Text) (request : Request A) : Type 0 where
+  pub known : asker_of s.directory asked.token ≡ Some asker
+  pub decoded : asked.call ≡ Call.Good request
+  pub changes : is_change request ≡ true
 
 pub record Outcome (A : Type 0) : Type 0 where
   pub reply : Reply A

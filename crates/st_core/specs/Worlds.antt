@@ -82,8 +82,7 @@ keep user s asked = kept user (ever user s asked) s asked
 abbrev pub of_user : {A : Type 0} → Text → List (Asked A) → List (Reply A) → List (Reply A)
 of_user user [] told = []
 of_user user (asked ∷ rest) [] = []
-of_user user (asked ∷ rest) (reply ∷ told) =
-    if names asked.token user then reply ∷ of_user user rest told else of_user user rest told
+of_user user (asked ∷ rest) (reply ∷ told) = if names asked.token user then reply ∷ of_user user rest told else of_user user rest told
 
 abbrev pub replies_to : {A : Type 0} → Text → State A → List (Asked A) → List (Reply A)
 replies_to user s asked = of_user user asked (replies s asked)

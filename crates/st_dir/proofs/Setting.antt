@@ -3,7 +3,7 @@ use Rattle.std.proofs.Common.{◌≡◌, ℕ, ◌<◌, List, map, length, Bool, 
 use Rattle.std.specs.Prelude.{slice_index_or, slice_set}
 use Rattle.st_text.specs.Texts.{Text}
 use Rattle.st_sorted.specs.Sorted.{Rises}
-use Rattle.st_sorted.specs.Places.{IsAlone}
+use Rattle.st_sorted.specs.inner.Places.{IsAlone}
 use Rattle.st_sorted.proofs.Sorted.{changed, rises_changed}
 
 -- the place is found in the list as it is seen, and the item there is set

@@ -37,8 +37,7 @@ abbrev pub auths_set : {A : Type 0} → (name : Text) → (auths : List Text) �
 auths_set name auths d = record d { users = with_user name (λ user. record user { auths = auths }) d.users }
 
 abbrev pub system_granted : {A : Type 0} → (name : Text) → (p : Permission) → Directory A → Directory A
-system_granted name p d =
-    record d { users = with_user name (λ user. record user { permissions = listed (p ∷ user.permissions) }) d.users }
+system_granted name p d = record d { users = with_user name (λ user. record user { permissions = listed (p ∷ user.permissions) }) d.users }
 
 abbrev pub system_revoked : {A : Type 0} → (name : Text) → (p : Permission) → Directory A → Directory A
 system_revoked name p d =
@@ -53,8 +52,7 @@ granted user scope p d = record d { grants = with_grant (grant_of user scope p) 
 
 -- revoking what is not held changes nothing
 abbrev pub revoked : {A : Type 0} → (user : Text) → (scope : Scope) → (p : Permission) → Directory A → Directory A
-revoked user scope p d =
-    record d { grants = filter (λ g. not (same_grant (grant_of user scope p) g)) d.grants }
+revoked user scope p d = record d { grants = filter (λ g. not (same_grant (grant_of user scope p) g)) d.grants }
 
 -- ---- tables
 

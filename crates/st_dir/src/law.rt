@@ -1,5 +1,5 @@
 //! The laws of the directory, each the contract of a function that does nothing.
-ghost use Rattle.std.specs.Prelude.{◌≡◌, map, true, false, Some};
+ghost use Rattle.std.specs.Prelude.{◌≡◌, ◌≢◌, map, true, false, Some};
 ghost use Rattle.st_text.specs.Names.{namespace_of};
 ghost use Rattle.st_text.specs.Texts.{Text};
 ghost use Rattle.st_sorted.specs.Sorted.{Rises, name_key};
@@ -51,6 +51,6 @@ pub fn namespace_grants_hold<A: Allocator>()
 
 /// What is granted on a namespace changes nothing on a table that is not in it.
 pub fn namespace_grants_hold_nowhere_else<A: Allocator>()
-    ensures { (d : Directory A) (user namespace table asker : Text) (p q : Permission) → (namespace_of table ≡ Some namespace → ⊥)
-        → has_table (granted user (OnNamespace namespace) p d) asker table q ≡ has_table d asker table q }
+    ensures { (d : Directory A) (user name table asker : Text) (p q : Permission) → namespace_of table ≢ Some name
+        → has_table (granted user (OnNamespace name) p d) asker table q ≡ has_table d asker table q }
 {}

@@ -31,5 +31,4 @@ with_grant g grants = if list_any (same_grant g) grants then grants else in_orde
 
 -- with each table permission for the user on the scope
 abbrev pub with_all : (user : Text) → (scope : Scope) → List Grant → List Grant
-with_all user scope grants =
-    fold (λ held p. with_grant (grant_of user scope p) held) grants table_permissions
+with_all user scope grants = fold (λ held p. with_grant (grant_of user scope p) held) grants table_permissions

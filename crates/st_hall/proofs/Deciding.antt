@@ -5,14 +5,14 @@ use Rattle.std.proofs.lemmas.List.Elements.{All-more, All-weaker}
 use Rattle.std.specs.List.{All}
 use Rattle.std.specs.Prelude.{Result, Ok, Err, OnErr, OnOk, IfOk, IfSome, MatchOption, MatchResult, ⊤}
 use mathlib.Core.List.{IsPrefix}
-use Rattle.st_hall_press.specs.Steps.{Ask, State, Response, reply_of, state_after}
+use Rattle.st_hall_press.specs.Steps.{Ask, HallState, Response, reply_of, state_after}
 use Rattle.st_hall_press.specs.Views.{Beside, EndsAfter, EndsWith, Learns, Post}
 use Rattle.st_hall_press.proofs.Fronts.{prefix_length, prefix_self, prefix_trans, prefix_whole}
 use Rattle.st_hall.specs.Decisions.{Decides, StandsIn}
 use Rattle.st_hall.specs.declared.commits.Undecided.{Undecided}
 
 -- a receipt's end is the list after its change
-pub end_ends : {A E : Type 0} (start : State) (seen before list : List Ask) (a : Ask) (reply : A → Response) (end : A → List Ask) (r : Result A E)
+pub end_ends : {A E : Type 0} (start : HallState) (seen before list : List Ask) (a : Ask) (reply : A → Response) (end : A → List Ask) (r : Result A E)
     → OnOk r (IsPrefix seen before) → MatchResult r (λ _. list ≡ before ++ a ∷ []) (λ _. list ≡ before)
     → IfOk r (λ x. reply x ≡ reply_of (state_after start before) a) → IfOk r (λ x. end x ≡ list)
     → IfOk r (λ x. EndsAfter start seen (end x) a (reply x))
@@ -31,7 +31,7 @@ front_is_end before list published end front (Ok x) is fronts = go (front x) fro
 front_is_end before list published end front (Err e) is fronts = tt
 
 -- what was decided goes on what was seen
-pub decides_on : (start : State) (seen : List Ask) (a : Ask) (told : Option Response) (list : List Ask) → Decides start seen a told list → IsPrefix seen list
+pub decides_on : (start : HallState) (seen : List Ask) (a : Ask) (told : Option Response) (list : List Ask) → Decides start seen a told list → IsPrefix seen list
 decides_on start seen a (Some reply) list (before, on, is, told) = prefix_trans seen before list on (a ∷ [], sym is)
 decides_on start seen a None list (on, none) = on
 
@@ -50,7 +50,7 @@ learns_seen s t front on learnt seen =
     )
 
 -- a change that ends a list stands in each list that goes on it
-pub stands : (start : State) (front list : List Ask) (a : Ask) (reply : Response) → EndsWith start front a reply → IsPrefix front list
+pub stands : (start : HallState) (front list : List Ask) (a : Ask) (reply : Response) → EndsWith start front a reply → IsPrefix front list
     → StandsIn start list a reply
 stands start front list a reply (before, is, told) begins = (
   before,

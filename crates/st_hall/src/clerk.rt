@@ -77,7 +77,7 @@ impl<H: HallName, R: Wait + Drop> Clerk<H, R> {
         (scribe, press, mark)
     }
 
-    // A front as one that is kept, in a hall in memory: there all that is in the list is.
+    // The kept-front token of a front. In memory every change of the list counts as kept.
     pub(crate) fn keep(&mut self, front: &Front<H>) -> KeptFront<H>
         ensures is { result ≡ front.now }
         ensures list { self.new.list ≡ self.old.list }
@@ -86,7 +86,7 @@ impl<H: HallName, R: Wait + Drop> Clerk<H, R> {
         self.mark.keep_all(front.again())
     }
 
-    /// Publishes the changes that are not published yet. When out of memory none of them is.
+    /// Publishes all changes of the list. If memory runs out, nothing further is published.
     pub fn publish<W: Wait>(&mut self, rt: &W) -> Result<(), AllocError>
         ensures list { self.new.list ≡ self.old.list }
         ensures published { MatchResult result (λ _. self.new.published ≡ self.new.list)

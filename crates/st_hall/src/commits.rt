@@ -24,9 +24,9 @@ use thiserror::Error;
 /// What a change came to, and the list that says so.
 #[derive(Drop)]
 pub struct Outcome<H: HallName> {
-    /// Its reply; none where its token does not hold, so that it is no change.
+    /// The reply, or `None` if the token is invalid; then it is no change.
     pub reply: Option<Reply>,
-    /// The list that ends with it; where its token does not hold, the one after which it does not.
+    /// The log position that ends with the change or, for an invalid token, the one after which it is invalid.
     pub front: Front<H>,
     /// Whether the list is published.
     pub is_published: bool,
@@ -38,7 +38,7 @@ pub enum Undecided {
     /// Out of memory. The change is not made.
     #[error("out of memory")]
     NoMemory,
-    /// Nothing more is kept. Whether the change is made only the next opening can tell.
+    /// Nothing more is kept. Whether the change is made is unknown until the journal is reopened.
     #[error("nothing more is kept")]
     Lost,
 }
@@ -66,13 +66,13 @@ pub trait Commits<H: HallName> {
 
     const HOLD: usize;
 
-    // It is one that may come to keep nothing more.
+    // Holds if it may ever stop keeping changes.
     ghost may_lose: { Type 0 };
 
     // What keeps its changes failed.
     ghost fails: { Type 0 };
 
-    // What is left of it, if the process ends now, leads to the state after a list that goes on the first and begins the second.
+    // Whatever a crash would leave now leads to the state after a list that has at least `kept` and at most `list`.
     ghost leaves: { (kept list : List Ask) → Type 0 };
 
     /// Makes a change at a desk. Its reply must not go out before the list of its outcome is synced, nor may that of a change whose
@@ -92,12 +92,12 @@ pub trait Commits<H: HallName> {
         ensures seen { desk.new.seen ≡ desk.old.seen }
         ensures lost { result ≡ Err WasLost → may_lose };
 
-    /// Sees that a list is kept, and publishes it where there is memory: the list as one that is kept, and whether it is published.
+    /// Syncs a front and, memory permitting, publishes it. Returns its kept-front token, and whether it is published.
     fn sync<W: Wait>(&self, rt: &W, front: &Front<H>) -> Result<(KeptFront<H>, bool), Lost>
         ensures kept { IfOk result (λ s. s.0 ≡ front.now) }
         ensures lost { OnErr result may_lose };
 
-    /// A list as one that is kept, where it is known to be. It keeps nothing.
+    /// The kept-front token of a front, if the front is known to be kept. It syncs nothing.
     fn find_kept<W: Wait>(&self, rt: &W, front: &Front<H>) -> Option<KeptFront<H>>
         ensures { IfSome result (λ kept. kept ≡ front.now) };
 
@@ -105,7 +105,7 @@ pub trait Commits<H: HallName> {
     fn is_lost(&self) -> bool
         ensures { result ≡ true → may_lose };
 
-    /// Whether nothing more is kept since what keeps the changes failed, and not since memory ran out.
+    /// Whether changes are no longer kept because the journal failed, and not because memory ran out.
     fn has_failed<W: Wait>(&self, rt: &W) -> bool
         ensures { result ≡ true → fails };
 
@@ -115,8 +115,8 @@ pub trait Commits<H: HallName> {
         ensures counted { length result ≡ receipts desks.old }
         ensures same { desks.new ≡ desks.old };
 
-    /// What is kept of the whole list, once no change is made any more; it has all that is known to be kept. There is none where some
-    /// change is not in the list.
+    /// The kept part of the whole list, once changes have ended. It covers `known`. `None` if some change is not in
+    /// the list.
     fn left<W: Wait>(&self, rt: &W, list: &Front<H>, known: &KeptFront<H>) -> Option<Front<H>>
         ensures leaves { IfSome result (λ kept. leaves kept list.now) }
         ensures has { IfSome result (λ kept. IsPrefix known.now kept) }

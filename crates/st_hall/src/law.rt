@@ -1,7 +1,7 @@
 //! What the definitions say of all changes that were answered, whatever the program does.
 ghost use Rattle.std.specs.Prelude.{All, List};
 ghost use mathlib.Core.List.{IsPrefix};
-ghost use Rattle.st_hall_press.specs.Steps.{Ask, State, Response};
+ghost use Rattle.st_hall_press.specs.Steps.{Ask, HallState, Response};
 ghost use Rattle.st_hall_press.specs.Views.{EndsWith};
 ghost use Rattle.st_hall.specs.Decisions.{StandsIn};
 
@@ -37,6 +37,6 @@ pub fn longest_kept<H: HallName>(first: &KeptFront<H>, others: &[KeptFront<H>]) 
 
 /// A change whose front begins a list stands in that list, and its reply is that of its place.
 pub fn each_at_its_place()
-    ensures { (start : State) (front list : List Ask) (asked : Ask) (reply : Response) → EndsWith start front asked reply
+    ensures { (start : HallState) (front list : List Ask) (asked : Ask) (reply : Response) → EndsWith start front asked reply
         → IsPrefix front list → StandsIn start list asked reply }
 {}

@@ -1,4 +1,4 @@
-//! How a worker stood.
+//! A worker's state at its last sync.
 ghost use Rattle.std.specs.Prelude.{◌≡◌, IfSome};
 
 use st_hall_desk::Desk;
@@ -58,7 +58,7 @@ impl<H: HallName> Synced<H> {
         self.seen
     }
 
-    // A front as one that is kept, where that was known then.
+    // The kept-front token of a front, if the front was known to be kept then.
     pub(crate) fn find(&self, front: &Front<H>) -> Option<KeptFront<H>>
         ensures { IfSome result (λ kept. kept ≡ front.now) }
     {

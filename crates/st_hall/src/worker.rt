@@ -334,7 +334,7 @@ impl<'a, H: HallName, M: Commits<H>, G: Gate> Worker<'a, H, M, G> {
         }
     }
 
-    // A front as one that is kept, where it is known to be.
+    // The kept-front token of a front, if the front is known to be kept.
     fn find_kept<W: Wait>(&self, rt: &W, front: &Front<H>) -> Option<KeptFront<H>>
         ensures { IfSome result (λ kept. kept ≡ front.now) }
     {
@@ -344,7 +344,7 @@ impl<'a, H: HallName, M: Commits<H>, G: Gate> Worker<'a, H, M, G> {
         }
     }
 
-    // Sees that all that was seen is kept, and that all that was learnt is published where there is memory: what was seen, as kept.
+    // Syncs all that was seen and, memory permitting, publishes all that was learnt. Returns the token of what was seen.
     fn keep<W: Wait>(&mut self, rt: &W) -> Result<KeptFront<H>, Lost>
         ensures same { self.new ≡ self.old }
         ensures kept { IfOk result (λ kept. kept ≡ self.new.post.seat.seen) }
@@ -362,7 +362,7 @@ impl<'a, H: HallName, M: Commits<H>, G: Gate> Worker<'a, H, M, G> {
         Ok(kept)
     }
 
-    /// Its desk, and what it had seen when it was last synced, which is kept, once it works no more.
+    /// Ends the worker. Returns its desk, and the token of what the desk had seen at the last sync.
     pub fn apart(self) -> (Desk<H>, KeptFront<H>)
         ensures desk { result.0 ≡ self.entry.post.seat }
         ensures synced { result.1 ≡ self.entry.synced.seat.seen }
@@ -382,7 +382,7 @@ impl<'a, H: HallName, M: Commits<H>, G: Gate> Worker<'a, H, M, G> {
         (desk, synced.into_seen())
     }
 
-    /// Sees that all that was seen so far is kept. Once nothing more is kept, or where it fails, it has failed for good.
+    /// Syncs all that was seen so far. If that fails, or nothing more is kept, `has_failed` stays true for good.
     pub fn sync<W: Wait>(&mut self, rt: &W) -> Result<(), Lost>
         ensures post { self.new.post ≡ self.old.post }
         ensures ok { OnOk result ((self.new.synced ≡ self.new.post) × (self.new.has_failed ≡ self.old.has_failed)) }

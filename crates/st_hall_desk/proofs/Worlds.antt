@@ -10,13 +10,13 @@ use Rattle.st_core.specs.Step.{asks_for_change, step, after}
 use Rattle.st_core.specs.Worlds.{moments, Sight, ever, NeverSystem, names, stays, kept, keep, replies_to}
 use Rattle.st_core.proofs.Steps.{read_leaves}
 use Rattle.st_core.proofs.Kept.{told_the_same}
-use Rattle.st_hall_press.specs.Steps.{Ask, State, reply_of, state_after}
+use Rattle.st_hall_press.specs.Steps.{Ask, HallState, reply_of, state_after}
 use Rattle.st_hall_press.specs.Views.{EndsWith}
 
 -- a read adds no moment that was not there
-never_more : (f : Directory Global → Bool) (s : State) (xs : List Ask) (a : Ask) → asks_for_change a ≡ false
+never_more : (f : Directory Global → Bool) (s : HallState) (xs : List Ask) (a : Ask) → asks_for_change a ≡ false
     → list_any f (moments s (xs ++ a ∷ [])) ≡ list_any f (moments s xs)
-never_more f s [] a still = ap (λ (t : State). f s.directory || (f t.directory || false)) (read_leaves s a still) ∙ twice (f s.directory)
+never_more f s [] a still = ap (λ (t : HallState). f s.directory || (f t.directory || false)) (read_leaves s a still) ∙ twice (f s.directory)
   where
     twice : (b : Bool) → (b || (b || false)) ≡ (b || false)
     twice true = refl
@@ -25,7 +25,7 @@ never_more f s (x ∷ xs) a still = ap (λ b. f s.directory || b) (never_more f 
 
 module _ (user : Text) (a : Ask) (own : names a.token user ≡ true) where
   -- a user's own request at the end is kept
-  kept_more : (sight : Sight) (s : State) (xs : List Ask) → kept user sight s (xs ++ a ∷ []) ≡ kept user sight s xs ++ a ∷ []
+  kept_more : (sight : Sight) (s : HallState) (xs : List Ask) → kept user sight s (xs ++ a ∷ []) ≡ kept user sight s xs ++ a ∷ []
   kept_more sight s [] = simp own refl
   kept_more sight s (x ∷ xs) = at (stays user sight s.directory x) refl (kept_more sight (step s x).state xs)
     where
@@ -36,7 +36,7 @@ module _ (user : Text) (a : Ask) (own : names a.token user ≡ true) where
       at false h more = simp h more
 
   -- its reply is the last of the user's
-  told_more : (s : State) (xs : List Ask) → replies_to user s (xs ++ a ∷ []) ≡ replies_to user s xs ++ (step (after s xs) a).reply ∷ []
+  told_more : (s : HallState) (xs : List Ask) → replies_to user s (xs ++ a ∷ []) ≡ replies_to user s xs ++ (step (after s xs) a).reply ∷ []
   told_more s [] = simp own refl
   told_more s (x ∷ xs) = at (names x.token user) refl (told_more (step s x).state xs)
     where
@@ -46,7 +46,7 @@ module _ (user : Text) (a : Ask) (own : names a.token user ≡ true) where
       at true h more = simp h (ap (λ rs. (step s x).reply ∷ rs) more)
       at false h more = simp h more
 
-pub shows_no_more : (start : State) (user : Text) (seen : List Ask) (a : Ask) → names a.token user ≡ true → asks_for_change a ≡ false → NeverSystem user start seen
+pub shows_no_more : (start : HallState) (user : Text) (seen : List Ask) (a : Ask) → names a.token user ≡ true → asks_for_change a ≡ false → NeverSystem user start seen
     → EndsWith start (keep user start (seen ++ a ∷ [])) a (reply_of (state_after start seen) a)
 unfolding reply_of state_after
 shows_no_more start user seen a own still never =

@@ -4,7 +4,7 @@ ghost use mathlib.Core.List.{IsPrefix};
 ghost use Rattle.st_core.specs.Step.{asker_of, asks_for_change};
 ghost use Rattle.st_policy.specs.declared.refusal.Refusal.TheVariants.{Json};
 ghost use Rattle.st_core.specs.declared.asked.Call.TheVariants.{Bad};
-ghost use Rattle.st_hall_press.specs.Steps.{Ask, State, reply_of, state_after};
+ghost use Rattle.st_hall_press.specs.Steps.{Ask, HallState, reply_of, state_after};
 ghost use Rattle.st_hall_press.specs.inner.Editions.{Agrees};
 
 use core::mem::replace_with;
@@ -91,7 +91,7 @@ fn look<H: HallName>(
 
 // Whether a call that is no JSON object was refused for that, and not for its token.
 fn is_known(reply: &Reply) -> bool
-    ensures { (s : State) (asked : Ask) → asked.call ≡ Bad Json → reply.now ≡ reply_of s asked
+    ensures { (s : HallState) (asked : Ask) → asked.call ≡ Bad Json → reply.now ≡ reply_of s asked
         → result ≡ is_some (asker_of s.directory asked.token) }
 {
     match reply {

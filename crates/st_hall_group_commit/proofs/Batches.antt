@@ -6,10 +6,11 @@ use Rattle.std.specs.declared.alloc.Global.{Global}
 use Rattle.st_dir.specs.Directory.{Directory}
 use Rattle.st_core.specs.Step.{after, step}
 use Rattle.st_journal.specs.declared.record.Record.{Record}
+use Rattle.st_journal.specs.declared.journal.Journal.{Ghosts}
 use Rattle.st_journal.specs.Replays.{Replays}
 use Rattle.st_journal_store.specs.Applying.{Applies, Notes}
 use Rattle.st_journal_store.proofs.Replaying.{one_more, one_state}
-use Rattle.st_hall_press.specs.Steps.{Ask, State, next, state_after}
+use Rattle.st_hall_press.specs.Steps.{Ask, HallState as State, next, state_after}
 use Rattle.st_hall_press.proofs.Following.{after_none, after_snoc}
 use Rattle.st_hall_press.proofs.Fronts.{prefix_self, prefix_trans}
 use Rattle.st_hall_group_commit.specs.Rolls.{KeptRoll, LeadPast, LeadToOne}
@@ -58,21 +59,21 @@ pub again : (first start t : State) (kept list : List Ask) (left : List Record) 
 again first start t kept list left lead made =
     (lead.front, lead.past, lead.begins, sym (one_state first (state_after start lead.front) t left lead.made made))
 
-module _ {J : Type 0} (list_of : J → List Record) (misreads : J → ℕ) (is_ready : J → Type 0) (may_leave : J → List Record → Type 0)
+module _ {J : Type 0} (journals : Ghosts J)
     (first start : State) where
   abbrev pub Sound : List Record → KeptRoll J → Type 0
-  Sound batch k = IsSound list_of misreads is_ready may_leave first start batch k
+  Sound batch k = IsSound journals first start batch k
 
   module _ (list kept published : List Ask) (old new : J) (batch : List Record) (s : Sound batch (roll list kept published old false))
-      (fewer : misreads old ≤ misreads new) where
-    was_clean : misreads new ≡ 0 → misreads old ≡ 0
+      (fewer : journals.misreads old ≤ journals.misreads new) where
+    was_clean : journals.misreads new ≡ 0 → journals.misreads old ≡ 0
     was_clean clean = omega (arith, fewer, clean)
 
     -- the list with the batch leads to the state after the whole list
-    pub made : misreads new ≡ 0 → Replays Applies first (list_of old ++ batch) (state_after start list)
-    made clean = more Applies first (state_after start kept) (state_after start list) (list_of old) batch (s.stands refl (was_clean clean)) (s.waits refl)
+    pub made : journals.misreads new ≡ 0 → Replays Applies first (journals.list old ++ batch) (state_after start list)
+    made clean = more Applies first (state_after start kept) (state_after start list) (journals.list old) batch (s.stands refl (was_clean clean)) (s.waits refl)
 
-    left_by : misreads new ≡ 0 → (left : List Record) → (left ≡ list_of old) ⊎ (left ≡ list_of old ++ batch) → LeadPast first start kept list left
+    left_by : journals.misreads new ≡ 0 → (left : List Record) → (left ≡ journals.list old) ⊎ (left ≡ journals.list old ++ batch) → LeadPast first start kept list left
     left_by clean left (inl is) = record {
       front = kept;
       past = prefix_self kept;
@@ -86,7 +87,7 @@ module _ {J : Type 0} (list_of : J → List Record) (misreads : J → ℕ) (is_r
       made = subst (λ (l : List Record). Replays Applies first l (state_after start list)) (sym is) (made clean);
     }
 
-    pub lost : (misreads new ≡ 0 → (left : List Record) → may_leave new left → (left ≡ list_of old) ⊎ (left ≡ list_of old ++ batch))
+    pub lost : (journals.misreads new ≡ 0 → (left : List Record) → journals.may_leave new left → (left ≡ journals.list old) ⊎ (left ≡ journals.list old ++ batch))
         → Sound batch (roll list kept published new true)
     lost crash = record {
       published_kept = s.published_kept;
@@ -98,30 +99,30 @@ module _ {J : Type 0} (list_of : J → List Record) (misreads : J → ℕ) (is_r
     }
 
     -- all of the batch is left, or none of it
-    pub left_one : misreads new ≡ 0 → (left : List Record) → (left ≡ list_of old) ⊎ (left ≡ list_of old ++ batch) → LeadToOne first start kept list left
+    pub left_one : journals.misreads new ≡ 0 → (left : List Record) → (left ≡ journals.list old) ⊎ (left ≡ journals.list old ++ batch) → LeadToOne first start kept list left
     left_one clean left (inl is) =
         inl (subst (λ (l : List Record). Replays Applies first l (state_after start kept)) (sym is) (s.stands refl (was_clean clean)))
     left_one clean left (inr is) = inr (subst (λ (l : List Record). Replays Applies first l (state_after start list)) (sym is) (made clean))
 
   pub lost_all : (list kept published : List Ask) (old new : J) (lost : Bool) (batch : List Record)
-      → Sound batch (roll list kept published old lost) → lost ≡ false → misreads old ≤ misreads new
-      → (misreads new ≡ 0 → (left : List Record) → may_leave new left → (left ≡ list_of old) ⊎ (left ≡ list_of old ++ batch))
+      → Sound batch (roll list kept published old lost) → lost ≡ false → journals.misreads old ≤ journals.misreads new
+      → (journals.misreads new ≡ 0 → (left : List Record) → journals.may_leave new left → (left ≡ journals.list old) ⊎ (left ≡ journals.list old ++ batch))
       → Sound batch (roll list kept published new true)
   lost_all list kept published old new is_lost batch s is fewer crash =
       lost list kept published old new batch (subst (λ (b : Bool). Sound batch (roll list kept published old b)) is s) fewer crash
 
   pub left_by_all : (list kept published : List Ask) (old new : J) (lost : Bool) (batch : List Record)
-      → Sound batch (roll list kept published old lost) → lost ≡ false → misreads old ≤ misreads new
-      → (misreads new ≡ 0 → (left : List Record) → may_leave new left → (left ≡ list_of old) ⊎ (left ≡ list_of old ++ batch))
-      → misreads new ≡ 0 → (left : List Record) → may_leave new left → LeadToOne first start kept list left
+      → Sound batch (roll list kept published old lost) → lost ≡ false → journals.misreads old ≤ journals.misreads new
+      → (journals.misreads new ≡ 0 → (left : List Record) → journals.may_leave new left → (left ≡ journals.list old) ⊎ (left ≡ journals.list old ++ batch))
+      → journals.misreads new ≡ 0 → (left : List Record) → journals.may_leave new left → LeadToOne first start kept list left
   left_by_all list kept published old new is_lost batch s is fewer crash clean left leaves =
       left_one list kept published old new batch (subst (λ (b : Bool). Sound batch (roll list kept published old b)) is s) fewer clean left
       (crash clean left leaves)
 
-  module _ (leaves_list : (journal : J) (left : List Record) → misreads journal ≡ 0 → is_ready journal → may_leave journal left → left ≡ list_of journal) where
+  module _ (leaves_list : (journal : J) (left : List Record) → journals.misreads journal ≡ 0 → journals.is_ready journal → journals.may_leave journal left → left ≡ journals.list journal) where
     -- all is kept, in a journal that takes records
-    pub whole : (list published : List Ask) (journal : J) → IsPrefix published list → is_ready journal
-        → (misreads journal ≡ 0 → Replays Applies first (list_of journal) (state_after start list)) → Sound [] (roll list list published journal false)
+    pub whole : (list published : List Ask) (journal : J) → IsPrefix published list → journals.is_ready journal
+        → (journals.misreads journal ≡ 0 → Replays Applies first (journals.list journal) (state_after start list)) → Sound [] (roll list list published journal false)
     whole list published journal published_kept ready stands = record {
       published_kept = published_kept;
       begins = prefix_self list;
@@ -137,7 +138,7 @@ module _ {J : Type 0} (list_of : J → List Record) (misreads : J → ℕ) (is_r
     }
 
     pub opened : (list kept published : List Ask) (journal : J) (batch : List Record) → list ≡ [] → kept ≡ list → published ≡ [] → batch ≡ []
-        → is_ready journal → (misreads journal ≡ 0 → Replays Applies first (list_of journal) start)
+        → journals.is_ready journal → (journals.misreads journal ≡ 0 → Replays Applies first (journals.list journal) start)
         → Sound batch (roll list kept published journal false)
     opened list kept published journal batch empty same none void ready stands =
         subst (λ (b : List Record). Sound b (roll list kept published journal false)) (sym void)
@@ -145,11 +146,11 @@ module _ {J : Type 0} (list_of : J → List Record) (misreads : J → ℕ) (is_r
         (subst (λ (p : List Ask). Sound [] (roll list list p journal false)) (sym none)
         (subst (λ (l : List Ask). Sound [] (roll l l [] journal false)) (sym empty)
         (whole [] [] journal (prefix_self []) ready
-        (λ clean. subst (λ (s : State). Replays Applies first (list_of journal) s) (sym (after_none start)) (stands clean))))))
+        (λ clean. subst (λ (s : State). Replays Applies first (journals.list journal) s) (sym (after_none start)) (stands clean))))))
 
     pub kept_all : (list kept kept' published : List Ask) (old new : J) (lost : Bool) (batch batch' : List Record)
-        → Sound batch (roll list kept published old lost) → lost ≡ false → misreads old ≤ misreads new → is_ready new
-        → (misreads new ≡ 0 → list_of new ≡ list_of old ++ batch) → batch' ≡ [] → kept' ≡ list → Sound batch' (roll list kept' published new lost)
+        → Sound batch (roll list kept published old lost) → lost ≡ false → journals.misreads old ≤ journals.misreads new → journals.is_ready new
+        → (journals.misreads new ≡ 0 → journals.list new ≡ journals.list old ++ batch) → batch' ≡ [] → kept' ≡ list → Sound batch' (roll list kept' published new lost)
     kept_all list kept kept' published old new lost batch batch' s is fewer ready appended none same =
         let t = subst (λ (b : Bool). Sound batch (roll list kept published old b)) is s in
         subst (λ (b : Bool). Sound batch' (roll list kept' published new b)) (sym is)

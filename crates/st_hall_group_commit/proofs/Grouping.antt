@@ -5,11 +5,12 @@ use mathlib.Core.List.{IsPrefix}
 use Rattle.std.specs.declared.alloc.Global.{Global}
 use Rattle.st_dir.specs.Directory.{Directory}
 use Rattle.st_journal.specs.declared.record.Record.{Record}
+use Rattle.st_journal.specs.declared.journal.Journal.{Ghosts}
 use Rattle.st_journal.specs.Replays.{Replays}
 use Rattle.st_journal_store.specs.Applying.{Applies, Notes}
 use Rattle.st_core.specs.declared.judged.Judged.{Judged}
 use Rattle.st_core.specs.Step.{judge}
-use Rattle.st_hall_press.specs.Steps.{Ask, State, judged_in, state_after}
+use Rattle.st_hall_press.specs.Steps.{Ask, HallState as State, judged_in, state_after}
 use Rattle.st_hall_press.proofs.Following.{after_none}
 use Rattle.st_hall_press.proofs.Fronts.{prefix_length, prefix_self, prefix_trans}
 use Rattle.st_hall_group_commit.specs.Rolls.{KeptRoll, LeadPast, LeadToOne}
@@ -50,10 +51,10 @@ batched start from to taken list records batch is_from is_to same p =
     (subst (λ (l : List Ask). IsPrefix from l × Replays Applies (state_after start from) batch (state_after start l)) (sym is_to)
     (subst (λ (l : List Ask). IsPrefix l list × Replays Applies (state_after start l) batch (state_after start list)) (sym is_from) p))
 
-module _ {J : Type 0} (list_of : J → List Record) (misreads : J → ℕ) (is_ready : J → Type 0) (may_leave : J → List Record → Type 0)
+module _ {J : Type 0} (journals : Ghosts J)
     (first start : State) where
   abbrev pub Sound : List Record → KeptRoll J → Type 0
-  Sound batch k = IsSound list_of misreads is_ready may_leave first start batch k
+  Sound batch k = IsSound journals first start batch k
 
   -- a publisher's invariant
   abbrev pub Keeps : (pushed tried kept published : List Ask) → J → Bool → (mark : ℕ) → Type 0
@@ -89,7 +90,7 @@ module _ {J : Type 0} (list_of : J → List Record) (misreads : J → ℕ) (is_r
     },
   )
 
-  module _ (leaves_list : (journal : J) (left : List Record) → misreads journal ≡ 0 → is_ready journal → may_leave journal left → left ≡ list_of journal) where
+  module _ (leaves_list : (journal : J) (left : List Record) → journals.misreads journal ≡ 0 → journals.is_ready journal → journals.may_leave journal left → left ≡ journals.list journal) where
     -- a batch that goes on what is kept
     given : (tried kept published to : List Ask) (journal : J) (records : List Record) → Sound [] (roll tried kept published journal false)
         → IsPrefix kept to → Replays Applies (state_after start kept) records (state_after start to)
@@ -110,7 +111,7 @@ module _ {J : Type 0} (list_of : J → List Record) (misreads : J → ℕ) (is_r
 
     module _ (pushed tried kept published from to : List Ask) (old new : J) (lost : Bool) (mark : ℕ) (records : List Record)
         (k : Keeps pushed tried kept published old lost mark) (is : lost ≡ false) (at_end : from ≡ kept) (goes_on : IsPrefix from to)
-        (leads : Replays Applies (state_after start from) records (state_after start to)) (fewer : misreads old ≤ misreads new) where
+        (leads : Replays Applies (state_after start from) records (state_after start to)) (fewer : journals.misreads old ≤ journals.misreads new) where
       on : IsPrefix kept to
       on = subst (λ (l : List Ask). IsPrefix l to) at_end goes_on
 
@@ -119,10 +120,10 @@ module _ {J : Type 0} (list_of : J → List Record) (misreads : J → ℕ) (is_r
           given tried kept published to old records (subst (λ (b : Bool). Sound [] (roll tried kept published old b)) is k.2) on
           (subst (λ (l : List Ask). Replays Applies (state_after start l) records (state_after start to)) at_end leads)
 
-      pub kept_batch : (tried' kept' : List Ask) (mark' : ℕ) → tried' ≡ to → kept' ≡ to → mark' ≡ length to → is_ready new
-          → (misreads new ≡ 0 → list_of new ≡ list_of old ++ records) → Keeps pushed tried' kept' published new lost mark'
+      pub kept_batch : (tried' kept' : List Ask) (mark' : ℕ) → tried' ≡ to → kept' ≡ to → mark' ≡ length to → journals.is_ready new
+          → (journals.misreads new ≡ 0 → journals.list new ≡ journals.list old ++ records) → Keeps pushed tried' kept' published new lost mark'
       kept_batch tried' kept' mark' is_tried is_kept is_mark ready appended =
-          let s = kept_all list_of misreads is_ready may_leave first start leaves_list to kept to published old new false records [] batch refl fewer ready appended refl refl in
+          let s = kept_all journals first start leaves_list to kept to published old new false records [] batch refl fewer ready appended refl refl in
           subst (λ (l : List Ask). Keeps pushed l kept' published new lost mark') (sym is_tried)
           (subst (λ (l : List Ask). Keeps pushed to l published new lost mark') (sym is_kept) (
             prefix_trans pushed kept to k.0 on,
@@ -133,23 +134,23 @@ module _ {J : Type 0} (list_of : J → List Record) (misreads : J → ℕ) (is_r
       pub no_shorter : mark ≤ length to
       no_shorter = omega (arith, k.1, prefix_length kept to on)
 
-      pub lost_batch : (misreads new ≡ 0 → (left : List Record) → may_leave new left → (left ≡ list_of old) ⊎ (left ≡ list_of old ++ records))
+      pub lost_batch : (journals.misreads new ≡ 0 → (left : List Record) → journals.may_leave new left → (left ≡ journals.list old) ⊎ (left ≡ journals.list old ++ records))
           → Keeps pushed to kept published new true mark
       lost_batch crash = (
         k.0,
         k.1,
-        emptied to kept published new records (lost_all list_of misreads is_ready may_leave first start to kept published old new false records batch refl fewer crash),
+        emptied to kept published new records (lost_all journals first start to kept published old new false records batch refl fewer crash),
       )
 
-      pub left_one : (misreads new ≡ 0 → (left : List Record) → may_leave new left → (left ≡ list_of old) ⊎ (left ≡ list_of old ++ records))
-          → misreads new ≡ 0 → (left : List Record) → may_leave new left → LeadToOne first start kept to left
-      left_one crash = left_by_all list_of misreads is_ready may_leave first start to kept published old new false records batch refl fewer crash
+      pub left_one : (journals.misreads new ≡ 0 → (left : List Record) → journals.may_leave new left → (left ≡ journals.list old) ⊎ (left ≡ journals.list old ++ records))
+          → journals.misreads new ≡ 0 → (left : List Record) → journals.may_leave new left → LeadToOne first start kept to left
+      left_one crash = left_by_all journals first start to kept published old new false records batch refl fewer crash
 
     pub publisher_opened : (pushed tried kept published : List Ask) (journal : J) (mark : ℕ) → pushed ≡ [] → published ≡ [] → tried ≡ pushed
-        → kept ≡ pushed → mark ≡ 0 → is_ready journal → (misreads journal ≡ 0 → Replays Applies first (list_of journal) start)
+        → kept ≡ pushed → mark ≡ 0 → journals.is_ready journal → (journals.misreads journal ≡ 0 → Replays Applies first (journals.list journal) start)
         → Keeps pushed tried kept published journal false mark
     publisher_opened pushed tried kept published journal mark none hidden is_tried is_kept unmarked ready stands =
-        let s = opened list_of misreads is_ready may_leave first start leaves_list tried kept published journal [] (is_tried ∙ none) (is_kept ∙ sym is_tried) hidden refl ready stands in (
+        let s = opened journals first start leaves_list tried kept published journal [] (is_tried ∙ none) (is_kept ∙ sym is_tried) hidden refl ready stands in (
           subst (λ (l : List Ask). IsPrefix pushed l) (sym is_kept) (prefix_self pushed),
           unmarked ∙ sym (ap length (is_kept ∙ none)),
           s,

@@ -14,7 +14,7 @@ use std::marker::Model;
 pub(crate) struct Board<H: HallName> {
     kept: KeptFront<H>,
     published: Front<H>,
-    // As far as it is kept by now, also where a thread still leads.
+    // How far the list is kept, even while a leader is still at work.
     sure: KeptFront<H>,
     is_led: bool,
     is_lost: bool,
@@ -60,14 +60,14 @@ impl<H: HallName> Board<H> {
         front.len() <= self.published.len()
     }
 
-    // A front as one that is kept, where it is known to be by now, also where a thread still leads.
+    // The kept-front token of a front, if it is known to be kept, even while a leader is still at work.
     pub(crate) fn find_sure(&self, front: &Front<H>) -> Option<KeptFront<H>>
         ensures { IfSome result (λ kept. kept ≡ front.now) }
     {
         self.sure.find(front)
     }
 
-    // A front as one that is kept, where nothing more is to be done for it: it is published, or another thread leads, or an append failed.
+    // The kept-front token of a front that the caller need not work on: it is published, another thread leads, or an append failed.
     pub(crate) fn find_done(&self, front: &Front<H>) -> Option<KeptFront<H>>
         ensures { IfSome result (λ kept. kept ≡ front.now) }
     {

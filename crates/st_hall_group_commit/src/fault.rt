@@ -14,7 +14,7 @@ pub enum ChangeError {
     /// Out of memory. The change is not made.
     #[error("out of memory")]
     NoMemory,
-    /// The journal takes no more. Whether the change is kept only the next opening can tell.
+    /// The journal takes no more. Whether the change is kept is unknown until the journal is reopened.
     #[error("the journal takes no more")]
     Lost,
 }

@@ -24,12 +24,12 @@ use std::time::Clock;
 #[derive(Drop)]
 pub struct DurableHall<B: Beginning, H: HallName, R: Wait + Clock + Drop, J: Journal + Drop> {
     clock: R,
-    // Whoever takes this lock and the publisher's takes this one last.
+    // Lock order: after the publisher's lock.
     draft: Mutex<Draft<H>>,
     publisher: Mutex<Publisher<B, H, R, J>>,
-    // Whoever has this lock takes no other one.
+    // Lock order: innermost; no other lock is taken while it is held.
     board: Mutex<Board<H>>,
-    // The thread that led leads no more.
+    // Signalled when the leader is done.
     ended: Condvar,
     // A change was lost.
     alarm: AtomicBool,
@@ -102,9 +102,9 @@ impl<B: Beginning, H: HallName, R: Wait + Clock + Drop, J: Journal + Drop> Commi
     // An append may fail, or find no memory.
     ghost may_lose = { ⊤ };
 
-    ghost fails = { HasFailed J.misreads J.faults };
+    ghost fails = { HasFailed J.Journal };
 
-    ghost leaves = { Leaves J.misreads J.may_leave B.first H.start };
+    ghost leaves = { Leaves J.Journal B.first H.start };
 
     // Decides a change, and adds it to the list, which is neither kept nor published then. `Lost` comes once an append failed.
     fn change<W: Wait>(
@@ -135,8 +135,8 @@ impl<B: Beginning, H: HallName, R: Wait + Clock + Drop, J: Journal + Drop> Commi
         }
     }
 
-    // All that is decided meanwhile is kept with it, and nothing is appended where another thread has kept it already. At an error it
-    // may be kept: the next opening can tell.
+    // Syncs all that is decided so far with it, or nothing if another thread has synced it. At an error, whether it is kept is unknown
+    // until the journal is reopened.
     fn sync<W: Wait>(&self, rt: &W, front: &Front<H>) -> Result<(KeptFront<H>, bool), Lost> {
         let mut board = self
             .ended
@@ -187,7 +187,7 @@ impl<B: Beginning, H: HallName, R: Wait + Clock + Drop, J: ReadBack + Drop> Dura
     /// The kept records behind the first `from`, in order, at most so many: what the journal had there at the moment of the reading.
     /// No change is kept meanwhile. `Lost` comes once an append failed, or where the journal takes no more.
     pub fn read<W: Wait>(&self, rt: &W, from: u64, most: usize) -> Result<Reading<H>, ReadError>
-        ensures { IfOk result (λ reading. WasRead J.Journal.list J.Journal.misreads B.first H.start reading.kept
+        ensures { IfOk result (λ reading. WasRead J.Journal B.first H.start reading.kept
             from most reading.records.items) }
     {
         let mut publisher = self.publisher.lock(rt);

@@ -3,6 +3,7 @@ ghost use Rattle.std.specs.Prelude.{◌≡◌, ◌≢◌, ◌<◌, ◌≤◌, �
 ghost use Rattle.std.specs.Prelude.{vec_len};
 ghost use Rattle.st_journal.specs.declared.record.Record.{Record};
 ghost use Rattle.st_journal.specs.declared.read_back.ReadError.TheVariants as ends;
+ghost use Rattle.st_journal.specs.Leaving.{LeavesOnly};
 ghost use Rattle.st_hall_group_commit.specs.Rolls.{HasFailed};
 
 use st_journal::{AppendError, Journal, ReadBack, ReadError, Record};
@@ -12,13 +13,13 @@ use std::marker::PhantomData;
 #[derive(Drop)]
 pub(crate) struct Failure<J: Journal> {
     of: PhantomData<J>,
-    ghost failed: { HasFailed J.misreads J.faults },
+    ghost failed: { HasFailed J.Journal },
 }
 
 impl<J: Journal> Failure<J> {
     // The journal failed.
     pub(crate) fn is_certain(&self) -> bool
-        ensures failed { HasFailed J.misreads J.faults }
+        ensures failed { HasFailed J.Journal }
     {
         true
     }
@@ -44,8 +45,8 @@ pub(crate) fn append_all<J: Journal>(
     ensures misreads { J.misreads journal.old ≤ J.misreads journal.new }
     ensures ready { OnOk result (J.is_ready journal.new) }
     ensures list { OnOk result (J.misreads journal.new ≡ 0 → J.list journal.new ≡ J.list journal.old ++ records.now) }
-    ensures crash { J.misreads journal.new ≡ 0 → (left : List Record) → J.may_leave journal.new left
-        → (left ≡ J.list journal.old) ⊎ (left ≡ J.list journal.old ++ records.now) }
+    ensures crash { LeavesOnly J.Journal journal.new (λ left. (left ≡ J.list journal.old)
+        ⊎ (left ≡ J.list journal.old ++ records.now)) }
 {
     if records.is_empty() {
         return Ok(());
@@ -68,9 +69,9 @@ pub(crate) fn read_from<J: ReadBack>(
     ensures misreads { J.Journal.misreads journal.old ≤ J.Journal.misreads journal.new }
     ensures read { IfOk result.0 (λ records. J.Journal.misreads journal.new ≡ 0
         → records.items ≡ take most (drop from (J.Journal.list journal.old))) }
-    ensures same { J.Journal.misreads journal.new ≡ 0 → result.0 ≢ Err ends.Lost → J.Journal.list journal.new ≡ J.Journal.list journal.old }
-    ensures crash { J.Journal.misreads journal.new ≡ 0 → (left : List Record) → J.Journal.may_leave journal.new left
-        → left ≡ J.Journal.list journal.old }
+    ensures same { J.Journal.misreads journal.new ≡ 0 → result.0 ≢ Err ends.Lost
+        → J.Journal.list journal.new ≡ J.Journal.list journal.old }
+    ensures crash { LeavesOnly J.Journal journal.new (λ left. left ≡ J.Journal.list journal.old) }
 {
     match journal.read(from, most) {
         Err(ReadError::Lost) => (Err(ReadError::Lost), Some(Failure { of: PhantomData })),

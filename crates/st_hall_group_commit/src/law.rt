@@ -3,10 +3,11 @@ ghost use Rattle.std.specs.Prelude.{◌≡◌, ◌++◌, List};
 ghost use mathlib.Core.List.{IsPrefix};
 ghost use Rattle.st_journal.specs.declared.record.Record.{Record};
 ghost use Rattle.st_journal.specs.Replays.{Replays};
+ghost use Rattle.st_journal.specs.Leaving.{LeavesOnly};
 ghost use Rattle.st_journal_store.specs.Applying.{Applies};
-ghost use Rattle.st_hall.specs.Steps.{Ask, State, state_after};
+ghost use Rattle.st_hall.specs.Steps.{Ask, HallState as State, state_after};
 ghost use Rattle.st_hall.specs.Views.{Beside};
-ghost use Rattle.st_hall_group_commit.specs.Rolls.{LeadPast};
+ghost use Rattle.st_hall_group_commit.specs.Rolls.{IsPast, LeadPast};
 
 use crate::publisher::Publisher;
 use crate::reading::Reading;
@@ -18,8 +19,7 @@ use std::sync::Wait;
 /// What is made again from what was left is the state after a beginning of the list of changes, with at least all that was kept.
 pub fn opens_again()
     ensures { (first start again : State) (kept list : List Ask) (left : List Record) → LeadPast first start kept list left
-        → Replays Applies first left again
-        → (front : List Ask) × IsPrefix kept front × IsPrefix front list × (again ≡ state_after start front) }
+        → Replays Applies first left again → IsPast start kept list again }
 {}
 
 /// Nothing that is known to be kept is lost: whatever the journal of a hall may leave, if the process ends now, leads to the state after
@@ -28,8 +28,7 @@ pub fn nothing_is_lost<B: Beginning, H: HallName, R: Wait + Drop, J: Journal + D
     publisher: &mut Publisher<B, H, R, J>,
     known: &KeptFront<H>,
 )
-    ensures leaves { J.misreads publisher.old.journal ≡ 0 → (left : List Record) → J.may_leave publisher.old.journal left
-        → LeadPast B.first H.start known.now publisher.old.list left }
+    ensures leaves { LeavesOnly J.Journal publisher.old.journal (λ left. LeadPast B.first H.start known.now publisher.old.list left) }
     ensures same { publisher.new ≡ publisher.old }
 {
     publisher.laws();

@@ -4,6 +4,7 @@ ghost use mathlib.Core.List.{IsPrefix};
 ghost use Rattle.st_journal.specs.declared.record.Record.{Record};
 ghost use Rattle.st_journal.specs.declared.read_back.ReadError.TheVariants as ends;
 ghost use Rattle.st_journal.specs.Replays.{Replays};
+ghost use Rattle.st_journal.specs.Leaving.{LeavesOnly};
 ghost use Rattle.st_journal_store.specs.Applying.{Applies};
 ghost use Rattle.st_hall_press.specs.Steps.{state_after};
 ghost use Rattle.st_hall_group_commit.specs.Rolls.{HasFailed, LeadPast, LeadToOne, Leaves, WasRead};
@@ -23,7 +24,7 @@ use std::sync::{Mutex, Wait};
 pub struct Publisher<B: Beginning, H: HallName, R: Wait + Drop, J: Journal + Drop> {
     press: Press<H, R>,
     journal: J,
-    // As far as an append was given the list.
+    // The list up to the last change that was given to an append.
     tried: Front<H>,
     kept: KeptFront<H>,
     // It says how long that is.
@@ -66,7 +67,7 @@ impl<B: Beginning, H: HallName, R: Wait + Drop, J: Journal + Drop> Model for Pub
     } };
 
     ghost invariant = { λ k. IsPrefix k.press.pushed k.kept × (k.mark ≡ length k.kept)
-        × IsSound J.list J.misreads J.is_ready J.may_leave B.first H.start [] (record {
+        × IsSound J.Journal B.first H.start [] (record {
           list = k.tried;
           kept = k.kept;
           published = k.press.published;
@@ -113,13 +114,12 @@ impl<B: Beginning, H: HallName, R: Wait + Drop, J: Journal + Drop> Publisher<B, 
         ensures begins { IsPrefix self.now.kept self.now.list }
         ensures stands { self.now.is_lost ≡ false → J.misreads self.now.journal ≡ 0
             → Replays Applies B.first (J.list self.now.journal) (state_after H.start self.now.kept) }
-        ensures leaves { J.misreads self.now.journal ≡ 0 → (left : List Record) → J.may_leave self.now.journal left
-            → LeadPast B.first H.start self.now.kept self.now.list left }
+        ensures leaves { LeavesOnly J.Journal self.now.journal (λ left. LeadPast B.first H.start self.now.kept self.now.list left) }
     {
         let _lost = self.is_lost;
     }
 
-    /// What is kept has each front of the hall that is known to be kept, wherever that is known. It does nothing.
+    /// What is kept covers every kept-front token of the hall. A lemma: it does nothing at run time.
     pub fn laws_of(&mut self, known: &KeptFront<H>)
         ensures has { IsPrefix known.now self.old.kept }
         ensures same { self.new ≡ self.old }
@@ -156,10 +156,10 @@ impl<B: Beginning, H: HallName, R: Wait + Drop, J: Journal + Drop> Publisher<B, 
         self.press.published_front()
     }
 
-    /// What is kept, with all that is known to be: also what is left, if the process ends now, has that, and nothing beyond a list. There
-    /// is none where an append was given more than the list.
+    /// What is kept. It covers `known`, and a crash now would leave at least that, and nothing beyond `list`. `None` if an append was given
+    /// more than `list`.
     pub fn left(&mut self, list: &Front<H>, known: &KeptFront<H>) -> Option<Front<H>>
-        ensures leaves { IfSome result (λ kept. Leaves J.misreads J.may_leave B.first H.start kept list.now) }
+        ensures leaves { IfSome result (λ kept. Leaves J.Journal B.first H.start kept list.now) }
         ensures has { IfSome result (λ kept. IsPrefix known.now kept) }
         ensures begins { IfSome result (λ kept. IsPrefix kept list.now) }
         ensures same { self.new ≡ self.old }
@@ -182,7 +182,7 @@ impl<B: Beginning, H: HallName, R: Wait + Drop, J: Journal + Drop> Publisher<B, 
 
     /// Whether an append or a reading was lost since the journal failed.
     pub fn has_failed(&self) -> bool
-        ensures { result ≡ true → HasFailed J.misreads J.faults }
+        ensures { result ≡ true → HasFailed J.Journal }
     {
         match &self.failure {
             Some(failure) => failure.is_certain(),
@@ -199,8 +199,8 @@ impl<B: Beginning, H: HallName, R: Wait + Drop, J: Journal + Drop> Publisher<B, 
         front.len() <= published.len()
     }
 
-    /// Keeps a batch by one append. At an error the journal takes no more: it has all of these records or none of them, and only the
-    /// next opening can tell.
+    /// Syncs a batch by one append. At an error the journal takes no more, and whether it has all of these records or none is unknown
+    /// until it is reopened.
     pub fn keep(&mut self, batch: Batch<H>) -> Result<(), Lost>
         requires goes_on { IsPrefix batch.from batch.to }
         requires leads { Replays Applies (state_after H.start batch.from) batch.records.items (state_after H.start batch.to) }
@@ -209,9 +209,8 @@ impl<B: Beginning, H: HallName, R: Wait + Drop, J: Journal + Drop> Publisher<B, 
         ensures grows { IsPrefix self.old.kept self.new.kept }
         ensures lost { OnOk result (self.new.is_lost ≡ false) }
         ensures stays { self.old.is_lost ≡ true → (self.new ≡ self.old) }
-        ensures whole { self.old.is_lost ≡ false → J.misreads self.new.journal ≡ 0
-            → (left : List Record) → J.may_leave self.new.journal left
-            → LeadToOne B.first H.start self.old.kept self.new.list left }
+        ensures whole { self.old.is_lost ≡ false → LeavesOnly J.Journal self.new.journal
+            (λ left. LeadToOne B.first H.start self.old.kept self.new.list left) }
     {
         let Batch { from, records, to } = batch;
         // A batch that goes on another list than the kept one never comes.
@@ -234,7 +233,7 @@ impl<B: Beginning, H: HallName, R: Wait + Drop, J: Journal + Drop> Publisher<B, 
         }
     }
 
-    // Keeps all that is decided by now. Nothing more is decided where it is not kept.
+    // Syncs all that is decided so far. If that fails, the draft is closed and decides no more.
     fn keep_draft<W: Wait>(&mut self, rt: &W, draft: &Mutex<Draft<H>>) -> Result<(), Lost>
         ensures grows { IsPrefix self.old.kept self.new.kept }
         ensures published { self.new.published ≡ self.old.published }
@@ -306,7 +305,7 @@ fn says_lost(read: &Result<Vec<Record>, ReadError>) -> bool
 impl<B: Beginning, H: HallName, R: Wait + Drop, J: ReadBack + Drop> Publisher<B, H, R, J> {
     /// The kept records behind the first `from`, in order, at most so many. At `Lost` the journal takes no more.
     pub fn read(&mut self, from: u64, most: usize) -> Result<Vec<Record>, ReadError>
-        ensures read { IfOk result (λ records. WasRead J.Journal.list J.Journal.misreads B.first H.start self.old.kept
+        ensures read { IfOk result (λ records. WasRead J.Journal B.first H.start self.old.kept
             from most records.items) }
         ensures same { (self.new.list ≡ self.old.list) × (self.new.kept ≡ self.old.kept) × (self.new.published ≡ self.old.published) }
     {

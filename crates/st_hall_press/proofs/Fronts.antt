@@ -3,7 +3,7 @@ use Rattle.std.proofs.Common.{◌≡◌, ◌⊎◌, inl, inr, ℕ, zero, suc, �
 use Rattle.std.proofs.lemmas.Bool.Decides.{nat_tests}
 use Rattle.std.specs.Prelude.{Option, Result, Ok, Err, IfSome, MatchResult}
 use mathlib.Core.List.{IsPrefix}
-use Rattle.st_hall_press.specs.Steps.{Ask, State, Response}
+use Rattle.st_hall_press.specs.Steps.{Ask, HallState, Response}
 use Rattle.st_hall_press.specs.Views.{Post, Seat, EndsAfter, Learns}
 
 -- each list begins with itself
@@ -61,7 +61,7 @@ one_begins xs ys zs ws (inl is) p q = subst (λ l. IsPrefix l ws) (sym is) p
 one_begins xs ys zs ws (inr is) p q = subst (λ l. IsPrefix l ws) (sym is) q
 
 -- what is learnt of a receipt is its front
-pub learns_front : (start : State) (seen learnt later : List Ask) (a : Ask) (front : Option (List Ask)) (told reply : Response)
+pub learns_front : (start : HallState) (seen learnt later : List Ask) (a : Ask) (front : Option (List Ask)) (told reply : Response)
     → (later ≡ learnt) ⊎ (front ≡ Some later) → IfSome front (λ f. EndsAfter start seen f a told) → reply ≡ told
     → (later ≡ learnt) ⊎ EndsAfter start seen later a reply
 learns_front start seen learnt later a front told reply (inl same) ends is = inl same
@@ -70,7 +70,7 @@ learns_front start seen learnt later a front told reply (inr some) ends is =
     (subst (λ (o : Option (List Ask)). IfSome o (λ f. EndsAfter start seen f a told)) some ends))
 
 -- what is learnt by a change goes on what was seen
-pub learns_change : {E : Type 0} (start : State) (s t : Post) (a : Ask) (r : Result Response E)
+pub learns_change : {E : Type 0} (start : HallState) (s t : Post) (a : Ask) (r : Result Response E)
     → MatchResult r (λ x. (t.learnt ≡ s.learnt) ⊎ EndsAfter start s.seat.seen t.learnt a x) (λ _. t.learnt ≡ s.learnt)
     → IsPrefix t.learnt t.seat.seen → Learns s t
 learns_change start s t a (Ok x) (inl same) knows = inl same

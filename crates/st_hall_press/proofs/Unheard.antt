@@ -11,7 +11,7 @@ use Rattle.st_core.specs.declared.asked.Token.{Token}
 use Rattle.st_core.specs.declared.judged.Judged.{Judged}
 use Rattle.st_dir.specs.Directory.{Directory}
 use Rattle.st_core.specs.Step.{asker_of, asks_for_change, calls_for_change, judge, judge_call, settle}
-use Rattle.st_hall_press.specs.Steps.{Ask, State, Response, reply_of, state_after}
+use Rattle.st_hall_press.specs.Steps.{Ask, HallState, Response, reply_of, state_after}
 
 abbrev pub is_heard : {A : Type 0} → Judged A → Bool
 is_heard (Judged.Unheard refusal) = false
@@ -38,11 +38,11 @@ abbrev pub told_bad : Option Text → Response
 told_bad None = Reply.Refused (Refusal.Denied Denial.Token)
 told_bad (Some asker) = Reply.Refused Refusal.Json
 
-bad_told : (s : State) (asker : Option Text) → (settle s (judge_call s.directory asker (Call.Bad Refusal.Json))).reply ≡ told_bad asker
+bad_told : (s : HallState) (asker : Option Text) → (settle s (judge_call s.directory asker (Call.Bad Refusal.Json))).reply ≡ told_bad asker
 bad_told s None = refl
 bad_told s (Some asker) = refl
 
-reply_to_bad : (s : State) (asked : Ask) → asked.call ≡ Call.Bad Refusal.Json → reply_of s asked ≡ told_bad (asker_of s.directory asked.token)
+reply_to_bad : (s : HallState) (asked : Ask) → asked.call ≡ Call.Bad Refusal.Json → reply_of s asked ≡ told_bad (asker_of s.directory asked.token)
 unfolding reply_of
 reply_to_bad s asked is =
     ap (λ (c : Call _). (settle s (judge_call s.directory (asker_of s.directory asked.token) c)).reply) is
@@ -53,7 +53,7 @@ no_asker : (asker : Option Text) → Reply.Refused (Refusal.Denied Denial.Token)
 no_asker None is = refl
 no_asker (Some asker) is = cc is
 
-pub refused_for_token : (s : State) (asked : Ask) → asked.call ≡ Call.Bad Refusal.Json
+pub refused_for_token : (s : HallState) (asked : Ask) → asked.call ≡ Call.Bad Refusal.Json
     → Reply.Refused (Refusal.Denied Denial.Token) ≡ reply_of s asked → false ≡ is_some (asker_of s.directory asked.token)
 refused_for_token s asked is told = no_asker (asker_of s.directory asked.token) (told ∙ reply_to_bad s asked is)
 
@@ -62,13 +62,13 @@ an_asker : (asker : Option Text) → (Reply.Refused (Refusal.Denied Denial.Token
 an_asker None other = absurd (other refl)
 an_asker (Some asker) other = refl
 
-pub told_otherwise : (s : State) (asked : Ask) (told : Response) → asked.call ≡ Call.Bad Refusal.Json → told ≡ reply_of s asked
+pub told_otherwise : (s : HallState) (asked : Ask) (told : Response) → asked.call ≡ Call.Bad Refusal.Json → told ≡ reply_of s asked
     → (told ≡ Reply.Refused (Refusal.Denied Denial.Token) → ⊥) → true ≡ is_some (asker_of s.directory asked.token)
 told_otherwise s asked told is reply other =
     an_asker (asker_of s.directory asked.token) (λ e. other (reply ∙ (reply_to_bad s asked is ∙ sym e)))
 
 -- a change that is made was heard after a list that goes on what was seen
-pub heard_after : {A E : Type 0} (start : State) (seen before : List Ask) (token : Option Token) (r : Result A E) → OnOk r (IsPrefix seen before)
+pub heard_after : {A E : Type 0} (start : HallState) (seen before : List Ask) (token : Option Token) (r : Result A E) → OnOk r (IsPrefix seen before)
     → OnOk r (is_some (asker_of (state_after start before).directory token) ≡ true)
     → OnOk r ((list : List Ask) × IsPrefix seen list × (is_some (asker_of (state_after start list).directory token) ≡ true))
 heard_after start seen before token (Ok x) on heard = (before, on, heard)

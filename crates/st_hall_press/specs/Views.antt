@@ -1,11 +1,13 @@
 -- What contracts see of a desk, a worker, a clerk, and its two halves.
-use Rattle.std.specs.Prelude.{ℕ, Bool, true, ◌≡◌, ◌≤◌, ◌⊎◌, List, [], ◌∷◌, ◌++◌, length, sum_by, Option, None}
+use Rattle.std.specs.Prelude.{ℕ, Bool, true, false, ◌≡◌, ◌≤◌, ◌⊎◌, List, [], ◌∷◌, ◌++◌, length, sum_by, Option, None}
 use mathlib.Core.List.{IsPrefix}
 use Rattle.std.specs.declared.alloc.Global.{Global}
+use Rattle.st_text.specs.Texts.{Text}
 use Rattle.st_core.specs.declared.asked.Token.{Token}
 use Rattle.st_core.specs.declared.judged.Judged.{Judged}
 use Rattle.st_core.specs.Step.{asker_of, asks_for_change}
-use Rattle.st_hall_press.specs.Steps.{Ask, State, Response, judged_in, reply_of, state_after}
+use Rattle.st_core.specs.Worlds.{NeverSystem, names}
+use Rattle.st_hall_press.specs.Steps.{Ask, HallState, Response, judged_in, reply_of, state_after}
 
 -- the changes that a desk has seen, and how many receipts were got with it
 pub record Seat : Type 0 where
@@ -44,7 +46,7 @@ pub record QueuedValue : Type 0 where
   pub list : List Ask
 
 -- the list goes on by one change, judged by the directory after the list before it
-abbrev pub IsNext : State → List Ask → QueuedValue → Type 0
+abbrev pub IsNext : HallState → List Ask → QueuedValue → Type 0
 IsNext start before q =
     (ask : Ask) × (asks_for_change ask ≡ true) × (q.list ≡ before ++ ask ∷ []) × (q.judged ≡ judged_in (state_after start before) ask)
 
@@ -55,18 +57,23 @@ pub record Printed : Type 0 where
   pub has_room : Bool
 
 -- the list ends with the change, and the reply is the last of its run
-abbrev pub EndsWith : State → List Ask → Ask → Response → Type 0
-EndsWith start list asked reply =
-    (before : List Ask) × (list ≡ before ++ asked ∷ []) × (reply ≡ reply_of (state_after start before) asked)
+abbrev pub EndsWith : HallState → List Ask → Ask → Response → Type 0
+EndsWith start list asked reply = (before : List Ask) × (list ≡ before ++ asked ∷ []) × (reply ≡ reply_of (state_after start before) asked)
 
 -- the list goes on what was seen and ends with the change, and the reply is the last of its run
-abbrev pub EndsAfter : State → (seen list : List Ask) → Ask → Response → Type 0
+abbrev pub EndsAfter : HallState → (seen list : List Ask) → Ask → Response → Type 0
 EndsAfter start seen list asked reply =
     (before : List Ask) × IsPrefix seen before × (list ≡ before ++ asked ∷ []) × (reply ≡ reply_of (state_after start before) asked)
 
 -- after a list that goes on what was seen, the token does not hold
-abbrev pub IsStranger : State → (seen : List Ask) → Option Token → Type 0
+abbrev pub IsStranger : HallState → (seen : List Ask) → Option Token → Type 0
 IsStranger start seen token = (list : List Ask) × IsPrefix seen list × (asker_of (state_after start list).directory token ≡ None)
+
+-- after these changes a user reads, who holds SYSTEM at no moment of them
+pub record ReadsOwn (user : Text) (start : HallState) (seen : List Ask) (asked : Ask) : Type 0 where
+  pub own : names asked.token user ≡ true
+  pub reads : asks_for_change asked ≡ false
+  pub never : NeverSystem user start seen
 
 -- one of two lists begins the other
 abbrev pub Beside : List Ask → List Ask → Type 0

@@ -59,7 +59,7 @@ impl<H: HallName> KeptFront<H> {
         }
     }
 
-    /// A front that is no longer, as one that is kept.
+    /// The kept-front token of a front that is at most as long as this one.
     pub fn as_kept(&self, front: &Front<H>) -> KeptFront<H>
         requires { length front.now ≤ length self.now }
         ensures { result ≡ front.now }
@@ -71,7 +71,7 @@ impl<H: HallName> KeptFront<H> {
         }
     }
 
-    /// A front as one that is kept, where that is known of it, as of each that is no longer.
+    /// The kept-front token of a front, or `None` if the front is longer than what this token knows to be kept.
     pub fn find(&self, front: &Front<H>) -> Option<KeptFront<H>>
         ensures some { IfSome result (λ kept. kept ≡ front.now) }
         ensures none { IfNone result (length self.now < length front.now) }
@@ -88,7 +88,7 @@ impl<H: HallName> KeptFront<H> {
     }
 }
 
-/// How many changes of the list of a hall are kept, as its only holder says. Contracts see it as that number.
+/// The number of kept changes of a hall's list, which only its holder can raise. Contracts see it as that number.
 #[derive(Drop)]
 pub struct KeptMark<H: HallName> {
     most: u64,
@@ -106,7 +106,7 @@ impl<H: HallName> Model for KeptMark<H> {
     ghost invariant = { λ m. (m.mark.at ≡ m.most) × (m.mark.name ≡ H.mark) };
 }
 
-// The largest number of its type, which is no less than either.
+// `u64::MAX`, and that neither argument exceeds it.
 fn largest(one: u64, other: u64) -> u64
     ensures one { one ≤ result }
     ensures other { other ≤ result }
@@ -137,7 +137,7 @@ impl<H: HallName> KeptMark<H> {
         self.most = to;
     }
 
-    /// A front as one that is kept, with all that is ever in the list.
+    /// The kept-front token of a front. From then on every front of the list counts as kept.
     pub fn keep_all(&mut self, front: Front<H>) -> KeptFront<H>
         ensures is { result ≡ front }
         ensures grows { self.old ≤ self.new }
@@ -160,7 +160,7 @@ impl<H: HallName> KeptMark<H> {
         }
     }
 
-    /// No front that is kept is longer. It does nothing.
+    /// No kept-front token is longer than this mark. A lemma: it does nothing at run time.
     pub fn bounds(&mut self, kept: &KeptFront<H>)
         ensures same { self.new ≡ self.old }
         ensures bounds { length kept.now ≤ self.old }

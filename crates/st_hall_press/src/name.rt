@@ -16,9 +16,9 @@ use std::sync::ledger::{Blank, Ledger};
 pub trait HallName: Ledger {
     ghost use Rattle.std.specs.Prelude.{ℕ};
     ghost use Rattle.logbook.specs.Pages.{Book};
-    ghost use Rattle.st_hall_press.specs.Steps.{State};
+    ghost use Rattle.st_hall_press.specs.Steps.{HallState};
 
-    ghost start: { State };
+    ghost start: { HallState };
 
     ghost book: { Book };
 

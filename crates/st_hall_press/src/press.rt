@@ -94,7 +94,7 @@ impl<H: HallName, R: Wait + Drop> Press<H, R> {
         Ok(())
     }
 
-    /// Publishes all changes that were taken. When out of memory none of those is that are not published yet.
+    /// Publishes all changes that were taken. If memory runs out, nothing further is published.
     pub fn publish<W: Wait>(&mut self, rt: &W) -> Result<(), AllocError>
         ensures pushed { self.new.pushed ≡ self.old.pushed }
         ensures published { MatchResult result (λ _. self.new.published ≡ self.new.pushed)

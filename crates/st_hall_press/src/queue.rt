@@ -1,10 +1,10 @@
 //! The queue of changes that the copies have not absorbed yet.
-ghost use Rattle.std.specs.Prelude.{◌≡◌, ◌^◌, ◌<◌, [], ◌∷◌, ◌++◌, drop, fold, length, true, None, Some, IfOk, OnOk, MatchResult};
+ghost use Rattle.std.specs.Prelude.{◌≡◌, ◌^◌, ◌<◌, [], ◌∷◌, ◌++◌, drop, fold, length, true, Some, IfOk, OnOk, MatchResult};
 ghost use Rattle.st_core.specs.Judging.{judgement};
 ghost use Rattle.st_core.specs.Step.{asks_for_change};
 ghost use Rattle.st_hall_press.specs.Steps.{judged_in, state_after};
 ghost use Rattle.st_hall_press.specs.Views.{IsNext};
-ghost use Rattle.st_hall_press.specs.inner.Editions.{Agrees, absorbed, waiting_list};
+ghost use Rattle.st_hall_press.specs.inner.Editions.{Agrees, Publishes, Queues, absorbed};
 
 use crate::edition::{Agreeing, Consistent, Edition, Queued};
 use crate::front::Front;
@@ -34,10 +34,8 @@ pub fn queue<H: HallName>(
     waiting: &mut Option<Queued<H>>,
 ) -> Result<(), AllocError>
     ensures desk { writer.new.desk ≡ writer.old.desk }
-    ensures queued { MatchResult result
-        (λ _. (drop writer.new.behind writer.new.log.items ≡ drop writer.old.behind writer.old.log.items ++ waiting_list waiting.old)
-        × (waiting.new ≡ None))
-        (λ _. (drop writer.new.behind writer.new.log.items ≡ drop writer.old.behind writer.old.log.items) × (waiting.new ≡ waiting.old)) }
+    ensures queued { Queues result (drop writer.old.behind writer.old.log.items) (drop writer.new.behind writer.new.log.items)
+        waiting.old waiting.new }
 {
     let Some(queued) = waiting.take() else {
         return Ok(());
@@ -102,11 +100,8 @@ pub fn publish_queued<H: HallName, R: Wait>(
     rt: &R,
 ) -> (EditionWriter<H>, Result<(), AllocError>)
     requires { Agrees H.start (fold absorbed writer.desk.shown.value (drop writer.behind writer.log.items)) }
-    ensures { MatchResult result.1
-        (λ _. (result.0.desk.shown.value ≡ fold absorbed writer.desk.shown.value (drop writer.behind writer.log.items))
-        × (drop result.0.behind result.0.log.items ≡ []))
-        (λ _. (result.0.desk.shown.value ≡ writer.desk.shown.value)
-        × (drop result.0.behind result.0.log.items ≡ drop writer.behind writer.log.items)) }
+    ensures { Publishes result.1 writer.desk.shown.value result.0.desk.shown.value
+        (drop writer.behind writer.log.items) (drop result.0.behind result.0.log.items) }
 {
     writer.publish_as::<Agreeing<H>, R>(rt)
 }

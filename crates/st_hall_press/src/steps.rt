@@ -4,7 +4,7 @@ ghost use Rattle.std.specs.declared.alloc.Global.{Global};
 ghost use Rattle.st_dir.specs.Directory.{Directory as Users};
 ghost use Rattle.st_core.specs.Step.{asker_of, asks_for_change, judge as judge_by};
 ghost use Rattle.st_core.specs.Judging.{JudgesChange, judgement};
-ghost use Rattle.st_hall_press.specs.Steps.{Ask, State, judged_in, next, reply_of, settled};
+ghost use Rattle.st_hall_press.specs.Steps.{Ask, HallState, judged_in, next, reply_of, settled};
 ghost use Rattle.st_hall_press.specs.declared.fault.AskFault.TheVariants.{Stranger};
 
 use crate::fault::AskFault;
@@ -53,9 +53,9 @@ pub fn decide<'a>(
     requires { asks_for_change asked.now ≡ true }
     ensures stranger { result ≡ Err Stranger → asker_of directory.now asked.now.token ≡ None }
     ensures heard { OnOk result (is_some (asker_of directory.now asked.now.token) ≡ true) }
-    ensures judged { IfOk result (λ d. (s : State) → s.directory ≡ directory.now → judgement d.0 ≡ judged_in s asked.now) }
-    ensures reply { IfOk result (λ d. (s : State) → s.directory ≡ directory.now → d.1.reply ≡ reply_of s asked.now) }
-    ensures directory { IfOk result (λ d. (s : State) → s.directory ≡ directory.now
+    ensures judged { IfOk result (λ d. (s : HallState) → s.directory ≡ directory.now → judgement d.0 ≡ judged_in s asked.now) }
+    ensures reply { IfOk result (λ d. (s : HallState) → s.directory ≡ directory.now → d.1.reply ≡ reply_of s asked.now) }
+    ensures directory { IfOk result (λ d. (s : HallState) → s.directory ≡ directory.now
         → unwrap_or d.1.directory directory.now ≡ (next s asked.now).directory) }
 {
     let judged = judge(directory, asked);

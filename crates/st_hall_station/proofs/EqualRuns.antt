@@ -1,14 +1,13 @@
 -- Answers to a user in two runs of the same items.
 use Rattle.std.proofs.Common.{◌≡◌, ℕ, ◌-◌, List, [], ◌∷◌, Bool, true, false, refl, sym, ap, subst, arith}
-use Rattle.std.specs.List.{All}
 use Rattle.std.proofs.lemmas.List.Elements.{All-head, All-tail}
 use Rattle.st_text.specs.Texts.{Text}
 use Rattle.st_http.specs.First.{First}
 use Rattle.st_core.specs.Worlds.{NeverSystem, keep}
 use Rattle.st_connection.specs.Connection.{Run, WithInterim}
-use Rattle.st_service.specs.Answers.{IsBusy}
+use Rattle.st_service.specs.Answers.{IsBusy, NoneBusy}
 use Rattle.st_service.specs.Worlds.{is_of, answers_to}
-use Rattle.st_hall.specs.Steps.{Ask, State}
+use Rattle.st_hall.specs.Steps.{Ask, HallState}
 use Rattle.st_hall.specs.Views.{Post}
 use Rattle.st_hall_station.specs.Seats.{Moves}
 use Rattle.st_hall_station.specs.Posts.{StationAnswers}
@@ -32,10 +31,7 @@ abbrev later : Sights → Sights
 later [] = []
 later (sight ∷ rest) = rest
 
-abbrev NoneBusy : List (List ℕ) → Type 0
-NoneBusy texts = All (λ text. IsBusy text → ⊥) texts
-
-module _ (start : State) (user : Text) where
+module _ (start : HallState) (user : Text) where
   moves_by : (s t : Post) (item : First) (text : List ℕ) → WithInterim (StationAnswers start) s item text t → Moves (t.seat.made - s.seat.made) s.seat t.seat
   moves_by s t item text one =
       let grows = run_grows start s t (item ∷ []) (text ∷ []) (t, one, refl) in

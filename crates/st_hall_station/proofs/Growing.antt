@@ -8,8 +8,8 @@ use Rattle.st_connection.specs.Connection.{KeptPast, KeptUnlessLost, Run, Served
 use Rattle.st_connection.specs.Streams.{Streams}
 use Rattle.st_connection.specs.declared.connection.Ended.{Ended}
 use Rattle.st_connection.specs.declared.connection.IoFault.{IoFault}
-use Rattle.st_service.specs.Answers.{Parsed, parsed}
-use Rattle.st_hall.specs.Steps.{Ask, State}
+use Rattle.st_service.specs.Answers.{ForItems, Parsed, parsed}
+use Rattle.st_hall.specs.Steps.{Ask, HallState}
 use Rattle.st_hall.specs.Views.{Seat, Post, Learns}
 use Rattle.st_hall_press.proofs.Fronts.{prefix_self, prefix_trans}
 use Rattle.st_hall_station.specs.Seats.{Moves, SeatAnswers, read, made, stranger, untold, busy, unrouted}
@@ -26,21 +26,26 @@ stays s = (([], append-nil s.seen), omega arith)
 moved : (count : ℕ) (s t : Seat) → Moves count s t → Grows s t
 moved count s t m = (m.seen, omega (arith, m.made))
 
-seat_grows : (start : State) (s t : Seat) (p : Parsed) (answer : List ℕ) → SeatAnswers start s p answer t → Grows s t
+seat_grows : (start : HallState) (s t : Seat) (p : Parsed) (answer : List ℕ) → SeatAnswers start s p answer t → Grows s t
 seat_grows start s t p answer (read asks still m is) = moved 0 s t m
-seat_grows start s t p answer (made asks change ends m is) = moved 1 s t m
+seat_grows start s t p answer (made asks (change, ends, m) is) = moved 1 s t m
 seat_grows start s t p answer (stranger found none m is) = moved 0 s t m
-seat_grows start s t p answer (untold asks change ends m is) = moved 1 s t m
+seat_grows start s t p answer (untold asks (change, ends, m) is) = moved 1 s t m
 seat_grows start s t p answer (busy m is) = moved 0 s t m
 seat_grows start s t p answer (unrouted none same is) = subst (Grows s) (sym same) (stays s)
 
-one_grows : (start : State) (s t : Post) (item : First) (answer : List ℕ) → StationAnswers start s item answer t → Grows s.seat t.seat
+pub item_grows : (start : HallState) (s t : Seat) (item : First) (answer : List ℕ) → ForItems (SeatAnswers start) s item answer t → Grows s t
+item_grows start s t (message h body bare) answer told = seat_grows start s t (parsed h body bare) answer told
+item_grows start s t (fault reason bare) answer (is, same) = subst (Grows s) (sym same) (stays s)
+item_grows start s t (more waits) answer told = absurd told
+
+one_grows : (start : HallState) (s t : Post) (item : First) (answer : List ℕ) → StationAnswers start s item answer t → Grows s.seat t.seat
 one_grows start s t (message h body bare) answer one = seat_grows start s.seat t.seat (parsed h body bare) answer one.seat
 one_grows start s t (fault reason bare) answer (is, same) = subst (λ (u : Post). Grows s.seat u.seat) (sym same) (stays s.seat)
 one_grows start s t (more waits) answer one = absurd one
 
 -- each item makes the seat grow, and so do all of them
-pub run_grows : (start : State) (s t : Post) (items : List First) (answers : List (List ℕ)) → Run (WithInterim (StationAnswers start)) s items answers t
+pub run_grows : (start : HallState) (s t : Post) (items : List First) (answers : List (List ℕ)) → Run (WithInterim (StationAnswers start)) s items answers t
     → Grows s.seat t.seat
 run_grows start s t [] [] same = subst (λ (u : Post). Grows s.seat u.seat) (sym same) (stays s.seat)
 run_grows start s t [] (a ∷ answers) h = absurd h
@@ -58,7 +63,7 @@ learns_more s t (inl same) seen begins = (
 )
 learns_more s t (inr learns) seen begins = (prefix_trans _ _ _ begins learns.0, learns.1)
 
-one_remembers : (start : State) (s t : Post) (item : First) (answer : List ℕ) → StationAnswers start s item answer t → IsPrefix s.learnt s.seat.seen
+one_remembers : (start : HallState) (s t : Post) (item : First) (answer : List ℕ) → StationAnswers start s item answer t → IsPrefix s.learnt s.seat.seen
     → IsPrefix s.learnt t.learnt × IsPrefix t.learnt t.seat.seen
 one_remembers start s t (message h body bare) answer one begins =
     learns_more s t one.learns (seat_grows start s.seat t.seat (parsed h body bare) answer one.seat).0 begins
@@ -66,7 +71,7 @@ one_remembers start s t (fault reason bare) answer (is, same) begins =
     subst (λ (u : Post). IsPrefix s.learnt u.learnt × IsPrefix u.learnt u.seat.seen) (sym same) (prefix_self s.learnt, begins)
 one_remembers start s t (more waits) answer one begins = absurd one
 
-pub run_remembers : (start : State) (s t : Post) (items : List First) (answers : List (List ℕ)) → Run (WithInterim (StationAnswers start)) s items answers t
+pub run_remembers : (start : HallState) (s t : Post) (items : List First) (answers : List (List ℕ)) → Run (WithInterim (StationAnswers start)) s items answers t
     → IsPrefix s.learnt s.seat.seen → IsPrefix s.learnt t.learnt × IsPrefix t.learnt t.seat.seen
 run_remembers start s t [] [] same begins =
     subst (λ (u : Post). IsPrefix s.learnt u.learnt × IsPrefix u.learnt u.seat.seen) (sym same) (prefix_self s.learnt, begins)
@@ -77,7 +82,7 @@ run_remembers start s t (i ∷ items) (a ∷ answers) (m, (answer, is, one), res
     let later = run_remembers start m t items answers rest first.1 in
     (prefix_trans _ _ _ first.0 later.0, later.1)
 
-module _ (start : State) (kept : List Ask) where
+module _ (start : HallState) (kept : List Ask) where
   -- where what is seen in the end begins what is kept, so does what was seen on the way
   pub run_kept : (s t : Post) (items : List First) (answers : List (List ℕ)) → IsPrefix t.seat.seen kept → Run (WithInterim (StationAnswers start)) s items answers t
       → Run (WithInterim (KeptAnswers start kept)) s items answers t
@@ -110,7 +115,7 @@ module _ (start : State) (kept : List Ask) where
     },
   )
 
-module _ (start : State) (hold : ℕ) where
+module _ (start : HallState) (hold : ℕ) where
   pub serves_kept : (size : ℕ) (s t : Standing) (streams : Streams) (result : Result Ended IoFault) → s.has_failed ≡ false → size ≡ hold
       → ServedWithin (StationAnswers start) size s.post t.post t.synced streams result
       → KeptUnlessLost t.synced t.post t.has_failed result
@@ -133,7 +138,7 @@ module _ (start : State) (hold : ℕ) where
       by_case false was = let within = (serves.0 was).within in run_grows start s.post t.post within.items within.answers within.run
 
 -- where nothing is held back and nothing is lost, each answer was written at once
-pub serves_at_once : (start : State) (s t : Standing) (streams : Streams) (result : Result Ended IoFault) → s.has_failed ≡ false → (t.has_failed ≡ true → ⊥)
+pub serves_at_once : (start : HallState) (s t : Standing) (streams : Streams) (result : Result Ended IoFault) → s.has_failed ≡ false → (t.has_failed ≡ true → ⊥)
     → ServesKept start 0 s t streams result
     → Served (StationAnswers start) s.post t.post streams result
 serves_at_once start s t streams result here never serves =

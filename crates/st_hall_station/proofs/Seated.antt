@@ -21,7 +21,7 @@ use Rattle.st_http.specs.Routes.{Routed, RepresentsRoute, found}
 use Rattle.st_service.specs.Answers as service
 use Rattle.st_service.specs.Answers.{AsksBy, IsFound, IsUnrouted, RepliesTo, StateAnswers, RendersOrBusy, parsed_in, reply_text, route_in, token_from, token_in}
 use Rattle.st_service.specs.inner.Represented.{asks_in, route_is}
-use Rattle.st_hall.specs.Steps.{Ask, State, Response, reply_of, state_after}
+use Rattle.st_hall.specs.Steps.{Ask, HallState, Response, reply_of, state_after}
 use Rattle.st_hall.specs.Views.{Seat, Post, EndsAfter, Learns}
 use Rattle.st_hall.specs.Decisions.{Decides, counted}
 use Rattle.st_hall.specs.declared.commits.Undecided.{Undecided}
@@ -29,49 +29,49 @@ use Rattle.st_hall_press.proofs.Fronts.{prefix_trans}
 use Rattle.st_hall_station.specs.Seats.{IsStrange, Moves, SeatAnswers, no_token, read, made, stranger, untold, busy, unrouted}
 
 -- a change is told to be made, or is refused
-shown_change : (s : State) (asker : Text) (request : Request _) → is_change request ≡ true → shown s asker request ≡ Reply.Accepted
+shown_change : (s : HallState) (asker : Text) (request : Request _) → is_change request ≡ true → shown s asker request ≡ Reply.Accepted
 shown_change s asker Request.Whoami e = cc
 shown_change s asker _ e = first_of (search rules, cc)
 
-heard_change : (s : State) (asker : Text) (request : Request _) (o : Option Refusal) → is_change request ≡ true
+heard_change : (s : HallState) (asker : Text) (request : Request _) (o : Option Refusal) → is_change request ≡ true
     → ((settle s (Heard asker request o)).reply ≡ Reply.Accepted) ⊎ ((refusal : Refusal) × ((settle s (Heard asker request o)).reply ≡ Reply.Refused refusal))
 heard_change s asker request None e = inl (shown_change s asker request e)
 heard_change s asker request (Some refusal) e = inr (refusal, refl)
 
-judged_change : (s : State) (o : Option Text) (call : Call _) → calls_for_change call ≡ true
+judged_change : (s : HallState) (o : Option Text) (call : Call _) → calls_for_change call ≡ true
     → ((settle s (judge_call s.directory o call)).reply ≡ Reply.Accepted) ⊎ ((refusal : Refusal) × ((settle s (judge_call s.directory o call)).reply ≡ Reply.Refused refusal))
 judged_change s None call e = inr (_, refl)
 judged_change s (Some asker) (Call.Bad refusal) e = cc
 judged_change s (Some asker) (Call.Good request) e = heard_change s asker request (refusal_of s.directory asker request) e
 
-change_told : (s : State) (asked : Ask) → asks_for_change asked ≡ true → (reply_of s asked ≡ Reply.Accepted) ⊎ ((refusal : Refusal) × (reply_of s asked ≡ Reply.Refused refusal))
+change_told : (s : HallState) (asked : Ask) → asks_for_change asked ≡ true → (reply_of s asked ≡ Reply.Accepted) ⊎ ((refusal : Refusal) × (reply_of s asked ≡ Reply.Refused refusal))
 unfolding reply_of
 change_told s asked e = judged_change s (asker_of s.directory asked.token) asked.call e
 
 -- a stranger is refused, or no memory was found for the text
-pub seated_stranger : (start : State) (s t : Seat) (m : Message) (bytes : List ℕ) → IsFound m
+pub seated_stranger : (start : HallState) (s t : Seat) (m : Message) (bytes : List ℕ) → IsFound m
     → IsStrange start t.seen (option_map token_from (token_in m)) → Moves 0 s t → RendersOrBusy no_token m.close m.bare bytes → SeatAnswers start s (parsed_in m) bytes t
 seated_stranger start s t m bytes is_found none moves (inl is) =
-    stranger (sym (route_is m.route (found is_found.0 is_found.1) is_found.2)) none moves is
+    stranger (is_found.0, is_found.1, sym (route_is m.route (found is_found.0 is_found.1) is_found.2)) none moves is
 seated_stranger start s t m bytes is_found none moves (inr (is, other)) = busy moves is
 
 -- what was seen before is seen still
 moved_on : (more : ℕ) (s u t : Seat) → Moves 0 s u → Moves more u t → Moves more s t
 moved_on more s u t before m = record { seen = prefix_trans s.seen u.seen t.seen before.seen m.seen; made = omega (arith, before.made, m.made) }
 
-ended_on : (start : State) (s u t : Seat) (asked : Ask) (reply : Response) → Moves 0 s u → EndsAfter start u.seen t.seen asked reply
+ended_on : (start : HallState) (s u t : Seat) (asked : Ask) (reply : Response) → Moves 0 s u → EndsAfter start u.seen t.seen asked reply
     → EndsAfter start s.seen t.seen asked reply
 ended_on start s u t asked reply before (front, on, ends, told) = (front, prefix_trans s.seen u.seen front before.seen on, ends, told)
 
 -- an answer at a later seat is one at the seat before
-pub seated_later : (start : State) (s u t : Seat) (m : Message) (bytes : List ℕ) → IsFound m → Moves 0 s u → SeatAnswers start u (parsed_in m) bytes t
+pub seated_later : (start : HallState) (s u t : Seat) (m : Message) (bytes : List ℕ) → IsFound m → Moves 0 s u → SeatAnswers start u (parsed_in m) bytes t
     → SeatAnswers start s (parsed_in m) bytes t
 seated_later start s u t m bytes is_found before (read asks is_read moves is) = read asks is_read (moved_on 0 s u t before moves) is
-seated_later start s u t m bytes is_found before (made {asked} {reply} asks changes ends moves is) =
-    made asks changes (ended_on start s u t asked reply before ends) (moved_on 1 s u t before moves) is
+seated_later start s u t m bytes is_found before (made {asked} {reply} asks (changes, ends, moves) is) =
+    made {asked = asked} {reply = reply} asks (changes, ended_on start s u t asked reply before ends, moved_on 1 s u t before moves) is
 seated_later start s u t m bytes is_found before (stranger at none moves is) = stranger at none (moved_on 0 s u t before moves) is
-seated_later start s u t m bytes is_found before (untold {asked} {refusal} asks changes ends moves is) =
-    untold {refusal = refusal} asks changes (ended_on start s u t asked (Reply.Refused refusal) before ends) (moved_on 1 s u t before moves) is
+seated_later start s u t m bytes is_found before (untold {asked} {refusal} asks (changes, ends, moves) is) =
+    untold {asked = asked} {refusal = refusal} asks (changes, ended_on start s u t asked (Reply.Refused refusal) before ends, moved_on 1 s u t before moves) is
 seated_later start s u t m bytes is_found before (busy moves is) = busy (moved_on 0 s u t before moves) is
 seated_later start s u t m bytes (e, name, at) before (unrouted none same is) =
     absurd (subst IsUnrouted (sym (route_is m.route (found e name) at)) none)
@@ -82,7 +82,7 @@ represents_route routes.NoRoute r is = sym is
 represents_route (routes.BadMethod allow) r is = sym is
 
 -- a message without an endpoint is answered as by a service
-nobody : (start : State) (s : Seat) (m : Message) (bytes : List ℕ) → (IsFound m → ⊥) → StateAnswers start (parsed_in m) bytes start
+nobody : (start : HallState) (s : Seat) (m : Message) (bytes : List ℕ) → (IsFound m → ⊥) → StateAnswers start (parsed_in m) bytes start
     → SeatAnswers start s (parsed_in m) bytes s
 nobody start s m bytes none (service.told asks after is) = absurd (none (asks.endpoint, asks.name, represents_route m.route (found asks.endpoint asks.name) asks.route))
 nobody start s m bytes none (service.busy same is) = busy (record { seen = ([], append-nil s.seen); made = omega arith }) is
@@ -90,7 +90,7 @@ nobody start s m bytes none (service.untold asks after refused is) =
     absurd (none (asks.endpoint, asks.name, represents_route m.route (found asks.endpoint asks.name) asks.route))
 nobody start s m bytes none (service.unrouted at same is) = unrouted at refl is
 
-pub seated_nobody : (start : State) (s : Seat) (m : Message) (bytes : List ℕ) → (IsFound m → ⊥) → ((state : State) → RepliesTo state m bytes state)
+pub seated_nobody : (start : HallState) (s : Seat) (m : Message) (bytes : List ℕ) → (IsFound m → ⊥) → ((state : HallState) → RepliesTo state m bytes state)
     → SeatAnswers start s (parsed_in m) bytes s
 seated_nobody start s m bytes none told = nobody start s m bytes none (told start)
 
@@ -98,7 +98,7 @@ pub learns_later : (s u t : Post) → u.learnt ≡ s.learnt → Moves 0 s.seat u
 learns_later s u t learnt before (inl same) = inl (same ∙ learnt)
 learns_later s u t learnt before (inr (on, knows)) = inr (prefix_trans s.seat.seen u.seat.seen t.learnt before.seen on, knows)
 
-module _ (start : State) (s t : Seat) (m : Message) (bytes : List ℕ) (asked : Ask) where
+module _ (start : HallState) (s t : Seat) (m : Message) (bytes : List ℕ) (asked : Ask) where
   -- nothing was made of what was asked
   unmade : IsPrefix s.seen t.seen → (asks_for_change asked ≡ true → t.made ≡ s.made) → (asks_for_change asked ≡ false → t.made ≡ s.made) → Moves 0 s t
   unmade seen changed kept = record { seen = seen; made = go (asks_for_change asked) refl }
@@ -121,11 +121,11 @@ module _ (start : State) (s t : Seat) (m : Message) (bytes : List ℕ) (asked : 
 
     seated_change : (reply : Response) → asks_for_change asked ≡ true → Moves 1 s t → EndsAfter start s.seen t.seen asked reply
         → RendersOrBusy reply m.close m.bare bytes → SeatAnswers start s (parsed_in m) bytes t
-    seated_change reply changes moves ends (inl is) = made (asks_in m asked is_found asks) changes ends moves is
+    seated_change reply changes moves ends (inl is) = made {asked = asked} {reply = reply} (asks_in m asked is_found asks) (changes, ends, moves) is
     seated_change reply changes moves (before, goes_on, ends, told) (inr (is, other)) =
         elim (change_told (state_after start before) asked changes) [
           | inl accepted ↦ absurd (other (told ∙ accepted))
-          | inr (refusal, refused) ↦ untold {refusal = refusal} (asks_in m asked is_found asks) changes (before, goes_on, ends, sym refused) moves is
+          | inr (refusal, refused) ↦ untold {asked = asked} {refusal = refusal} (asks_in m asked is_found asks) (changes, (before, goes_on, ends, sym refused), moves) is
         ]
 
     -- what was asked is told, be it a read or a change
@@ -141,7 +141,7 @@ module _ (start : State) (s t : Seat) (m : Message) (bytes : List ℕ) (asked : 
         go false e = seated_read reply e (record { seen = seen; made = (let same = kept e in omega arith) }) (told e) text
 
 -- what is asked is told, or no memory was found for it, or nobody asks
-pub seated : (start : State) (s t : Seat) (m : Message) (bytes : List ℕ) (asked : Ask) → IsFound m → AsksBy m asked
+pub seated : (start : HallState) (s t : Seat) (m : Message) (bytes : List ℕ) (asked : Ask) → IsFound m → AsksBy m asked
     → asked.token ≡ option_map token_from (token_in m) → (result : Result (Option Response) Undecided) → IsPrefix s.seen t.seen
     → (asks_for_change asked ≡ true → MatchResult result (λ told. t.made ≡ s.made + counted told) (λ _. t.made ≡ s.made))
     → (asks_for_change asked ≡ true → IfOk result (λ told. Decides start s.seen asked told t.seen))
@@ -162,5 +162,5 @@ seated start s t m bytes asked is_found asks token (Err why) seen got decided ke
     seated_wanting start s t m bytes asked busy_is seen got kept
 
 -- no memory was found for what is asked
-pub seated_unasked : (start : State) (s : Seat) (m : Message) (bytes : List ℕ) → bytes ≡ busy_text m.close m.bare → SeatAnswers start s (parsed_in m) bytes s
+pub seated_unasked : (start : HallState) (s : Seat) (m : Message) (bytes : List ℕ) → bytes ≡ busy_text m.close m.bare → SeatAnswers start s (parsed_in m) bytes s
 seated_unasked start s m bytes is = busy (record { seen = ([], append-nil s.seen); made = omega arith }) is

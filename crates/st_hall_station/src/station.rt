@@ -94,7 +94,7 @@ impl<'a, H: HallName, M: Commits<H>, G: Gate, W: Wait> WorkerAnswerer<'a, H, M, 
         self.worker.made()
     }
 
-    // The desk, and what it had seen when the worker was last synced, once that works no more.
+    // Ends the answerer. Returns the desk, and the token of what the desk had seen at the last sync.
     fn apart(self) -> (Desk<H>, KeptFront<H>)
         ensures desk { result.0 ≡ self.entry.post.seat }
         ensures synced { result.1 ≡ self.entry.synced.seat.seen }
@@ -353,10 +353,9 @@ impl<'a, H: HallName, M: Commits<H>, G: Gate, W: Wait> Station<'a, H, M, G, W> {
         requires reader_sound { S.has_failed reader.old ≡ false }
         requires writer_sound { K.has_failed writer.old ≡ false }
         ensures served { ServesKept H.start M.HOLD self.old self.new
-            (streams S.left S.reads S.has_ended S.has_failed K.held K.has_failed reader.old reader.new writer.old writer.new) result }
+            (streams S.Source K.Sink reader.old reader.new writer.old writer.new) result }
         ensures lost { self.new.has_failed ≡ true → M.may_lose }
-        ensures ends { EndsOn MAX_READS
-            (streams S.left S.reads S.has_ended S.has_failed K.held K.has_failed reader.old reader.new writer.old writer.new) result }
+        ensures ends { EndsOn MAX_READS (streams S.Source K.Sink reader.old reader.new writer.old writer.new) result }
     {
         if self.answerer.has_failed() {
             return Ok(Ended::Lost);
@@ -396,9 +395,8 @@ pub fn work<H: HallName, C: Wait + Drop, G: Gate, W: Wait, R: Source, S: Sink>(
     requires reader_sound { R.has_failed reader.old ≡ false }
     requires writer_sound { S.has_failed writer.old ≡ false }
     ensures served { Served (StationAnswers H.start) station.old.post station.new.post
-        (streams R.left R.reads R.has_ended R.has_failed S.held S.has_failed reader.old reader.new writer.old writer.new) result }
-    ensures ends { EndsOn MAX_READS
-        (streams R.left R.reads R.has_ended R.has_failed S.held S.has_failed reader.old reader.new writer.old writer.new) result }
+        (streams R.Source S.Sink reader.old reader.new writer.old writer.new) result }
+    ensures ends { EndsOn MAX_READS (streams R.Source S.Sink reader.old reader.new writer.old writer.new) result }
 {
     station.answerer.is_sound();
     station.serve(reader, writer)

@@ -9,16 +9,16 @@ use Rattle.httparse.specs.Grammar.{RequestHead, print_request, ReadsRequest}
 use Rattle.st_http.specs.declared.fields.Reason.{Reason}
 use Rattle.st_http.specs.declared.fields.Reason.TheVariants as reasons
 use Rattle.st_http.specs.Head.{window, DecidesBare, whole, begun, hopeless}
-use Rattle.st_http.specs.Fields.{body_length_of, closes_after}
-use Rattle.st_http.specs.First.{First, message, fault, more, with_body, waits_with, fields_of, IsFirst, size_of}
-use Rattle.st_http.specs.Items.{after_message, Items, none, faulty, last, next}
+use Rattle.st_http.specs.Fields.{body_length_of}
+use Rattle.st_http.specs.First.{First, message, fault, more, with_body, waits_with, fields_of, IsFirst, IsItem, size_of}
+use Rattle.st_http.specs.Items.{Items, none, last, next, after_item, closes}
 use Rattle.st_http.specs.inner.Messages.{IsMessage}
 use Rattle.st_http.proofs.WindowLemmas.{window_short}
 use Rattle.st_http.proofs.FirstLemmas.{first_unique, first_kept}
 use Rattle.st_http.proofs.LengthLemmas.{head_length}
 use Rattle.st_http.specs.declared.message.Take.{Take}
 use Rattle.st_http.specs.declared.message.Take.TheVariants as takes
-use Rattle.st_http.specs.Message.{Takes, FitsIn}
+use Rattle.st_http.specs.inner.Takes.{Takes, FitsIn}
 use Rattle.std.proofs.lemmas.List.{drop-append-le}
 
 -- the whole text begins with the window's head
@@ -107,63 +107,44 @@ first_from_message text h body bare m =
       rw (room, m.length_is, tail, fits) (ap (λ (b : List ℕ). message h b bare) (sym (take-append_seam body m.rest))),
     )
 
--- two messages that are first are the same
-same_head : (text : List ℕ) (h k : RequestHead) (b d : List ℕ) (x y : Bool) → IsFirst text (message h b x) → IsFirst text (message k d y)
-    → (h ≡ k) × (b ≡ d)
-same_head text h k b d x y f g = let e = first_unique text (message h b x) (message k d y) f g in (cc, cc)
-
-clash : (text : List ℕ) (a b : First) → IsFirst text a → IsFirst text b → (a ≡ b → ⊥) → ⊥
-clash text a b f g differ = differ (first_unique text a b f g)
-
 none_same : {t : List ℕ} {b : List First} {y : List ℕ} → Items t b y → (waits : Bool) → IsFirst t (more waits) → ([] ≡ b) × (t ≡ y)
 none_same (none g) waits f = (refl, refl)
-none_same (faulty g) waits f = absurd (clash _ _ _ f g (λ e. cc))
-none_same (last g closes) waits f = absurd (clash _ _ _ f g (λ e. cc))
-none_same (next g closes tail) waits f = absurd (clash _ _ _ f g (λ e. cc))
+none_same (last g some closing) waits f = absurd (subst IsItem (first_unique _ _ _ g f) some)
+none_same (next g stays tail) waits f = let both : true ≡ false = sym (ap closes (first_unique _ _ _ g f)) ∙ stays in absurd (cc)
 
-fault_same : {t : List ℕ} {b : List First} {y : List ℕ} → Items t b y → (reason : Reason) (bare : Bool) → IsFirst t (fault reason bare)
-    → (fault reason bare ∷ [] ≡ b) × (t ≡ y)
-fault_same (none g) reason bare f = absurd (clash _ _ _ f g (λ e. cc))
-fault_same (faulty g) reason bare f = (ap (λ (i : First). i ∷ []) (first_unique _ _ _ f g), refl)
-fault_same (last g closes) reason bare f = absurd (clash _ _ _ f g (λ e. cc))
-fault_same (next g closes tail) reason bare f = absurd (clash _ _ _ f g (λ e. cc))
-
-last_same : {t : List ℕ} {b : List First} {y : List ℕ} → Items t b y → (h : RequestHead) (body : List ℕ) (bare : Bool)
-    → IsFirst t (message h body bare) → closes_after h.minor (fields_of h) ≡ true
-    → (message h body bare ∷ [] ≡ b) × (after_message t h body ≡ y)
-last_same (none g) h body bare f here = absurd (clash _ _ _ f g (λ e. cc))
-last_same (faulty g) h body bare f here = absurd (clash _ _ _ f g (λ e. cc))
-last_same (last {text} {h = k} {body = d} g closes) h body bare f here =
-    let e = same_head text h k body d _ _ f g in
-    (ap (λ (i : First). i ∷ []) (first_unique _ _ _ f g), λ i. after_message text (e.0 i) (e.1 i))
-last_same (next {text} {h = k} {body = d} g closes tail) h body bare f here =
-    let e = same_head text h k body d _ _ f g in
-    let both : true ≡ false = sym here ∙ ap (λ (r : RequestHead). closes_after r.minor (fields_of r)) e.0 ∙ closes in
+last_same : {t : List ℕ} {b : List First} {y : List ℕ} → Items t b y → (item : First) → IsFirst t item → IsItem item → closes item ≡ true
+    → (item ∷ [] ≡ b) × (after_item t item ≡ y)
+last_same (none g) item f some here = absurd (subst IsItem (first_unique _ _ _ f g) some)
+last_same (last {text} {item = other} g some_too closing) item f some here =
+    let e : item ≡ other = first_unique _ _ _ f g in
+    (ap (λ (i : First). i ∷ []) e, ap (after_item text) e)
+last_same (next {text} {item = other} g stays tail) item f some here =
+    let e : item ≡ other = first_unique _ _ _ f g in
+    let both : true ≡ false = sym here ∙ ap closes e ∙ stays in
     absurd (cc)
 
-next_same : {t : List ℕ} {b : List First} {y : List ℕ} → Items t b y → (h : RequestHead) (body : List ℕ) (bare : Bool)
-    (items : List First) (rest : List ℕ) → IsFirst t (message h body bare) → closes_after h.minor (fields_of h) ≡ false
-    → ((c : List First) (z : List ℕ) → Items (after_message t h body) c z → (items ≡ c) × (rest ≡ z))
-    → (message h body bare ∷ items ≡ b) × (rest ≡ y)
-next_same (none g) h body bare items rest f here more_same = absurd (clash _ _ _ f g (λ e. cc))
-next_same (faulty g) h body bare items rest f here more_same = absurd (clash _ _ _ f g (λ e. cc))
-next_same (last {text} {h = k} {body = d} g closes) h body bare items rest f here more_same =
-    let e = same_head text h k body d _ _ f g in
-    let both : true ≡ false = sym closes ∙ sym (ap (λ (r : RequestHead). closes_after r.minor (fields_of r)) e.0) ∙ here in
+next_same : {t : List ℕ} {b : List First} {y : List ℕ} → Items t b y → (item : First) (items : List First) (rest : List ℕ)
+    → IsFirst t item → closes item ≡ false
+    → ((c : List First) (z : List ℕ) → Items (after_item t item) c z → (items ≡ c) × (rest ≡ z))
+    → (item ∷ items ≡ b) × (rest ≡ y)
+next_same (none {text} {waits} g) item items rest f here more_same =
+    let e : item ≡ more waits = first_unique _ _ _ f g in
+    let both : true ≡ false = sym (ap closes e) ∙ here in
     absurd (cc)
-next_same (next {text} {h = k} {body = d} {items = others} {rest = left} g closes tail) h body bare items rest f here more_same =
-    let e = same_head text h k body d _ _ f g in
-    let there : after_message text k d ≡ after_message text h body = λ i. after_message text (sym e.0 i) (sym e.1 i) in
+next_same (last {text} {item = other} g some closing) item items rest f here more_same =
+    let e : item ≡ other = first_unique _ _ _ f g in
+    let both : true ≡ false = sym closing ∙ sym (ap closes e) ∙ here in
+    absurd (cc)
+next_same (next {text} {rest = left} {item = other} {items = others} g stays tail) item items rest f here more_same =
+    let e : item ≡ other = first_unique _ _ _ f g in
+    let there : after_item text other ≡ after_item text item = ap (after_item text) (sym e) in
     let same = more_same others left (subst (λ (t : List ℕ). Items t others left) there tail) in
-    let firsts = first_unique _ _ _ f g in
-    (λ i. firsts i ∷ same.0 i, same.1)
+    (λ i. e i ∷ same.0 i, same.1)
 
 items_same : {text : List ℕ} {a : List First} {x : List ℕ} → Items text a x → (b : List First) (y : List ℕ) → Items text b y → (a ≡ b) × (x ≡ y)
 items_same (none {text} {waits} f) b y q = none_same q waits f
-items_same (faulty {text} {reason} {bare} f) b y q = fault_same q reason bare f
-items_same (last {text} {h} {body} {bare} f closes) b y q = last_same q h body bare f closes
-items_same (next {text} {h} {body} {bare} {items} {rest} f closes tail) b y q =
-    next_same q h body bare items rest f closes (λ c z r. items_same tail c z r)
+items_same (last {text} {item} f some closing) b y q = last_same q item f some closing
+items_same (next {text} {rest} {item} {items} f stays tail) b y q = next_same q item items rest f stays (λ c z r. items_same tail c z r)
 
 pub items_unique : (text : List ℕ) (a b : List First) (x y : List ℕ) → Items text a x → Items text b y → (a ≡ b) × (x ≡ y)
 items_unique text a b x y p q = items_same p b y q
@@ -187,11 +168,12 @@ takes_within text (takes.Message m used) (more waits, first, represents) = absur
 takes_within text (takes.More flag) t = tt
 takes_within text (takes.Fault f) t = tt
 
-pub items_next : (text after : List ℕ) (h : RequestHead) (body : List ℕ) (bare : Bool) (items : List First) (rest : List ℕ)
-    → IsFirst text (message h body bare) → closes_after h.minor (fields_of h) ≡ false
-    → Items (after_message text h body ++ after) items rest → Items (text ++ after) (message h body bare ∷ items) rest
-items_next text after h body bare items rest first closes more_items =
+pub items_next : (text after rest : List ℕ) (item : First) (items : List First) → IsFirst text item → closes item ≡ false
+    → Items (after_item text item ++ after) items rest → Items (text ++ after) (item ∷ items) rest
+items_next text after rest (message h body bare) items first stays more_items =
     let long = message_size text h body bare first in
     let kept = first_kept text after (message h body bare) tt first in
     let tail = drop-append-le (size_of h body) text after long.1 in
-    next kept closes (subst (λ (t : List ℕ). Items t items rest) (sym tail) more_items)
+    next kept stays (subst (λ (t : List ℕ). Items t items rest) (sym tail) more_items)
+items_next text after rest (fault reason bare) items first stays more_items = absurd (cc)
+items_next text after rest (more waits) items first stays more_items = absurd (cc)

@@ -9,7 +9,7 @@ use Rattle.st_http.specs.declared.message.Take.TheVariants as takes
 use Rattle.st_http.specs.Head.{window, IsBare, DecidesBare, whole, begun, hopeless, HasReading}
 use Rattle.st_http.specs.Fields.{body_length_of}
 use Rattle.st_http.specs.First.{fault, more, with_body, fields_of}
-use Rattle.st_http.specs.Message.{Represents, Takes}
+use Rattle.st_http.specs.inner.Takes.{Represents, Takes}
 
 -- the window's flag is the text's
 decides_text : (text p : List ℕ) (bare : Bool) → p ≡ window text → IsTrue bare ↔ IsBare p → DecidesBare text bare

@@ -41,13 +41,15 @@ breaks_host minor [] = minor == 1
 breaks_host minor (host ∷ []) = false
 breaks_host minor (host ∷ other ∷ hosts) = true
 
--- the length of a message's body, or the first rule that the fields of its head break (RFC 9112, "Message Body Length"); the server
--- supports no Transfer-Encoding (RFC 9112, "Transfer-Encoding")
-unfoldable pub body_length_of : ℕ → Fields → Result ℕ Reason
-body_length_of minor fields =
-    if breaks_host minor (values_of (codes "host") fields) then Err reasons.Host else
+-- the length of a body by the fields; the server supports no Transfer-Encoding (RFC 9112, "Transfer-Encoding")
+abbrev pub length_in : Fields → Result ℕ Reason
+length_in fields =
     if nat_lt 0 (length (values_of (codes "transfer-encoding") fields)) then Err reasons.Length else
     length_by (values_of (codes "content-length") fields)
+
+-- the length of a message's body, or the first rule that the fields of its head break (RFC 9112, "Message Body Length")
+unfoldable pub body_length_of : ℕ → Fields → Result ℕ Reason
+body_length_of minor fields = if breaks_host minor (values_of (codes "host") fields) then Err reasons.Host else length_in fields
 
 -- an item of a list without the white space around it is the word
 abbrev pub is_word : List ℕ → List ℕ → Bool
@@ -67,8 +69,7 @@ closes_after minor fields = minor == 0 || list_any (field_lists (codes "connecti
 
 -- the client may wait with the body until it hears `100 Continue` (RFC 9110, "Expect"): not in HTTP/1.0, nor where there is no body
 unfoldable pub expects_continue : ℕ → Fields → ℕ → Bool
-expects_continue minor fields size =
-    minor == 1 && nat_lt 0 size && list_any (field_lists (codes "expect") (codes "100-continue")) fields
+expects_continue minor fields size = minor == 1 && nat_lt 0 size && list_any (field_lists (codes "expect") (codes "100-continue")) fields
 
 -- the status code of the reply to a text that is not a message (RFC 9110, "Status Codes", and RFC 6585 for 431)
 abbrev pub reason_status : Reason → ℕ

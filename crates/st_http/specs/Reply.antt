@@ -17,6 +17,10 @@ allow_line (Some methods) = codes "Allow: " ++ methods ++ crlf_bytes
 abbrev pub challenge_line : ℕ → List ℕ
 challenge_line status = if status == 401 then codes "WWW-Authenticate: Bearer realm=\"points\"" ++ crlf_bytes else []
 
+-- the type of the body (RFC 9110, "Content-Type")
+abbrev pub type_line : List ℕ
+type_line = codes "Content-Type: application/json" ++ crlf_bytes
+
 -- the length of the body in bytes (RFC 9110, "Content-Length")
 abbrev pub length_line : Option ℕ → List ℕ
 length_line None = []
@@ -29,10 +33,5 @@ close_line close = if close then codes "Connection: close" ++ crlf_bytes else []
 -- the bytes before the body
 unfoldable pub head_text : ℕ → Option (List ℕ) → Option ℕ → Bool → List ℕ
 head_text status allow length close =
-    status_line status
-    ++ allow_line allow
-    ++ challenge_line status
-    ++ (codes "Content-Type: application/json" ++ crlf_bytes)
-    ++ length_line length
-    ++ close_line close
-    ++ crlf_bytes
+    status_line status ++ allow_line allow ++ challenge_line status
+    ++ type_line ++ length_line length ++ close_line close ++ crlf_bytes

@@ -3,3 +3,4 @@ pub mod Values
 pub mod Windows
 pub mod Growth
 pub mod Messages
+pub mod Takes

@@ -1,9 +1,9 @@
 //! Laws of the definitions, for every text.
 ghost use Rattle.std.specs.Prelude.{◌≡◌, ◌<◌, ◌≤◌, ◌+◌, ◌∷◌, false, true, Bool, ◌↔◌, ◌++◌, List, ℕ, length, Some};
-ghost use Rattle.st_http.specs.First.{First, IsItem, message, more, IsFirst, expects, fields_of, size_of};
-ghost use Rattle.st_http.specs.Items.{Items, after_message};
+ghost use Rattle.st_http.specs.First.{First, IsItem, message, more, IsFirst, expects, size_of};
+ghost use Rattle.st_http.specs.Items.{Items, after_item, closes};
 ghost use Rattle.st_http.specs.inner.Messages.{IsMessage};
-ghost use Rattle.st_http.specs.Fields.{Fields, closes_after};
+ghost use Rattle.st_http.specs.Fields.{Fields};
 ghost use Rattle.st_http.specs.Token.{token_of};
 ghost use Rattle.st_text.specs.Names.{is_name};
 ghost use Rattle.httparse.specs.Grammar.{RequestHead};
@@ -45,11 +45,10 @@ pub fn one_list()
     ensures { (text : List ℕ) (a b : List First) (x y : List ℕ) → Items text a x → Items text b y → (a ≡ b) × (x ≡ y) }
 {}
 
-/// The items behind a message are those of the text behind it, also when more text has come meanwhile.
+/// The items behind one that does not close are those of the text behind it, also when more text has come meanwhile.
 pub fn next_items()
-    ensures { (text after : List ℕ) (h : RequestHead) (body : List ℕ) (bare : Bool) (items : List First) (rest : List ℕ)
-        → IsFirst text (message h body bare) → closes_after h.minor (fields_of h) ≡ false
-        → Items (after_message text h body ++ after) items rest → Items (text ++ after) (message h body bare ∷ items) rest }
+    ensures { (text after rest : List ℕ) (item : First) (items : List First) → IsFirst text item → closes item ≡ false
+        → Items (after_item text item ++ after) items rest → Items (text ++ after) (item ∷ items) rest }
 {}
 
 /// The user of a token is a name.

@@ -5,7 +5,7 @@ ghost use Rattle.httparse.specs.Spans.{IsRequestWithin, IsRequestOf, IsRequestAt
 ghost use Rattle.st_http.specs.Head.{window as window_of};
 ghost use Rattle.st_http.specs.Fields.{body_length_of};
 ghost use Rattle.st_http.specs.First.{First, expects, with_body, fields_of};
-ghost use Rattle.st_http.specs.Message.{Represents, Takes, FitsIn};
+ghost use Rattle.st_http.specs.inner.Takes.{Represents, Takes, FitsIn};
 
 use crate::close::{closes, expects};
 use crate::fields::{Reason, body_length};

@@ -11,7 +11,7 @@ use Rattle.st_key.proofs.KeyLemmas.{decodes}
 use Rattle.st_key.proofs.MortonLemmas.{joined-lt}
 use Rattle.st_key.proofs.PointLemmas.{same_point}
 use Rattle.st_index.specs.declared.row.Row.{Row}
-use Rattle.st_index.specs.Rows.{rank_of}
+use Rattle.st_index.specs.inner.Entries.{rank_of}
 use Rattle.st_index.specs.KeyPoints.{point_of_key}
 use Rattle.st_index.specs.inner.KeyPoints.{IsPointKey}
 

@@ -3,7 +3,7 @@ use Rattle.std.proofs.Common.{◌≡◌, ◌+◌, ◌-◌, ◌^◌, ◌<◌, Lis
 use Rattle.st_key.specs.declared.period.Period.{Period}
 use Rattle.st_key.specs.declared.period.Period.TheVariants.{Day, Week}
 use Rattle.st_index.specs.declared.row.Row.{Row}
-use Rattle.st_index.specs.Rows.{EntryValue, Rises, key_end, rows_of}
+use Rattle.st_index.specs.inner.Entries.{EntryValue, EntriesRise, key_end, rows_of}
 use Rattle.st_index.specs.inner.Index.{Adds, Swaps, IsLawful, region}
 use Rattle.st_index.proofs.Scanning.{scan_rises}
 
@@ -11,7 +11,7 @@ pub some_keys : (period : Period) → 0 < key_end period
 some_keys Day = omega arith
 some_keys Week = omega arith
 
-pub lawful : {A : Type 0} (period : Period) (es : List (EntryValue A)) → Rises period 0 (key_end period) es → length (rows_of es) < 2 ^ 64
+pub lawful : {A : Type 0} (period : Period) (es : List (EntryValue A)) → EntriesRise period 0 (key_end period) es → length (rows_of es) < 2 ^ 64
     → IsLawful period (rows_of es) (region 0 (key_end period - 1) ∷ [])
 lawful period es h n =
     let some = some_keys period in

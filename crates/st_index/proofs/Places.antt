@@ -9,7 +9,7 @@ use Rattle.st_index.specs.declared.storage.OwnedRows.{OwnedRows}
 use Rattle.st_index.specs.declared.storage.OwnedRows.TheVariants.{One, Many}
 use Rattle.st_index.specs.declared.storage.Storage.{Storage}
 use Rattle.st_index.specs.declared.storage.Storage.TheVariants.{Nowhere, Inline, Noted, Heap}
-use Rattle.st_index.specs.Rows.{EntryValue, rank_of}
+use Rattle.st_index.specs.inner.Entries.{EntryValue, rank_of}
 use Rattle.st_index.specs.inner.Storages.{owned_rows, stored_at, stored_rows}
 
 -- equal parts make equal keys

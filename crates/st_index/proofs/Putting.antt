@@ -7,7 +7,7 @@ use Rattle.std.specs.List.Sorted.{IsNonDecreasingBy, IsPartitionPoint}
 use Rattle.std.specs.declared.cmp.Ordering.TheVariants.{Less, Equal, Greater}
 use Rattle.std.specs.Ordering.{nat_cmp, ordering_index}
 use Rattle.std.specs.Cmp.{nat_cmp_total}
-use Rattle.st_index.specs.Rows.{Name, name_of, EntryValue, IsEntry, Rises, NamesRise, name_cmp, rank_of, rows_of}
+use Rattle.st_index.specs.inner.Entries.{Name, name_of, EntryValue, IsEntry, EntriesRise, NamesRise, name_cmp, rank_of, rows_of}
 use Rattle.st_index.specs.inner.Index.{Adds, IsAbsent}
 use Rattle.st_index.proofs.Climbing.{all_left, all_right, all_put, within_take, within_drop, climbs_search, climbs_put}
 use Rattle.st_index.proofs.Rising.{rises_join, rises_around, rises_cut, rises_climbs}
@@ -81,11 +81,11 @@ module _ {A : Type 0} (period : Period) where
   module _ (row : Row A) (es : List (EntryValue A)) (i : ℕ) (e f : EntryValue A) (l : i < length es) (read : e ≡ get_or es i e) (added : Adds row e.rows f.rows) where
     pub held_rising : f.at ≡ e.at → e.at ≡ rank_of period row
         → (NamesRise e.rows → IsAbsent period (rank_of period row) (name_of row) e.rows → All (λ r. rank_of period r ≡ rank_of period row) e.rows
-        → NamesRise f.rows) → (lo hi : ℕ) → Rises period lo hi es → IsAbsent period (rank_of period row) (name_of row) (rows_of es)
-        → Rises period lo hi (set es i f)
+        → NamesRise f.rows) → (lo hi : ℕ) → EntriesRise period lo hi es → IsAbsent period (rank_of period row) (name_of row) (rows_of es)
+        → EntriesRise period lo hi (set es i f)
     held_rising same at named lo hi h absent =
         let P : Row A → Type 0 = λ r. rank_of period r ≡ rank_of period row → (name_of r) ≡ (name_of row) → ⊥ in
-        let a = rises_around period lo hi (take i es) e (drop (suc i) es) (subst (Rises period lo hi) (split_read es i e l read) h) in
+        let a = rises_around period lo hi (take i es) e (drop (suc i) es) (subst (EntriesRise period lo hi) (split_read es i e l read) h) in
         let old : rows_of es ≡ rows_of (take i es) ++ (e.rows ++ rows_of (drop (suc i) es)) = ap rows_of (split_read es i e l read) ∙ rows-append (take i es) (e ∷ drop (suc i) es) in
         let inside = all_left P e.rows (rows_of (drop (suc i) es)) (all_right P (rows_of (take i es)) (e.rows ++ rows_of (drop (suc i) es)) (subst (All P) old absent)) in
         let placed : All (λ r. rank_of period r ≡ rank_of period row) e.rows = λ k d b. a.entry.placed k d b ∙ at in
@@ -96,8 +96,8 @@ module _ {A : Type 0} (period : Period) where
               (adds_all (λ r. rank_of period r ≡ rank_of period row) row e.rows f.rows added placed refl);
           named = named a.entry.named inside placed;
         } in
-        subst (Rises period lo hi) (sym (set_split es i f l))
-        (rises_join period lo e.at hi (take i es) (f ∷ drop (suc i) es) a.front (omega (arith, same), entry, subst (λ n. Rises period (n + 1) hi (drop (suc i) es)) (sym same) a.back))
+        subst (EntriesRise period lo hi) (sym (set_split es i f l))
+        (rises_join period lo e.at hi (take i es) (f ∷ drop (suc i) es) a.front (omega (arith, same), entry, subst (λ n. EntriesRise period (n + 1) hi (drop (suc i) es)) (sym same) a.back))
 
   pub lone_entry : (row : Row A) → IsEntry period (record { at = rank_of period row; rows = row ∷ [] })
   lone_entry row = record {
@@ -107,7 +107,7 @@ module _ {A : Type 0} (period : Period) where
   }
 
   -- where a search finds no entry of a key, the entries before the place are lower, and those after it higher
-  pub missing : (k : ℕ) (es : List (EntryValue A)) (i : ℕ) (lo hi : ℕ) → Rises period lo hi es
+  pub missing : (k : ℕ) (es : List (EntryValue A)) (i : ℕ) (lo hi : ℕ) → EntriesRise period lo hi es
       → (IsNonDecreasingBy (λ (e : EntryValue A). ordering_index (nat_cmp e.at k)) es
       → IsPartitionPoint (λ (e : EntryValue A). nat_cmp e.at k ≡ Less) (λ (e : EntryValue A). nat_cmp e.at k ≡ Greater) es i)
       → All (λ e. e.at < k) (take i es) × All (λ e. k < e.at) (drop i es)
@@ -121,12 +121,12 @@ module _ {A : Type 0} (period : Period) where
   pub missing_rising : (row : Row A) (es : List (EntryValue A)) (i : ℕ) (lo hi : ℕ)
       → (IsNonDecreasingBy (λ (e : EntryValue A). ordering_index (nat_cmp e.at (rank_of period row))) es
       → IsPartitionPoint (λ (e : EntryValue A). nat_cmp e.at (rank_of period row) ≡ Less)
-      (λ (e : EntryValue A). nat_cmp e.at (rank_of period row) ≡ Greater) es i) → Rises period lo hi es → lo ≤ rank_of period row
-      → rank_of period row < hi → Rises period lo hi (insert es i (record { at = rank_of period row; rows = row ∷ [] }))
+      (λ (e : EntryValue A). nat_cmp e.at (rank_of period row) ≡ Greater) es i) → EntriesRise period lo hi es → lo ≤ rank_of period row
+      → rank_of period row < hi → EntriesRise period lo hi (insert es i (record { at = rank_of period row; rows = row ∷ [] }))
   missing_rising row es i lo hi found h a b =
       let k = rank_of period row in
       let m = missing k es i lo hi h found in
-      let r = subst (Rises period lo hi) (sym (take-append-drop i es)) h in
+      let r = subst (EntriesRise period lo hi) (sym (take-append-drop i es)) h in
       let low = (rises_cut period lo k hi (take i es) (drop i es) r a (omega arith) m.0
       (All-weaker (λ (e : EntryValue A). k < e.at) (λ (e : EntryValue A). k ≤ e.at) (λ e p. omega (arith, p)) (drop i es) m.1)).0 in
       let high = (rises_cut period lo (k + 1) hi (take i es) (drop i es) r (omega arith) (omega arith)

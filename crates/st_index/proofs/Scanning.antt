@@ -23,7 +23,7 @@ use Rattle.st_key.proofs.PeriodLemmas.{period as lengths}
 use Rattle.st_key.proofs.PointLemmas.{before_by_rank, one_point, same_rank}
 use Rattle.st_text.specs.Texts.{comes_before}
 use Rattle.st_index.specs.declared.row.Row.{Row}
-use Rattle.st_index.specs.Rows.{EntryValue, NamesRise, Rises, name_cmp, name_of, rank_of, rows_of}
+use Rattle.st_index.specs.inner.Entries.{name_of, EntryValue, NamesRise, EntriesRise, name_cmp, rank_of, rows_of}
 use Rattle.st_index.specs.inner.Index.{IsAbsent}
 use Rattle.st_index.proofs.Climbing.{all_right}
 use Rattle.st_index.specs.Order.{InScanOrder, scan_key}
@@ -108,7 +108,7 @@ module _ {A : Type 0} (period : Period) where
         scan_rows k rs more named.1 rest later h,
       )
 
-  pub scan_rises : (lo hi : ℕ) (es : List (EntryValue A)) → Rises period lo hi es → InScanOrder period (rows_of es)
+  pub scan_rises : (lo hi : ℕ) (es : List (EntryValue A)) → EntriesRise period lo hi es → InScanOrder period (rows_of es)
   scan_rises lo hi [] h = tt
   scan_rises lo hi (e ∷ es) h = scan_rows e.at e.rows (rows_of es) h.1.named h.1.placed (rows_from period (e.at + 1) hi es h.2) (scan_rises (e.at + 1) hi es h.2)
 

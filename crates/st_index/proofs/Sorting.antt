@@ -8,7 +8,7 @@ use Rattle.st_text.specs.Texts.{comes_before, put_in_order, in_order}
 use Rattle.st_index.specs.declared.row.Row.{Row}
 use Rattle.st_index.specs.Order.{InScanOrder, scan_key}
 use Rattle.st_index.specs.inner.Index.{Adds}
-use Rattle.st_index.specs.Rows.{key_end, rank_of}
+use Rattle.st_index.specs.inner.Entries.{key_end, rank_of}
 use Rattle.st_key.specs.Period.{seconds_of}
 use Rattle.st_key.proofs.MortonLemmas.{joined-lt}
 use Rattle.st_key.proofs.PeriodLemmas.{period as lengths}

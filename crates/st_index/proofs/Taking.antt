@@ -8,7 +8,7 @@ use Rattle.std.specs.declared.cmp.Ordering.{Ordering}
 use Rattle.std.specs.declared.cmp.Ordering.TheVariants.{Less, Equal, Greater}
 use Rattle.std.specs.Ordering.{nat_cmp, ordering_index}
 use Rattle.std.specs.Cmp.{tied_itself}
-use Rattle.st_index.specs.Rows.{Name, name_of, EntryValue, IsEntry, Rises, NamesRise, name_cmp, rank_of, rows_of}
+use Rattle.st_index.specs.inner.Entries.{Name, name_of, EntryValue, IsEntry, EntriesRise, NamesRise, name_cmp, rank_of, rows_of}
 use Rattle.st_index.specs.inner.Index.{Adds, Swaps, IsAbsent, Holds}
 use Rattle.st_index.proofs.Climbing.{all_left, all_right, within_take, within_drop, climbs_search, climbs_drop, climbs_swap}
 use Rattle.st_index.proofs.Rising.{rises_bounds, rises_from, rises_join, rises_around, rises_all, Around}
@@ -85,14 +85,14 @@ module _ {A : Type 0} (period : Period) where
 
   -- where the rows of entries stand
 
-  pub rows_from : (lo hi : ℕ) (es : List (EntryValue A)) → Rises period lo hi es → All (λ r. lo ≤ rank_of period r) (rows_of es)
+  pub rows_from : (lo hi : ℕ) (es : List (EntryValue A)) → EntriesRise period lo hi es → All (λ r. lo ≤ rank_of period r) (rows_of es)
   rows_from lo hi [] h = λ k d l. absurd (omega (arith, l))
   rows_from lo hi (e ∷ es) h =
       All-append (λ r. lo ≤ rank_of period r) e.rows (rows_of es)
       (λ k d l. let p = h.1.placed k d l in omega (arith, p, h.0))
       (rows_from lo hi es (rises_from period lo (e.at + 1) hi es (omega (arith, h.0)) h.2))
 
-  pub rows_below : (lo hi : ℕ) (es : List (EntryValue A)) → Rises period lo hi es → All (λ r. rank_of period r < hi) (rows_of es)
+  pub rows_below : (lo hi : ℕ) (es : List (EntryValue A)) → EntriesRise period lo hi es → All (λ r. rank_of period r < hi) (rows_of es)
   rows_below lo hi [] h = λ k d l. absurd (omega (arith, l))
   rows_below lo hi (e ∷ es) h =
       let b = rises_bounds period (e.at + 1) hi es h.2 in
@@ -109,7 +109,7 @@ module _ {A : Type 0} (period : Period) where
   pub absent_join : (k : ℕ) (n : Name) (xs ys : List (Row A)) → IsAbsent period k n xs → IsAbsent period k n ys → IsAbsent period k n (xs ++ ys)
   absent_join k n xs ys a b = All-append (λ r. rank_of period r ≡ k → (name_of r) ≡ n → ⊥) xs ys a b
 
-  pub absent_entries : (k : ℕ) (n : Name) (es : List (EntryValue A)) (lo hi : ℕ) → Rises period lo hi es → All (λ (e : EntryValue A). e.at ≡ k → ⊥) es → IsAbsent period k n (rows_of es)
+  pub absent_entries : (k : ℕ) (n : Name) (es : List (EntryValue A)) (lo hi : ℕ) → EntriesRise period lo hi es → All (λ (e : EntryValue A). e.at ≡ k → ⊥) es → IsAbsent period k n (rows_of es)
   absent_entries k n [] lo hi h a = λ j d l. absurd (omega (arith, l))
   absent_entries k n (e ∷ es) lo hi h a =
       absent_join k n e.rows (rows_of es)
@@ -117,7 +117,7 @@ module _ {A : Type 0} (period : Period) where
       (absent_entries k n es (e.at + 1) hi h.2 (All-tail (λ (f : EntryValue A). f.at ≡ k → ⊥) e es a))
 
   -- where a search finds no entry, no entry has the key
-  pub missing_key : (k : ℕ) (es : List (EntryValue A)) (i : ℕ) (lo hi : ℕ) → Rises period lo hi es
+  pub missing_key : (k : ℕ) (es : List (EntryValue A)) (i : ℕ) (lo hi : ℕ) → EntriesRise period lo hi es
       → (IsNonDecreasingBy (λ (e : EntryValue A). ordering_index (nat_cmp e.at k)) es
       → IsPartitionPoint (λ (e : EntryValue A). nat_cmp e.at k ≡ Less) (λ (e : EntryValue A). nat_cmp e.at k ≡ Greater) es i)
       → All (λ (e : EntryValue A). e.at ≡ k → ⊥) es
@@ -128,7 +128,7 @@ module _ {A : Type 0} (period : Period) where
       subst (All P) (take-append-drop i es) all
 
   -- where a search finds no entry, no row has the key
-  pub missing_absent : (k : ℕ) (n : Name) (es : List (EntryValue A)) (i : ℕ) (lo hi : ℕ) → Rises period lo hi es
+  pub missing_absent : (k : ℕ) (n : Name) (es : List (EntryValue A)) (i : ℕ) (lo hi : ℕ) → EntriesRise period lo hi es
       → (IsNonDecreasingBy (λ (e : EntryValue A). ordering_index (nat_cmp e.at k)) es
       → IsPartitionPoint (λ (e : EntryValue A). nat_cmp e.at k ≡ Less) (λ (e : EntryValue A). nat_cmp e.at k ≡ Greater) es i)
       → IsAbsent period k n (rows_of es)
@@ -138,21 +138,21 @@ module _ {A : Type 0} (period : Period) where
   -- an entry that changes
 
   module _ (es : List (EntryValue A)) (i : ℕ) (e f : EntryValue A) (l : i < length es) (read : e ≡ get_or es i e) where
-    pub around : (lo hi : ℕ) → Rises period lo hi es → Around period lo hi (take i es) e (drop (suc i) es)
-    around lo hi h = rises_around period lo hi (take i es) e (drop (suc i) es) (subst (Rises period lo hi) (split_read es i e l read) h)
+    pub around : (lo hi : ℕ) → EntriesRise period lo hi es → Around period lo hi (take i es) e (drop (suc i) es)
+    around lo hi h = rises_around period lo hi (take i es) e (drop (suc i) es) (subst (EntriesRise period lo hi) (split_read es i e l read) h)
 
-    pub changed_rising : (lo hi : ℕ) → f.at ≡ e.at → (IsEntry period e → IsEntry period f) → Rises period lo hi es → Rises period lo hi (set es i f)
+    pub changed_rising : (lo hi : ℕ) → f.at ≡ e.at → (IsEntry period e → IsEntry period f) → EntriesRise period lo hi es → EntriesRise period lo hi (set es i f)
     changed_rising lo hi same entry h =
         let a = around lo hi h in
-        subst (Rises period lo hi) (sym (set_split es i f l))
-        (rises_join period lo e.at hi (take i es) (f ∷ drop (suc i) es) a.front (omega (arith, same), entry a.entry, subst (λ n. Rises period (n + 1) hi (drop (suc i) es)) (sym same) a.back))
+        subst (EntriesRise period lo hi) (sym (set_split es i f l))
+        (rises_join period lo e.at hi (take i es) (f ∷ drop (suc i) es) a.front (omega (arith, same), entry a.entry, subst (λ n. EntriesRise period (n + 1) hi (drop (suc i) es)) (sym same) a.back))
 
-    pub emptied_rising : (lo hi : ℕ) → Rises period lo hi es → Rises period lo hi (remove es i)
+    pub emptied_rising : (lo hi : ℕ) → EntriesRise period lo hi es → EntriesRise period lo hi (remove es i)
     emptied_rising lo hi h =
         let a = around lo hi h in
         rises_join period lo e.at hi (take i es) (drop (suc i) es) a.front (rises_from period e.at (e.at + 1) hi (drop (suc i) es) (omega arith) a.back)
 
-    pub absent_around : (lo hi : ℕ) (n : Name) → Rises period lo hi es → All (λ (r : Row A). (name_of r) ≡ n → ⊥) e.rows → IsAbsent period e.at n (rows_of es)
+    pub absent_around : (lo hi : ℕ) (n : Name) → EntriesRise period lo hi es → All (λ (r : Row A). (name_of r) ≡ n → ⊥) e.rows → IsAbsent period e.at n (rows_of es)
     absent_around lo hi n h none =
         let a = around lo hi h in
         let P : Row A → Type 0 = λ r. rank_of period r ≡ e.at → (name_of r) ≡ n → ⊥ in
@@ -190,7 +190,7 @@ module _ {A : Type 0} (period : Period) where
         named = named entry.named;
       }
 
-  entries_below : (lo hi : ℕ) (es : List (EntryValue A)) → Rises period lo hi es → All (λ (e : EntryValue A). e.at < hi) es
+  entries_below : (lo hi : ℕ) (es : List (EntryValue A)) → EntriesRise period lo hi es → All (λ (e : EntryValue A). e.at < hi) es
   entries_below lo hi [] h = λ k d l. absurd (omega (arith, l))
   entries_below lo hi (e ∷ es) h =
       let b = rises_bounds period (e.at + 1) hi es h.2 in
@@ -198,7 +198,7 @@ module _ {A : Type 0} (period : Period) where
 
   -- the rows of a key are those of its one entry
   pub only_at : (k : ℕ) (es : List (EntryValue A)) (i : ℕ) (e : EntryValue A) → i < length es → e ≡ get_or es i e → e.at ≡ k → (lo hi : ℕ)
-      → Rises period lo hi es → All (λ (f : EntryValue A). f.at ≡ k → length f.rows ≡ length e.rows) es
+      → EntriesRise period lo hi es → All (λ (f : EntryValue A). f.at ≡ k → length f.rows ≡ length e.rows) es
   only_at k es i e l read at lo hi h =
       let a = around es i e e l read lo hi h in
       let P : EntryValue A → Type 0 = λ f. f.at ≡ k → length f.rows ≡ length e.rows in
@@ -206,7 +206,7 @@ module _ {A : Type 0} (period : Period) where
       let back : All P (drop (suc i) es) = λ j d b p. let q = rises_all period (e.at + 1) hi (drop (suc i) es) a.back j d b in absurd (omega (arith, p, q, at)) in
       subst (All P) (sym (split_read es i e l read)) (All-append P (take i es) (e ∷ drop (suc i) es) front (All-cons P e (drop (suc i) es) (λ p. refl) back))
 
-  pub none_at : (k n : ℕ) (es : List (EntryValue A)) (i : ℕ) (lo hi : ℕ) → Rises period lo hi es
+  pub none_at : (k n : ℕ) (es : List (EntryValue A)) (i : ℕ) (lo hi : ℕ) → EntriesRise period lo hi es
       → (IsNonDecreasingBy (λ (e : EntryValue A). ordering_index (nat_cmp e.at k)) es
       → IsPartitionPoint (λ (e : EntryValue A). nat_cmp e.at k ≡ Less) (λ (e : EntryValue A). nat_cmp e.at k ≡ Greater) es i)
       → All (λ (f : EntryValue A). f.at ≡ k → length f.rows ≡ n) es

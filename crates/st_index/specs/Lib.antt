@@ -1,6 +1,5 @@
 pub mod Texts
 pub mod Notes
-pub mod Rows
 pub mod Order
 pub mod KeyPoints
 pub mod RowViews

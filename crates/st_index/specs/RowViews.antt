@@ -1,12 +1,9 @@
 -- What views of rows show.
-use Rattle.std.specs.Prelude.{List, [], ◌∷◌}
 use Rattle.st_key.specs.declared.point.Point.{Point}
 use Rattle.st_index.specs.declared.row.Row.{Row}
 use Rattle.st_index.specs.declared.row_point.RowPoint.{RowPoint}
 use Rattle.st_index.specs.declared.row_point.RowPoint.TheVariants.{Given, Keyed}
 use Rattle.st_index.specs.declared.row_view.RowView.{RowView}
-use Rattle.st_index.specs.declared.rows_view.RowsView.{RowsView}
-use Rattle.st_index.specs.declared.rows_view.RowsView.TheVariants.{One, Many}
 use Rattle.st_index.specs.KeyPoints.{point_of_key}
 use Rattle.st_index.specs.Notes.{lent_bytes}
 
@@ -18,8 +15,3 @@ point_in (Keyed key) = point_of_key key.period key.bin key.address
 -- the row of a view's parts
 abbrev pub row_of_view : {A : Type 0} → RowView A → Row A
 row_of_view v = record { id = v.id.now; point = point_in v.point; label = v.label.now; note = lent_bytes v.note }
-
--- the rows in view
-abbrev pub viewed : {A : Type 0} → RowsView A → List (Row A)
-viewed (One row) = row_of_view row ∷ []
-viewed (Many rows) = rows.now

@@ -1,4 +1,7 @@
 -- Representations and their invariants, which no reader has to believe.
+pub mod Entries
+pub mod Noted
+pub mod Views
 pub mod Changes
 pub mod Lists
 pub mod KeyPoints

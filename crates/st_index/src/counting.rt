@@ -1,8 +1,9 @@
 //! How many rows of entries are inside a query and have a label that is found true.
 ghost use Rattle.std.specs.Prelude.{◌≡◌, ◌<◌, ◌^◌, [], ◌∷◌, length};
 ghost use Rattle.st_index.specs.inner.Counting.{count_of};
-ghost use Rattle.st_index.specs.RowViews.{row_of_view, viewed};
-ghost use Rattle.st_index.specs.Rows.{rows_of};
+ghost use Rattle.st_index.specs.RowViews.{row_of_view};
+ghost use Rattle.st_index.specs.inner.Views.{viewed};
+ghost use Rattle.st_index.specs.inner.Entries.{rows_of};
 
 use crate::entry::Entry;
 use crate::judge::Judge;

@@ -7,8 +7,8 @@ ghost use Rattle.std.specs.Ordering.{nat_cmp};
 ghost use Rattle.st_key.specs.declared.period.Period.{Period};
 ghost use Rattle.st_index.specs.declared.row.Row.{Row};
 ghost use Rattle.st_key.specs.Key.{rank};
-ghost use Rattle.st_index.specs.Rows.{EntryValue, name_of, Rises, rows_of, rank_of};
-ghost use Rattle.st_index.specs.inner.Index.{Adds, Swaps, IsAbsent};
+ghost use Rattle.st_index.specs.inner.Entries.{name_of, EntryValue, EntriesRise, rows_of, rank_of};
+ghost use Rattle.st_index.specs.inner.Index.{Adds, Swaps, IsAbsent, RiseWith};
 ghost use Rattle.st_index.specs.inner.Changes.{IsChange};
 
 use crate::entry::Entry;
@@ -98,12 +98,10 @@ pub fn put<A: Allocator + Copy>(
         → length e.rows < vec_capacity rows) entries.old.items }
     ensures added { Adds row (rows_of entries.old.items) (rows_of entries.new.items) }
     ensures change { IsChange result entries.old.items entries.new.items }
-    ensures rising { (p : Period) (lo hi : _) → rank_of period row ≡ rank_of p row → Rises p lo hi entries.old.items
-        → lo ≤ rank_of period row → rank_of period row < hi
-        → IsAbsent p (rank_of period row) (name_of row) (rows_of entries.old.items) → Rises p lo hi entries.new.items }
+    ensures rising { RiseWith (rank_of period row) row entries.old.items entries.new.items }
     ensures longer { vec_len entries.old ≤ vec_len entries.new }
     ensures at_most_one { vec_len entries.new ≤ vec_len entries.old + 1 }
-    ensures new_key { (p : Period) (lo hi : _) → Rises p lo hi entries.old.items → vec_len entries.old < vec_len entries.new
+    ensures new_key { (p : Period) (lo hi : _) → EntriesRise p lo hi entries.old.items → vec_len entries.old < vec_len entries.new
         → All (λ (e : EntryValue A). e.at ≡ rank_of period row → ⊥) entries.old.items }
     ensures capacity { vec_capacity entries.old ≤ vec_capacity entries.new }
 {
@@ -131,14 +129,15 @@ pub fn take<A: Allocator + Copy>(
 ) -> Option<Row<A>>
     ensures some { IfSome result (λ row. Adds row (rows_of entries.new.items) (rows_of entries.old.items)
         × ((name_of row) ≡ record { id = id.now; label = label.now })) }
-    ensures placed { IfSome result (λ row. (period : Period) (lo hi : _) → Rises period lo hi entries.old.items
+    ensures placed { IfSome result (λ row. (period : Period) (lo hi : _) → EntriesRise period lo hi entries.old.items
         → rank_of period row ≡ rank key) }
     ensures change { IfSome result (λ _. IsChange change.new entries.old.items entries.new.items) }
     ensures none { IfNone result (entries.new.items ≡ entries.old.items) }
     ensures absent { IfNone result
-        ((period : Period) (lo hi : _) → Rises period lo hi entries.old.items
+        ((period : Period) (lo hi : _) → EntriesRise period lo hi entries.old.items
         → IsAbsent period (rank key) (record { id = id.now; label = label.now }) (rows_of entries.old.items)) }
-    ensures rising { (period : Period) (lo hi : _) → Rises period lo hi entries.old.items → Rises period lo hi entries.new.items }
+    ensures rising { (period : Period) (lo hi : _) → EntriesRise period lo hi entries.old.items
+        → EntriesRise period lo hi entries.new.items }
     ensures shorter { vec_len entries.new ≤ vec_len entries.old }
     ensures at_most_one { vec_len entries.old ≤ vec_len entries.new + 1 }
     ensures capacity { vec_capacity entries.new ≡ vec_capacity entries.old }
@@ -167,12 +166,12 @@ pub fn swap<A: Allocator + Copy>(
     ensures ok { IfOk result (λ out. Swaps out row (rows_of entries.old.items) (rows_of entries.new.items)
         × ((name_of out) ≡ (name_of row))) }
     ensures change { IfOk result (λ _. IsChange change.new entries.old.items entries.new.items) }
-    ensures placed { IfOk result (λ out. (p : Period) (lo hi : _) → Rises p lo hi entries.old.items
+    ensures placed { IfOk result (λ out. (p : Period) (lo hi : _) → EntriesRise p lo hi entries.old.items
         → rank_of p out ≡ rank_of period row) }
-    ensures absent { OnErr result ((p : Period) (lo hi : _) → Rises p lo hi entries.old.items
+    ensures absent { OnErr result ((p : Period) (lo hi : _) → EntriesRise p lo hi entries.old.items
         → IsAbsent p (rank_of period row) (name_of row) (rows_of entries.old.items)) }
-    ensures rising { (p : Period) (lo hi : _) → rank_of period row ≡ rank_of p row → Rises p lo hi entries.old.items
-        → Rises p lo hi entries.new.items }
+    ensures rising { (p : Period) (lo hi : _) → rank_of period row ≡ rank_of p row → EntriesRise p lo hi entries.old.items
+        → EntriesRise p lo hi entries.new.items }
     ensures err { OnErr result (entries.new.items ≡ entries.old.items) }
     ensures len { vec_len entries.new ≡ vec_len entries.old }
     ensures capacity { vec_capacity entries.new ≡ vec_capacity entries.old }
@@ -195,7 +194,7 @@ pub fn swap<A: Allocator + Copy>(
 
 /// How many rows the key has.
 pub fn count_at<A: Allocator + Copy>(entries: &[Entry<A>], key: Key) -> usize
-    ensures value { (period : Period) (lo hi : _) → Rises period lo hi entries.now
+    ensures value { (period : Period) (lo hi : _) → EntriesRise period lo hi entries.now
         → All (λ (e : EntryValue A). e.at ≡ rank key → length e.rows ≡ result) entries.now }
     ensures none { All (λ (e : EntryValue A). e.at ≡ rank key → ⊥) entries.now → result ≡ 0 }
     ensures in_range { result + 1 < 2 ^ 64 }

@@ -10,8 +10,8 @@ ghost use Rattle.std.specs.List.Sorted.{IsSearchInRange, IsBinarySearchResult};
 ghost use Rattle.st_key.specs.declared.period.Period.{Period};
 ghost use Rattle.st_index.specs.declared.row.Row.{Row};
 ghost use Rattle.st_key.specs.Key.{rank};
-ghost use Rattle.st_index.specs.RowViews.{viewed};
-ghost use Rattle.st_index.specs.Rows.{name_cmp, name_of, NamesRise, rank_of};
+ghost use Rattle.st_index.specs.inner.Views.{viewed};
+ghost use Rattle.st_index.specs.inner.Entries.{name_of, name_cmp, NamesRise, rank_of};
 ghost use Rattle.st_index.specs.inner.Index.{Adds, Swaps, IsAbsent};
 
 use crate::copying::copy_storage;
@@ -35,7 +35,7 @@ pub struct Entry<A: Allocator = Global> {
 const _: () = prove!(size_of::<Entry>() == 48);
 
 impl<A: Allocator> Model for Entry<A> {
-    ghost use Rattle.st_index.specs.Rows.{EntryValue};
+    ghost use Rattle.st_index.specs.inner.Entries.{EntryValue};
 
     ghost Value = { EntryValue A };
 

@@ -2,7 +2,7 @@
 ghost use Rattle.std.specs.Prelude.{◌≡◌, ℕ, ◌+◌, ◌<◌, ◌^◌, [], ◌∷◌, cond, get_or, length, nat_eq};
 ghost use Rattle.st_index.specs.inner.Fields.{CanAdd, Counts};
 ghost use Rattle.st_index.specs.RowViews.{row_of_view};
-ghost use Rattle.st_index.specs.Rows.{rows_of};
+ghost use Rattle.st_index.specs.inner.Entries.{rows_of};
 
 use crate::entry::Entry;
 use crate::fields::Fields;

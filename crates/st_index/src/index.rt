@@ -3,12 +3,12 @@ ghost use Rattle.std.specs.Prelude.{◌≡◌, ◌<◌, ◌≤◌, List, IfOk, I
 ghost use Rattle.std.specs.List.{All, Contains};
 ghost use Rattle.st_key.specs.declared.period.Period.{Period};
 ghost use Rattle.st_index.specs.declared.row.Row.{Row};
-ghost use Rattle.st_index.specs.Rows.{key_end, name_of, rank_of};
+ghost use Rattle.st_index.specs.inner.Entries.{name_of, key_end, rank_of};
 ghost use Rattle.st_key.specs.Key.{rank};
 ghost use Rattle.st_index.specs.inner.Counting.{count_of};
 ghost use Rattle.st_index.specs.inner.Fields.{CanAdd, Counts};
 ghost use Rattle.st_index.specs.RowViews.{row_of_view};
-ghost use Rattle.st_index.specs.inner.Index.{Adds, Swaps, IsAbsent, Holds, Region, region, IsLawful, IsLeafAt, rows_between, rows_from};
+ghost use Rattle.st_index.specs.inner.Index.{Adds, Swaps, IsAbsent, Holds, Region, region, IsLawful, IsLeafAt, rows_from, rows_in_range};
 
 use crate::entry::Entry;
 use crate::fields::Fields;
@@ -131,7 +131,7 @@ pub trait RowIndex {
         requires long { length counts.old ≡ F.count fields.now }
         requires fits { CanAdd (length (rows_from (period_of self.now) (rank from) (content self.now))) counts.old }
         ensures counts { IfSome result (λ range. Counts (F.query fields.now) (J.judges judge.old) (F.field_of fields.now)
-            (rows_between (period_of self.now) (rank range.first) (rank range.last) (content self.now)) counts.old counts.new) }
+            (rows_in_range (period_of self.now) range (content self.now)) counts.old counts.new) }
         ensures has_key { IfSome result (λ range. (rank range.first ≤ rank key) × (rank key ≤ rank range.last)) }
         ensures from { IfSome result (λ range. rank from ≤ rank range.first) }
         ensures within { IfSome result (λ range. rank range.last < key_end (period_of self.now)) }

@@ -5,7 +5,7 @@ ghost use Rattle.st_text.specs.Texts.{in_order};
 ghost use Rattle.st_index.specs.declared.row.Row.{Row};
 ghost use Rattle.st_index.specs.inner.Index.{Adds};
 ghost use Rattle.st_index.specs.Order.{InScanOrder, scan_key};
-ghost use Rattle.st_index.specs.Rows.{key_end, rank_of};
+ghost use Rattle.st_index.specs.inner.Entries.{key_end, rank_of};
 
 use std::alloc::Allocator;
 

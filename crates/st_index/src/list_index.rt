@@ -1,6 +1,6 @@
 //! An index of one region, which keeps its entries in one list.
 ghost use Rattle.std.specs.Prelude.{◌≡◌, ◌-◌, [], ◌∷◌};
-ghost use Rattle.st_index.specs.Rows.{key_end, rows_of};
+ghost use Rattle.st_index.specs.inner.Entries.{key_end, rows_of};
 ghost use Rattle.st_index.specs.inner.Index.{region};
 
 use crate::entries::Change;
@@ -25,14 +25,14 @@ pub struct ListIndex<A: Allocator = Global> {
 
 impl<A: Allocator> Model for ListIndex<A> {
     ghost use Rattle.std.specs.Prelude.{◌≡◌, ◌<◌, ◌^◌, length};
-    ghost use Rattle.st_index.specs.Rows.{Rises, key_end, rows_of};
+    ghost use Rattle.st_index.specs.inner.Entries.{EntriesRise, key_end, rows_of};
     ghost use Rattle.st_index.specs.inner.ListValue.{ListValue};
 
     ghost Value = { ListValue A };
 
     ghost view = { λ s. record { period = s.period; entries = s.entries.items } };
 
-    ghost invariant = { λ s. Rises s.period 0 (key_end s.period) s.entries.items × (s.len ≡ length (rows_of s.entries.items))
+    ghost invariant = { λ s. EntriesRise s.period 0 (key_end s.period) s.entries.items × (s.len ≡ length (rows_of s.entries.items))
         × (s.len < 2 ^ 64) };
 }
 

@@ -3,7 +3,7 @@ ghost use Rattle.std.specs.Prelude.{◌≡◌, ℕ, List, [], ◌∷◌, length}
 ghost use Rattle.std.specs.List.Sorted.{IsSearchInRange, IsBinarySearchResult};
 ghost use Rattle.st_key.specs.declared.point.Point.{Point};
 ghost use Rattle.st_index.specs.declared.row.Row.{Row};
-ghost use Rattle.st_index.specs.Rows.{name_cmp, name_of};
+ghost use Rattle.st_index.specs.inner.Entries.{name_of, name_cmp};
 
 use crate::id::Id;
 use crate::row::Row;

@@ -1,6 +1,7 @@
 //! Notes of rows.
 ghost use Rattle.std.specs.Prelude.{◌≡◌, ◌↔◌, IfOk, IfSome, IsSome, Some};
-ghost use Rattle.st_index.specs.Notes.{lent_bytes, noted_bytes};
+ghost use Rattle.st_index.specs.Notes.{lent_bytes};
+ghost use Rattle.st_index.specs.inner.Noted.{noted_bytes};
 ghost use Rattle.st_index.specs.Texts.{IsNote};
 ghost use Rattle.st_text.specs.Texts.{same};
 
@@ -94,7 +95,7 @@ pub struct Note<A: Allocator = Global> {
 
 impl<A: Allocator> Model for Note<A> {
     ghost use Rattle.std.specs.Prelude.{ℕ, List};
-    ghost use Rattle.st_index.specs.Notes.{noted_bytes};
+    ghost use Rattle.st_index.specs.inner.Noted.{noted_bytes};
 
     ghost Value = { List ℕ };
 

@@ -2,7 +2,7 @@
 ghost use Rattle.std.specs.Prelude.{◌≡◌, ◌<◌, ◌≤◌, [], length, get_or, set, vec_capacity};
 ghost use Rattle.std.specs.List.{insert, remove};
 ghost use Rattle.st_key.specs.Key.{rank};
-ghost use Rattle.st_index.specs.Rows.{rank_of};
+ghost use Rattle.st_index.specs.inner.Entries.{rank_of};
 ghost use Rattle.st_index.specs.inner.Storages.{IsStored, stored_at, stored_rows};
 
 use crate::room::{more, two};

@@ -83,7 +83,7 @@ pub(crate) fn more<T: Drop, A: Allocator>(
     items
 }
 
-// Lets a value lie where another did, which is let go.
+// Overwrites a value; the old one is dropped.
 pub(crate) fn overwrite<T: Drop>(at: &mut T, value: T)
     ensures { at.new ≡ value }
 {

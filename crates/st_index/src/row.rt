@@ -1,6 +1,6 @@
 //! Rows.
 ghost use Rattle.std.specs.Prelude.{◌≡◌, ◌<◌, IfOk};
-ghost use Rattle.st_index.specs.Rows.{key_end, name_cmp, name_of, rank_of};
+ghost use Rattle.st_index.specs.inner.Entries.{name_of, key_end, name_cmp, rank_of};
 ghost use Rattle.st_key.specs.Key.{rank};
 
 use crate::id::Id;

@@ -2,7 +2,7 @@
 ghost use Rattle.std.specs.Prelude.{◌≡◌, ◌<◌, IfOk};
 ghost use Rattle.st_index.specs.Notes.{lent_bytes};
 ghost use Rattle.st_index.specs.RowViews.{point_in, row_of_view};
-ghost use Rattle.st_index.specs.Rows.{key_end, name_cmp, name_of, rank_of};
+ghost use Rattle.st_index.specs.inner.Entries.{name_of, key_end, name_cmp, rank_of};
 ghost use Rattle.st_index.specs.Texts.{IsNote};
 ghost use Rattle.st_key.specs.Key.{rank};
 

@@ -1,6 +1,7 @@
 //! Views of rows.
 ghost use Rattle.std.specs.Prelude.{◌≡◌, ◌==◌, [], ◌∷◌, length, IfSome, IfNone};
-ghost use Rattle.st_index.specs.RowViews.{row_of_view, viewed};
+ghost use Rattle.st_index.specs.RowViews.{row_of_view};
+ghost use Rattle.st_index.specs.inner.Views.{viewed};
 
 use crate::row::Row;
 use crate::row_view::RowView;

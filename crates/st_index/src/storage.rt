@@ -4,9 +4,9 @@ ghost use Rattle.std.specs.List.Sorted.{IsSearchInRange, IsBinarySearchResult};
 ghost use Rattle.st_key.specs.Key.{rank};
 ghost use Rattle.st_index.specs.declared.row.Row.{Row};
 ghost use Rattle.st_index.specs.KeyPoints.{point_of_key};
-ghost use Rattle.st_index.specs.Notes.{noted_bytes};
-ghost use Rattle.st_index.specs.RowViews.{viewed};
-ghost use Rattle.st_index.specs.Rows.{name_cmp, name_of, rank_of};
+ghost use Rattle.st_index.specs.inner.Noted.{noted_bytes};
+ghost use Rattle.st_index.specs.inner.Views.{viewed};
+ghost use Rattle.st_index.specs.inner.Entries.{name_of, name_cmp, rank_of};
 ghost use Rattle.st_index.specs.inner.KeyPoints.{IsKey, IsPointKey};
 ghost use Rattle.st_index.specs.inner.Storages.{IsStored, owned_rows, stored_at, stored_rows};
 

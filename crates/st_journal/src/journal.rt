@@ -16,7 +16,7 @@ pub enum AppendError {
     /// The disk failed or refused. None of them is kept, and none ever will be. The journal goes on.
     #[error("the disk failed or refused")]
     NotKept,
-    /// Either all of them are kept or none is: only the next opening can tell. The journal takes no more.
+    /// All of them are kept or none; which of the two is unknown until the journal is reopened. The journal takes no more.
     #[error("unknown until the journal is opened again")]
     Unknown,
 }
@@ -26,7 +26,7 @@ pub trait Journal {
     // The records that are kept.
     ghost list: { Self → List Record };
 
-    // How often the disk returned other bytes than were written there, and nothing noticed. No code can tell.
+    // How many reads silently returned wrong bytes. No code can tell.
     ghost misreads: { Self → ℕ };
 
     // How often the disk failed or refused.

@@ -13,14 +13,14 @@ pub enum ReadError {
     /// Memory ran out, or the disk failed to read. The journal goes on.
     #[error("not read")]
     NotRead,
-    /// The journal takes no more: only the next opening can tell what it holds.
+    /// The journal takes no more; what it holds is unknown until it is reopened.
     #[error("the journal takes no more")]
     Lost,
 }
 
 /// A journal that gives its records back while it takes more.
 pub trait ReadBack: Journal {
-    /// The records behind the first `from`, in order, at most so many. Nothing is changed, and nothing more may be left by a crash.
+    /// The records behind the first `from`, in order, at most `most`. A read changes nothing, also if a crash cuts it off.
     fn read(&mut self, from: u64, most: usize) -> Result<Vec<Record>, ReadError>
         requires ready { Self.Journal.is_ready self.old }
         ensures ready { result ≢ Err ReadError.Lost → Self.Journal.is_ready self.new }

@@ -47,14 +47,14 @@ watches before r old after changes room now request accepted note is made reads 
     })
 
 -- the changes that were made
-record Seen (before after : Watched) (records : List Record) : Type 0 where
-  made : Replays Applies before.state records after.state
-  changes : List (Noted Global)
-  records_are : records ≡ records_of changes
-  put : after.changes ≡ before.changes ++ map judged changes
-  noted : AreNoted before.state.directory changes
+pub record Seen (before after : Watched) (records : List Record) : Type 0 where
+  pub made : Replays Applies before.state records after.state
+  pub changes : List (Noted Global)
+  pub records_are : records ≡ records_of changes
+  pub put : after.changes ≡ before.changes ++ map judged changes
+  pub noted : AreNoted before.state.directory changes
 
-seen : (before after : Watched) (records : List Record) → Replays Watches before records after → Seen before after records
+pub seen : (before after : Watched) (records : List Record) → Replays Watches before records after → Seen before after records
 seen before after [] is = record {
   made = ap (λ (w : Watched). w.state) is;
   changes = [];

@@ -8,8 +8,13 @@ use Rattle.st_policy.specs.Policy.{refusal_of}
 use Rattle.st_table.specs.Rows.{Held, is_held}
 use Rattle.st_text.specs.Texts.{same}
 use Rattle.st_core.specs.Changes.{directory_after}
+use Rattle.st_core.specs.State.{State}
 use Rattle.st_journal.specs.declared.record.Record.{Record}
 use Rattle.st_journal_record.specs.Records.{ReadsAs}
+
+-- it has neither rows nor a change in its audit listing, as the state that a server begins with
+abbrev pub IsFresh : {A : Type 0} → State A → Type 0
+IsFresh s = (s.rows ≡ []) × (s.audit ≡ [])
 
 -- a change: its record, the request that this is read as, and whether the policy accepts it
 pub record Noted (A : Type 0) : Type 0 where

@@ -6,6 +6,7 @@ use Rattle.st_policy.specs.Policy.{refusal_of}
 use Rattle.st_core.specs.State.{State}
 use Rattle.st_journal.specs.declared.record.Record.{Record}
 use Rattle.st_journal_record.specs.Records.{ReadsAs}
+use Rattle.st_journal.specs.Replays.{Replays}
 use Rattle.st_journal_store.specs.Applying.{Applies}
 use Rattle.st_journal_compact.specs.declared.judged_record.JudgedRecord.{JudgedRecord}
 
@@ -21,3 +22,7 @@ pub record Watches (before : Watched) (r : Record) (after : Watched) : Type 0 wh
   pub accepted : Bool
   pub judged : accepted ≡ is_none (refusal_of before.state.directory r.user request)
   pub put : after.changes ≡ before.changes ++ record { note = r; accepted = accepted } ∷ []
+
+-- the records make this of a state behind which no change was put yet
+abbrev pub IsWatched : Watched → List Record → Watched → Type 0
+IsWatched first records after = (first.changes ≡ []) × Replays Watches first records after

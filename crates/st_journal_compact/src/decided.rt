@@ -72,7 +72,7 @@ impl Decided {
         Ok(self.rows.contains(text.as_str()))
     }
 
-    /// Whether there is nothing of a change in the rows after the later ones.
+    /// Whether later changes leave no trace of this one in the rows.
     pub fn undoes(&self, request: &Request) -> Result<bool, ReplayError>
         ensures { IfOk result (λ told. told ≡ is_undone request.now (knows self.now)) }
     {

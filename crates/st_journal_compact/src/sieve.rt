@@ -41,7 +41,7 @@ impl Sieve {
         }
     }
 
-    // Whether the list does without a change.
+    // Whether the short list leaves a change out.
     fn leaves_out(&self, request: &Request, accepted: bool) -> Result<bool, ReplayError>
         ensures { IfOk result (λ told. told
             ≡ (nat_le 1024 self.now.behind && (not accepted || is_undone request.now (knows self.now.decided)))) }
@@ -55,7 +55,7 @@ impl Sieve {
         }
     }
 
-    // Decides of what a change decides, if it is accepted.
+    // Marks the rows that a change decides, if it is accepted.
     fn decide(&mut self, request: &Request, accepted: bool) -> Result<(), ReplayError>
         ensures knows { OnOk result ((held : Held Heap)
             → knows self.new.decided held ≡ ((accepted && decides request.now held) || knows self.old.decided held)) }
@@ -68,7 +68,7 @@ impl Sieve {
         self.decided.add(request)
     }
 
-    // Has the record of a change, unless it is left out.
+    // Adds the record of a change to the short list, unless it is left out.
     fn count(&mut self, note: Record, left_out: bool) -> Result<(), ReplayError>
         requires { self.old.behind < 2 ^ 63 }
         ensures kept { OnOk result (self.new.kept.items

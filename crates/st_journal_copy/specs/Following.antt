@@ -1,5 +1,6 @@
 -- What a copy has of a list that is read piece by piece, while others make it longer.
-use Rattle.std.specs.Prelude.{◌≡◌, ◌+◌, ◌<◌, ◌++◌, ℕ, List, [], ◌∷◌, length}
+use Rattle.std.specs.Prelude.{◌≡◌, ◌+◌, ◌<◌, ◌++◌, ℕ, List, [], ◌∷◌, drop, length, take}
+use mathlib.Core.List.{IsPrefix}
 use Rattle.st_journal.specs.declared.record.Record.{Record}
 
 module _ (gives : (from most : ℕ) → List Record → Type 0) where
@@ -11,6 +12,14 @@ module _ (gives : (from most : ℕ) → List Record → Type 0) where
 
   abbrev pub IsGiven : ℕ → List Record → Type 0
   IsGiven from records = (pieces : List (List Record)) × AreGiven from pieces records
+
+  -- each piece stands in the list where it was read
+  abbrev pub StandIn : List Record → Type 0
+  StandIn list = (from most : ℕ) (piece : List Record) → gives from most piece → IsPrefix piece (drop from list)
+
+  -- each piece is all that the list has there, as far as so many were asked for
+  abbrev pub AreWholeIn : List Record → Type 0
+  AreWholeIn list = (from most : ℕ) (piece : List Record) → gives from most piece → piece ≡ take most (drop from list)
 
   -- a reading found the end of the list behind the first so many records
   abbrev pub IsAtEnd : ℕ → Type 0

@@ -1,6 +1,7 @@
 //! Whether a copy is a beginning of a list.
 ghost use Rattle.std.specs.Prelude.{◌≡◌, ◌≤◌, ℕ, true, List, IfOk, OnOk, drop, length, take};
 ghost use Rattle.st_journal.specs.declared.record.Record.{Record};
+ghost use Rattle.st_journal.specs.Leaving.{LeavesOnly};
 ghost use Rattle.st_journal_copy.specs.Following.{IsGiven};
 
 use crate::fault::CopyFault;
@@ -49,8 +50,7 @@ fn compare_some<S: RecordSource, J: ReadBack>(
         × ((most : ℕ) × S.gives source.new from most piece)
         × (J.Journal.misreads copy.new ≡ 0 → piece ≡ take CHUNK (drop from (J.Journal.list copy.old)))) }
     ensures stays { (from most : ℕ) (piece : List Record) → S.gives source.old from most piece → S.gives source.new from most piece }
-    ensures crash { J.Journal.misreads copy.new ≡ 0 → (left : List Record) → J.Journal.may_leave copy.new left
-        → left ≡ J.Journal.list copy.old }
+    ensures crash { LeavesOnly J.Journal copy.new (λ left. left ≡ J.Journal.list copy.old) }
 {
     let Ok(theirs) = copy.read(from, CHUNK) else {
         return Err(CopyFault::Io);
@@ -80,8 +80,7 @@ pub fn compare<S: RecordSource, J: ReadBack>(
     ensures given { OnOk result (J.Journal.misreads copy.new ≡ 0 → count ≡ length (J.Journal.list copy.old)
         → IsGiven (S.gives source.new) 0 (J.Journal.list copy.old)) }
     ensures stays { (from most : ℕ) (piece : List Record) → S.gives source.old from most piece → S.gives source.new from most piece }
-    ensures crash { J.Journal.misreads copy.new ≡ 0 → (left : List Record) → J.Journal.may_leave copy.new left
-        → left ≡ J.Journal.list copy.old }
+    ensures crash { LeavesOnly J.Journal copy.new (λ left. left ≡ J.Journal.list copy.old) }
 {
     let mut at = 0;
     'pieces: while at < count {

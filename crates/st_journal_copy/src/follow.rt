@@ -1,6 +1,7 @@
 //! What a copy lacks of a list.
 ghost use Rattle.std.specs.Prelude.{◌≡◌, ◌≤◌, ◌⊎◌, ◌++◌, ℕ, [], false, List, IfOk, OnOk, length};
 ghost use Rattle.st_journal.specs.declared.record.Record.{Record};
+ghost use Rattle.st_journal.specs.Leaving.{LeavesOnly};
 ghost use Rattle.st_journal_copy.specs.Following.{GoesOn, IsAtEnd, IsGiven};
 
 use crate::comparing::compare;
@@ -34,8 +35,8 @@ fn append_some<S: RecordSource, J: Journal>(
     ensures appended { IfOk result (λ some. (piece : List Record) × (length piece ≡ some) × S.gives source.new count CHUNK piece
         × (J.misreads copy.new ≡ 0 → J.list copy.new ≡ J.list copy.old ++ piece)) }
     ensures stays { (from most : ℕ) (piece : List Record) → S.gives source.old from most piece → S.gives source.new from most piece }
-    ensures crash { J.misreads copy.new ≡ 0 → (left : List Record) → J.may_leave copy.new left
-        → (left ≡ J.list copy.old) ⊎ ((piece : List Record) × S.gives source.new count CHUNK piece × (left ≡ J.list copy.old ++ piece)) }
+    ensures crash { LeavesOnly J.Journal copy.new (λ left. (left ≡ J.list copy.old) ⊎ ((piece : List Record)
+        × S.gives source.new count CHUNK piece × (left ≡ J.list copy.old ++ piece))) }
 {
     let records = match source.read(count, CHUNK) {
         Ok(records) => records,
@@ -62,8 +63,8 @@ fn follow<S: RecordSource, J: Journal>(
         → GoesOn (S.gives source.new) (J.list copy.old) (J.list copy.new) × (now ≡ length (J.list copy.new))) }
     ensures at_end { IfOk result (IsAtEnd (S.gives source.new)) }
     ensures stays { (from most : ℕ) (piece : List Record) → S.gives source.old from most piece → S.gives source.new from most piece }
-    ensures crash { J.misreads copy.new ≡ 0 → count ≡ length (J.list copy.old) → (left : List Record) → J.may_leave copy.new left
-        → GoesOn (S.gives source.new) (J.list copy.old) left }
+    ensures crash { count ≡ length (J.list copy.old)
+        → LeavesOnly J.Journal copy.new (GoesOn (S.gives source.new) (J.list copy.old)) }
 {
     let mut now = count;
     'pieces: for _ in 0..u64::MAX {
@@ -90,16 +91,15 @@ pub fn bring_up<S: RecordSource, J: ReadBack>(
 ) -> Result<u64, CopyFault>
     requires ready { J.Journal.is_ready copy.old }
     ensures misreads { J.Journal.misreads copy.old ≤ J.Journal.misreads copy.new }
-    ensures goes_on { IfOk result (λ now. J.Journal.misreads copy.new ≡ 0 → count ≡ length (J.Journal.list copy.old)
-        → GoesOn (S.gives source.new) (J.Journal.list copy.old) (J.Journal.list copy.new) × (now ≡ length (J.Journal.list copy.new))) }
+    ensures goes_on { let j = J.Journal in IfOk result (λ n. j.misreads copy.new ≡ 0 → count ≡ length (j.list copy.old)
+        → GoesOn (S.gives source.new) (j.list copy.old) (j.list copy.new) × (n ≡ length (j.list copy.new))) }
     ensures whole { OnOk result (is_known ≡ false → J.Journal.misreads copy.new ≡ 0 → count ≡ length (J.Journal.list copy.old)
         → IsGiven (S.gives source.new) 0 (J.Journal.list copy.new)) }
     ensures at_end { IfOk result (IsAtEnd (S.gives source.new)) }
-    ensures crash { J.Journal.misreads copy.new ≡ 0 → count ≡ length (J.Journal.list copy.old) → (left : List Record)
-        → J.Journal.may_leave copy.new left → GoesOn (S.gives source.new) (J.Journal.list copy.old) left }
-    ensures foreign { is_known ≡ false → J.Journal.misreads copy.new ≡ 0 → count ≡ length (J.Journal.list copy.old)
-        → (left : List Record) → J.Journal.may_leave copy.new left
-        → (left ≡ J.Journal.list copy.old) ⊎ IsGiven (S.gives source.new) 0 left }
+    ensures crash { count ≡ length (J.Journal.list copy.old)
+        → LeavesOnly J.Journal copy.new (GoesOn (S.gives source.new) (J.Journal.list copy.old)) }
+    ensures foreign { is_known ≡ false → count ≡ length (J.Journal.list copy.old)
+        → LeavesOnly J.Journal copy.new (λ left. (left ≡ J.Journal.list copy.old) ⊎ IsGiven (S.gives source.new) 0 left) }
 {
     if is_known {
         return follow(source, copy, count);

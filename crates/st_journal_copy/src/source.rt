@@ -7,7 +7,7 @@ use st_journal::{ReadError, Record};
 
 /// A list of records that others may make longer while it is read.
 pub trait RecordSource {
-    // What stood behind the first so many records, at most so many, at a moment when it was read, was this.
+    // A read from `from`, of at most `most` records, returned these at some moment.
     ghost gives: { Self → (from most : ℕ) → List Record → Type 0 };
 
     /// The records behind the first `from`, in order, at most so many, and fewer only where the list has no more.

@@ -1,5 +1,7 @@
 -- What an opening finds in the files, and what it makes of the state.
 use Rattle.std.specs.Prelude.{◌≡◌, ◌⊎◌, ℕ, ℤ, List, [], ◌∷◌}
+use Rattle.sqlite_disk.specs.declared.start.Start as start
+use Rattle.sqlite_wal.specs.Files.{image_at}
 use Rattle.sqlite_wal.specs.Recovery.{Image}
 use Rattle.sqlite_trees.specs.Tree.{Trees}
 use Rattle.st_journal.specs.declared.record.Record.{Record}
@@ -21,6 +23,10 @@ HoldNoJournal image = HoldNothing image ⊎ ((trees : Trees) × HoldTrees image 
 -- the files hold a journal of these changes, of a store that was opened so; or no journal, and there are no changes
 abbrev pub HoldStore : Image → List ℕ → List Record → Type 0
 HoldStore image opening changes = HoldJournal image opening changes ⊎ (HoldNoJournal image × (changes ≡ []))
+
+-- what the files at any path hold when a run begins, where this is supposed of a crash before it
+abbrev pub files_hold : {S : Type 0} → start.Ghosts S → (path opening : List ℕ) → List Record → Type 0
+files_hold first path = HoldStore (image_at first)
 
 -- The changes are those that the files hold. They were applied to the state.
 pub record Opens {S : Type 0} (applies : S → Record → S → Type 0) (image : Image) (opening : List ℕ) (changes : List Record)

@@ -78,9 +78,8 @@ impl<S: Start> FileJournal<FileFrom<S>> {
         start: S,
     ) -> Result<FileJournal<FileFrom<S>>, OpenError>
         ensures ready { IfOk result (λ journal. ⟦<FileJournal<FileFrom<S>> as Journal>⟧.is_ready journal) }
-        ensures opened { IfOk result (λ journal. ⟦<FileJournal<FileFrom<S>> as Journal>⟧.misreads journal ≡ 0
-            → Opens R.applies (image_at S.Start) opening.now (⟦<FileJournal<FileFrom<S>> as Journal>⟧.list journal)
-            state.old state.new) }
+        ensures opened { let j = ⟦<FileJournal<FileFrom<S>> as Journal>⟧ in IfOk result (λ journal. j.misreads journal ≡ 0
+            → Opens R.applies (image_at S.Start) opening.now (j.list journal) state.old state.new) }
     {
         let files = open_files(rt, path, start)?;
         let Ok(random) = RandomState::new(rt) else {

@@ -3,6 +3,7 @@
 ghost use Rattle.std.specs.Prelude.{◌≡◌, ◌≢◌, ◌⊎◌, ◌≤◌, Err, List, OnOk, OnErr};
 ghost use Rattle.st_journal.specs.declared.record.Record.{Record};
 ghost use Rattle.st_journal.specs.Faults.{FaultsRise};
+ghost use Rattle.st_journal.specs.Leaving.{LeavesOnly};
 
 use crate::journal::FileJournal;
 use crate::rows::put_behind;
@@ -16,20 +17,19 @@ impl<D: Disk + Drop> FileJournal<D> {
     pub fn rewrite(&mut self, records: &[Record]) -> Result<(), AppendError>
         requires ready { ⟦<FileJournal<D> as Journal>⟧.is_ready self.old }
         ensures ready { result ≢ Err AppendError.Unknown → ⟦<FileJournal<D> as Journal>⟧.is_ready self.new }
-        ensures misreads { ⟦<FileJournal<D> as Journal>⟧.misreads self.old ≤ ⟦<FileJournal<D> as Journal>⟧.misreads self.new }
-        ensures counts { ⟦<FileJournal<D> as Journal>⟧.faults self.old ≤ ⟦<FileJournal<D> as Journal>⟧.faults self.new }
-        ensures kept { ⟦<FileJournal<D> as Journal>⟧.misreads self.new ≡ 0
-            → OnOk result (⟦<FileJournal<D> as Journal>⟧.list self.new ≡ records.now) }
-        ensures not_kept { ⟦<FileJournal<D> as Journal>⟧.misreads self.new ≡ 0 → result ≢ Err AppendError.Unknown
-            → OnErr result (⟦<FileJournal<D> as Journal>⟧.list self.new ≡ ⟦<FileJournal<D> as Journal>⟧.list self.old) }
-        ensures refused { ⟦<FileJournal<D> as Journal>⟧.misreads self.new ≡ 0 → result ≡ Err AppendError.NotKept
-            → FaultsRise (⟦<FileJournal<D> as Journal>⟧.faults self.old) (⟦<FileJournal<D> as Journal>⟧.faults self.new) }
-        ensures unknown { ⟦<FileJournal<D> as Journal>⟧.misreads self.new ≡ 0 → result ≡ Err AppendError.Unknown
-            → FaultsRise (⟦<FileJournal<D> as Journal>⟧.faults self.old) (⟦<FileJournal<D> as Journal>⟧.faults self.new) }
+        ensures misreads { let j = ⟦<FileJournal<D> as Journal>⟧ in j.misreads self.old ≤ j.misreads self.new }
+        ensures counts { let j = ⟦<FileJournal<D> as Journal>⟧ in j.faults self.old ≤ j.faults self.new }
+        ensures kept { let j = ⟦<FileJournal<D> as Journal>⟧ in
+            j.misreads self.new ≡ 0 → OnOk result (j.list self.new ≡ records.now) }
+        ensures not_kept { let j = ⟦<FileJournal<D> as Journal>⟧ in j.misreads self.new ≡ 0
+            → result ≢ Err AppendError.Unknown → OnErr result (j.list self.new ≡ j.list self.old) }
+        ensures refused { let j = ⟦<FileJournal<D> as Journal>⟧ in j.misreads self.new ≡ 0
+            → result ≡ Err AppendError.NotKept → FaultsRise (j.faults self.old) (j.faults self.new) }
+        ensures unknown { let j = ⟦<FileJournal<D> as Journal>⟧ in j.misreads self.new ≡ 0
+            → result ≡ Err AppendError.Unknown → FaultsRise (j.faults self.old) (j.faults self.new) }
         // A crash inside the call is a disk that fails from some moment on, so that the call ends as `Unknown`.
-        ensures crash { ⟦<FileJournal<D> as Journal>⟧.misreads self.new ≡ 0 → (left : List Record)
-            → ⟦<FileJournal<D> as Journal>⟧.may_leave self.new left
-            → (left ≡ ⟦<FileJournal<D> as Journal>⟧.list self.old) ⊎ (left ≡ records.now) }
+        ensures crash { let j = ⟦<FileJournal<D> as Journal>⟧ in
+            LeavesOnly j self.new (λ left. (left ≡ j.list self.old) ⊎ (left ≡ records.now)) }
     {
         let added = records.len() as u64;
         if self.count == 0 || self.count > MOST || added > MOST {

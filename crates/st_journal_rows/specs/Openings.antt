@@ -1,14 +1,10 @@
--- Whose store an opening is of, and why a store is refused to another opening.
-use Rattle.std.specs.Prelude.{◌≡◌, ◌≢◌, ◌==◌, ℤ, ℕ, List, ◌∷◌}
-use Rattle.std.specs.List.{before_first}
+-- Why a store is refused to another opening.
+use Rattle.std.specs.Prelude.{◌≡◌, ◌≢◌, ℤ, ℕ, List, ◌∷◌}
+use Rattle.st_journal.specs.Owner.{owner_in}
 use Rattle.st_journal.specs.declared.record.Record.{Record}
 use Rattle.st_journal_rows.specs.declared.error.OpenError.{OpenError}
 use Rattle.st_journal_rows.specs.declared.error.OpenError.TheVariants.{OtherOwner, OtherOpening}
 use Rattle.st_journal_rows.specs.Table.{opening_record}
-
--- the first word of an opening, which says whose store it is
-abbrev pub owner_in : List ℕ → List ℕ
-owner_in opening = before_first (λ b. b == 32) opening
 
 -- the records are those of a store that was opened so
 pub record AreOf (opening : List ℕ) (records : List Record) : Type 0 where

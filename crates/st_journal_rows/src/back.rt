@@ -66,7 +66,7 @@ fn read_from<S: Store>(
     Ok(records)
 }
 
-// Begins the transaction, in which nothing was written, anew after a reading that failed, and says whether the store goes on.
+// Restarts the transaction after a failed read (nothing was written in it). Tells whether the store is still usable.
 fn mend<S: Store>(store: &mut S) -> ReadError
     ensures rolled { IsRolledBack (S.view store.old) (S.view store.new) }
     ensures goes_on { IsClean (S.view store.new) → result ≢ ends.Lost

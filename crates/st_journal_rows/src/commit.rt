@@ -48,8 +48,8 @@ fn conclude<S: Store>(store: &mut S, written: Result<(), StoreError>) -> Result<
     }
 }
 
-// Commits what was written if all went well, and else rolls it back. `NoMemory` and `NotKept` where nothing was kept and the store
-// goes on, `Unknown` where the store is broken, so that only opening it again tells.
+// Commits what was written if all went well, and else rolls it back. `NoMemory` and `NotKept`: nothing was kept, and the store is
+// still usable. `Unknown`: the store is broken, and what it holds is unknown until it is reopened.
 pub(crate) fn finish<S: Store>(
     store: &mut S,
     written: Result<(), StoreError>,

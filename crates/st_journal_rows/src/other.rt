@@ -1,6 +1,6 @@
 //! A store that was opened with something else.
 ghost use Rattle.std.specs.Prelude.{◌≡◌, ◌≢◌};
-ghost use Rattle.st_journal_rows.specs.Openings.{owner_in};
+ghost use Rattle.st_journal.specs.Owner.{owner_in};
 ghost use Rattle.st_journal_rows.specs.inner.NoOther.{Refuses};
 
 use crate::error::OpenError;

@@ -135,12 +135,12 @@ module _ {S : Type 0} (step : Answering S) (old new kept found : S) (items : Lis
   front (Ok TurnsSpent) failed given (all, stays, says) synced is = says_all says (at_new (synced (λ l. cc)) is)
   front (Ok Lost) failed given (begins, past) synced (inl is) = to_kept past is
   front (Ok Lost) failed given (begins, past) synced (inr is) = past_new past is
-  front (Err broken) failed given (begins, counted, (said, may, (missing, all, few)), read) synced is =
+  front (Err broken) failed given (begins, (counted, (said, may, (missing, all, few)), read)) synced is =
       to_new said missing (may_front said may) all (at_new (synced (λ l. cc)) is)
 
 pub found_after : {S : Type 0} (step : Answering S) (old new kept found : S) (streams : Streams) (failed : Bool) (result : Result Ended IoFault)
     → ServedWithin step 0 old new kept streams result → KeptUnlessLost kept new failed result
-    → (found ≡ kept) ⊎ (found ≡ new) → FoundAfter step old found streams.held_old streams.held_new
+    → (found ≡ kept) ⊎ (found ≡ new) → FoundAfter step old found streams
 found_after step old new kept found streams failed result s k is =
     let f = front step old new kept found s.items s.rest s.answers s.sent s.run result streams.read_failed s.given s.ending k.synced is in
     record {

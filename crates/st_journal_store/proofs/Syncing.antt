@@ -6,6 +6,7 @@ use Rattle.std.specs.declared.alloc.Global.{Global}
 use Rattle.st_core.specs.State.{State}
 use Rattle.st_core.specs.Step.{settle}
 use Rattle.st_journal.specs.declared.record.Record.{Record}
+use Rattle.st_journal.specs.declared.journal.Journal.{Ghosts}
 use Rattle.st_journal.specs.Faults.{FaultsRise}
 use Rattle.st_journal.specs.Replays.{Replays}
 use Rattle.st_journal.proofs.Rising.{rises_after}
@@ -30,17 +31,17 @@ none_lost {J = J} view now is sound = go view.loss (ap (λ (k : Keeping J). is_s
     go None e = refl
     go (Some l) e = absurd (cc)
 
-module _ {J : Type 0} (list : J → List Record) (misreads faults : J → ℕ) (is_ready : J → Type 0) (may_leave : J → List Record → Type 0)
-    (leaves_list : (journal : J) (left : List Record) → misreads journal ≡ 0 → is_ready journal → may_leave journal left → left ≡ list journal)
+module _ {J : Type 0} (journals : Ghosts J)
+    (leaves_list : (journal : J) (left : List Record) → journals.misreads journal ≡ 0 → journals.is_ready journal → journals.may_leave journal left → left ≡ journals.list journal)
     (first : State Global) (begun : ℕ) where
   -- so it stands with its parts
   abbrev Stands : State Global → J → Option Pending → Option Loss → Type 0
   Stands kept journal pending loss =
-      IsSound list misreads faults is_ready may_leave first begun (record { kept = kept; journal = journal; pending = pending; loss = loss })
+      IsSound journals first begun (record { kept = kept; journal = journal; pending = pending; loss = loss })
 
   -- a journal that takes records leaves its list
-  pub working : (journal : J) (kept : State Global) (pending : Option Pending) → is_ready journal
-      → (misreads journal ≡ 0 → Replays Applies first (list journal) kept) → IfSome pending (IsNoted kept) → begun ≤ faults journal
+  pub working : (journal : J) (kept : State Global) (pending : Option Pending) → journals.is_ready journal
+      → (journals.misreads journal ≡ 0 → Replays Applies first (journals.list journal) kept) → IfSome pending (IsNoted kept) → begun ≤ journals.faults journal
       → Stands kept journal pending None
   working journal kept pending ready stands noted grown = record {
     ready = λ _. ready;
@@ -61,24 +62,24 @@ module _ {J : Type 0} (list : J → List Record) (misreads faults : J → ℕ) (
   held journal kept before pending loss works sound noted =
       subst (Stands kept journal pending) (sym works) (working journal kept pending (sound.ready works) (sound.stands works) noted sound.grown)
 
-  module _ (old journal : J) (kept : State Global) (p : Pending) (fewer : misreads old ≤ misreads journal) (more : faults old ≤ faults journal)
-      (grown : begun ≤ faults old) (stands : misreads old ≡ 0 → Replays Applies first (list old) kept) (noted : IsNoted kept p) where
-    was_clean : misreads journal ≡ 0 → misreads old ≡ 0
+  module _ (old journal : J) (kept : State Global) (p : Pending) (fewer : journals.misreads old ≤ journals.misreads journal) (more : journals.faults old ≤ journals.faults journal)
+      (grown : begun ≤ journals.faults old) (stands : journals.misreads old ≡ 0 → Replays Applies first (journals.list old) kept) (noted : IsNoted kept p) where
+    was_clean : journals.misreads journal ≡ 0 → journals.misreads old ≡ 0
     was_clean clean = omega (arith, fewer, clean)
 
     -- the list with the record leads to the state with the change
-    made : misreads journal ≡ 0 → Replays Applies first (list old ++ p.note ∷ []) (settle kept p.judged).state
-    made clean = one_more Applies first kept (settle kept p.judged).state (list old) p.note (stands (was_clean clean)) noted.noted
+    made : journals.misreads journal ≡ 0 → Replays Applies first (journals.list old ++ p.note ∷ []) (settle kept p.judged).state
+    made clean = one_more Applies first kept (settle kept p.judged).state (journals.list old) p.note (stands (was_clean clean)) noted.noted
 
-    pub is_kept : (store : State Global) (loss : Option Loss) → loss ≡ None → is_ready journal
-        → (misreads journal ≡ 0 → list journal ≡ list old ++ p.note ∷ []) → store ≡ (settle kept p.judged).state → Stands store journal None loss
+    pub is_kept : (store : State Global) (loss : Option Loss) → loss ≡ None → journals.is_ready journal
+        → (journals.misreads journal ≡ 0 → journals.list journal ≡ journals.list old ++ p.note ∷ []) → store ≡ (settle kept p.judged).state → Stands store journal None loss
     is_kept store loss sound ready appended is =
         subst (Stands store journal None) (sym sound) (working journal store None ready
-        (λ clean. subst (λ (s : State Global). Replays Applies first (list journal) s) (sym is)
+        (λ clean. subst (λ (s : State Global). Replays Applies first (journals.list journal) s) (sym is)
         (subst (λ (l : List Record). Replays Applies first l (settle kept p.judged).state) (sym (appended clean)) (made clean))) tt
         (omega (arith, grown, more)))
 
-    left_by : misreads journal ≡ 0 → (left : List Record) → (left ≡ list old) ⊎ (left ≡ list old ++ p.note ∷ [])
+    left_by : journals.misreads journal ≡ 0 → (left : List Record) → (left ≡ journals.list old) ⊎ (left ≡ journals.list old ++ p.note ∷ [])
         → LeadTo first kept (settle kept p.judged).state left
     left_by clean left (inl is) = record {
       after = kept;
@@ -92,8 +93,8 @@ module _ {J : Type 0} (list : J → List Record) (misreads faults : J → ℕ) (
     }
 
     pub is_lost : (loss : Loss) (store : State Global) (pending : Option Pending) → pending ≡ Some p → store ≡ kept
-        → (misreads journal ≡ 0 → (left : List Record) → may_leave journal left → (left ≡ list old) ⊎ (left ≡ list old ++ p.note ∷ []))
-        → (misreads journal ≡ 0 → loss ≡ Disk → FaultsRise (faults old) (faults journal)) → Stands store journal pending (Some loss)
+        → (journals.misreads journal ≡ 0 → (left : List Record) → journals.may_leave journal left → (left ≡ journals.list old) ⊎ (left ≡ journals.list old ++ p.note ∷ []))
+        → (journals.misreads journal ≡ 0 → loss ≡ Disk → FaultsRise (journals.faults old) (journals.faults journal)) → Stands store journal pending (Some loss)
     is_lost loss store pending is unmade crash disk =
         subst (λ (s : State Global). Stands s journal pending (Some loss)) (sym unmade)
         (subst (λ (o : Option Pending). Stands kept journal o (Some loss)) (sym is) (record {
@@ -102,6 +103,6 @@ module _ {J : Type 0} (list : J → List Record) (misreads faults : J → ℕ) (
           leaves = λ clean left leaves. left_by clean left (crash clean left leaves);
           waits = noted;
           grown = omega (arith, grown, more);
-          disk = λ clean lost. rises_after begun (faults old) (faults journal) grown
+          disk = λ clean lost. rises_after begun (journals.faults old) (journals.faults journal) grown
               (disk clean (let e : Some loss ≡ Some Disk = lost in let is : loss ≡ Disk = cc in is));
         }))

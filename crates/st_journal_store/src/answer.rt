@@ -14,7 +14,7 @@ use st_service::{Answer, asked_of};
 use std::alloc::{AllocError, Global};
 use std::time::Clock;
 
-// The reply to what is asked, and the change that it asks until that is kept; none where it asks for none or is not heard.
+// The reply to a request, and its change, which is still to be synced; `None` if it asks for no change or is `Unheard`.
 fn ask<C: Clock>(
     alloc: Global,
     clock: &C,

@@ -39,14 +39,14 @@ impl<'a, B: Beginning + Since, J: Journal + Drop, C: Clock> Model for DurableAns
 
     ghost view = { λ a. record { kept = a.store; journal = a.journal; pending = a.pending; loss = a.loss } };
 
-    ghost invariant = { λ a. IsSound J.list J.misreads J.faults J.is_ready J.may_leave B.first B.faults
+    ghost invariant = { λ a. IsSound J.Journal B.first B.faults
         (record { kept = a.store; journal = a.journal; pending = a.pending; loss = a.loss }) };
 }
 
 impl<'a, B: Beginning + Since, J: Journal + Drop, C: Clock> DurableAnswerer<'a, B, J, C> {
     // What is always true of it.
     pub(crate) fn laws(&self)
-        ensures { IsSound J.list J.misreads J.faults J.is_ready J.may_leave B.first B.faults self.now }
+        ensures { IsSound J.Journal B.first B.faults self.now }
     {
         let _loss = self.loss;
     }

@@ -3,6 +3,7 @@ ghost use Rattle.std.specs.Prelude.{◌≡◌, ◌≢◌, ◌≤◌, false, None
 ghost use Rattle.st_journal.specs.declared.record.Record.{Record};
 ghost use Rattle.st_journal.specs.Faults.{FaultsRise};
 ghost use Rattle.st_journal.specs.Replays.{Replays};
+ghost use Rattle.st_journal.specs.Leaving.{LeavesOnly};
 ghost use Rattle.st_service.specs.Answers.{Answers};
 ghost use Rattle.st_connection.specs.Connection.{EndsOn, KeptUnlessLost, ServedWithin};
 ghost use Rattle.st_connection.specs.Streams.{streams};
@@ -81,16 +82,15 @@ impl<'a, B: Beginning + Since, J: Journal + Drop, C: Clock> DurableService<'a, B
         requires reader_sound { R.has_failed reader.old ≡ false }
         requires writer_sound { W.has_failed writer.old ≡ false }
         ensures served { ServedWithin Answers 0 self.old.kept (answered self.new) self.new.kept
-            (streams R.left R.reads R.has_ended R.has_failed W.held W.has_failed reader.old reader.new writer.old writer.new) result }
+            (streams R.Source W.Sink reader.old reader.new writer.old writer.new) result }
         ensures kept { KeptUnlessLost self.new.kept (answered self.new) (is_some self.new.loss) result }
-        ensures disk { J.misreads self.new.journal ≡ 0 → self.new.loss ≡ Some Loss.Disk → FaultsRise B.faults (J.faults self.new.journal) }
+        ensures disk { J.misreads self.new.journal ≡ 0 → self.new.loss ≡ Some Loss.Disk
+            → FaultsRise B.faults (J.faults self.new.journal) }
         ensures stands { result ≢ Ok Ended.Lost → J.misreads self.new.journal ≡ 0
             → Replays Applies B.first (J.list self.new.journal) self.new.kept }
         // A crash inside the call is a journal, a reader or a writer that fails from some moment on.
-        ensures leaves { J.misreads self.new.journal ≡ 0 → (left : List Record) → J.may_leave self.new.journal left
-            → LeadTo B.first self.new.kept (answered self.new) left }
-        ensures ends { EndsOn MAX_READS
-            (streams R.left R.reads R.has_ended R.has_failed W.held W.has_failed reader.old reader.new writer.old writer.new) result }
+        ensures leaves { LeavesOnly J.Journal self.new.journal (λ left. LeadTo B.first self.new.kept (answered self.new) left) }
+        ensures ends { EndsOn MAX_READS (streams R.Source W.Sink reader.old reader.new writer.old writer.new) result }
     {
         let ended = self.server.serve(reader, writer);
         self.server.answerer().laws();

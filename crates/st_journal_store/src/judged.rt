@@ -32,7 +32,7 @@ fn reply_of(judged: &JudgedRef<'_>) -> Reply
     }
 }
 
-/// The record of the change that a message asks, by its judgement and what it is told. None where it is not heard, which changes nothing.
+/// The record of the change that a message asks for, by its judgement and its reply. `None` if it is `Unheard`, which changes nothing.
 pub fn note<C: Clock>(
     alloc: Global,
     clock: &C,

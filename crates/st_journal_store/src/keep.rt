@@ -3,6 +3,7 @@ ghost use Rattle.std.specs.Prelude.{◌≡◌, ◌≤◌, ◌⊎◌, ◌++◌, �
 ghost use Rattle.st_core.specs.Step.{settle};
 ghost use Rattle.st_journal.specs.declared.record.Record.{Record};
 ghost use Rattle.st_journal.specs.Faults.{FaultsRise};
+ghost use Rattle.st_journal.specs.Leaving.{LeavesOnly};
 ghost use Rattle.st_journal_store.specs.inner.Sound.{IsNoted};
 
 use crate::loss::{Loss, loss_of};
@@ -25,10 +26,12 @@ pub(crate) fn keep<J: Journal>(
     ensures made { OnOk result (store.new ≡ (settle store.old pending.now.judged).state) }
     ensures unmade { OnErr result (store.new ≡ store.old) }
     ensures ready { OnOk result (J.is_ready journal.new) }
-    ensures list { OnOk result (J.misreads journal.new ≡ 0 → J.list journal.new ≡ J.list journal.old ++ pending.now.note ∷ []) }
-    ensures disk { J.misreads journal.new ≡ 0 → result ≡ Err Loss.Disk → FaultsRise (J.faults journal.old) (J.faults journal.new) }
-    ensures crash { J.misreads journal.new ≡ 0 → (left : List Record) → J.may_leave journal.new left
-        → (left ≡ J.list journal.old) ⊎ (left ≡ J.list journal.old ++ pending.now.note ∷ []) }
+    ensures list { OnOk result (J.misreads journal.new ≡ 0
+        → J.list journal.new ≡ J.list journal.old ++ pending.now.note ∷ []) }
+    ensures disk { J.misreads journal.new ≡ 0 → result ≡ Err Loss.Disk
+        → FaultsRise (J.faults journal.old) (J.faults journal.new) }
+    ensures crash { LeavesOnly J.Journal journal.new (λ left. (left ≡ J.list journal.old)
+        ⊎ (left ≡ J.list journal.old ++ pending.now.note ∷ [])) }
 {
     if let Err(error) = journal.append(slice::from_ref(&pending.note)) {
         return Err(loss_of(error));

@@ -3,6 +3,8 @@ use Rattle.std.specs.Prelude.{◌≡◌, ◌⊎◌, ℕ, Bool, List, IsTrue, IsU
 use Rattle.serde_json.specs.Data.{Data, Members, object}
 use Rattle.serde_json.specs.Find.{get, as_str}
 use Rattle.serde_json.specs.Read.{read}
+use Rattle.st_key.specs.declared.period.Period.{Period}
+use Rattle.st_key.specs.declared.place.Place.{Place}
 use Rattle.st_text.specs.Texts.{Text}
 use Rattle.st_text.specs.Names.{is_name, is_table_name}
 use Rattle.st_auth.specs.Names.{first_bad}
@@ -18,7 +20,7 @@ use Rattle.st_policy.specs.declared.field_name.FieldName.TheVariants as names
 use Rattle.st_policy.specs.declared.refusal.Refusal.{Refusal}
 use Rattle.st_policy.specs.declared.refusal.Refusal.TheVariants.{Json, Field, BadBox, BadLabel, BadName}
 use Rattle.st_json.specs.declared.value.Bounds.{Bounds}
-use Rattle.st_json.specs.Fields.{HasBox, text_in, list_in, number_in, sized}
+use Rattle.st_json.specs.Fields.{HasAfter, HasBox, text_in, list_in, number_in, period_or_week, sized}
 use Rattle.st_json.specs.Needs.{Rule, Has}
 
 -- the body is UTF-8 and reads as this object
@@ -57,6 +59,16 @@ BoxField d = Has (Field names.Box) (HasBox d)
 -- a list of texts
 abbrev pub AuthsField : Data → Rule (List Text)
 AuthsField d = Found names.Auths (list_in as_str (codes "auths") d)
+
+abbrev pub AfterField : {A : Type 0} → Data → Rule (Option (Place A))
+AfterField d = Has (Field names.After) (HasAfter d)
+
+abbrev pub NoteField : Data → Rule Text
+NoteField = ReadField (sized 0 4096) names.Note
+
+-- a week, if nothing else is said
+abbrev pub PeriodField : Data → Rule Period
+PeriodField d = Found names.Period (period_or_week (get (codes "period") d))
 
 -- ---- what numbers and texts make
 

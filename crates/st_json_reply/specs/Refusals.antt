@@ -38,9 +38,9 @@ denial_data (Denial.Permission name None) =
 denial_data (Denial.Permission name (Some table)) =
     object_of ((codes "error", string (codes "permission")) ∷ (codes "permission", string (permission_name name))
     ∷ (codes "table", string table) ∷ [])
-denial_data (Denial.NamespacePermission name namespace) =
-    object_of ((codes "error", string (codes "permission")) ∷ (codes "namespace", string namespace)
-    ∷ (codes "permission", string (permission_name name)) ∷ [])
+denial_data (Denial.NamespacePermission p name) =
+    object_of ((codes "error", string (codes "permission")) ∷ (codes "namespace", string name)
+    ∷ (codes "permission", string (permission_name p)) ∷ [])
 denial_data (Denial.Authorization name) =
     object_of ((codes "authorization", string name) ∷ (codes "error", string (codes "authorization")) ∷ [])
 denial_data (Denial.Constraint label) = object_of ((codes "error", string (codes "constraint")) ∷ (codes "label", string label) ∷ [])

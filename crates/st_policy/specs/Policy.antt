@@ -1,5 +1,5 @@
 -- Whether a request is allowed. The directory alone decides.
-use Rattle.std.specs.Prelude.{List, [], ◌∷◌, Bool, ◌||◌, not, if◌then◌else◌}
+use Rattle.std.specs.Prelude.{List, [], ◌∷◌, ◌++◌, Bool, ◌||◌, not, if◌then◌else◌}
 use Rattle.std.specs.Prelude.{Option, Some, None, find, option_and_then, option_map, Result, Ok, Err}
 use Rattle.st_text.specs.Texts.{Text, same}
 use Rattle.st_label.specs.Reading.{is_true}
@@ -58,22 +58,21 @@ label_is_met d asker (Put table row) =
     unless (not (is_constrained d table) || is_true (has_auth d asker) row.label) (Denied (Denial.Constraint row.label))
 label_is_met d asker _ = None
 
--- nobody drops oneself
+-- you cannot drop yourself
 abbrev pub is_not_oneself : {A : Type 0} → Text → Request A → Option Refusal
 is_not_oneself asker (DropUser user) = unless (not (same user asker)) (Denied Denial.OwnSelf)
 is_not_oneself asker _ = None
 
+-- existence, then permission
+abbrev pub access : {A : Type 0} → Directory A → Text → Request A → List (Option Refusal)
+access d asker request =
+    table_exists d (table_of request) ∷ user_exists d (user_of request) ∷ name_is_free d request ∷ meets d asker (need_of request) ∷ []
+
 -- the first refusal that applies, or none
 abbrev pub refusal_of : {A : Type 0} → Directory A → Text → Request A → Option Refusal
 refusal_of d asker request = first_some (
-    table_exists d (table_of request)
-    ∷ user_exists d (user_of request)
-    ∷ name_is_free d request
-    ∷ meets d asker (need_of request)
-    ∷ auths_are_held d asker (named_auths request)
-    ∷ label_is_met d asker request
-    ∷ is_not_oneself asker request
-    ∷ [])
+    access d asker request
+    ++ auths_are_held d asker (named_auths request) ∷ label_is_met d asker request ∷ is_not_oneself asker request ∷ [])
 
 -- the policy as the code answers it
 abbrev pub decision : Option Refusal → Result (Unit {0}) Refusal

@@ -28,7 +28,7 @@ pub enum Denial {
     Constraint {
         label: Text<256>,
     },
-    /// What nobody may do to oneself.
+    /// A user may not drop its own account.
     OwnSelf,
 }
 

@@ -166,7 +166,7 @@ fn meets_constraint<A: Allocator>(
     }
 }
 
-// Nobody drops oneself.
+// You cannot drop yourself.
 fn spares_oneself<A: Allocator>(asker: &Name, request: &Request<A>) -> Result<(), Refusal>
     ensures { result ≡ decision (is_not_oneself asker.now request.now) }
 {

@@ -1,20 +1,18 @@
 //! The store in a SQLite file.
 ghost use Rattle.std.specs.Prelude.{◌≡◌, false, List};
-ghost use Rattle.sqlite_wal.specs.Files.{image_at};
 ghost use Rattle.st_text.specs.Texts.{Text};
 ghost use Rattle.st_command.specs.Running.{Ran};
 ghost use Rattle.st_command_line.specs.RunArguments.{SaysRun};
 ghost use Rattle.st_connection.specs.Streams.{streams};
-ghost use Rattle.st_journal_file.specs.Opening.{HoldStore};
+ghost use Rattle.st_journal_file.specs.Opening.{files_hold};
 
-use sqlite_std_file::{FileFrom, Start};
+use sqlite_std_file::Start;
 use st_command::run_with;
 use st_command_line::RunArguments;
 use st_connection::{Sink, Source};
 use st_core::Seed;
 use st_journal::Journal;
-use st_journal_file::FileJournal;
-use st_store_file::SqliteKeeper;
+use st_store_file::{SqliteKeeper, StoreFile};
 use std::io::Write;
 
 /// Serves one connection by the arguments of `st_run`, as `run_with` does: from a store in memory, or from the store in the SQLite
@@ -30,10 +28,8 @@ pub fn run_files<S: Start, R: Source, W: Sink, F: Write>(
     requires reader_sound { R.has_failed reader.old ≡ false }
     requires writer_sound { W.has_failed writer.old ≡ false }
     ensures { (words : List Text) → SaysRun words said.now
-        → Ran (λ _. HoldStore (image_at S.Start)) ⟦<FileJournal<FileFrom<S>> as Journal>⟧.list
-        ⟦<FileJournal<FileFrom<S>> as Journal>⟧.misreads ⟦<FileJournal<FileFrom<S>> as Journal>⟧.faults
-        ⟦<FileJournal<FileFrom<S>> as Journal>⟧.may_leave words
-        (streams R.left R.reads R.has_ended R.has_failed W.held W.has_failed reader.old reader.new writer.old writer.new)
+        → Ran (files_hold S.Start) ⟦<StoreFile<S> as Journal>⟧ words
+        (streams R.Source W.Sink reader.old reader.new writer.old writer.new)
         result }
 {
     let keeper = SqliteKeeper::new(rt, "st_run", start);

@@ -15,7 +15,7 @@ use Rattle.st_index.specs.declared.row.Row.{Row}
 use Rattle.st_index.specs.inner.Counting.{count_of, is_counted}
 use Rattle.st_index.specs.inner.Fields.{CanAdd, Counts, count_in}
 use Rattle.st_index.specs.inner.Index.{rows_between, rows_from}
-use Rattle.st_index.specs.Rows.{key_end, rank_of}
+use Rattle.st_index.specs.inner.Entries.{key_end, rank_of}
 use Rattle.st_index.proofs.Tallying.{zero_at}
 use Rattle.st_scan.specs.inner.Rows.{has_row}
 use Rattle.st_scan.proofs.Filters.{filter_all, filter_none, filter_same}

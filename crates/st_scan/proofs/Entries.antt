@@ -12,7 +12,7 @@ use Rattle.st_index.proofs.Putting.{missing, rows-append}
 use Rattle.st_index.proofs.Rising.{rises_all, rises_bounds}
 use Rattle.st_key.specs.declared.period.Period.{Period}
 use Rattle.st_box.specs.declared.query.Query.{Query}
-use Rattle.st_index.specs.Rows.{EntryValue, IsEntry, Rises, rank_of, rows_of}
+use Rattle.st_index.specs.inner.Entries.{EntryValue, IsEntry, EntriesRise, rank_of, rows_of}
 use Rattle.st_scan.specs.inner.Rows.{has_row}
 use Rattle.st_scan.specs.inner.Steps.{SkipsTo}
 use Rattle.st_scan.proofs.Filters.{filter_none, no_items}
@@ -31,15 +31,15 @@ module _ {A : Type 0} where
   rows_around xs e ys = rows-append xs (e ∷ ys)
 
 module _ {A : Type 0} (period : Period) where
-  pub keyed : (lo hi : ℕ) (es : List (EntryValue A)) → Rises period lo hi es → All (IsEntry period) es
+  pub keyed : (lo hi : ℕ) (es : List (EntryValue A)) → EntriesRise period lo hi es → All (IsEntry period) es
   keyed lo hi [] h = All-nil (IsEntry period)
   keyed lo hi (e ∷ es) h = All-cons (IsEntry period) e es h.1 (keyed (e.at + 1) hi es h.2)
 
-  pub rises_lower : (low lo hi : ℕ) (es : List (EntryValue A)) → low ≤ lo → Rises period lo hi es → Rises period low hi es
+  pub rises_lower : (low lo hi : ℕ) (es : List (EntryValue A)) → low ≤ lo → EntriesRise period lo hi es → EntriesRise period low hi es
   rises_lower low lo hi [] le h = omega (arith, le, h)
   rises_lower low lo hi (e ∷ es) le h = (omega (arith, le, h.0), h.1, h.2)
 
-  pub entries_below : (lo hi : ℕ) (es : List (EntryValue A)) → Rises period lo hi es → All (λ e. e.at < hi) es
+  pub entries_below : (lo hi : ℕ) (es : List (EntryValue A)) → EntriesRise period lo hi es → All (λ e. e.at < hi) es
   entries_below lo hi [] h = All-nil _
   entries_below lo hi (e ∷ es) h = All-cons (λ f. f.at < hi) e es (omega (arith, rises_bounds period (e.at + 1) hi es h.2)) (entries_below (e.at + 1) hi es h.2)
 
@@ -83,7 +83,7 @@ module _ {A : Type 0} (q : Query) where
 
 module _ {A : Type 0} (period : Period) (start : ℕ) where
   -- a later entry has a higher key
-  rises_order : (lo hi : ℕ) (es : List (EntryValue A)) → Rises period lo hi es → (i j : ℕ) (d : EntryValue A) → i < j → j < length es → (get_or es i d).at < (get_or es j d).at
+  rises_order : (lo hi : ℕ) (es : List (EntryValue A)) → EntriesRise period lo hi es → (i j : ℕ) (d : EntryValue A) → i < j → j < length es → (get_or es i d).at < (get_or es j d).at
   rises_order lo hi [] h i j d a b = absurd (omega (arith, b))
   rises_order lo hi (e ∷ es) h i zero d a b = absurd (omega (arith, a))
   rises_order lo hi (e ∷ es) h zero (suc j) d a b = let later = rises_all period (e.at + 1) hi es h.2 j d (omega (arith, b)) in omega (arith, later)
@@ -91,7 +91,7 @@ module _ {A : Type 0} (period : Period) (start : ℕ) where
 
   -- the entries from the place of a key on
   pub skips_there : (lo hi : ℕ) (es : List (EntryValue A)) (n : ℕ) → n < length es → ((d : EntryValue A) → nat_cmp (get_or es n d).at start ≡ Equal)
-      → Rises period lo hi es → SkipsTo start es (drop n es)
+      → EntriesRise period lo hi es → SkipsTo start es (drop n es)
   skips_there lo hi es n le here h = record {
     skipped = take n es;
     is = sym (take-append-drop n es);
@@ -114,7 +114,7 @@ module _ {A : Type 0} (period : Period) (start : ℕ) where
   pub skips_missing : (lo hi : ℕ) (es : List (EntryValue A)) (n : ℕ)
       → (IsNonDecreasingBy (λ (e : EntryValue A). ordering_index (nat_cmp e.at start)) es
       → IsPartitionPoint (λ (e : EntryValue A). nat_cmp e.at start ≡ Less) (λ (e : EntryValue A). nat_cmp e.at start ≡ Greater) es n)
-      → Rises period lo hi es → SkipsTo start es (drop n es)
+      → EntriesRise period lo hi es → SkipsTo start es (drop n es)
   skips_missing lo hi es n found h =
       let m = missing period start es n lo hi h found in
       record {
@@ -129,11 +129,11 @@ module _ {A : Type 0} (period : Period) (start : ℕ) where
   skips_slice es n h = subst (SkipsTo start es) (sym (take_all (length es - n) (drop n es) (let e = length-drop n es in omega (arith, e)))) h
 
 module _ {A : Type 0} (period : Period) where
-  pub rises_right : (lo hi : ℕ) (xs ys : List (EntryValue A)) → Rises period lo hi (xs ++ ys) → Rises period lo hi ys
+  pub rises_right : (lo hi : ℕ) (xs ys : List (EntryValue A)) → EntriesRise period lo hi (xs ++ ys) → EntriesRise period lo hi ys
   rises_right lo hi [] ys h = h
   rises_right lo hi (x ∷ xs) ys h = rises_lower period lo (x.at + 1) hi ys (omega (arith, h.0)) (rises_right (x.at + 1) hi xs ys h.2)
 
-  pub skips_none : (start lo hi : ℕ) (entries : List (EntryValue A)) → start ≤ lo → Rises period lo hi entries → SkipsTo start entries entries
+  pub skips_none : (start lo hi : ℕ) (entries : List (EntryValue A)) → start ≤ lo → EntriesRise period lo hi entries → SkipsTo start entries entries
   skips_none start lo hi entries le h = record {
     skipped = [];
     is = refl;

@@ -16,7 +16,7 @@ use Rattle.st_key.proofs.PointLemmas.{before_by_rank, one_point, same_rank}
 use Rattle.st_box.specs.declared.query.Query.{Query}
 use Rattle.st_box.specs.Query.{HasKey, is_inside}
 use Rattle.st_index.specs.declared.row.Row.{Row}
-use Rattle.st_index.specs.Rows.{key_end, rank_of}
+use Rattle.st_index.specs.inner.Entries.{key_end, rank_of}
 use Rattle.st_scan.specs.inner.Rows.{has_row}
 
 pub record RowKey {A : Type 0} (period : Period) (row : Row A) : Type 0 where

@@ -19,7 +19,7 @@ use Rattle.st_box.specs.declared.query.Query.{Query}
 use Rattle.st_box.specs.Query.{is_inside}
 use Rattle.st_index.specs.declared.row.Row.{Row}
 use Rattle.st_index.specs.Order.{scan_key}
-use Rattle.st_index.specs.Rows.{rank_of}
+use Rattle.st_index.specs.inner.Entries.{rank_of}
 use Rattle.st_text.specs.Texts.{Text, comes_before}
 use Rattle.st_scan.specs.Pages.{is_past, place_key}
 use Rattle.st_scan.specs.inner.Pages.{visible_after}

@@ -7,8 +7,8 @@ use Rattle.st_box.specs.declared.query.Query.{Query}
 use Rattle.st_box.specs.Query.{HasKey}
 use Rattle.st_index.specs.declared.row.Row.{Row}
 use Rattle.st_index.specs.inner.Index.{Follow, Region}
-use Rattle.st_index.specs.RowViews.{viewed}
-use Rattle.st_index.specs.Rows.{EntryValue, key_end, rank_of, rows_of}
+use Rattle.st_index.specs.inner.Views.{viewed}
+use Rattle.st_index.specs.inner.Entries.{EntryValue, key_end, rank_of, rows_of}
 use Rattle.st_scan.specs.declared.position.Position.{Position}
 use Rattle.st_scan.specs.inner.Regions.{Count}
 use Rattle.st_scan.specs.inner.Rows.{has_row, has_row_from}

@@ -12,7 +12,7 @@ use Rattle.st_box.specs.declared.query.Query.{Query}
 use Rattle.st_box.specs.Query.{HasKey, is_inside}
 use Rattle.st_index.specs.declared.row.Row.{Row}
 use Rattle.st_index.specs.inner.Index.{Follow, Region}
-use Rattle.st_index.specs.Rows.{EntryValue, IsEntry, Rises, key_end, rank_of, rows_of}
+use Rattle.st_index.specs.inner.Entries.{EntryValue, IsEntry, EntriesRise, key_end, rank_of, rows_of}
 use Rattle.st_scan.specs.inner.Regions.{Count, Meets}
 use Rattle.st_scan.specs.inner.Rows.{has_row, has_row_from}
 use Rattle.st_scan.specs.inner.Walks.{MeetsUpTo}
@@ -41,7 +41,7 @@ module _ {A : Type 0} (period : Period) (q : Query) where
   from_high start row high = ap (λ b. b && is_inside q row.point) (le-leb start (rank_of period row) high)
 
   module _ (content : List (Row A)) (regions : List Region) (start next : ℕ) (entries : List (EntryValue A)) (o : Opens period q content regions start entries next) where
-    rising : Rises period o.region.first (o.region.last + 1) entries
+    rising : EntriesRise period o.region.first (o.region.last + 1) entries
     rising = rises_right period o.region.first (o.region.last + 1) o.skipped entries o.leaf.rising
 
     -- a row of the region is in its bounds

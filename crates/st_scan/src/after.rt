@@ -5,7 +5,7 @@ ghost use Rattle.std.specs.Cmp.Lexicographic.{slice_cmp};
 ghost use Rattle.st_key.specs.Key.{rank};
 ghost use Rattle.st_index.specs.Order.{scan_key};
 ghost use Rattle.st_index.specs.RowViews.{row_of_view};
-ghost use Rattle.st_index.specs.Rows.{key_end};
+ghost use Rattle.st_index.specs.inner.Entries.{key_end};
 ghost use Rattle.st_text.specs.Texts.{comes_before};
 ghost use Rattle.st_scan.specs.Pages.{is_past, place_key};
 ghost use Rattle.st_scan.specs.inner.Starts.{IsStart};

@@ -6,8 +6,8 @@ ghost use Rattle.st_key.specs.declared.period.Period.{Period};
 ghost use Rattle.st_key.specs.Key.{rank};
 ghost use Rattle.st_box.specs.Query.{HasKey};
 ghost use Rattle.st_index.specs.inner.Index.{Follow};
-ghost use Rattle.st_index.specs.RowViews.{viewed};
-ghost use Rattle.st_index.specs.Rows.{IsEntry, Rises, key_end, rows_of};
+ghost use Rattle.st_index.specs.inner.Views.{viewed};
+ghost use Rattle.st_index.specs.inner.Entries.{IsEntry, EntriesRise, key_end, rows_of};
 ghost use Rattle.st_scan.specs.inner.Rows.{has_row};
 ghost use Rattle.st_scan.specs.inner.Steps.{AreExact, IsNextEntry, IsOver, IsOwnExact, IsPosition, Opens, SkipsTo, Steps, left_of};
 ghost use Rattle.st_scan.specs.inner.Steps.{rank_or_end};
@@ -75,7 +75,7 @@ pub(crate) fn next_entry<'a, A: Allocator + Copy>(
 
 // The entries that remain after those before a key. They are looked at one by one, which takes less time than a search by halves.
 fn skip_to<A: Allocator + Copy>(entries: &[Entry<A>], from: Key) -> &[Entry<A>]
-    ensures { (period : Period) (lo hi : ℕ) → Rises period lo hi entries.now → SkipsTo (rank from) entries.now result.now }
+    ensures { (period : Period) (lo hi : ℕ) → EntriesRise period lo hi entries.now → SkipsTo (rank from) entries.now result.now }
 {
     let before = match entries::find(entries, from) {
         Ok(place) => place,
@@ -86,7 +86,7 @@ fn skip_to<A: Allocator + Copy>(entries: &[Entry<A>], from: Key) -> &[Entry<A>]
 
 // Those of the entries of a region, which begins at its first key, that do not come before a key.
 fn entries_from<A: Allocator + Copy>(entries: &[Entry<A>], first: Key, from: Key) -> &[Entry<A>]
-    ensures { (period : Period) (hi : ℕ) → Rises period (rank first) hi entries.now → SkipsTo (rank from) entries.now result.now }
+    ensures { (period : Period) (hi : ℕ) → EntriesRise period (rank first) hi entries.now → SkipsTo (rank from) entries.now result.now }
 {
     if first.is_before(from) {
         skip_to(entries, from)

@@ -6,7 +6,7 @@ ghost use Rattle.std.specs.Prelude.{◌≡◌, ◌<◌, ◌≤◌, ◌^◌, ◌�
 ghost use Rattle.st_key.specs.Key.{rank};
 ghost use Rattle.st_box.specs.Query.{is_inside};
 ghost use Rattle.st_index.specs.RowViews.{row_of_view};
-ghost use Rattle.st_index.specs.Rows.{key_end, rank_of};
+ghost use Rattle.st_index.specs.inner.Entries.{key_end, rank_of};
 ghost use Rattle.st_scan.specs.inner.Regions.{Count, Meets};
 ghost use Rattle.st_scan.specs.inner.Rows.{has_row_from};
 ghost use Rattle.st_scan.specs.inner.Walks.{IsExactFor, MeetsUpTo};

@@ -1,19 +1,17 @@
 //! The store in a SQLite file.
 ghost use Rattle.std.specs.Prelude.{List};
-ghost use Rattle.sqlite_wal.specs.Files.{image_at};
 ghost use Rattle.st_text.specs.Texts.{Text};
 ghost use Rattle.st_command_line.specs.ServedArguments.{SaysServed};
 ghost use Rattle.st_server.specs.Running.{RunsServer};
-ghost use Rattle.st_journal_file.specs.Opening.{HoldStore};
+ghost use Rattle.st_journal_file.specs.Opening.{files_hold};
 
-use sqlite_std_file::{FileFrom, Start};
+use sqlite_std_file::Start;
 use st_command_line::ServedArguments;
 use st_core::Seed;
 use st_journal::Journal;
-use st_journal_file::FileJournal;
 use st_server::serve_with;
 use st_server_peer::{Client, Listener};
-use st_store_file::{SqliteCopier, SqliteKeeper};
+use st_store_file::{SqliteCopier, SqliteKeeper, StoreFile};
 use std::fs::Files;
 use std::io::{Eprint, Write};
 use std::net::{Net, TcpListener, TcpStream};
@@ -43,9 +41,8 @@ pub fn serve_files<
     faults: &mut F,
 ) -> u8
     ensures { (words : List Text) → SaysServed words said.now
-        → RunsServer ⟦<TcpStream as Client>⟧.call (λ _. HoldStore (image_at S.Start)) ⟦<FileJournal<FileFrom<S>> as Journal>⟧.list
-        ⟦<FileJournal<FileFrom<S>> as Journal>⟧.misreads ⟦<FileJournal<FileFrom<S>> as Journal>⟧.faults
-        ⟦<FileJournal<FileFrom<S>> as Journal>⟧.may_leave words (O.contents output.old)
+        → RunsServer ⟦<TcpStream as Client>⟧.call (files_hold S.Start) ⟦<StoreFile<S> as Journal>⟧ words
+            (O.contents output.old)
         (O.contents output.new) result }
 {
     let keeper = SqliteKeeper::new(files, "st_served", start);

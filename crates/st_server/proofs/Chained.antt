@@ -8,7 +8,7 @@ use Rattle.st_connection.specs.declared.connection.Ended.{Ended}
 use Rattle.st_connection.specs.declared.connection.Ended.TheVariants.{Clean, Closed, Cut, TurnsSpent, Lost}
 use Rattle.st_connection.specs.declared.connection.IoFault.{IoFault}
 use Rattle.st_hall_press.proofs.Fronts.{prefix_self, prefix_trans}
-use Rattle.st_hall.specs.Steps.{Ask, State}
+use Rattle.st_hall.specs.Steps.{Ask, HallState as State}
 use Rattle.st_hall.specs.Views.{Post}
 use Rattle.st_hall.specs.Decisions.{Standing}
 use Rattle.st_server_peer.specs.Meeting.{Call, MeetsClient, MeetsAll}
@@ -16,7 +16,7 @@ use Rattle.st_hall_station.specs.Standing.{ServesKept, ServesSound}
 use Rattle.st_hall_station.proofs.Growing.{run_grows}
 use Rattle.st_server_workers.specs.Working.{WorkedEach}
 use Rattle.st_server_workers.specs.declared.working.Worked.{Worked}
-use Rattle.st_server.specs.Attending.{AreNew, ServesWithin, synced_of}
+use Rattle.st_server.specs.Attending.{AreNew, HasSynced, ServesWithin}
 
 -- unless a sync failed, all that was seen was kept
 abbrev pub IsSynced : Standing → Type 0
@@ -101,7 +101,7 @@ module _ (start : State) (hold : ℕ) (kept : List Ask) {P : Type 0} (call : P �
       )
 
   pub each_so : (stations : List Standing) (workers : List (Worked Standing)) → AreNew stations
-      → All (λ worker. IsPrefix (synced_of (λ station. station) worker) kept) workers
+      → HasSynced (λ station. station) workers kept
       → WorkedEach (ServesKept start hold) call stations workers
       → WorkedEach (ServesWithin start hold kept) call stations workers
   each_so stations workers new has (alike, each) = (

@@ -3,7 +3,7 @@ use Rattle.std.proofs.Common.{◌≡◌, ◌⊎◌, ◌==◌, ℕ, List, [], Opt
 use Rattle.st_command_line.specs.declared.fault.Fault.{Fault}
 use Rattle.st_command_line.specs.declared.fault.Fault.TheVariants.{StoreLost}
 use Rattle.st_server_peer.specs.Meeting.{Call, Serving}
-use Rattle.st_hall.specs.Steps.{Ask, State}
+use Rattle.st_hall.specs.Steps.{Ask, HallState as State}
 use Rattle.st_hall.specs.Decisions.{Standing}
 use Rattle.st_server.specs.Attending.{Attends, AttendsFrom}
 

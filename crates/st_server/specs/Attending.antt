@@ -6,7 +6,7 @@ use Rattle.st_server_workers.specs.Working.{WorkedEach}
 use Rattle.st_server_workers.specs.declared.working.Worked.{Worked}
 use Rattle.st_command_line.specs.declared.fault.Fault.{Fault}
 use Rattle.st_command_line.specs.declared.fault.Fault.TheVariants.{NoMemory, StoreLost}
-use Rattle.st_hall.specs.Steps.{Ask, State}
+use Rattle.st_hall.specs.Steps.{Ask, HallState as State}
 use Rattle.st_hall.specs.Views.{Post, Seat, opening_seat}
 use Rattle.st_hall.specs.Decisions.{Standing}
 use Rattle.st_connection.specs.Streams.{Streams}
@@ -42,16 +42,19 @@ pub record HaveOneList {T : Type 0} (standing : T → Standing) (workers : List 
   pub seen : All (λ worker. IsPrefix (desk_of standing worker).seen list) workers
   pub counted : length list ≡ sum_by (λ worker. (desk_of standing worker).made) workers
 
+-- what is kept has all that had been seen when each of these workers was last synced
+abbrev pub HasSynced : {T : Type 0} → (T → Standing) → List (Worked T) → (kept : List Ask) → Type 0
+HasSynced standing workers kept = All (λ worker. IsPrefix (synced_of standing worker) kept) workers
+
 -- Each of these attendants met its clients, by one list of changes. What is kept of it has all that was seen when its worker was last
 -- synced, and of both this holds.
 pub record WorkedAsOne {T P : Type 0} (holds : (kept list : List Ask) → Type 0) (serves : Serving T) (call : P → Call)
-    (standing : T → Standing)
-    (attendants : List T) (workers : List (Worked T)) : Type 0 where
+    (standing : T → Standing) (attendants : List T) (workers : List (Worked T)) : Type 0 where
   pub each : WorkedEach serves call attendants workers
   pub list : List Ask
   pub one : HaveOneList standing workers list
   pub kept : List Ask
-  pub has : All (λ worker. IsPrefix (synced_of standing worker) kept) workers
+  pub has : HasSynced standing workers kept
   pub is : holds kept list
 
 -- the whole list is kept, and just that is left
@@ -65,11 +68,10 @@ pub record ServesWithin (start : State) (hold : ℕ) (kept : List Ask) (s t : St
   pub has : IsPrefix t.synced.seat.seen kept
 
 -- What the workers of these attendants did in a run that ended so; of a hall it is said what is left of its list. A run that ends well
--- met as many clients as it was to meet, and all
--- changes were kept. Where memory ran out, or no worker served to the end, it may not be known what they did.
+-- met as many clients as it was to meet, and all changes were kept. Where memory ran out, or no worker served to the end, it may not be
+-- known what they did.
 pub record AttendsFrom {T P : Type 0} (leaves : (kept list : List Ask) → Type 0) (serves : Serving T) (call : P → Call)
-    (standing : T → Standing)
-    (attendants : List T) (connections : Option ℕ) (ended : Result Unit Fault) : Type 0 where
+    (standing : T → Standing) (attendants : List T) (connections : Option ℕ) (ended : Result Unit Fault) : Type 0 where
   pub workers : List (Worked T)
   pub each : (workers ≡ []) ⊎ WorkedEach serves call attendants workers
   pub ok : OnOk ended (WorkedAsOne (KeptWhole leaves) serves call standing attendants workers)
@@ -79,8 +81,7 @@ pub record AttendsFrom {T P : Type 0} (leaves : (kept list : List Ask) → Type 
 
 -- The same of a hall: each worker is a station of it.
 pub record Attends {P : Type 0} (call : P → Call) (start : State) (leaves : (kept list : List Ask) → Type 0) (hold : ℕ)
-    (connections : Option ℕ)
-    (ended : Result Unit Fault) : Type 0 where
+    (connections : Option ℕ) (ended : Result Unit Fault) : Type 0 where
   pub stations : List Standing
   pub new : AreNew stations
   pub attends : AttendsFrom leaves (ServesKept start hold) call (λ station. station) stations connections ended

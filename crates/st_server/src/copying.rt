@@ -72,7 +72,7 @@ impl<B: Beginning, H: HallName, C: Wait + Clock + Drop, J: ReadBack + Drop, R: W
     ghost use Rattle.st_server.specs.inner.Reading.{GivesOf};
 
     // All that is ever read is of beginnings of one list.
-    ghost gives = { λ s. GivesOf J.Journal.list J.Journal.misreads B.first H.start s.kept };
+    ghost gives = { λ s. GivesOf J.Journal B.first H.start s.kept };
 
     fn read(&mut self, from: u64, most: usize) -> Result<Vec<Record>, ReadError> {
         let reading = self.hall.read(self.rt, from, most)?;
@@ -102,7 +102,7 @@ pub(crate) struct Copying<'a, K> {
     pub(crate) opening: &'a str,
 }
 
-// Says on standard error whether the copy is written, where that has changed: whether a fault was said last.
+// Reports on standard error when copying begins to fail, and when it works again. Returns whether it is failing.
 fn report<R: Eprint>(rt: &R, was_faulty: bool, turn: Result<(), CopyFault>) -> bool {
     match turn {
         Ok(()) => {

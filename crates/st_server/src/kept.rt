@@ -74,8 +74,8 @@ fn open_hall<
     requires stands { J.Journal.misreads journal ≡ 0 → Replays Applies B.first (J.Journal.list journal) H.start }
     ensures told { TellsKept (address_text said.now.bind_address) said.now.connections
         (O.contents output.old) (O.contents output.new) result }
-    ensures failed { result ≡ Err StoreLost → HasFailed J.Journal.misreads J.Journal.faults }
-    ensures attended { Attends C.call H.start (Leaves J.Journal.misreads J.Journal.may_leave B.first H.start)
+    ensures failed { result ≡ Err StoreLost → HasFailed J.Journal }
+    ensures attended { Attends C.call H.start (Leaves J.Journal B.first H.start)
         held_back said.now.connections result }
 {
     match Hall::<H>::open_for(rt, alloc, name, both.0, both.1, workers) {
@@ -140,8 +140,7 @@ fn serve_kept<
     output: &mut O,
 ) -> Result<(), Fault>
     requires first { state ≡ B.first }
-    ensures { RunsOpened C.call (K.holds keeper location.now.path.now) J.Journal.list J.Journal.misreads J.Journal.faults
-        J.Journal.may_leave (string_bytes location.now.opening) B.first said.now
+    ensures { RunsOpened C.call (K.holds keeper location.now.path.now) J.Journal (string_bytes location.now.opening) B.first said.now
         (O.contents output.old) (O.contents output.new) (exit_status_after result)
         ⊎ Fails IsOfStore (O.contents output.new ≡ O.contents output.old) (exit_status_after result) }
 {
@@ -183,7 +182,7 @@ pub(crate) fn run_kept<
     requires named { path_in said.now.store ≡ Some path.now }
     ensures { (words : List Text) → SaysServed words said.now
         → Fails (RefusesServedWords words) (O.contents output.new ≡ O.contents output.old) (exit_status_after result)
-        ⊎ RunsKept C.call (K.holds keeper) J.Journal.list J.Journal.misreads J.Journal.faults J.Journal.may_leave
+        ⊎ RunsKept C.call (K.holds keeper) J.Journal
         words (O.contents output.old) (O.contents output.new) (exit_status_after result) }
 {
     let (first, opening) = store_and_opening_for(alloc, seed, said.digest, &said.names)?;

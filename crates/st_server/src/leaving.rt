@@ -84,8 +84,8 @@ pub(crate) fn join_lists<H: HallName, M: Commits<H>, T: AtDesk<H> + Drop, W: Wai
     }
 }
 
-/// What is kept of the list: all that was seen at the workers' last sync, and what else is known to be. That some change is
-/// not in the list never comes.
+// What is kept of the list: all that was seen at the workers' last sync, and what else is known to be. That some change is
+// not in the list never comes.
 pub(crate) fn kept_of<H: HallName, M: Commits<H>, W: Wait>(
     rt: &W,
     hall: &M,

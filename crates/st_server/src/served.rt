@@ -47,7 +47,7 @@ fn run<
     output: &mut O,
 ) -> Result<(), Fault>
     ensures { (words : List Text) → SaysServed words said.now
-        → RunsServer C.call (K.holds keeper) J.Journal.list J.Journal.misreads J.Journal.faults J.Journal.may_leave
+        → RunsServer C.call (K.holds keeper) J.Journal
         words (O.contents output.old) (O.contents output.new) (exit_status_after result) }
 {
     match said.store {
@@ -97,8 +97,7 @@ pub fn serve_with<
     faults: &mut F,
 ) -> u8
     ensures { (words : List Text) → SaysServed words said.now
-        → RunsServer C.call (K.holds keeper) J.Journal.list J.Journal.misreads J.Journal.faults J.Journal.may_leave
-        words (O.contents output.old) (O.contents output.new) result }
+        → RunsServer C.call (K.holds keeper) J.Journal words (O.contents output.old) (O.contents output.new) result }
 {
     match run::<J, K, L, C, N, R, O>(rt, alloc, seed, keeper, copier, said, output) {
         Ok(()) => 0,

@@ -60,11 +60,9 @@ pub fn answer_stream<T: Attend, R: Source, S: Sink, E: Hangup>(
 ) -> Result<Ended, IoFault>
     requires reader_sound { R.has_failed reader.old ≡ false }
     requires writer_sound { S.has_failed writer.old ≡ false }
-    ensures served { T.serves attendant.old attendant.new
-        (streams R.left R.reads R.has_ended R.has_failed S.held S.has_failed reader.old reader.new writer.old writer.new) result }
+    ensures served { T.serves attendant.old attendant.new (streams R.Source S.Sink reader.old reader.new writer.old writer.new) result }
     ensures grows { T.grows attendant.old attendant.new }
-    ensures ends { EndsOn MAX_READS
-        (streams R.left R.reads R.has_ended R.has_failed S.held S.has_failed reader.old reader.new writer.old writer.new) result }
+    ensures ends { EndsOn MAX_READS (streams R.Source S.Sink reader.old reader.new writer.old writer.new) result }
     ensures told { result ≢ Ok Clean → result ≢ Ok Cut → E.is_over stream.new ≡ true }
     ensures untold { (result ≡ Ok Clean) ⊎ (result ≡ Ok Cut) → stream.new ≡ stream.old }
 {

@@ -1,5 +1,5 @@
 -- What a user is answered, by the user's own items and the replies to them.
-use Rattle.std.proofs.Common.{◌≡◌, ℕ, List, [], ◌∷◌, ◌++◌, map, filter, Bool, true, false, Option, Some, None, refl, sym, ◌∙◌, ap, subst}
+use Rattle.std.proofs.Common.{◌≡◌, ℕ, List, [], ◌∷◌, map, filter, Bool, true, false, Option, Some, None, refl, sym, ◌∙◌, ap, subst}
 use Rattle.std.specs.Prelude.{filter_map, is_some}
 use Rattle.st_text.specs.Texts.{Text}
 use Rattle.st_http.specs.First.{First}
@@ -9,7 +9,7 @@ use Rattle.st_core.specs.State.{State}
 use Rattle.st_core.specs.Step.{step}
 use Rattle.st_core.specs.Worlds.{ever, NeverSystem, names, keep, replies_to}
 use Rattle.st_core.proofs.Kept.{told_the_same}
-use Rattle.st_service.specs.Worlds.{Event, ItemAsks, IsHistory, requests, is_of, kept_events, Trace, trace_of, keep_history, keep_items, answers, answers_to}
+use Rattle.st_service.specs.Worlds.{EachAsks, Event, ItemAsks, IsHistory, requests, is_of, kept_events, Trace, trace_of, keep_history, keep_items, answers, answers_to}
 use Rattle.st_service.proofs.Histories.{each_asks, each_kept, same_events, whose, requests_kept, own_events, own_kept}
 
 -- the text of an answer by what its item leaves
@@ -87,13 +87,13 @@ module _ {A : Type 0} where
       at false e ih = simp (e, ih)
 
   -- histories of which the same items are kept
-  pub same_kept : (s : State A) (user : Text) (items others : List First) (history other : List (Event A)) → IsHistory items history → IsHistory others other
+  pub same_kept : (s : State A) (user : Text) (history other : List (Event A)) → EachAsks history → EachAsks other
       → keep_items user s history ≡ keep_items user s other → keep_history user s history ≡ keep_history user s other
-  same_kept s user items others history other is also same =
+  same_kept s user history other asks also same =
       let sight = ever user s (requests history) in
       let sight_too = ever user s (requests other) in
       ap (map (trace_of user)) (same_events (kept_events user sight s history) (kept_events user sight_too s other)
-      (each_kept user sight s history (each_asks items history is)) (each_kept user sight_too s other (each_asks others other also)) same)
+      (each_kept user sight s history asks) (each_kept user sight_too s other also) same)
 
   -- histories of which the same is kept
   pub equal : (s : State A) (user : Text) (items others : List First) (history other : List (Event A)) → IsHistory items history → IsHistory others other

@@ -1,6 +1,5 @@
 -- What items ask, and what is kept of it.
 use Rattle.std.proofs.Common.{◌≡◌, ℕ, List, [], ◌∷◌, map, filter, Bool, true, false, Option, Some, None, refl, sym, ◌∙◌, ap, subst}
-use Rattle.std.specs.Bool.{⊤}
 use Rattle.std.specs.Option.{option_map_or}
 use Rattle.st_text.specs.Texts.{Text}
 use Rattle.st_dir.specs.Directory.{Directory}
@@ -14,7 +13,7 @@ use Rattle.st_core.specs.Step.{judge, step}
 use Rattle.st_core.specs.Worlds.{Sight, names, matters, kept}
 use Rattle.st_json.proofs.OneAnswer.{one_answer}
 use Rattle.st_service.specs.Answers.{Asks, IsUnrouted, call_from}
-use Rattle.st_service.specs.Worlds.{Event, ItemAsks, IsHistory, requests, is_of, item_stays, next_state, kept_events}
+use Rattle.st_service.specs.Worlds.{EachAsks, Event, ItemAsks, IsHistory, requests, is_of, item_stays, next_state, kept_events}
 
 -- ---- an item asks one thing
 
@@ -69,13 +68,9 @@ module _ {A : Type 0} where
   asks_one (more waits) (Some a) b p q = absurd p
   asks_one (more waits) None b p q = absurd p
 
-  -- the items of events, each of which asks what its item does
+  -- the items of events
   abbrev pub items_of : List (Event A) → List First
   items_of events = map (λ event. event.item) events
-
-  abbrev pub EachAsks : List (Event A) → Type 0
-  EachAsks [] = ⊤
-  EachAsks (event ∷ events) = ItemAsks event.item event.asked × EachAsks events
 
   pub each_asks : (items : List First) (history : List (Event A)) → IsHistory items history → EachAsks history
   each_asks [] [] h = tt

@@ -13,9 +13,9 @@ use Rattle.st_core.specs.declared.asked.Asked.{Asked}
 use Rattle.st_policy.specs.declared.reply.Reply.{Reply}
 use Rattle.st_core.specs.State.{State}
 use Rattle.st_core.specs.Step.{judge, step}
-use Rattle.st_core.specs.Worlds.{Sight, ever, names, matters}
+use Rattle.st_core.specs.Worlds.{NeverSystem, Sight, ever, names, matters}
 use Rattle.st_connection.specs.Render.{fault_text, interim}
-use Rattle.st_service.specs.Answers.{AsksIn, IsUnrouted, token_from, close_of, parsed, reply_text, unrouted_text}
+use Rattle.st_service.specs.Answers.{AnswersAll, AsksIn, IsUnrouted, NoneBusy, token_from, close_of, parsed, reply_text, unrouted_text}
 
 -- ---- what the items ask
 
@@ -34,6 +34,11 @@ ItemAsks _ _ = ⊥
 -- these are the items, in order, each with what it asks
 abbrev pub IsHistory : {A : Type 0} → List First → List (Event A) → Type 0
 IsHistory items history = AllZip (λ item event. (event.item ≡ item) × ItemAsks item event.asked) items history
+
+-- each of them asks what its item does
+abbrev pub EachAsks : {A : Type 0} → List (Event A) → Type 0
+EachAsks [] = ⊤
+EachAsks (event ∷ events) = ItemAsks event.item event.asked × EachAsks events
 
 -- the requests of a history, in order
 abbrev pub requests : {A : Type 0} → List (Event A) → List (Asked A)
@@ -59,9 +64,8 @@ next_state s asked = option_map_or (λ a. (step s a).state) asked s
 abbrev pub kept_events : {A : Type 0} → Text → Sight → State A → List (Event A) → List (Event A)
 kept_events user sight s [] = []
 kept_events user sight s (event ∷ rest) =
-    if item_stays user sight s.directory event
-    then event ∷ kept_events user sight (next_state s event.asked) rest
-    else kept_events user sight (next_state s event.asked) rest
+    let others = kept_events user sight (next_state s event.asked) rest in
+    if item_stays user sight s.directory event then event ∷ others else others
 
 -- ---- what they leave to notice
 
@@ -100,3 +104,24 @@ answers s (event ∷ rest) =
 -- of the answers to items, those to the user's own
 abbrev pub answers_to : Text → List First → List (List ℕ) → List (List ℕ)
 answers_to user items texts = items_where_true (map (is_of user) items) texts
+
+-- ---- what is compared
+
+-- items from a state on and their history, at no moment of which the user holds SYSTEM
+pub record Unprivileged {A : Type 0} (user : Text) (s : State A) : Type 0 where
+  pub items : List First
+  pub history : List (Event A)
+  pub is_history : IsHistory items history
+  pub never : NeverSystem user s (requests history)
+
+-- what is kept of them
+abbrev pub kept_of : {A : Type 0} {user : Text} {s : State A} → Unprivileged user s → List (Trace A)
+kept_of {user} {s} asked = keep_history user s asked.history
+
+-- such items, and answers to them without a 503
+pub record Exchange {A : Type 0} (user : Text) (s : State A) : Type 0 where
+  pub asked : Unprivileged user s
+  pub texts : List (List ℕ)
+  pub end : State A
+  pub run : AnswersAll s asked.items texts end
+  pub none_busy : NoneBusy texts

@@ -61,10 +61,8 @@ impl<A: Allocator + Copy> Service<A> {
     ) -> Result<Ended, IoFault>
         requires reader_sound { R.has_failed reader.old ≡ false }
         requires writer_sound { W.has_failed writer.old ≡ false }
-        ensures served { Served Answers self.old self.new
-            (streams R.left R.reads R.has_ended R.has_failed W.held W.has_failed reader.old reader.new writer.old writer.new) result }
-        ensures ends { EndsOn MAX_READS
-            (streams R.left R.reads R.has_ended R.has_failed W.held W.has_failed reader.old reader.new writer.old writer.new) result }
+        ensures served { Served Answers self.old self.new (streams R.Source W.Sink reader.old reader.new writer.old writer.new) result }
+        ensures ends { EndsOn MAX_READS (streams R.Source W.Sink reader.old reader.new writer.old writer.new) result }
     {
         self.server.serve(reader, writer)
     }

@@ -12,7 +12,7 @@ use Rattle.std.proofs.lemmas.Cmp.{lists_total, nat_list_cmp_total}
 use Rattle.std.proofs.lemmas.Map.Lookups.{exact_bytes}
 use Rattle.st_text.specs.Texts.{Text, comes_before, put_in_order, in_order}
 use Rattle.st_sorted.specs.Sorted.{ComesFirst, Rises}
-use Rattle.st_sorted.specs.Places.{NoneBefore, IsPlace, NoneOf, IsAlone}
+use Rattle.st_sorted.specs.inner.Places.{NoneBefore, IsPlace, NoneOf, IsAlone}
 
 pub clash : false ≡ true → ⊥
 clash p = cc

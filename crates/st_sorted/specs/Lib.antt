@@ -1,2 +1,2 @@
 pub mod Sorted
-pub mod Places
+pub mod inner

@@ -5,7 +5,7 @@
 ghost use Rattle.std.specs.Prelude.{◌≡◌, ◌<◌, ◌≤◌, true, false, filter, find, not, length, option_map, slice_index_or, IfSome, IfNone};
 ghost use Rattle.std.specs.List.{list_any};
 ghost use Rattle.st_sorted.specs.Sorted.{Rises};
-ghost use Rattle.st_sorted.specs.Places.{IsPlace, NoneOf, IsAlone};
+ghost use Rattle.st_sorted.specs.inner.Places.{IsPlace, NoneOf, IsAlone};
 
 use crate::wanted::Wanted;
 use std::alloc::Allocator;

@@ -13,7 +13,7 @@ use Rattle.st_journal_store.specs.Applying.{Applies}
 use Rattle.st_journal_compact.proofs.Seeing.{is_short_list}
 use Rattle.st_journal_compact.proofs.Shorter.{one_state}
 use Rattle.st_store_file.specs.declared.counts.ListLengths.{ListLengths}
-use Rattle.st_store_file.specs.Shortened.{AreCounted, IsShortened}
+use Rattle.st_store_file.specs.Shortened.{AreCounted, IsShortBy, IsShortened}
 
 -- ---- lengths
 
@@ -102,14 +102,13 @@ counted_by first after old kept now items changes before later same is short lon
     (counted first.state.directory old kept now before (is_short_list first after old kept none made both) all put)
 
 -- what is left is the old list or its short one
-pub left_short : (first after : Watched) (old kept items left : List Record) (changes : List JudgedRecord)
-    → changes ≡ after.changes → kept ≡ items → AreShortOf changes items → first.changes ≡ [] → Replays Watches first old after
-    → (left ≡ old) ⊎ (left ≡ kept) → (left ≡ old) ⊎ IsShortList first.state.directory old left
-left_short first after old kept items left changes same is short none made (inl stays) = inl stays
-left_short first after old kept items left changes same is short none made (inr put) =
+pub left_short : (after : Watched) (old kept items left : List Record) (changes : List JudgedRecord) → changes ≡ after.changes → kept ≡ items
+    → AreShortOf changes items → (left ≡ old) ⊎ (left ≡ kept) → (left ≡ old) ⊎ IsShortBy after old left
+left_short after old kept items left changes same is short (inl stays) = inl stays
+left_short after old kept items left changes same is short (inr put) = inr (λ first watched.
     let both : AreShortOf after.changes kept =
     subst (λ l. AreShortOf l kept) same (subst (λ k. AreShortOf changes k) (sym is) short) in
-    inr (subst (IsShortList first.state.directory old) (sym put) (is_short_list first after old kept none made both))
+    subst (IsShortList first.state.directory old) (sym put) (is_short_list first after old kept watched.0 watched.1 both))
 
 -- the state alone
 made_again : (before after : Watched) (records : List Record) → Replays Watches before records after

@@ -5,6 +5,8 @@ use Rattle.clap.specs.Words.{App, fault_of}
 use Rattle.st_text.specs.Texts.{Text}
 use Rattle.st_core.specs.State.{State}
 use Rattle.st_journal.specs.declared.record.Record.{Record}
+use Rattle.st_journal.specs.declared.journal.Journal.{Ghosts}
+use Rattle.st_journal.specs.Leaving.{LeavesOnly}
 use Rattle.st_command_line.specs.Common.{SaysRoot, file_of, has_flag}
 use Rattle.st_command_line.specs.declared.fault.Fault.{Fault}
 use Rattle.st_command.specs.Opening.{OpensWith, IsOfStore}
@@ -27,19 +29,18 @@ pub record AsksShort (app : App) (words : List Text) (first : State Global) (ope
   pub opens : OpensWith digits names first opening
 
 -- what they ask for was done: whatever is left once the journal is let go is the short list
-pub record IsDone {J : Type 0} (holds : List ℕ → List Record → Type 0) (list : J → List Record) (misreads : J → ℕ)
-    (may_leave : J → List Record → Type 0) (app : App) (words : List Text) (journal : J) : Type 0 where
+pub record IsDone {J : Type 0} (holds : List ℕ → List Record → Type 0) (journals : Ghosts J) (app : App) (words : List Text)
+    (journal : J) : Type 0 where
   pub first : State Global
   pub opening : Text
   pub asks : AsksShort app words first opening
   pub counts : ListLengths
-  pub shortened : misreads journal ≡ 0 → IsShortened holds opening first (list journal) counts
-  pub leaves : misreads journal ≡ 0 → (left : List Record) → may_leave journal left → left ≡ list journal
+  pub shortened : journals.misreads journal ≡ 0 → IsShortened holds opening first (journals.list journal) counts
+  pub leaves : LeavesOnly journals journal (λ left. left ≡ journals.list journal)
 
-abbrev pub Shortens : {J : Type 0} → (List ℕ → List Record → Type 0) → (J → List Record) → (J → ℕ) → (J → List Record → Type 0)
-    → App → List Text → Option J → Type 0
-Shortens holds list misreads may_leave app words None = AsksNone app words
-Shortens holds list misreads may_leave app words (Some journal) = IsDone holds list misreads may_leave app words journal
+abbrev pub Shortens : {J : Type 0} → (List ℕ → List Record → Type 0) → Ghosts J → App → List Text → Option J → Type 0
+Shortens holds journals app words None = AsksNone app words
+Shortens holds journals app words (Some journal) = IsDone holds journals app words journal
 
 -- what they ask for was not done, by a fault of the store
 pub record IsNotDone (app : App) (words : List Text) (fault : Fault) : Type 0 where

@@ -10,12 +10,12 @@ ghost use Rattle.st_store_file.specs.inner.Stages.{Says};
 
 use crate::counts::ListLengths;
 use crate::file::shorten_file;
-use sqlite_std_file::{FileFrom, Start};
+use crate::keeper::StoreFile;
+use sqlite_std_file::Start;
 use st_command::store_and_opening_for;
 use st_command_line::Fault;
 use st_core::Seed;
 use st_journal::Journal;
-use st_journal_file::FileJournal;
 use std::io::Write;
 
 // What a command line says of a short list.
@@ -42,10 +42,9 @@ pub(crate) fn shorten_asked<S: Start, F: Write>(
     start: S,
     asked: &Asked<'_>,
     faults: &mut F,
-) -> Result<Option<FileJournal<FileFrom<S>>>, Fault>
+) -> Result<Option<StoreFile<S>>, Fault>
     ensures ok { IfOk result (λ journal. (app : App) (words : List Text) → Says app words asked.now
-        → Shortens (HoldStore (image_at S.Start)) ⟦<FileJournal<FileFrom<S>> as Journal>⟧.list
-        ⟦<FileJournal<FileFrom<S>> as Journal>⟧.misreads ⟦<FileJournal<FileFrom<S>> as Journal>⟧.may_leave app words journal) }
+        → Shortens (HoldStore (image_at S.Start)) ⟦<StoreFile<S> as Journal>⟧ app words journal) }
     ensures unasked { (result ≡ Ok None) → F.contents faults.new ≡ F.contents faults.old }
     ensures err { IfErr result (λ fault. (app : App) (words : List Text) → Says app words asked.now
         → RefusesWords app words fault ⊎ IsNotDone app words fault) }

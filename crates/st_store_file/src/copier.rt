@@ -4,9 +4,10 @@ ghost use Rattle.sqlite_wal.specs.Files.{image_at};
 ghost use Rattle.st_store_file.specs.Copying.{Copied};
 ghost use Rattle.st_journal_file.specs.Opening.{HoldStore};
 
+use crate::keeper::StoreFile;
 use crate::private::make_private;
 use crate::time::milliseconds;
-use sqlite_std_file::{FileFrom, Start, Unknown};
+use sqlite_std_file::{Start, Unknown};
 use st_journal::Journal;
 use st_journal_copy::{Copier, CopyFault, Counting, RecordSource, bring_up, has_more};
 use st_journal_file::{FileJournal, OpenError, Silent};
@@ -49,8 +50,8 @@ pub fn copy_into<S: Start, L: RecordSource>(
     source: &mut L,
     left: Option<u64>,
 ) -> Result<u64, CopyFault>
-    ensures { IfOk result (Copied (HoldStore (image_at S.Start) opening.now) ⟦<FileJournal<FileFrom<S>> as Journal>⟧.list
-        ⟦<FileJournal<FileFrom<S>> as Journal>⟧.misreads (L.gives source.new) left) }
+    ensures { IfOk result (Copied (HoldStore (image_at S.Start) opening.now) ⟦<StoreFile<S> as Journal>⟧
+        (L.gives source.new) left) }
 {
     if make_private(rt, path).is_err() {
         return Err(CopyFault::Io);

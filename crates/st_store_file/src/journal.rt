@@ -1,13 +1,11 @@
 //! A short list in place of the list of a journal.
 ghost use Rattle.std.specs.Prelude.{◌≡◌, ◌⊎◌, ◌≤◌, [], List, IfOk, IfErr, OnOk, length};
 ghost use Rattle.st_journal.specs.declared.record.Record.{Record};
-ghost use Rattle.st_journal.specs.Replays.{Replays};
+ghost use Rattle.st_journal.specs.Leaving.{LeavesOnly};
 ghost use Rattle.st_command.specs.Opening.{IsOfStore};
 ghost use Rattle.st_command_line.specs.declared.fault.Fault.TheVariants.{StoreIo};
 ghost use Rattle.st_journal_compact.specs.Judging.{AreShortOf};
-ghost use Rattle.st_journal_compact.specs.Shortening.{IsShortList};
-ghost use Rattle.st_journal_compact.specs.Watching.{Watched, Watches};
-ghost use Rattle.st_store_file.specs.Shortened.{AreCounted};
+ghost use Rattle.st_store_file.specs.Shortened.{AreCountedBy, IsShortBy};
 
 use crate::counts::ListLengths;
 use sqlite_disk::Disk;
@@ -20,7 +18,7 @@ use std::alloc::Global;
 // A journal that takes records leaves its list if the process ends.
 pub(crate) fn leave<J: Journal>(journal: &J)
     requires ready { J.is_ready journal.now }
-    ensures { J.misreads journal.now ≡ 0 → (left : List Record) → J.may_leave journal.now left → left ≡ J.list journal.now }
+    ensures { LeavesOnly J.Journal journal.now (λ left. left ≡ J.list journal.now) }
 {}
 
 // The records of the short list.
@@ -43,15 +41,13 @@ fn put_in_place<D: Disk + Drop>(
 ) -> Result<(), Fault>
     requires ready { ⟦<FileJournal<D> as Journal>⟧.is_ready journal.old }
     ensures ready { OnOk result (⟦<FileJournal<D> as Journal>⟧.is_ready journal.new) }
-    ensures misreads { ⟦<FileJournal<D> as Journal>⟧.misreads journal.old ≤ ⟦<FileJournal<D> as Journal>⟧.misreads journal.new }
-    ensures put { OnOk result (⟦<FileJournal<D> as Journal>⟧.misreads journal.new ≡ 0
-        → (⟦<FileJournal<D> as Journal>⟧.list journal.new ≡ kept.now)
-        ⊎ ((⟦<FileJournal<D> as Journal>⟧.list journal.new ≡ ⟦<FileJournal<D> as Journal>⟧.list journal.old)
-        × (length kept.now ≡ before))) }
+    ensures misreads { let j = ⟦<FileJournal<D> as Journal>⟧ in j.misreads journal.old ≤ j.misreads journal.new }
+    ensures put { let j = ⟦<FileJournal<D> as Journal>⟧ in OnOk result (j.misreads journal.new ≡ 0
+        → (j.list journal.new ≡ kept.now)
+        ⊎ ((j.list journal.new ≡ j.list journal.old) × (length kept.now ≡ before))) }
     ensures err { IfErr result (λ fault. fault ≡ StoreIo) }
-    ensures crash { ⟦<FileJournal<D> as Journal>⟧.misreads journal.new ≡ 0 → (left : List Record)
-        → ⟦<FileJournal<D> as Journal>⟧.may_leave journal.new left
-        → (left ≡ ⟦<FileJournal<D> as Journal>⟧.list journal.old) ⊎ (left ≡ kept.now) }
+    ensures crash { let j = ⟦<FileJournal<D> as Journal>⟧ in
+        LeavesOnly j journal.new (λ left. (left ≡ j.list journal.old) ⊎ (left ≡ kept.now)) }
 {
     leave(journal);
     if kept.len() as u64 == before {
@@ -72,18 +68,13 @@ pub fn shorten_journal<D: Disk + Drop>(
 ) -> Result<ListLengths, Fault>
     requires ready { ⟦<FileJournal<D> as Journal>⟧.is_ready journal.old }
     ensures ready { OnOk result (⟦<FileJournal<D> as Journal>⟧.is_ready journal.new) }
-    ensures misreads { ⟦<FileJournal<D> as Journal>⟧.misreads journal.old ≤ ⟦<FileJournal<D> as Journal>⟧.misreads journal.new }
-    ensures short { IfOk result (λ counts. ⟦<FileJournal<D> as Journal>⟧.misreads journal.new ≡ 0 → (first : Watched) → first.changes ≡ []
-        → Replays Watches first (⟦<FileJournal<D> as Journal>⟧.list journal.old) state
-        → AreCounted first.state.directory (⟦<FileJournal<D> as Journal>⟧.list journal.old) (⟦<FileJournal<D> as Journal>⟧.list journal.new)
-        counts) }
+    ensures misreads { let j = ⟦<FileJournal<D> as Journal>⟧ in j.misreads journal.old ≤ j.misreads journal.new }
+    ensures short { let j = ⟦<FileJournal<D> as Journal>⟧ in IfOk result (λ counts. j.misreads journal.new ≡ 0
+        → AreCountedBy state (j.list journal.old) (j.list journal.new) counts) }
     ensures err { IfErr result IsOfStore }
     // A crash inside the call is a disk that fails from some moment on, so that the call ends as `StoreIo`.
-    ensures crash { ⟦<FileJournal<D> as Journal>⟧.misreads journal.new ≡ 0 → (first : Watched) → first.changes ≡ []
-        → Replays Watches first (⟦<FileJournal<D> as Journal>⟧.list journal.old) state
-        → (left : List Record) → ⟦<FileJournal<D> as Journal>⟧.may_leave journal.new left
-        → (left ≡ ⟦<FileJournal<D> as Journal>⟧.list journal.old)
-        ⊎ IsShortList first.state.directory (⟦<FileJournal<D> as Journal>⟧.list journal.old) left }
+    ensures crash { let j = ⟦<FileJournal<D> as Journal>⟧ in
+        LeavesOnly j journal.new (λ left. (left ≡ j.list journal.old) ⊎ IsShortBy state (j.list journal.old) left) }
 {
     leave(journal);
     let changes = state.into_changes();

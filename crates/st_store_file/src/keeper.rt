@@ -11,6 +11,9 @@ use st_command_line::Fault;
 use st_journal::Replay;
 use st_journal_file::{FileJournal, OpenError};
 
+/// The journal in the file of a store.
+pub type StoreFile<S> = FileJournal<FileFrom<S>>;
+
 // The fault that an error of an opening is.
 fn fault_of(error: OpenError) -> Fault
     ensures kind { IsOfStore result }
@@ -52,19 +55,18 @@ impl<'a, S: Start> SqliteKeeper<'a, S> {
     }
 }
 
-impl<S: Start> Keeper<FileJournal<FileFrom<S>>> for SqliteKeeper<'_, S> {
-    ghost use Rattle.sqlite_wal.specs.Files.{image_at};
-    ghost use Rattle.st_journal_file.specs.Opening.{HoldStore};
+impl<S: Start> Keeper<StoreFile<S>> for SqliteKeeper<'_, S> {
+    ghost use Rattle.st_journal_file.specs.Opening.{files_hold};
 
     // What the files held is supposed of all paths at once, since the kit's `Start` names none.
-    ghost holds = { λ _ _. HoldStore (image_at S.Start) };
+    ghost holds = { λ _. files_hold S.Start };
 
     fn open<R: Replay>(
         self,
         path: &str,
         opening: &str,
         state: &mut R,
-    ) -> Result<FileJournal<FileFrom<S>>, Fault> {
+    ) -> Result<StoreFile<S>, Fault> {
         if make_private(self.runtime, path).is_err() {
             return Err(Fault::StoreIo);
         }

@@ -17,5 +17,5 @@ pub use copier::{SqliteCopier, copy_into};
 pub use counts::ListLengths;
 pub use file::shorten_file;
 pub use journal::shorten_journal;
-pub use keeper::SqliteKeeper;
+pub use keeper::{SqliteKeeper, StoreFile};
 pub use words::{shorten_for_run, shorten_for_served};

@@ -9,10 +9,10 @@ ghost use Rattle.st_journal_file.specs.Opening.{HoldStore};
 ghost use Rattle.st_store_file.specs.Asking.{IsNotDone, Shortens};
 
 use crate::asked::{Asked, shorten_asked};
-use sqlite_std_file::{FileFrom, Start};
+use crate::keeper::StoreFile;
+use sqlite_std_file::Start;
 use st_command_line::{Fault, RunArguments, ServedArguments};
 use st_journal::Journal;
-use st_journal_file::FileJournal;
 use std::io::Write;
 
 /// Makes the list of the store short where the arguments of `st_run` ask for it, and says on `faults` how many changes it had and has.
@@ -23,10 +23,9 @@ pub fn shorten_for_run<S: Start, F: Write>(
     start: S,
     said: &RunArguments<'_>,
     faults: &mut F,
-) -> Result<Option<FileJournal<FileFrom<S>>>, Fault>
+) -> Result<Option<StoreFile<S>>, Fault>
     ensures ok { IfOk result (λ journal. (words : List Text) → SaysRun words said.now
-        → Shortens (HoldStore (image_at S.Start)) ⟦<FileJournal<FileFrom<S>> as Journal>⟧.list
-        ⟦<FileJournal<FileFrom<S>> as Journal>⟧.misreads ⟦<FileJournal<FileFrom<S>> as Journal>⟧.may_leave
+        → Shortens (HoldStore (image_at S.Start)) ⟦<StoreFile<S> as Journal>⟧
         run_command words journal) }
     ensures unasked { (result ≡ Ok None) → F.contents faults.new ≡ F.contents faults.old }
     ensures err { IfErr result (λ fault. (words : List Text) → SaysRun words said.now
@@ -48,10 +47,9 @@ pub fn shorten_for_served<S: Start, F: Write>(
     start: S,
     said: &ServedArguments<'_>,
     faults: &mut F,
-) -> Result<Option<FileJournal<FileFrom<S>>>, Fault>
+) -> Result<Option<StoreFile<S>>, Fault>
     ensures ok { IfOk result (λ journal. (words : List Text) → SaysServed words said.now
-        → Shortens (HoldStore (image_at S.Start)) ⟦<FileJournal<FileFrom<S>> as Journal>⟧.list
-        ⟦<FileJournal<FileFrom<S>> as Journal>⟧.misreads ⟦<FileJournal<FileFrom<S>> as Journal>⟧.may_leave
+        → Shortens (HoldStore (image_at S.Start)) ⟦<StoreFile<S> as Journal>⟧
         served_command words journal) }
     ensures unasked { (result ≡ Ok None) → F.contents faults.new ≡ F.contents faults.old }
     ensures err { IfErr result (λ fault. (words : List Text) → SaysServed words said.now

@@ -9,7 +9,7 @@ use Rattle.st_text.specs.Texts.{comes_before}
 use Rattle.st_text.proofs.Sorted.{one_before}
 use Rattle.st_index.specs.declared.row.Row.{Row}
 use Rattle.st_index.specs.Order.{InScanOrder, scan_key}
-use Rattle.st_index.specs.Rows.{rank_of}
+use Rattle.st_index.specs.inner.Entries.{rank_of}
 use Rattle.st_index.proofs.Scanning.{before_by_place}
 use Rattle.st_table.proofs.Standing.{filter_none}
 

@@ -6,7 +6,7 @@ use Rattle.std.proofs.lemmas.List.Elements.{All-head, All-tail, filter-append as
 use Rattle.st_key.specs.declared.period.Period.{Period}
 use Rattle.st_index.specs.declared.row.Row.{Row}
 use Rattle.st_index.specs.inner.Index.{IsAbsent, IsLeafAt, Region}
-use Rattle.st_index.specs.Rows.{EntryValue, Name, name_of, rank_of, rows_of}
+use Rattle.st_index.specs.inner.Entries.{Name, name_of, EntryValue, rank_of, rows_of}
 use Rattle.st_index.proofs.Climbing.{all_left, all_right}
 use Rattle.st_index.proofs.Taking.{absent_entries, absent_high, absent_join, absent_low, around, rows_at, rows_below, rows_from}
 use Rattle.st_table.proofs.Standing.{filter_none}

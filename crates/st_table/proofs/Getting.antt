@@ -10,7 +10,8 @@ use Rattle.st_text.proofs.Resorting.{Apart, R, filter_in_order}
 use Rattle.st_text.proofs.Same.{same-eq, same-refl}
 use Rattle.st_index.specs.declared.row.Row.{Row}
 use Rattle.st_table.specs.Rows.{Held, full_name}
-use Rattle.st_table.specs.Table.{HasEachOnce, is_named, rows_by_label}
+use Rattle.st_table.specs.Table.{is_named, rows_by_label}
+use Rattle.st_table.specs.inner.Once.{HasEachOnce}
 use Rattle.st_table.proofs.Reading.{AllApart, read_back}
 use Rattle.st_table.proofs.Storing.{once_head, once_tail}
 

@@ -18,8 +18,9 @@ use Rattle.st_text.proofs.Resorting.{Apart, R, filter_in_order, in_order_again, 
 use Rattle.st_text.proofs.Same.{same-refl}
 use Rattle.st_index.specs.declared.row.Row.{Row}
 use Rattle.st_index.specs.Order.{scan_key}
-use Rattle.st_index.specs.Rows.{name_of}
-use Rattle.st_table.specs.Table.{HasEachOnce, is_named, rows_with_name, with_row, without_named}
+use Rattle.st_index.specs.inner.Entries.{name_of}
+use Rattle.st_table.specs.Table.{is_named, with_row, without_named}
+use Rattle.st_table.specs.inner.Once.{HasEachOnce, rows_with_name}
 use Rattle.st_table.proofs.Naming.{none_fails}
 use Rattle.st_table.proofs.Replacing.{bears}
 

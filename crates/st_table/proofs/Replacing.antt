@@ -11,9 +11,10 @@ use Rattle.st_text.proofs.Same.{same-eq, same-refl}
 use Rattle.st_index.specs.declared.row.Row.{Row}
 use Rattle.st_index.specs.inner.Index.{Adds, Swaps, Holds, IsAbsent}
 use Rattle.st_index.specs.Order.{InScanOrder, scan_key}
-use Rattle.st_index.specs.Rows.{Name, key_end, name_of, rank_of}
+use Rattle.st_index.specs.inner.Entries.{Name, name_of, key_end, rank_of}
 use Rattle.st_index.proofs.Scanning.{scan_apart}
-use Rattle.st_table.specs.Table.{is_named, rows_with_name, with_row, without_named}
+use Rattle.st_table.specs.Table.{is_named, with_row, without_named}
+use Rattle.st_table.specs.inner.Once.{rows_with_name}
 use Rattle.st_table.specs.inner.Found.{IsAt}
 use Rattle.st_table.proofs.Naming.{Passing, both_fail, cut_fails, none_fails, one}
 use Rattle.st_index.proofs.Sorting.{all_without, middle, rank_below, placed, scan_filter}

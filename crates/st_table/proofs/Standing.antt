@@ -8,10 +8,11 @@ use Rattle.st_key.specs.declared.period.Period.TheVariants.{Day, Week}
 use Rattle.st_text.specs.Texts.{Text}
 use Rattle.st_index.specs.declared.row.Row.{Row}
 use Rattle.st_index.specs.inner.Index.{IsAbsent}
-use Rattle.st_index.specs.Rows.{Name, key_end, name_of, rank_of}
+use Rattle.st_index.specs.inner.Entries.{Name, name_of, key_end, rank_of}
 use Rattle.st_index.proofs.Sorting.{rank_below}
 use Rattle.st_table.specs.declared.seed.Seed.{Seed}
-use Rattle.st_table.specs.Table.{HasEachOnce, is_named, rows_with_name}
+use Rattle.st_table.specs.Table.{is_named}
+use Rattle.st_table.specs.inner.Once.{HasEachOnce, rows_with_name}
 use Rattle.st_table.specs.inner.Found.{IsAt}
 use Rattle.st_table.specs.inner.Places.{AddsNoKeys, IsTied, KeepsKeys, hash_of, label_hash, name_hash, number_at, place_of, stands_at}
 use Rattle.st_table.proofs.Replacing.{elsewhere, named, none_absent}

@@ -8,11 +8,12 @@ use Rattle.st_text.specs.Texts.{Text, comes_before, put_in_order, in_order}
 use Rattle.st_index.specs.declared.row.Row.{Row}
 use Rattle.st_index.specs.inner.Index.{Adds, IsAbsent}
 use Rattle.st_index.specs.Order.{InScanOrder, scan_key}
-use Rattle.st_index.specs.Rows.{Name, name_of, rank_of}
+use Rattle.st_index.specs.inner.Entries.{Name, name_of, rank_of}
 use Rattle.st_table.specs.declared.seed.Seed.{Seed}
 use Rattle.st_table.specs.inner.Found.{IsAt, IsFound}
 use Rattle.st_table.specs.inner.Places.{IsTied, name_hash, number_at, one_at, one_before, place_of, stands_at}
-use Rattle.st_table.specs.Table.{HasEachOnce, is_named, rows_with_name, with_row, without_named}
+use Rattle.st_table.specs.Table.{is_named, with_row, without_named}
+use Rattle.st_table.specs.inner.Once.{HasEachOnce, rows_with_name}
 use Rattle.st_table.proofs.Naming.{cut_fails}
 use Rattle.st_table.proofs.Replacing.{bears, holds, named}
 use Rattle.st_index.proofs.Sorting.{in_order_already, middle, scan_filter}

@@ -28,7 +28,3 @@ without_table table rows = filter (λ held. not (same held.table table)) rows
 -- a put replaces the row of the same table, id and label text
 abbrev pub put_row : {A : Type 0} → Held A → List (Held A) → List (Held A)
 put_row held rows = in_order full_name (held ∷ without_row held.table held.row.id held.row.label rows)
-
--- rows of a table, as they are held
-abbrev pub all_held : {A : Type 0} → Text → List (Row A) → List (Held A)
-all_held table rows = map (λ row. record { table = table; row = row }) rows

@@ -1,10 +1,9 @@
 -- What a table is seen as, and what changes make of it.
-use Rattle.std.specs.Prelude.{◌≤◌, length, List, [], ◌∷◌, Bool, ◌&&◌, not, filter}
+use Rattle.std.specs.Prelude.{List, [], ◌∷◌, Bool, ◌&&◌, not, filter}
 use Rattle.st_text.specs.Texts.{Text, same, in_order}
 use Rattle.st_key.specs.declared.period.Period.{Period}
 use Rattle.st_index.specs.declared.row.Row.{Row}
 use Rattle.st_index.specs.Order.{scan_key}
-use Rattle.st_index.specs.Rows.{Name}
 
 -- a table's period, and its rows in scan order
 pub record TableValue (A : Type 0) : Type 0 where
@@ -23,14 +22,6 @@ without_named id label rows = filter (λ row. not (is_named id label row)) rows
 abbrev pub with_row : {A : Type 0} → Period → Row A → List (Row A) → List (Row A)
 with_row period row rows = in_order (scan_key period) (row ∷ without_named row.id row.label rows)
 
--- the rows of this name
-abbrev pub rows_with_name : {A : Type 0} → Name → List (Row A) → List (Row A)
-rows_with_name name rows = filter (is_named name.id name.label) rows
-
 -- of a table's rows those of an id that pass a test, by the bytes of their labels
 abbrev pub rows_by_label : {A : Type 0} → (id : Text) → (Row A → Bool) → List (Row A) → List (Row A)
 rows_by_label id test rows = in_order (λ row. row.label ∷ []) (filter (λ row. same row.id id && test row) rows)
-
--- no two rows have the same id and label text
-abbrev pub HasEachOnce : {A : Type 0} → List (Row A) → Type 0
-HasEachOnce rows = (name : Name) → length (rows_with_name name rows) ≤ 1

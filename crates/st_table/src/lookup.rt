@@ -4,10 +4,11 @@ ghost use Rattle.st_key.specs.declared.period.Period.{Period};
 ghost use Rattle.st_key.specs.Key.{rank};
 ghost use Rattle.st_text.specs.Texts.{in_order};
 ghost use Rattle.st_index.specs.inner.Index.{IsAbsent};
-ghost use Rattle.st_index.specs.RowViews.{row_of_view, viewed};
-ghost use Rattle.st_index.specs.Rows.{Rises, key_end, rank_of, rows_of};
+ghost use Rattle.st_index.specs.RowViews.{row_of_view};
+ghost use Rattle.st_index.specs.inner.Views.{viewed};
+ghost use Rattle.st_index.specs.inner.Entries.{EntriesRise, key_end, rank_of, rows_of};
 ghost use Rattle.st_scan.specs.Visible.{is_visible};
-ghost use Rattle.st_table.specs.Table.{HasEachOnce};
+ghost use Rattle.st_table.specs.inner.Once.{HasEachOnce};
 ghost use Rattle.st_table.specs.inner.Found.{IsFound, is_shown_of};
 ghost use Rattle.st_table.specs.inner.Places.{IsTied, name_hash, number_at, place_of};
 
@@ -19,9 +20,9 @@ use std::alloc::{AllocError, Allocator};
 
 // Whether entries have a row of this key and this name.
 fn have_row<A: Allocator + Copy>(held: &[Entry<A>], key: Key, id: &str, label: &str) -> bool
-    ensures held { result ≡ true → (period : Period) (lo hi : _) → Rises period lo hi held.now
+    ensures held { result ≡ true → (period : Period) (lo hi : _) → EntriesRise period lo hi held.now
         → IsAbsent period (rank key) (record { id = id.now; label = label.now }) (rows_of held.now) → ⊥ }
-    ensures absent { result ≡ false → (period : Period) (lo hi : _) → Rises period lo hi held.now
+    ensures absent { result ≡ false → (period : Period) (lo hi : _) → EntriesRise period lo hi held.now
         → IsAbsent period (rank key) (record { id = id.now; label = label.now }) (rows_of held.now) }
 {
     let Ok(at) = entries::find(held, key) else {

@@ -4,7 +4,7 @@ ghost use Rattle.st_key.specs.declared.point.Point.{Point as PointValue};
 ghost use Rattle.st_box.specs.Query.{is_inside};
 ghost use Rattle.st_text.specs.Texts.{in_order};
 ghost use Rattle.st_index.specs.Order.{scan_key};
-ghost use Rattle.st_table.specs.Table.{HasEachOnce};
+ghost use Rattle.st_table.specs.inner.Once.{HasEachOnce};
 
 use crate::table::Table;
 use st_box::Query;

@@ -6,12 +6,13 @@ ghost use Rattle.st_key.specs.Key.{rank};
 ghost use Rattle.st_text.specs.Texts.{in_order};
 ghost use Rattle.st_index.specs.Order.{InScanOrder, scan_key};
 ghost use Rattle.st_index.specs.RowViews.{row_of_view};
-ghost use Rattle.st_index.specs.Rows.{name_of};
+ghost use Rattle.st_index.specs.inner.Entries.{name_of};
 ghost use Rattle.st_scan.specs.Grids.{grid_of};
 ghost use Rattle.st_scan.specs.inner.Pages.{visible_after};
 ghost use Rattle.st_scan.specs.Visible.{is_visible, visible_rows};
 ghost use Rattle.st_scan.specs.declared.fault.ScanFault.TheVariants.{BadGrid, BadLimit};
-ghost use Rattle.st_table.specs.Table.{HasEachOnce, rows_by_label, with_row, without_named};
+ghost use Rattle.st_table.specs.Table.{rows_by_label, with_row, without_named};
+ghost use Rattle.st_table.specs.inner.Once.{HasEachOnce};
 ghost use Rattle.st_table.specs.inner.Found.{IsFound};
 ghost use Rattle.st_table.specs.inner.Places.{IsTied, name_hash, number_at, place_of};
 
@@ -37,7 +38,8 @@ pub struct Table<I: RowIndex> {
 }
 
 impl<I: RowIndex> Model for Table<I> {
-    ghost use Rattle.st_table.specs.Table.{TableValue, HasEachOnce};
+    ghost use Rattle.st_table.specs.Table.{TableValue};
+    ghost use Rattle.st_table.specs.inner.Once.{HasEachOnce};
     ghost use Rattle.st_table.specs.inner.Places.{IsTied};
 
     ghost Value = { TableValue I.Alloc };

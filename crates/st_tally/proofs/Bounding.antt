@@ -22,7 +22,7 @@ inside_meets b q p w h =
     let y0 = le-leb b.y0 q.y1 (let a = w.y_from in let c = i.y_to in omega (arith, a, c)) in
     let y1 = le-leb q.y0 b.y1 (let a = i.y_from in let c = w.y_to in omega (arith, a, c)) in
     let t0 = le-leb b.t0 q.t1 (let a = w.t_from in let c = i.t_to in omega (arith, a, c)) in
-    let t1 = le-leb q.t0 b.t1 (let a = i.t_from in let c = w.t_to in omega (arith, a, c)) in
+    let t1 = le-leb q.t0 b.t1 (let a = i.t_from in omega (arith, a, w.t_to)) in
     and_from _ (nat_le q.t0 b.t1) (and_from _ (nat_le b.t0 q.t1) (and_from _ (nat_le q.y0 b.y1) (and_from _ (nat_le b.y0 q.y1) (and_from (nat_le b.x0 q.x1) (nat_le q.x0 b.x1) x0 x1) y0) y1) t0) t1
 
 pub lies_inside : (b : Bounds) (q : Query) (p : Point) → IsWithin b p → lies_in b q ≡ true → is_inside q p ≡ true
@@ -33,12 +33,12 @@ lies_inside b q p w h =
     let y0 = and_parts _ (nat_le q.y0 b.y0) y1.0 in
     let x = and_parts (nat_le q.x0 b.x0) (nat_le b.x1 q.x1) y0.0 in
     holds q p (record {
-      x_from = let a = leb-true q.x0 b.x0 x.0 in let c = w.x_from in omega (arith, a, c);
-      x_to = let a = leb-true b.x1 q.x1 x.1 in let c = w.x_to in omega (arith, a, c);
-      y_from = let a = leb-true q.y0 b.y0 y0.1 in let c = w.y_from in omega (arith, a, c);
-      y_to = let a = leb-true b.y1 q.y1 y1.1 in let c = w.y_to in omega (arith, a, c);
-      t_from = let a = leb-true q.t0 b.t0 t0.1 in let c = w.t_from in omega (arith, a, c);
-      t_to = let a = leb-true b.t1 q.t1 t1.1 in let c = w.t_to in omega (arith, a, c);
+      x_from = omega (arith, leb-true q.x0 b.x0 x.0, w.x_from);
+      x_to = omega (arith, leb-true b.x1 q.x1 x.1, w.x_to);
+      y_from = omega (arith, leb-true q.y0 b.y0 y0.1, w.y_from);
+      y_to = omega (arith, leb-true b.y1 q.y1 y1.1, w.y_to);
+      t_from = omega (arith, leb-true q.t0 b.t0 t0.1, w.t_from);
+      t_to = omega (arith, leb-true b.t1 q.t1 t1.1, w.t_to);
     })
 
 module _ {X : Type 0} where

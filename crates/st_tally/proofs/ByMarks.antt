@@ -9,7 +9,7 @@ use Rattle.st_box.specs.Query.{is_inside}
 use Rattle.st_text.specs.Texts.{Text}
 use Rattle.st_index.specs.declared.row.Row.{Row}
 use Rattle.st_index.specs.inner.Counting.{count_of, is_counted}
-use Rattle.st_index.specs.Rows.{EntryValue, rows_of}
+use Rattle.st_index.specs.inner.Entries.{EntryValue, rows_of}
 use Rattle.st_index.proofs.Climbing.{all_left, all_right}
 use Rattle.st_index.proofs.Putting.{rows-append, split_read}
 use Rattle.st_tally.specs.inner.Marks.{HasAt}

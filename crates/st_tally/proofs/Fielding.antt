@@ -13,7 +13,7 @@ use Rattle.st_index.specs.inner.Counting.{is_counted}
 use Rattle.st_index.specs.inner.Fields.{CanAdd, Counts, IsBetween}
 use Rattle.st_index.proofs.Tallying.{counts_not}
 use Rattle.st_tally.specs.declared.bounds.Bounds.{Bounds}
-use Rattle.st_index.specs.Rows.{EntryValue}
+use Rattle.st_index.specs.inner.Entries.{EntryValue}
 use Rattle.st_tally.specs.inner.Marks.{IsMark, verdict_on}
 use Rattle.st_tally.specs.declared.spots.Spot.{Spot}
 use Rattle.st_tally.specs.inner.Spots.{IsSpotOf}
@@ -44,6 +44,15 @@ module _ {A : Type 0} (q : Query) (field_of : Point → ℕ) (rows : List (Row A
       → All (λ (row : Row A). is_counted q judges row ≡ true → field_of row.point ≡ one) rows
   all_in_one judges one all = λ k d l counted. all k d l (and_parts _ _ counted).0
 
+module _ {A : Type 0} (labels : List Text) (e : EntryValue A) (number week : ℕ) (spot : Spot) (mark : IsMark labels e number week spot) (few : number < 65535) where
+  -- an entry's row by its mark: as many can be added
+  pub marked_fits : (counts : List ℕ) → CanAdd (length e.rows) counts → CanAdd 1 counts
+  marked_fits counts can = subst (λ (rows : List (Row A)). CanAdd (length rows) counts) (mark few).1 can
+
+  -- there is a point at the spot
+  pub marked_spot : (p : Point) × IsSpotOf week spot p
+  marked_spot = ((mark few).0.point, (mark few).2)
+
 module _ {A : Type 0} (q : Query) (judges : Text → Bool) (field_of : Point → ℕ) (labels : List Text) (e : EntryValue A) (number week : ℕ) (spot : Spot)
     (mark : IsMark labels e number week spot) where
   -- what was counted of an entry of one row by its mark
@@ -59,16 +68,7 @@ module _ {A : Type 0} (q : Query) (judges : Text → Bool) (field_of : Point →
       let one = sum_by-cons (λ (r : Row A). cond (is_counted q judges r && nat_eq (field_of r.point) field) 1 0) row [] in
       let same : cond (is_counted q judges row && nat_eq (field_of row.point) field) 1 0 ≡ cond (is_inside q row.point && verdict_on judges labels number && nat_eq (field_of row.point) field) 1 0 =
       ap {B = ℕ} (λ b. cond (is_inside q row.point && b && nat_eq (field_of row.point) field) 1 0) (sym (verdict_here judges labels number row.label (is.3 low))) in
-      let more = added row.point field is.2 in
-      omega (arith, one, same, more))
-
-  -- as many can be added
-  pub marked_fits : (counts : List ℕ) → number < 65535 → CanAdd (length e.rows) counts → CanAdd 1 counts
-  marked_fits counts few can = let is = mark few in subst (λ (rows : List (Row A)). CanAdd (length rows) counts) is.1 can
-
-  -- there is a point at the spot
-  pub marked_spot : number < 65535 → (p : Point) × IsSpotOf week spot p
-  marked_spot few = let is = mark few in (is.0.point, is.2)
+      omega (arith, one, same, added row.point field is.2))
 
   -- and where it is outside
   pub outside_counts : (counts : List ℕ) → number < 65535 → ((p : Point) → IsSpotOf week spot p → is_inside q p ≡ false) → Counts q judges field_of e.rows counts counts

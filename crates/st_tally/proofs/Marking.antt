@@ -7,7 +7,7 @@ use Rattle.std.proofs.lemmas.List.Edits.{get_or-insert_above, get_or-insert_at, 
 use Rattle.std.specs.List.{insert, remove}
 use Rattle.std.specs.Prelude.{is_some, IfNone, IfOk, IfSome, Option, None, Some, Result, Ok, Err}
 use Rattle.st_text.specs.Texts.{Text}
-use Rattle.st_index.specs.Rows.{EntryValue}
+use Rattle.st_index.specs.inner.Entries.{EntryValue}
 use Rattle.st_index.specs.declared.entries.Change.{Change}
 use Rattle.st_index.specs.inner.Changes.{IsChange}
 use Rattle.st_tally.specs.inner.Pages.{NodeValue, PageValue, entries_of_pages}
@@ -113,10 +113,6 @@ module _ {A : Type 0} where
             (are (i + 1) e ((closes i e h).1 over))
       ]
 
-  -- where no page has marks
-  pub marked_none : (labels : List Text) (pages : List PageMarks) (kids : List (NodeValue A)) → pages ≡ [] → AreMarkedBy labels pages kids
-  marked_none labels pages kids none = λ i p v page known kid. let l = page.0 in let n = ap length none in absurd (omega (arith, l, n))
-
   -- other marks for a page
   pub marked_set : (old new : List Text) (pages : List PageMarks) (kids now : List (NodeValue A)) (at : ℕ) (p : PageMarks) → Keeps old new
       → at < length pages → DifferAt at kids now → ((v : NodeValue A) → IsTrue p.known → HasAt now at v → AreMarks new (entries_of_pages v.pages) p)
@@ -145,23 +141,17 @@ module _ {A : Type 0} where
       elim (cases_lt i (length pages)) [
         | inl low ↦ marked i q v (at_before pages p i q low page) known kid
         | inr over ↦
-            let l = page.0 in
-            let n = length-append pages (p ∷ []) in
-            let same : i ≡ length pages = omega (arith, over, l, n) in
+            let same : i ≡ length pages = omega (arith, over, page.0, length-append pages (p ∷ [])) in
             let one : q ≡ p = same_at (pages ++ p ∷ []) i q p page (subst (λ j. HasAt (pages ++ p ∷ []) j p) (sym same) (at_last pages p)) in
             let off : q.known ≡ false = ap (λ (r : PageMarks). r.known) one ∙ none in
             cc
       ]
 
-  -- the same marks, with more labels
-  pub marked_kept : (old new : List Text) (pages : List PageMarks) (kids : List (NodeValue A)) → Keeps old new → AreMarkedBy old pages kids → AreMarkedBy new pages kids
-  marked_kept old new pages kids keeps marked = λ i q v page known kid. marks_kept old new (entries_of_pages v.pages) q keeps (marked i q v page known kid)
-
   -- a page without marks may change
   pub marked_off : (labels : List Text) (pages : List PageMarks) (kids now : List (NodeValue A)) (at : ℕ) → length pages ≤ at → DifferAt at kids now
       → AreMarkedBy labels pages kids → AreMarkedBy labels pages now
   marked_off labels pages kids now at over differ marked = λ i q v page known kid.
-      let l = page.0 in marked i q v page known (differ i v (λ same. omega (arith, l, over, same)) kid)
+      marked i q v page known (differ i v (λ same. omega (arith, page.0, over, same)) kid)
 
   -- and so may one whose marks are not known
   pub marked_unknown : (labels : List Text) (pages : List PageMarks) (kids now : List (NodeValue A)) (at : ℕ) (p : PageMarks) → p ≡ get_or pages at p
@@ -193,9 +183,7 @@ module _ {A : Type 0} where
             elim (cases_lt at i) [
               | inl more ↦
                   let before : (i - 1) + 1 ≡ i = omega (arith, more) in
-                  let l = page.0 in
-                  let n = length-insert pages at p fits in
-                  let low : i - 1 < length pages = omega (arith, l, n, more) in
+                  let low : i - 1 < length pages = omega (arith, page.0, length-insert pages at p fits, more) in
                   let read = ap (λ j. get_or (insert pages at p) j q) (sym before) ∙ get_or-insert_above pages at p q (i - 1) (omega (arith, more)) fits in
                   marked (i - 1) q v (low, page.1 ∙ read) known ((opens i v kid).1 more)
               | inr under ↦
@@ -210,27 +198,25 @@ module _ {A : Type 0} where
   pub marked_open_past : (labels : List Text) (pages : List PageMarks) (kids now : List (NodeValue A)) (at : ℕ) → length pages < at → OpensAt at kids now
       → AreMarkedBy labels pages kids → AreMarkedBy labels pages now
   marked_open_past labels pages kids now at over opens marked = λ i q v page known kid.
-      let l = page.0 in marked i q v page known ((opens i v kid).0 (omega (arith, l, over)))
+      marked i q v page known ((opens i v kid).0 (omega (arith, page.0, over)))
 
   -- a page goes
   pub marked_close : (labels : List Text) (pages : List PageMarks) (kids now : List (NodeValue A)) (at : ℕ) → at < length pages → ClosesAt at kids now
       → AreMarkedBy labels pages kids → AreMarkedBy labels (remove pages at) now
   marked_close labels pages kids now at fits closes marked = λ i q v page known kid.
-      let l = page.0 in
-      let n = length-remove pages at fits in
       elim (cases_lt i at) [
         | inl less ↦
             let low : i < length pages = omega (arith, less, fits) in
             marked i q v (low, page.1 ∙ get_or-remove_below pages at q i less fits) known ((closes i v kid).0 less)
         | inr over ↦
-            let low : i + 1 < length pages = omega (arith, l, n) in
+            let low : i + 1 < length pages = omega (arith, page.0, length-remove pages at fits) in
             marked (i + 1) q v (low, page.1 ∙ get_or-remove_above pages at q i over fits) known ((closes i v kid).1 over)
       ]
 
   pub marked_close_past : (labels : List Text) (pages : List PageMarks) (kids now : List (NodeValue A)) (at : ℕ) → length pages ≤ at → ClosesAt at kids now
       → AreMarkedBy labels pages kids → AreMarkedBy labels pages now
   marked_close_past labels pages kids now at over closes marked = λ i q v page known kid.
-      let l = page.0 in marked i q v page known ((closes i v kid).0 (omega (arith, l, over)))
+      marked i q v page known ((closes i v kid).0 (omega (arith, page.0, over)))
 
   -- what taking from a page says, as its node says it
   pub page_changed : {X : Type 0} (taken : Option X) (height : ℕ) (change : Change) (was is : List (PageValue A)) (old new : List (EntryValue A))
@@ -244,9 +230,8 @@ module _ {A : Type 0} where
       → v.height ≡ kid.height → (kid.height ≡ 0 → IsChange change (entries_of_pages kid.pages) (entries_of_pages v.pages))
       → HasAt (set kids i v) i x × (x.height ≡ 0 → IsChange change (entries_of_pages kid.pages) (entries_of_pages x.pages))
   changed_kid kids i kid v x change low read height changed =
-      let long = length-set kids i v in
       let is : x ≡ v = read ∙ get_or-set_same kids i v x low in (
-        (omega (arith, low, long), read),
+        (omega (arith, low, length-set kids i v), read),
         λ none. subst (λ (y : NodeValue A). IsChange change (entries_of_pages kid.pages) (entries_of_pages y.pages)) (sym is)
             (changed (sym height ∙ ap (λ (y : NodeValue A). y.height) (sym is) ∙ none)),
       )

@@ -27,25 +27,22 @@ set_read xs i old new l read same = ap (set xs i) same ∙ set_split xs i old l 
 
 -- what stands at a place of a list in which one item was changed
 pub at_other : {X : Type 0} (xs : List X) (n i : ℕ) (y x : X) → (i ≡ n → ⊥) → HasAt (set xs n y) i x → HasAt xs i x
-at_other xs n i y x ne h = (let l = h.0 in let s = length-set xs n y in omega (arith, l, s), h.1 ∙ get_or-set_other xs n i y x ne)
+at_other xs n i y x ne h = (omega (arith, h.0, length-set xs n y), h.1 ∙ get_or-set_other xs n i y x ne)
 
 pub at_changed : {X : Type 0} (xs : List X) (n : ℕ) (y x : X) → n < length xs → HasAt (set xs n y) n x → x ≡ y
 at_changed xs n y x l h = h.1 ∙ get_or-set_same xs n y x l
 
 pub at_last : {X : Type 0} (xs : List X) (x : X) → HasAt (xs ++ x ∷ []) (length xs) x
-at_last xs x = (let a = length-append xs (x ∷ []) in omega (arith, a), sym (get_or-append_seam xs x [] x))
+at_last xs x = (omega (arith, length-append xs (x ∷ [])), sym (get_or-append_seam xs x [] x))
 
 pub at_left : {X : Type 0} (xs : List X) (y : X) (i : ℕ) (x : X) → HasAt xs i x → HasAt (xs ++ y ∷ []) i x
-at_left xs y i x h = (let a = length-append xs (y ∷ []) in let l = h.0 in omega (arith, a, l), h.1 ∙ sym (get_or_append_left xs (y ∷ []) x i h.0))
+at_left xs y i x h = (omega (arith, length-append xs (y ∷ []), h.0), h.1 ∙ sym (get_or_append_left xs (y ∷ []) x i h.0))
 
 pub at_before : {X : Type 0} (xs : List X) (y : X) (i : ℕ) (x : X) → i < length xs → HasAt (xs ++ y ∷ []) i x → HasAt xs i x
 at_before xs y i x l h = (l, h.1 ∙ get_or_append_left xs (y ∷ []) x i l)
 
 pub keeps_all : (xs : List Text) → Keeps xs xs
 keeps_all xs i x h = h
-
-pub keeps_push : (xs : List Text) (y : Text) → Keeps xs (xs ++ y ∷ [])
-keeps_push xs y i x h = at_left xs y i x h
 
 pub there_is : {X : Type 0} (xs : List X) (i : ℕ) → i < length xs → (x : X) × HasAt xs i x
 there_is [] i l = absurd (omega (arith, l))
@@ -64,10 +61,9 @@ opens_insert xs at x fits = λ i y h.
 
 pub closes_remove : {X : Type 0} (xs : List X) (at : ℕ) → at < length xs → ClosesAt at xs (remove xs at)
 closes_remove xs at fits = λ i y h.
-    let l = h.0 in
     let n = length-remove xs at fits in (
       λ less. (omega (arith, less, fits), h.1 ∙ get_or-remove_below xs at y i less fits),
-      λ over. (omega (arith, l, n), h.1 ∙ get_or-remove_above xs at y i over fits),
+      λ over. (omega (arith, h.0, n), h.1 ∙ get_or-remove_above xs at y i over fits),
     )
 
 pub differ_set : {X : Type 0} (xs : List X) (at : ℕ) (x : X) → DifferAt at xs (set xs at x)

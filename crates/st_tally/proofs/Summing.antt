@@ -33,12 +33,6 @@ next_lists f rows xs i x below read =
     ∙ ap (flat_map f) (ap (λ y. take i xs ++ y ∷ []) read ∙ sym (take_more xs i x below)))
 
 module _ {A : Type 0} where
-  pub sums_none : (s : Summary A) → s.labels.counts.items ≡ [] → Sums s []
-  sums_none s empty = record {
-    within = λ k d l. absurd (omega (arith, l));
-    counted = λ h judges. ap (total judges) empty;
-  }
-
   pub labelled-append : (judges : Text → Bool) (rows more : List (Row A)) → labelled judges (rows ++ more) ≡ labelled judges rows + labelled judges more
   labelled-append judges rows more = sum_by-append (λ (r : Row A). cond (judges r.label) 1 0) rows more
 
@@ -52,10 +46,7 @@ module _ {A : Type 0} where
     within = All-append (λ (r : Row A). IsWithin new.bounds r.point) rows more (wider old.bounds new.bounds wide rows sums.within) within;
     counted = λ h judges.
         let put = puts h in
-        let n = put.1 judges in
-        let was = sums.counted put.0 judges in
-        let apart = labelled-append judges rows more in
-        omega (arith, n, was, apart);
+        omega (arith, put.1 judges, sums.counted put.0 judges, labelled-append judges rows more);
   }
 
   pub sums_one : (old new : Summary A) (rows : List (Row A)) (row : Row A) → Sums old rows
@@ -65,7 +56,7 @@ module _ {A : Type 0} where
   sums_one old new rows row sums wide inside puts =
       sums_more old new rows (row ∷ []) sums wide
       (All-cons (λ (r : Row A). IsWithin new.bounds r.point) row [] inside (λ k d l. absurd (omega (arith, l))))
-      (λ h. let put = puts h in (put.0, λ judges. let n = put.1 judges in omega (arith, n)))
+      (λ h. let put = puts h in (put.0, λ judges. omega (arith, put.1 judges)))
 
   pub sums_all : (old new other : Summary A) (rows more : List (Row A)) → Sums old rows → Sums other more
       → ((p : Point) → IsWithin old.bounds p → IsWithin new.bounds p) → ((p : Point) → IsWithin other.bounds p → IsWithin new.bounds p)
@@ -74,7 +65,7 @@ module _ {A : Type 0} where
       → Sums new (rows ++ more)
   sums_all old new other rows more sums others wide wide_too puts all =
       sums_more old new rows more sums wide (wider other.bounds new.bounds wide_too more others.within)
-      (λ h. let put = puts h in (put.0, λ judges. let n = put.1 judges in let m = others.counted (all h) judges in omega (arith, n, m)))
+      (λ h. let put = puts h in (put.0, λ judges. omega (arith, put.1 judges, others.counted (all h) judges)))
 
   -- and the summary of some rows that of the first of them
   pub sums_fewer : (old new : Summary A) (rows more : List (Row A)) → Sums old (rows ++ more) → new.bounds ≡ old.bounds
@@ -84,10 +75,7 @@ module _ {A : Type 0} where
     within = subst (λ b. All (λ (r : Row A). IsWithin b r.point) rows) (sym same) (all_left (λ (r : Row A). IsWithin old.bounds r.point) rows more sums.within);
     counted = λ h judges.
         let taken = takes h in
-        let all = sums.counted taken.0 judges in
-        let apart = labelled-append judges rows more in
-        let less = taken.1 judges in
-        omega (arith, all, apart, less);
+        omega (arith, sums.counted taken.0 judges, labelled-append judges rows more, taken.1 judges);
   }
 
   pub sums_less : (old new : Summary A) (rows : List (Row A)) (row : Row A) → Sums old (rows ++ row ∷ []) → new.bounds ≡ old.bounds
@@ -95,7 +83,7 @@ module _ {A : Type 0} where
       → Sums new rows
   sums_less old new rows row sums same takes =
       sums_fewer old new rows (row ∷ []) sums same
-      (λ h. let taken = takes h in (taken.0, λ judges. let n = taken.1 judges in omega (arith, n)))
+      (λ h. let taken = takes h in (taken.0, λ judges. omega (arith, taken.1 judges)))
 
   pub sums_all_less : (old new other : Summary A) (rows more : List (Row A)) → Sums old (rows ++ more) → Sums other more → new.bounds ≡ old.bounds
       → CountsLess old.labels new.labels (λ judges. total judges other.labels.counts.items)
@@ -103,7 +91,7 @@ module _ {A : Type 0} where
       → Sums new rows
   sums_all_less old new other rows more sums others same takes all =
       sums_fewer old new rows more sums same
-      (λ h. let taken = takes h in (taken.0, λ judges. let n = taken.1 judges in let m = others.counted (all h) judges in omega (arith, n, m)))
+      (λ h. let taken = takes h in (taken.0, λ judges. omega (arith, taken.1 judges, others.counted (all h) judges)))
 
   -- rows may be summed up in any order
   pub sums_added : (s : Summary A) (row : Row A) (old new : List (Row A)) → Adds row old new → Sums s (old ++ row ∷ []) → Sums s new
@@ -116,12 +104,9 @@ module _ {A : Type 0} where
       record {
         within = subst (All P) (sym a.new_is) (All-append P a.front (row ∷ a.back) (all_left P a.front a.back split) tail);
         counted = λ h judges.
-            let whole = sums.counted h judges in
-            let last = labelled-append judges old (row ∷ []) in
             let before = ap (labelled judges) a.old_is ∙ labelled-append judges a.front a.back in
             let after = ap (labelled judges) a.new_is ∙ labelled-append judges a.front (row ∷ a.back) in
-            let there = labelled-append judges (row ∷ []) a.back in
-            omega (arith, whole, last, before, after, there);
+            omega (arith, sums.counted h judges, labelled-append judges old (row ∷ []), before, after, labelled-append judges (row ∷ []) a.back);
       }
 
   pub sums_taken : (s : Summary A) (row : Row A) (old new : List (Row A)) → Adds row new old → Sums s old → Sums s (new ++ row ∷ [])
@@ -133,12 +118,9 @@ module _ {A : Type 0} where
       record {
         within = All-append P new (row ∷ []) kept (All-cons P row [] (All-head P row a.back tail) (λ k d l. absurd (omega (arith, l))));
         counted = λ h judges.
-            let whole = sums.counted h judges in
-            let last = labelled-append judges new (row ∷ []) in
             let before = ap (labelled judges) a.old_is ∙ labelled-append judges a.front a.back in
             let after = ap (labelled judges) a.new_is ∙ labelled-append judges a.front (row ∷ a.back) in
-            let there = labelled-append judges (row ∷ []) a.back in
-            omega (arith, whole, last, before, after, there);
+            omega (arith, sums.counted h judges, labelled-append judges new (row ∷ []), before, after, labelled-append judges (row ∷ []) a.back);
       }
 
   -- a row in the place of one with an equal label
@@ -150,11 +132,9 @@ module _ {A : Type 0} where
       record {
         within = subst (All P) (sym w.new_is) (All-append P w.front (row ∷ w.back) (all_left P w.front (out ∷ w.back) split) tail);
         counted = λ h judges.
-            let whole = sums.counted h judges in
             let before = ap (labelled judges) w.old_is ∙ labelled-append judges w.front (out ∷ w.back) in
             let after = ap (labelled judges) w.new_is ∙ labelled-append judges w.front (row ∷ w.back) in
-            let one = labelled-append judges (out ∷ []) w.back in
             let other = labelled-append judges (row ∷ []) w.back in
             let label : ◌≡◌ {A = ℕ} (cond (judges row.label) 1 0) (cond (judges out.label) 1 0) = ap {B = ℕ} (λ l. cond (judges l) 1 0) same in
-            omega (arith, whole, before, after, one, other, label);
+            omega (arith, sums.counted h judges, before, after, labelled-append judges (out ∷ []) w.back, other, label);
       }

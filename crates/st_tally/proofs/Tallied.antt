@@ -12,17 +12,17 @@ use Rattle.st_box.specs.Query.{is_inside}
 use Rattle.st_text.specs.Texts.{Text}
 use Rattle.st_index.specs.declared.row.Row.{Row}
 use Rattle.st_index.specs.inner.Counting.{count_of, is_counted}
-use Rattle.st_index.specs.Rows.{EntryValue}
+use Rattle.st_index.specs.inner.Entries.{EntryValue}
 use Rattle.st_index.proofs.Sums.{sum_all, sum_by-flat_map, sum_one_more}
 use Rattle.st_tally.specs.declared.marks.Marks.{Marks}
 use Rattle.st_tally.specs.declared.page_marks.PageMarks.{PageMarks}
-use Rattle.st_tally.specs.inner.Marks.{AreKnown, AreMarks, HasAt, IsMark, MakeUp, tallied, verdict_on}
+use Rattle.st_tally.specs.inner.Marks.{AreKnown, AreMarks, HasAt, IsMark, IsTested, MakeUp, tallied, verdict_on}
 use Rattle.st_tally.specs.declared.spots.Spot.{Spot}
 use Rattle.st_tally.specs.inner.Spots.{IsSpotOf}
 use Rattle.st_tally.specs.inner.Sums.{AreInside}
 use Rattle.st_tally.proofs.ByMarks.{one_row}
 use Rattle.st_tally.proofs.Labels.{found_more}
-use Rattle.st_tally.proofs.Placing.{read_at}
+use Rattle.st_tally.proofs.Placing.{any_default, read_at}
 use Rattle.st_tally.proofs.Spotting.{same_point}
 
 pub verdict_here : (judges : Text → Bool) (labels : List Text) (n : ℕ) (l : Text) → HasAt labels n l → verdict_on judges labels n ≡ judges l
@@ -34,22 +34,17 @@ sum_more n ns = sum_by-cons (λ k. k) n ns
 pub sum_set : (ns : List ℕ) (n k : ℕ) → n < length ns → sum (set ns n (get_or ns n 0 + k)) ≡ sum ns + k
 sum_set [] n k low = absurd (omega (arith, low))
 sum_set (m ∷ ms) zero k low =
-    let was = sum_more m ms in
-    let is = sum_more (m + k) ms in
-    omega (arith, was, is)
+    omega (arith, sum_more m ms, sum_more (m + k) ms)
 sum_set (m ∷ ms) (suc n) k low =
     let h = sum_set ms n k (omega (arith, low)) in
-    let was = sum_more m ms in
-    let is = sum_more m (set ms n (get_or ms n 0 + k)) in
-    omega (arith, h, was, is)
+    omega (arith, h, sum_more m ms, sum_more m (set ms n (get_or ms n 0 + k)))
 
 pub below_sum : (ns : List ℕ) (n : ℕ) → n < length ns → get_or ns n 0 ≤ sum ns
 below_sum [] n low = absurd (omega (arith, low))
-below_sum (m ∷ ms) zero low = let is = sum_more m ms in omega (arith, is)
+below_sum (m ∷ ms) zero low = omega (arith, sum_more m ms)
 below_sum (m ∷ ms) (suc n) low =
     let h = below_sum ms n (omega (arith, low)) in
-    let is = sum_more m ms in
-    omega (arith, h, is)
+    omega (arith, h, sum_more m ms)
 
 pub at_most : (b : Bool) (n : ℕ) → cond b n 0 ≤ n
 at_most true n = omega arith
@@ -61,17 +56,14 @@ module _ (judges : Text → Bool) where
   tallied_below [] ns = omega arith
   tallied_below (l ∷ ls) [] = omega arith
   tallied_below (l ∷ ls) (n ∷ ns) =
-      let h = tallied_below ls ns in
-      let one = at_most (judges l) n in
-      let is = sum_more n ns in
-      omega (arith, h, one, is)
+      omega (arith, tallied_below ls ns, at_most (judges l) n, sum_more n ns)
 
   pub tallied_set : (ls : List Text) (ns : List ℕ) (n k : ℕ) → n < length ns
       → tallied judges ls (set ns n (get_or ns n 0 + k)) ≡ tallied judges ls ns + cond (verdict_on judges ls n) k 0
   unfolding tallied
   tallied_set [] ns n k low = refl
   tallied_set (l ∷ ls) [] n k low = absurd (omega (arith, low))
-  tallied_set (l ∷ ls) (m ∷ ms) zero k low = let s = found_more (judges l) m k in omega (arith, s)
+  tallied_set (l ∷ ls) (m ∷ ms) zero k low = omega (arith, found_more (judges l) m k)
   tallied_set (l ∷ ls) (m ∷ ms) (suc n) k low = let h = tallied_set ls ms n k (omega (arith, low)) in omega (arith, h)
 
   pub tallied_none : (ls : List Text) → tallied judges ls [] ≡ 0
@@ -84,7 +76,7 @@ module _ (judges : Text → Bool) where
   unfolding tallied
   tallied_suc [] ns n low = refl
   tallied_suc (l ∷ ls) [] n low = absurd (omega (arith, low))
-  tallied_suc (l ∷ ls) (m ∷ ms) zero low = let none = tallied_none ls in omega (arith, none)
+  tallied_suc (l ∷ ls) (m ∷ ms) zero low = omega (arith, tallied_none ls)
   tallied_suc (l ∷ ls) (m ∷ ms) (suc n) low = let h = tallied_suc ls ms n (omega (arith, low)) in omega (arith, h)
 
   pub tallied_next : (ls : List Text) (ns : List ℕ) (n : ℕ) → n < length ns
@@ -98,7 +90,7 @@ module _ (judges : Text → Bool) where
   tallied_within [] ns n = omega arith
   tallied_within (l ∷ ls) ns zero = omega arith
   tallied_within (l ∷ ls) [] (suc n) = omega arith
-  tallied_within (l ∷ ls) (m ∷ ms) (suc n) = let h = tallied_within ls ms n in omega (arith, h)
+  tallied_within (l ∷ ls) (m ∷ ms) (suc n) = omega (arith, tallied_within ls ms n)
 
   -- what is tallied by numbers of which there is no label is not found
   pub tallied_all : (ls : List Text) (ns : List ℕ) (n : ℕ) → min (length ls) (length ns) ≤ n → tallied judges ls (take n ns) ≡ tallied judges ls ns
@@ -113,9 +105,8 @@ module _ (judges : Text → Bool) where
   pub whole : (after : Text → Bool) (ls : List Text) (rest count : ℕ) (old new : List ℕ) → sum old ≡ 0 → after ≡ judges → MakeUp judges ls rest count old new
       → rest + tallied after ls new ≡ count
   whole after ls rest count old new none same made =
-      let below = tallied_below ls old in
       let is = ap (λ j. tallied j ls new) same in
-      omega (arith, none, below, is, made)
+      omega (arith, none, tallied_below ls old, is, made)
 
 -- no verdict is known at first
 pub none_read : (absent : Option Bool) (n i : ℕ) → get_or (replicate n absent) i absent ≡ absent
@@ -126,7 +117,7 @@ none_read absent (suc n) (suc i) = none_read absent n i
 -- nothing is tallied at first
 pub no_sum : (n : ℕ) → sum (replicate n 0) ≡ 0
 no_sum zero = refl
-no_sum (suc n) = let is = sum_more 0 (replicate n 0) in let h = no_sum n in omega (arith, is, h)
+no_sum (suc n) = omega (arith, sum_more 0 (replicate n 0), no_sum n)
 
 one_of_both : (a b : Bool) → cond b (cond {A = ℕ} a 1 0) 0 ≡ cond {A = ℕ} (a && b) 1 0
 one_of_both true true = refl
@@ -134,13 +125,27 @@ one_of_both true false = refl
 one_of_both false true = refl
 one_of_both false false = refl
 
-module _ {A : Type 0} (labels : List Text) where
-  -- the mark at a place
-  pub mark_at : (es : List (EntryValue A)) (p : PageMarks) (i : ℕ) (e : EntryValue A) (number : ℕ) (spot : Spot) → AreMarks labels es p → HasAt es i e
-      → i < length p.numbers → number ≡ get_or p.numbers i 0 → HasAt p.spots i spot → IsMark labels e number p.week spot
-  mark_at es p i e number spot are h n number_is spot_there = are i e h number spot (read_at p.numbers i 0 number n number_is) spot_there
+-- the spot at a place of a page's marks
+abbrev pub spot_in : PageMarks → ℕ → Spot
+spot_in p i = get_or p.spots i (record { low = 0; high = 0 })
 
-  -- its entry has one row
+-- a page's marks have 32 places
+abbrev pub HasPlaces : PageMarks → Type 0
+HasPlaces p = (length p.numbers ≡ 32) × (length p.spots ≡ 32)
+
+-- this number stands at a place of a page's marks, where there is a spot too
+pub record IsRead (p : PageMarks) (i number : ℕ) : Type 0 where
+  pub number_at : HasAt p.numbers i number
+  pub spot_at : HasAt p.spots i (spot_in p i)
+
+pub is_read : (p : PageMarks) (i number count : ℕ) → HasPlaces p → i < count → count ≤ 32 → number ≡ get_or p.numbers i 0 → IsRead p i number
+is_read p i number count places within few is =
+    let numbers : i < length p.numbers = omega (arith, within, few, places.0) in
+    let spots : i < length p.spots = omega (arith, within, few, places.1) in
+    record { number_at = read_at p.numbers i 0 number numbers is; spot_at = (spots, any_default p.spots i _ (spot_in p i) spots) }
+
+module _ {A : Type 0} (labels : List Text) where
+  -- the entry of a mark has one row
   pub one_in : (e : EntryValue A) (number week : ℕ) (spot : Spot) → IsMark labels e number week spot → number < 65535 → length e.rows ≡ 1
   one_in e number week spot is few = ap length (is few).1
 
@@ -166,11 +171,9 @@ module _ {A : Type 0} (q : Query) (labels : List Text) (e : EntryValue A) (numbe
   pub tallied_at : (judges : Text → Bool) (tally : List ℕ) (more : ℕ) → number < 512 → number < length tally → more ≡ cond inside 1 0
       → MakeUp judges labels 0 (count_of q judges e.rows) tally (set tally number (get_or tally number 0 + more))
   tallied_at judges tally more low fits one =
-      let counted = counted_at judges low in
-      let added = tallied_set judges labels tally number more fits in
       let here : cond (verdict_on judges labels number) more 0 ≡ cond (inside && verdict_on judges labels number) 1 0 =
       ap (λ n. cond (verdict_on judges labels number) n 0) one ∙ one_of_both inside (verdict_on judges labels number) in
-      omega (arith, counted, added, here)
+      omega (arith, counted_at judges low, tallied_set judges labels tally number more fits, here)
 
   -- and where its point is outside
   pub outside_at : (judges : Text → Bool) → number < 65535 → inside ≡ false → count_of q judges e.rows ≡ 0
@@ -179,6 +182,23 @@ module _ {A : Type 0} (q : Query) (labels : List Text) (e : EntryValue A) (numbe
       ap (count_of q judges) one.1
       ∙ one_row q judges one.0
       ∙ ap {B = ℕ} (λ b. cond (b && judges one.0.label) 1 0) (sym (tested one.0.point one.2) ∙ outside)
+
+-- an entry whose mark was read, with a number that is tallied by
+module _ {A : Type 0} (labels : List Text) (es : List (EntryValue A)) (p : PageMarks) (i number : ℕ) (r : IsRead p i number) (e : EntryValue A)
+    (are : AreMarks labels es p) (h : HasAt es i e) (tally : List ℕ) (few : length tally ≤ 512) (low : number < length tally) where
+  mark_by : IsMark labels e number p.week (spot_in p i)
+  mark_by = are i e h number (spot_in p i) r.number_at r.spot_at
+
+  -- has one row
+  pub one_by : length e.rows ≡ 1
+  one_by = one_in labels e number p.week (spot_in p i) mark_by (omega (arith, low, few))
+
+  -- which is tallied
+  pub tallied_by : (q : Query) (judges : Text → Bool) (inside : Bool) → IsTested q p i inside → (more : ℕ) → more ≡ cond inside 1 0
+      → MakeUp judges labels 0 (count_of q judges e.rows) tally (set tally number (get_or tally number 0 + more))
+  tallied_by q judges inside is_tested more one =
+      let tested = is_tested number (spot_in p i) r.number_at r.spot_at in
+      tallied_at q labels e number p.week (spot_in p i) mark_by inside (tested.1 (omega (arith, low, few))) judges tally more (omega (arith, low, few)) low one
 
 -- rows that some things have, as they are counted one after another
 module _ {A X : Type 0} (rows : X → List (Row A)) (xs : List X) (at : ℕ) where
@@ -191,14 +211,12 @@ module _ {A X : Type 0} (rows : X → List (Row A)) (xs : List X) (at : ℕ) whe
   most_fits x a b n below is before fits =
       let one = sum_one_more (λ y. length (rows y)) xs at x below is in
       let most = sum_by-take-le (λ y. length (rows y)) xs (at + 1) in
-      let all = length-flat_map rows xs in
-      omega (arith, one, most, all, before, fits)
+      omega (arith, one, most, length-flat_map rows xs, before, fits)
 
   pub most_all : (a b : ℕ) → length xs ≤ at → b ≤ a + sum_by (λ y. length (rows y)) (take at xs) → b ≤ a + length (flat_map rows xs)
   most_all a b over before =
       let last = sum_all (λ y. length (rows y)) xs at over in
-      let all = length-flat_map rows xs in
-      omega (arith, last, all, before)
+      omega (arith, last, length-flat_map rows xs, before)
 
   module _ (q : Query) (judges : Text → Bool) (labels : List Text) where
     pub counted_next : (x : X) (n more : ℕ) (old mid new : List ℕ) → at < length xs → x ≡ get_or xs at x
@@ -213,9 +231,7 @@ module _ {A X : Type 0} (rows : X → List (Row A)) (xs : List X) (at : ℕ) whe
     counted_fits n m old new made fits =
         let most = sum_by-take-le (λ y. count_of q judges (rows y)) xs at in
         let all = sum_by-flat_map (λ (r : Row A). cond (is_counted q judges r) 1 0) rows xs in
-        let few = count_by-le-length (is_counted q judges) (flat_map rows xs) in
-        let below = tallied_below judges labels old in
-        omega (arith, made, most, all, few, below, fits)
+        omega (arith, made, most, all, count_by-le-length (is_counted q judges) (flat_map rows xs), tallied_below judges labels old, fits)
 
     pub counted_all : (n : ℕ) (old new : List ℕ) → length xs ≤ at → MakeUp judges labels n (sum_by (λ y. count_of q judges (rows y)) (take at xs)) old new
         → MakeUp judges labels n (count_of q judges (flat_map rows xs)) old new

@@ -9,37 +9,38 @@ use Rattle.st_box.specs.Query.{is_inside}
 use Rattle.st_text.specs.Texts.{Text}
 use Rattle.st_index.specs.inner.Counting.{count_of}
 use Rattle.st_index.specs.inner.Fields.{Counts}
-use Rattle.st_index.specs.Rows.{EntryValue, rows_of}
+use Rattle.st_index.specs.inner.Entries.{EntryValue, rows_of}
 use Rattle.st_index.proofs.Sums.{sum_one_more}
 use Rattle.st_index.proofs.Tallying.{SoFar, far_next, far_none}
 use Rattle.st_tally.specs.declared.page_marks.PageMarks.{PageMarks}
 use Rattle.st_tally.specs.declared.spots.Spot.{Spot}
-use Rattle.st_tally.specs.inner.Marks.{AreMarks, HasAt, IsTested}
+use Rattle.st_tally.specs.inner.Marks.{AreMarks, HasAt, IsMark, IsTested}
 use Rattle.st_tally.specs.inner.Spots.{IsSpotOf}
 use Rattle.st_tally.specs.inner.Sums.{AreInside}
 use Rattle.st_tally.proofs.ByMarks.{inside_at}
 use Rattle.st_tally.proofs.Fielding.{outside_counts}
 use Rattle.st_tally.proofs.Placing.{any_default, same_or_not, there_is}
-use Rattle.st_tally.proofs.Tallied.{outside_at, spot_inside}
+use Rattle.st_tally.proofs.Tallied.{HasPlaces, IsRead, is_read, outside_at, spot_in, spot_inside}
 
 module _ {A : Type 0} (q : Query) (judges : Text → Bool) (labels : List Text) (es : List (EntryValue A)) (p : PageMarks) (are : AreMarks labels es p)
-    (i : ℕ) (e : EntryValue A) (h : HasAt es i e) (numbers : i < length p.numbers) (spots : i < length p.spots) (is_tested : IsTested q p i false) where
+    (places : HasPlaces p) (few : length es ≤ 32) (i : ℕ) (e : EntryValue A) (h : HasAt es i e) (is_tested : IsTested q p i false) where
+  read : IsRead p i (get_or p.numbers i 0)
+  read = is_read p i (get_or p.numbers i 0) (length es) places h.0 few refl
+
+  mark : IsMark labels e (get_or p.numbers i 0) p.week (spot_in p i)
+  mark = are i e h (get_or p.numbers i 0) (spot_in p i) read.number_at read.spot_at
+
+  tested : (get_or p.numbers i 0 < 65535) × ((point : Point) → IsSpotOf p.week (spot_in p i) point → false ≡ is_inside q point)
+  tested = let t = is_tested (get_or p.numbers i 0) (spot_in p i) read.number_at read.spot_at in let low = t.0 (λ j. false) in (low, t.1 low)
+
   -- no row of an entry that is tested to be outside is counted
   pub none_at : count_of q judges e.rows ≡ 0
-  none_at =
-      let number = there_is p.numbers i numbers in
-      let spot = there_is p.spots i spots in
-      let tested = is_tested number.0 spot.0 number.1 spot.1 in
-      outside_at q labels e number.0 p.week spot.0 (are i e h number.0 spot.0 number.1 spot.1) false (tested.1 (tested.0 (λ j. false))) judges (tested.0 (λ j. false)) (λ j. false)
+  none_at = outside_at q labels e (get_or p.numbers i 0) p.week (spot_in p i) mark false tested.1 judges tested.0 (λ j. false)
 
   -- nor in a field
   pub none_in_field_at : (field_of : Point → ℕ) (counts : List ℕ) → Counts q judges field_of e.rows counts counts
   none_in_field_at field_of counts =
-      let number = there_is p.numbers i numbers in
-      let spot = there_is p.spots i spots in
-      let tested = is_tested number.0 spot.0 number.1 spot.1 in
-      outside_counts q judges field_of labels e number.0 p.week spot.0 (are i e h number.0 spot.0 number.1 spot.1) counts (tested.0 (λ j. false))
-      (λ point at. sym (tested.1 (tested.0 (λ j. false)) point at))
+      outside_counts q judges field_of labels e (get_or p.numbers i 0) p.week (spot_in p i) mark counts tested.0 (λ point at. sym (tested.1 point at))
 
 one_more : (n : ℕ) → suc n ≡ n + 1
 one_more n = omega arith
@@ -54,8 +55,7 @@ module _ {A : Type 0} (q : Query) (judges : Text → Bool) (es : List (EntryValu
       let some = there_is es n below in
       let before = none_to n (omega (arith, l)) none in
       let one = sum_one_more (λ (e : EntryValue A). count_of q judges e.rows) es n some.0 below some.1.1 in
-      let here = none n some.0 some.1 in
-      ap (λ m. sum_by (λ (e : EntryValue A). count_of q judges e.rows) (take m es)) (one_more n) ∙ omega (arith, before, one, here)
+      ap (λ m. sum_by (λ (e : EntryValue A). count_of q judges e.rows) (take m es)) (one_more n) ∙ omega (arith, before, one, none n some.0 some.1)
 
   pub none_in_fields_to : (field_of : Point → ℕ) (counts : List ℕ) (n : ℕ) → n ≤ length es
       → ((i : ℕ) (e : EntryValue A) → HasAt es i e → Counts q judges field_of e.rows counts counts)
@@ -94,7 +94,7 @@ pub tested_here : (q : Query) (p : PageMarks) (i : ℕ) (has read : Bool) (first
 tested_here q p i has read first few_if if_few tested = λ number spot a b.
     let n : number ≡ get_or p.numbers i 0 = a.1 ∙ any_default p.numbers i number 0 a.0 in
     let s : spot ≡ get_or p.spots i first = b.1 ∙ any_default p.spots i spot first b.0 in (
-      λ off. let few = few_if (or_none has read off) in omega (arith, few, n),
+      λ off. omega (arith, few_if (or_none has read off), n),
       λ few point is. or_left has read (if_few (omega (arith, few, n))) ∙ tested point (subst (λ t. IsSpotOf p.week t point) s is),
     )
 

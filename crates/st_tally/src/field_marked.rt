@@ -2,7 +2,7 @@
 ghost use Rattle.std.specs.Prelude.{◌≡◌, ℕ, ◌+◌, ◌<◌, ◌≤◌, ◌&&◌, IsTrue, cond, get_or, length, nat_eq};
 ghost use Rattle.st_box.specs.Query.{is_inside};
 ghost use Rattle.st_index.specs.inner.Fields.{CanAdd, Counts};
-ghost use Rattle.st_index.specs.Rows.{EntryValue, rows_of};
+ghost use Rattle.st_index.specs.inner.Entries.{EntryValue, rows_of};
 ghost use Rattle.st_key.specs.declared.point.Point.{Point as PointValue};
 ghost use Rattle.st_tally.specs.inner.Marks.{AreKnown, AreMarks, AreTested, HasAt, IsTested, verdict_on};
 ghost use Rattle.st_tally.specs.inner.Spots.{IsSpotOf};

@@ -1,7 +1,7 @@
 //! Labels, each with the number of rows under it.
 ghost use Rattle.std.specs.Prelude.{◌≡◌, ◌↔◌, ◌+◌, ◌<◌, ◌^◌, [], Bool, IfSome, IsTrue, cond};
 ghost use Rattle.st_text.specs.Texts.{Text};
-ghost use Rattle.st_index.specs.Rows.{rows_of};
+ghost use Rattle.st_index.specs.inner.Entries.{rows_of};
 ghost use Rattle.st_tally.specs.inner.Sums.{CountsLess, CountsMore, found, labelled, total};
 
 use crate::label_places::{find, find_near, find_spare, likely_place, place_of};

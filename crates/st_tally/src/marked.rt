@@ -2,7 +2,7 @@
 ghost use Rattle.std.specs.Prelude.{◌≡◌, ◌+◌, ◌<◌, ◌≤◌, ◌^◌, List, length, sum};
 ghost use Rattle.st_text.specs.Texts.{Text};
 ghost use Rattle.st_index.specs.inner.Counting.{count_of};
-ghost use Rattle.st_index.specs.Rows.{EntryValue, rows_of};
+ghost use Rattle.st_index.specs.inner.Entries.{EntryValue, rows_of};
 ghost use Rattle.st_tally.specs.inner.Marks.{AreMarks, HasAt, MakeUp, IsTested};
 ghost use Rattle.st_tally.specs.inner.Sums.{AreInside};
 

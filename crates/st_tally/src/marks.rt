@@ -6,7 +6,8 @@
 ghost use Rattle.std.specs.Prelude.{◌≡◌, ◌≤◌, ◌<◌, ◌^◌, cond, IfSome, List, length};
 ghost use Rattle.st_index.specs.inner.Changes.{IsChange};
 ghost use Rattle.st_tally.specs.inner.Pages.{NodeValue, entries_of_pages};
-ghost use Rattle.st_tally.specs.inner.Marks.{AreMarked, AreMarks, ClosesAt, DifferAt, HasAt, HasNone, OpensAt, tallied, verdict_on};
+ghost use Rattle.st_tally.specs.inner.Marks.{AreMarked, AreMarks, ClosesAt, HasAt, HasNone, HaveEntriesAt, OpensAt, StayMarked};
+ghost use Rattle.st_tally.specs.inner.Marks.{tallied, verdict_on};
 
 use crate::numbering::{FEW_NUMBERS, MAX_NUMBERS, NO_NUMBER, SLOTS};
 use crate::page_marks::{PageMarks, follow, mark_page};
@@ -95,7 +96,7 @@ impl<A: Allocator + Copy> Marks<A> {
 
     /// Takes away the marks of a page that is to change.
     pub fn clear_page(&mut self, at: usize)
-        ensures { (old new : List (NodeValue A)) → DifferAt at old new → AreMarked self.old old → AreMarked self.new new }
+        ensures { (old new : List (NodeValue A)) → StayMarked at self.old self.new old new }
     {
         if at >= self.pages.len() {
             return;
@@ -122,8 +123,7 @@ impl<A: Allocator + Copy> Marks<A> {
     pub fn follow(&mut self, at: usize, change: Change, entries: &[Entry<A>])
         requires { length entries.now ≤ 32 }
         ensures { (old new : List (NodeValue A)) (u : NodeValue A) → HasAt old at u → IsChange change (entries_of_pages u.pages) entries.now
-            → ((v : NodeValue A) → HasAt new at v → entries_of_pages v.pages ≡ entries.now) → DifferAt at old new
-            → AreMarked self.old old → AreMarked self.new new }
+            → HaveEntriesAt new at entries.now → StayMarked at self.old self.new old new }
     {
         if at >= self.pages.len() {
             return;

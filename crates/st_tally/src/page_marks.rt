@@ -1,6 +1,6 @@
 //! The marks of a page's entries: where their rows are, and the numbers of their labels.
 ghost use Rattle.std.specs.Prelude.{◌≡◌, ◌<◌, ◌≤◌, IsTrue, List, length};
-ghost use Rattle.st_index.specs.Rows.{EntryValue};
+ghost use Rattle.st_index.specs.inner.Entries.{EntryValue};
 ghost use Rattle.st_index.specs.inner.Changes.{IsChange};
 ghost use Rattle.st_tally.specs.inner.Marks.{AreMarks, ClosesAt, DifferAt, DifferInMarks, HasNone, IsMarkedAt, Keeps, OpensAt};
 

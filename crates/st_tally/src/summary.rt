@@ -7,7 +7,7 @@ ghost use Rattle.std.specs.List.{All};
 ghost use Rattle.st_box.specs.Query.{is_inside};
 ghost use Rattle.st_index.specs.declared.row.Row.{Row as RowValue};
 ghost use Rattle.st_index.specs.RowViews.{row_of_view};
-ghost use Rattle.st_index.specs.Rows.{rows_of};
+ghost use Rattle.st_index.specs.inner.Entries.{rows_of};
 ghost use Rattle.st_index.specs.inner.Counting.{count_of};
 ghost use Rattle.st_text.specs.Texts.{Text};
 ghost use Rattle.st_tally.specs.inner.Sums.{AreInside, IsWithin, Sums};
@@ -121,7 +121,7 @@ impl<A: Allocator + Copy> Summary<A> {
         self.labels.likely_place(label)
     }
 
-    /// Sums up one row less, whose label is likely to stand at a place. The bounds stay as they are.
+    /// Takes one row out of the summary; its label is likely to stand at `likely`. The bounds stay as they are.
     pub fn take(&mut self, row: &Row<A>, likely: usize)
         ensures { (rows : List (RowValue A)) → Sums self.old (rows ++ row.now ∷ []) → Sums self.new rows }
     {

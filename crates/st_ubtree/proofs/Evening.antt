@@ -8,23 +8,23 @@ use Rattle.std.specs.List.{All, insert}
 use Rattle.st_key.specs.declared.period.Period.{Period}
 use Rattle.st_index.specs.declared.row.Row.{Row}
 use Rattle.st_index.specs.inner.Index.{Adds, IsAbsent}
-use Rattle.st_index.specs.Rows.{name_of, rows_of}
+use Rattle.st_index.specs.inner.Entries.{name_of, rows_of}
 use Rattle.st_index.proofs.Climbing.{all_left, all_right}
 use Rattle.st_index.proofs.Putting.{split_read}
-use Rattle.st_tally.specs.inner.Pages.{PageValue, NodeValue, entries_of_pages, rows_of_pages}
+use Rattle.st_tally.specs.inner.Pages.{PageValue, NodeValue, rows_of_pages}
 use Rattle.st_ubtree.specs.inner.Evening.{Evens, HasPairAt, KidsEven, SplitsNone}
-use Rattle.st_ubtree.specs.inner.Growing.{AreAround, IsRoomFor}
+use Rattle.st_ubtree.specs.inner.Growing.{AreAround}
 use Rattle.st_ubtree.specs.inner.Kids.{GrowsBy, HeadAt, IsKid, Spans, pages_of}
 use Rattle.st_ubtree.specs.inner.Nodes.{IsInnerNode, inner_node}
 use Rattle.st_ubtree.specs.inner.Shrinking.{Joins, Reshapes}
 use Rattle.st_ubtree.specs.inner.Splits.{chains_over, made_nodes, splits, splits_in, splits_with}
 use Rattle.st_ubtree.proofs.Joining.{reshapes_inside, reshapes_same}
-use Rattle.st_ubtree.proofs.Lifting.{alone, that_kid}
-use Rattle.st_ubtree.proofs.Mending.{Pair, Paired, both_are, get_after, get_at, joins_pair, mends_both, set_at, worn_kid}
+use Rattle.st_ubtree.proofs.Lifting.{alone, each_with, head_same, that_kid}
+use Rattle.st_ubtree.proofs.Mending.{Pair, Paired, both_are, get_after, get_at, joins_pair, mends_both, one_set, pair_after, pair_height, worn_kid}
 use Rattle.st_ubtree.proofs.Needing.{chains-append, mid_splits, skip_front, splits_under, with_none}
 use Rattle.st_ubtree.proofs.Halving.{chains_length, kids_start, kids_wide}
 use Rattle.st_ubtree.proofs.Spanning.{pages-append, pages_split, spans_cut, spans_join}
-use Rattle.st_ubtree.proofs.Trading.{kept_all, kept_head, kept_kid}
+use Rattle.st_ubtree.proofs.Trading.{kept_kid}
 
 pub with_more : (width height less more : ℕ) → less ≤ more → splits_with width height less ≤ splits_with width height more
 with_more width height less more h = by (ltb width 32)
@@ -52,8 +52,7 @@ turned a b c d h =
 
 pub met_length : {X : Type 0} (a b c d : List X) → a ++ reverse b ≡ c ++ reverse d → length a + length b ≡ length c + length d
 met_length a b c d h =
-    let one = ap length h in
-    omega (arith, one, length-append a (reverse b), length-append c (reverse d), length-reverse b, length-reverse d)
+    omega (arith, ap length h, length-append a (reverse b), length-append c (reverse d), length-reverse b, length-reverse d)
 
 -- the two that stand from a place on
 record TwoAt {X : Type 0} (left : ℕ) (xs : List X) : Type 0 where
@@ -103,14 +102,11 @@ module _ {A : Type 0} where
         | inr over ↦
             elim (cases_lt key b) [
               | inl under ↦
-                  let one = mid_splits period key lo a b hi front new back xs zs ws f n r over under u w in
                   let two = mid_splits period key lo a b hi front old back xs ys ws f o r over under u v in
-                  let l = less over under in
-                  omega (arith, one, two, l)
+                  omega (arith, mid_splits period key lo a b hi front new back xs zs ws f n r over under u w, two, less over under)
               | inr past ↦
-                  let one = past_splits period key lo a b hi front new back xs zs ws f n r u w past to in
                   let two = past_splits period key lo a b hi front old back xs ys ws f o r u v past to in
-                  omega (arith, one, two)
+                  omega (arith, past_splits period key lo a b hi front new back xs zs ws f n r u w past to, two)
             ]
       ]
 
@@ -142,9 +138,7 @@ module _ {A : Type 0} where
       (chains_over w old) (chains_over w new) (chains_over w back)
       c.low d.low (spans o.period c.at d.at d.low) d.high (chains_length w below front in_front) (chains_length w below old in_old)
       (chains_length w below new there) o.from o.to (less o.period c.at d.at d.low) in
-      let one = splits_three w key front new back in
-      let two = splits_three w key front old back in
-      omega (arith, one, two, parts)
+      omega (arith, splits_three w key front new back, splits_three w key front old back, parts)
 
   -- two pages side by side that no new row splits
 
@@ -170,15 +164,13 @@ module _ {A : Type 0} where
       → splits_in (pages_of (v ∷ [])) (chains_over w (v ∷ [])) key ≤ splits_in (pages_of (kid ∷ [])) (chains_over w (kid ∷ [])) key
   one_splits period below w key a b kid v k l h s from to =
       let c = spans_cut period a b kid.pages [] s in
-      let e = c.high in
-      let under : key < c.at = omega (arith, to, e) in
+      let under : key < c.at = omega (arith, to, c.high) in
       let none : All (IsKid below) [] = λ i d n. absurd (omega (arith, n)) in
       let was = splits_under period key below w a a c.at b [] [] kid (All-cons (IsKid below) kid [] k none) refl c.low c.high from under in
       let now = splits_under period key below w a a c.at b [] [] v (All-cons (IsKid below) v [] l none) refl (h.by.spans period a c.at c.low) c.high from under in
       let less = h.splits key (record { period = period; lo = a; hi = c.at; spans = c.low; from = from; to = under }) in
-      let more = with_more w kid.height (splits v key) (splits kid key) less in
       let same = ap (λ n. splits_with w n (splits v key)) h.keeps.height in
-      omega (arith, was, now, more, same)
+      omega (arith, was, now, with_more w kid.height (splits v key) (splits kid key) less, same)
 
   -- any two children side by side
 
@@ -201,78 +193,67 @@ module _ {A : Type 0} where
         behind = All-tail (IsKid below) t.two t.back more;
         one_worn = worn_kid below t.one k;
         two_worn = worn_kid below t.two m;
-        both = let a = k.not_more in let b = m.not_more in omega (arith, a, b);
+        both = omega (arith, k.not_more, m.not_more);
       }
 
-  pub kids_even_pair : {most : ℕ} (below left : ℕ) (kids rest : List (NodeValue A)) (kid right v s : NodeValue A) → All (IsKid below) kids
-      → Paired below left most kids rest kid right → Joins kid.height kid right v (Some s) → SplitsNone v → SplitsNone s
-      → KidsEven below kids (insert (set rest left v) (left + 1) s)
-  kids_even_pair below left kids rest kid right v s each q j none also =
-      let p = q.pair in
-      let new = insert (set rest left v) (left + 1) s in
-      let new_is = both_are below left kids rest kid right v s q in
-      let m = mends_both below left kids rest kid right v s q j in
-      let by = (joins_pair below left kids rest kid right v (Some s) q j).by in
-      let w = length kids in
-      let n = ap length p.is ∙ length-append p.front (p.one ∷ p.two ∷ p.back) in
-      let o = ap length new_is ∙ length-append p.front (v ∷ s ∷ p.back) in
-      let count : length new ≡ w = omega (arith, n, o) in
-      let all = subst (All (IsKid below)) p.is each in
-      let there : All (IsKid below) (v ∷ s ∷ []) = all_left (IsKid below) (v ∷ s ∷ []) p.back (all_right (IsKid below) p.front (v ∷ s ∷ p.back) (subst (All (IsKid below)) new_is m.each)) in
-      let spans = λ (period : Period) (a b : ℕ) (h : Spans period a b (pages_of (p.one ∷ p.two ∷ []))).
-      subst (λ ps. Spans period a b (v.pages ++ ps)) (sym (append-nil s.pages)) (by.spans period a b (subst (λ ps. Spans period a b (p.one.pages ++ ps)) (append-nil p.two.pages) h)) in
-      record {
-        each = m.each;
-        head = m.head;
-        count = count;
-        by = m.by;
-        splits = λ key around.
-            let less = splits_less below w key p.front (p.one ∷ p.two ∷ []) (v ∷ s ∷ []) p.back all there spans
-            (λ period a b h from to. let z = none_split period below w key a b v s there none also (spans period a b h) from to in omega (arith, z))
-            (subst (λ ks. AreAround key (pages_of ks)) p.is around) in
-            let one = ap (λ ks. splits_in (pages_of ks) (chains_over w ks) key) new_is in
-            let two = ap (λ ks. splits_in (pages_of ks) (chains_over w ks) key) p.is in
-            let three = ap (λ n. splits_in (pages_of new) (chains_over n new) key) count in
-            omega (arith, less, one, two, three);
-      }
+  module _ {most below left : ℕ} {kids rest : List (NodeValue A)} {kid right : NodeValue A} (q : Paired below left most kids rest kid right) where
+    pub kids_even_pair : (v s : NodeValue A) → All (IsKid below) kids → Joins kid.height kid right v (Some s) → SplitsNone v → SplitsNone s
+        → KidsEven below kids (insert (set rest left v) (left + 1) s)
+    kids_even_pair v s each j none also =
+        let p = q.pair in
+        let new = insert (set rest left v) (left + 1) s in
+        let new_is = both_are q v s in
+        let m = mends_both q v s j in
+        let by = (joins_pair q v (Some s) j).by in
+        let w = length kids in
+        let n = ap length p.is ∙ length-append p.front (p.one ∷ p.two ∷ p.back) in
+        let count : length new ≡ w = omega (arith, n, ap length new_is ∙ length-append p.front (v ∷ s ∷ p.back)) in
+        let all = subst (All (IsKid below)) p.is each in
+        let there : All (IsKid below) (v ∷ s ∷ []) = all_left (IsKid below) (v ∷ s ∷ []) p.back (all_right (IsKid below) p.front (v ∷ s ∷ p.back) (subst (All (IsKid below)) new_is m.each)) in
+        let spans = λ (period : Period) (a b : ℕ) (h : Spans period a b (pages_of (p.one ∷ p.two ∷ []))).
+        subst (λ ps. Spans period a b (v.pages ++ ps)) (sym (append-nil s.pages)) (by.spans period a b (subst (λ ps. Spans period a b (p.one.pages ++ ps)) (append-nil p.two.pages) h)) in
+        record {
+          each = m.each;
+          head = m.head;
+          count = count;
+          by = m.by;
+          splits = λ key around.
+              let less = splits_less below w key p.front (p.one ∷ p.two ∷ []) (v ∷ s ∷ []) p.back all there spans
+              (λ period a b h from to. omega (arith, none_split period below w key a b v s there none also (spans period a b h) from to))
+              (subst (λ ks. AreAround key (pages_of ks)) p.is around) in
+              let one = ap (λ ks. splits_in (pages_of ks) (chains_over w ks) key) new_is in
+              let two = ap (λ ks. splits_in (pages_of ks) (chains_over w ks) key) p.is in
+              let three = ap (λ n. splits_in (pages_of new) (chains_over n new) key) count in
+              omega (arith, less, one, two, three);
+        }
 
-  -- what the code finds of a pair that it took out
+    -- what the code finds of a pair that it took out
 
-  pub pair_fits : {most : ℕ} (below left : ℕ) (kids rest : List (NodeValue A)) (kid right : NodeValue A) → Paired below left most kids rest kid right
-      → HasPairAt kids left → kid.width + right.width ≤ 62
-  pair_fits below left kids rest kid right q fits =
-      let p = q.pair in
-      let here : kid ≡ get_or kids left kid = q.one_is ∙ sym (get_at p.front p.one (p.two ∷ p.back) kid)
-      ∙ ap (λ n. get_or (p.front ++ p.one ∷ p.two ∷ p.back) n kid) p.stands ∙ ap (λ ks. get_or ks left kid) (sym p.is) in
-      let after : suc (length p.front) ≡ left + 1 = let s = p.stands in omega (arith, s) in
-      let beside : right ≡ get_or kids (left + 1) right = q.two_is ∙ sym (get_after p.front p.one p.two p.back right)
-      ∙ ap (λ n. get_or (p.front ++ p.one ∷ p.two ∷ p.back) n right) after ∙ ap (λ ks. get_or ks (left + 1) right) (sym p.is) in
-      let l = fits.0 in
-      fits.1 kid right (omega (arith, l), here) (l, beside)
+    pub pair_fits : HasPairAt kids left → kid.width + right.width ≤ 62
+    pair_fits fits =
+        let p = q.pair in
+        let here : kid ≡ get_or kids left kid = q.one_is ∙ sym (get_at p.front p.one (p.two ∷ p.back) kid)
+        ∙ ap (λ n. get_or (p.front ++ p.one ∷ p.two ∷ p.back) n kid) p.stands ∙ ap (λ ks. get_or ks left kid) (sym p.is) in
+        let beside : right ≡ get_or kids (left + 1) right = q.two_is ∙ sym (get_after p.front p.one p.two p.back right)
+        ∙ ap (λ n. get_or (p.front ++ p.one ∷ p.two ∷ p.back) n right) (sym (pair_after q)) ∙ ap (λ ks. get_or ks (left + 1) right) (sym p.is) in
+        fits.1 kid right (omega (arith, fits.0), here) (fits.0, beside)
 
-  pub pair_kids : {most : ℕ} (below left : ℕ) (kids rest : List (NodeValue A)) (kid right : NodeValue A) → Paired below left most kids rest kid right
-      → All (IsKid below) kids → IsKid below kid × IsKid below right
-  pair_kids below left kids rest kid right q each =
-      let p = q.pair in
-      let all = all_right (IsKid below) p.front (p.one ∷ p.two ∷ p.back) (subst (All (IsKid below)) p.is each) in (
-        subst (IsKid below) (sym q.one_is) (All-head (IsKid below) p.one (p.two ∷ p.back) all),
-        subst (IsKid below) (sym q.two_is) (All-head (IsKid below) p.two p.back (All-tail (IsKid below) p.one (p.two ∷ p.back) all)),
-      )
+    pub pair_kids : All (IsKid below) kids → IsKid below kid × IsKid below right
+    pair_kids each =
+        let p = q.pair in
+        let all = all_right (IsKid below) p.front (p.one ∷ p.two ∷ p.back) (subst (All (IsKid below)) p.is each) in (
+          subst (IsKid below) (sym q.one_is) (All-head (IsKid below) p.one (p.two ∷ p.back) all),
+          subst (IsKid below) (sym q.two_is) (All-head (IsKid below) p.two p.back (All-tail (IsKid below) p.one (p.two ∷ p.back) all)),
+        )
 
-  pub pair_joins : {most : ℕ} (below left : ℕ) (kids rest : List (NodeValue A)) (kid right v s : NodeValue A) → Paired below left most kids rest kid right
-      → Joins below kid right v (Some s) → Joins kid.height kid right v (Some s)
-  pair_joins below left kids rest kid right v s q j =
-      let e : kid.height ≡ below = ap (λ (n : NodeValue A). n.height) q.one_is ∙ q.pair.one_worn.same_height in
-      subst (λ n. Joins n kid right v (Some s)) (sym e) j
+    pub pair_joins : (v s : NodeValue A) → Joins below kid right v (Some s) → Joins kid.height kid right v (Some s)
+    pair_joins v s j = subst (λ n. Joins n kid right v (Some s)) (sym (pair_height q)) j
 
-  pub pair_set : {most : ℕ} (below left : ℕ) (kids rest : List (NodeValue A)) (kid right v s : NodeValue A) → Paired below left most kids rest kid right
-      → set (set kids left v) (left + 1) s ≡ insert (set rest left v) (left + 1) s
-  pair_set below left kids rest kid right v s q =
-      let p = q.pair in
-      let after : left + 1 ≡ suc (length p.front) = let t = p.stands in omega (arith, t) in
-      let one : set kids left v ≡ p.front ++ v ∷ p.two ∷ p.back = ap (λ ks. set ks left v) p.is
-      ∙ ap (λ n. set (p.front ++ p.one ∷ p.two ∷ p.back) n v) (sym p.stands) ∙ set_at p.front p.one (p.two ∷ p.back) v in
-      ap (λ ks. set ks (left + 1) s) one ∙ ap (λ n. set (p.front ++ v ∷ p.two ∷ p.back) n s) after ∙ set_after p.front v p.two p.back s ∙ sym (both_are below left kids rest kid right v s q)
+    pub pair_set : (v s : NodeValue A) → set (set kids left v) (left + 1) s ≡ insert (set rest left v) (left + 1) s
+    pair_set v s =
+        let p = q.pair in
+        ap (λ ks. set ks (left + 1) s) (one_set q v) ∙ ap (λ n. set (p.front ++ v ∷ p.two ∷ p.back) n s) (pair_after q)
+        ∙ set_after p.front v p.two p.back s ∙ sym (both_are q v s)
 
   pub kids_even_one : (below : ℕ) (kids : List (NodeValue A)) (i : ℕ) (kid v : NodeValue A) → i < length kids → kid ≡ get_or kids i kid
       → All (IsKid below) kids → Evens kid v → KidsEven below kids (set kids i v)
@@ -284,10 +265,10 @@ module _ {A : Type 0} where
       let w = length kids in
       let count = length-set kids i v in
       let k = that_kid below kids i kid l read each in
-      let kept = kept_kid 0 below kids i kid v l read each h.keeps in
+      let kept = kept_kid below kid v k h.keeps in
       record {
-        each = kept_all 0 below kids i kid v l read each h.keeps;
-        head = λ first head. kept_head 0 below kids i kid v l read each first h.keeps head;
+        each = subst (All (IsKid below)) (sym now) (each_with below kids i kid l read each (v ∷ []) (alone below v kept));
+        head = λ first head. subst (HeadAt first) (sym now) (head_same first kids i kid v back l read h.keeps.first head);
         count = count;
         by = subst (λ ps. Reshapes ps (pages_of (set kids i v))) (sym (pages_split kids i kid l read))
             (subst (Reshapes (pages_of front ++ (kid.pages ++ pages_of back))) (sym (ap pages_of now ∙ pages-append front (v ∷ back)))
@@ -342,8 +323,8 @@ module _ {A : Type 0} where
     higher = good.higher;
     each = h.each;
     head = h.head first good.head;
-    not_less = let a = good.not_less in let b = h.count in omega (arith, a, b);
-    not_more = let a = good.not_more in let b = h.count in omega (arith, a, b);
+    not_less = omega (arith, good.not_less, h.count);
+    not_more = omega (arith, good.not_more, h.count);
     room = fits;
   }
 
@@ -368,10 +349,6 @@ module _ {A : Type 0} where
     from = o.from;
     to = o.to;
   }
-
-  pub reshaped_room : (key : ℕ) (items : List (Row A)) (capacity : ℕ) (old new : List (PageValue A)) → Reshapes old new
-      → IsRoomFor key items capacity (entries_of_pages old) → IsRoomFor key items capacity (entries_of_pages new)
-  reshaped_room key items capacity old new r h = subst (IsRoomFor key items capacity) (sym r.entries) h
 
 pub made_more : (height less more : ℕ) → less ≤ more → made_nodes height less ≤ made_nodes height more
 made_more height less more h = elim (cases_lt less more) [

@@ -1,5 +1,5 @@
 -- The first keys of children, as these change.
-use Rattle.std.proofs.Common.{Bool, refl, ◌≡◌, ℕ, ◌<◌, ◌≤◌, List, ◌∷◌, ◌++◌, length, get_or, map, take, drop, sym, ap, subst, ◌∙◌, suc, arith, true, false, not, ltb, Vec, Option, Some, None, Box}
+use Rattle.std.proofs.Common.{Bool, refl, ◌≡◌, ℕ, ◌<◌, ◌≤◌, List, ◌∷◌, ◌++◌, length, get_or, map, take, drop, sym, ap, subst, ◌∙◌, suc, arith, true, false, not, ltb, Option, Some, None}
 use Rattle.std.proofs.Math.ListN.{set}
 use Rattle.std.proofs.Math.Seq.{map-set_same}
 use Rattle.std.proofs.lemmas.List.{get_or-map, length-map, map-append, take-map, take_all}
@@ -9,16 +9,11 @@ use Rattle.std.proofs.lemmas.Grind.{common_steps}
 use Rattle.std.proofs.lemmas.List.Sums.{fails_before_first, passes_at_first, prefix_len-le-length}
 use Rattle.std.specs.List.Sorted.{IsPartitionedBy, IsPartitionPoint}
 use Rattle.st_key.specs.Key.{rank}
-use Rattle.st_ubtree.specs.declared.node.Kids.{Kids}
-use Rattle.st_ubtree.specs.declared.node.Kids.TheVariants.{Inner}
-use Rattle.st_ubtree.specs.declared.node.aside.Aside.{Aside}
 use Rattle.st_ubtree.specs.declared.node.firsts.First.{First}
 use Rattle.st_ubtree.specs.declared.node.firsts.Firsts.{Firsts}
 use Rattle.st_tally.specs.inner.Pages.{NodeValue}
-use Rattle.st_ubtree.specs.inner.Firsts.{AreFirsts, AreFirstsUnder}
-use Rattle.st_ubtree.specs.inner.Growing.{IsChosen, SplitsIfFull}
-use Rattle.st_tally.specs.inner.Marks.{AreMarked}
-use Rattle.st_ubtree.specs.inner.Nodes.{AreMarkedUnder, IsNode}
+use Rattle.st_ubtree.specs.inner.Firsts.{AreFirsts}
+use Rattle.st_ubtree.specs.inner.Growing.{SplitsIfFull}
 use Rattle.st_tally.proofs.Placing.{there_is}
 
 map_insert : {X : Type 0} (n : X → ℕ) (xs : List X) (i : ℕ) (x : X) → map n (insert xs i x) ≡ insert (map n xs) i (n x)
@@ -64,16 +59,14 @@ module _ {A : Type 0} where
   -- what stands at a place
   pub read_first : (f : Firsts A) (kids : List (NodeValue A)) (i : ℕ) (k : First) (v : NodeValue A) → AreFirsts f kids → i < length kids → number (get_or f.keys.items i k) ≡ (get_or kids i v).first
   read_first f kids i k v h l =
-      let n = as_many f kids h in
-      sym (get_or-map number f.keys.items i k (number k) (omega (arith, n, l)))
+      sym (get_or-map number f.keys.items i k (number k) (omega (arith, as_many f kids h, l)))
       ∙ ap (λ ns. get_or ns i (number k)) h
       ∙ get_or-map (λ (w : NodeValue A). w.first) kids i v (number k) l
 
   module _ (key : ℕ) (f : Firsts A) (kids : List (NodeValue A)) (h : AreFirsts f kids) where
     parted : IsPartitionedBy (λ (v : NodeValue A). not (ltb key v.first)) kids → IsPartitionedBy (λ (k : First). not (ltb key (number k))) f.keys.items
     parted p i j d le l passes =
-        let n = as_many f kids h in
-        let within : j < length kids = omega (arith, n, l) in
+        let within : j < length kids = omega (arith, as_many f kids h, l) in
         let v = (there_is kids j within).0 in
         let at = read_first f kids j d v h within in
         let before = read_first f kids i d v h (omega (arith, le, within)) in
@@ -100,20 +93,6 @@ module _ {A : Type 0} where
   -- one child is another one that begins where it did
   pub firsts_set : (f : Firsts A) (kids : List (NodeValue A)) (i : ℕ) (kid v : NodeValue A) → kid ≡ get_or kids i kid → v.first ≡ kid.first → AreFirsts f kids → AreFirsts f (set kids i v)
   firsts_set f kids i kid v read same h = h ∙ sym (map-set_same (λ (w : NodeValue A). w.first) kids i v kid (same ∙ ap (λ (w : NodeValue A). w.first) read))
-
-  -- those of a node's children, by its block
-  module _ (k : Kids A) (kids : Vec (NodeValue A) A) (aside : Box (Aside A) A) (a : Aside A) (is : k ≡ Inner kids aside) (same : a ≡ aside.value) where
-    pub firsts_in : AreFirstsUnder k → AreFirsts a.firsts kids.items
-    firsts_in h = subst (λ (b : Aside A). AreFirsts b.firsts kids.items) (sym same) (subst AreFirstsUnder is h)
-
-    pub marks_in : AreMarkedUnder k → AreMarked a.marks kids.items
-    marks_in h = subst (λ (b : Aside A). AreMarked b.marks kids.items) (sym same) (subst AreMarkedUnder is h)
-
-    pub chosen_in : (key first height at : ℕ) → IsNode first height k → AreFirstsUnder k
-        → ((ks : List (NodeValue A)) → 1 ≤ length ks → AreFirsts a.firsts ks → IsChosen key ks at) → IsChosen key kids.items at
-    chosen_in key first height at node firsts chosen =
-        let good = subst (IsNode first height) is node in
-        chosen kids.items good.not_less (firsts_in firsts)
 
   -- of children that were split, as many stay as there are then
   pub split_take : (height count : ℕ) (old new : List (NodeValue A)) (split : Option (NodeValue A)) → SplitsIfFull height old new split → count ≡ length new → take count old ≡ new

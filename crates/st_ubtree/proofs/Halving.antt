@@ -18,7 +18,7 @@ blank_more bs new b h blank is =
     subst (All IsBlank) (sym is) (All-append IsBlank bs (b ∷ []) h (All-cons IsBlank b [] blank (λ k d l. absurd (omega (arith, l)))))
 
 pub length_more : {X : Type 0} (xs new : List X) (x : X) (n : ℕ) → length xs ≡ n → new ≡ xs ++ x ∷ [] → length new ≡ n + 1
-length_more xs new x n len is = let a = ap length is in let b = length-append xs (x ∷ []) in omega (arith, a, b, len)
+length_more xs new x n len is = omega (arith, ap length is, length-append xs (x ∷ []), len)
 
 pub held_at : {A B : Type 0} (v : Vec B A) (i : ℕ) → i < length v.items → i < vec_len v
 held_at v i l = subst (λ n. i < n) (sym v.ok.0) l
@@ -34,12 +34,10 @@ module _ {A : Type 0} where
   pub chains_length : (width below : ℕ) (kids : List (NodeValue A)) → All (IsKid below) kids → length (chains_over width kids) ≡ length (pages_of kids)
   chains_length width below [] each = refl
   chains_length width below (v ∷ vs) each =
-      let a = length-append (map (splits_with width v.height) v.chains) (chains_over width vs) in
       let b = length-map v.chains (splits_with width v.height) in
       let c = (All-head (IsKid below) v vs each).starts.1 in
       let d = chains_length width below vs (All-tail (IsKid below) v vs each) in
-      let e = length-append v.pages (pages_of vs) in
-      omega (arith, a, b, c, d, e)
+      omega (arith, length-append (map (splits_with width v.height) v.chains) (chains_over width vs), b, c, d, length-append v.pages (pages_of vs))
 
   kids_begin : (below first : ℕ) (kids : List (NodeValue A)) → All (IsKid below) kids → HeadAt first kids → StartsAt first (pages_of kids)
   kids_begin below first [] each h = absurd h

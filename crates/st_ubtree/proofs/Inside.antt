@@ -2,7 +2,7 @@
 use Rattle.std.proofs.Common.{◌≡◌, ℕ, ◌+◌, ◌<◌, max, List, ◌++◌, length, get_or, take, drop, sym, ap, subst, ◌∙◌, suc, true, false, not, ltb}
 use Rattle.std.specs.List.{All}
 use Rattle.std.specs.List.Sorted.{IsPartitionedBy, IsPartitionPoint}
-use Rattle.st_index.specs.Rows.{name_of, rank_of, rows_of}
+use Rattle.st_index.specs.inner.Entries.{name_of, rank_of, rows_of}
 use Rattle.st_index.specs.inner.Index.{Adds}
 use Rattle.st_index.proofs.Climbing.{all_left, all_right}
 use Rattle.st_index.proofs.Putting.{rows-append, adds_inside}

@@ -3,7 +3,7 @@ use Rattle.std.proofs.Common.{◌≡◌, ℕ, ◌+◌, ◌≤◌, List, [], ◌�
 use Rattle.std.proofs.lemmas.List.{append-nil}
 use Rattle.std.proofs.lemmas.List.Elements.{All-append}
 use Rattle.std.specs.List.{All}
-use Rattle.st_index.specs.Rows.{EntryValue, Rises}
+use Rattle.st_index.specs.inner.Entries.{EntryValue, EntriesRise}
 use Rattle.st_index.proofs.Climbing.{all_left}
 use Rattle.st_index.proofs.Putting.{split_read}
 use Rattle.st_index.proofs.Rising.{rises_around, rises_bounds, rises_join}
@@ -13,7 +13,7 @@ use Rattle.st_tally.specs.inner.Pages.{PageValue, NodeValue, entries_of_pages}
 use Rattle.st_ubtree.specs.inner.Kids.{HeadAt, IsKid, Spans, pages_of}
 use Rattle.st_ubtree.specs.inner.Shrinking.{IsNodeOf, IsPageOf, IsKidBeside, Joins, KidsJoin, PagesJoin, Reshapes, pages_beside}
 use Rattle.st_ubtree.proofs.Halving.{kids_start, kids_wide}
-use Rattle.st_ubtree.proofs.Spanning.{entries_three, pages-append, spans_cut, spans_join}
+use Rattle.st_ubtree.proofs.Spanning.{entries_three, pages-append, spans_put}
 use Rattle.st_ubtree.proofs.Splitting.{wide_page, page, rises_wide}
 
 -- a list of a worn node, as the code counts it
@@ -30,10 +30,7 @@ module _ {A : Type 0} where
   pub reshapes_inside : (front old new back : List (PageValue A)) → Reshapes old new → Reshapes (front ++ (old ++ back)) (front ++ (new ++ back))
   reshapes_inside front old new back r = record {
     entries = entries_three front new back ∙ ap (λ t. entries_of_pages front ++ (t ++ entries_of_pages back)) r.entries ∙ sym (entries_three front old back);
-    spans = λ period lo hi h.
-        let c = spans_cut period lo hi front (old ++ back) h in
-        let d = spans_cut period c.at hi old back c.high in
-        spans_join period lo c.at hi front (new ++ back) c.low (spans_join period c.at d.at hi new back (r.spans period c.at d.at d.low) d.high);
+    spans = λ period lo hi h. spans_put period lo hi front old new back (r.spans period) h;
   }
 
   two_pages : (first second : ℕ) (es fs : List (EntryValue A)) → entries_of_pages (page first es ∷ page second fs ∷ []) ≡ es ++ fs
@@ -46,13 +43,10 @@ module _ {A : Type 0} where
       record {
         entries = append-nil new ∙ is ∙ sym (two_pages first second old right);
         spans = λ period lo hi h.
-            let mid = h.1.0 in
             let last = h.1.3.1.0 in
             let second_is = h.1.3.0 in
-            let whole = rises_join period lo mid last old right h.1.2 h.1.3.1.2 in
-            let a = h.1.1 in
-            let b = h.1.3.1.1 in
-            (h.0, (last, omega (arith, a, b), subst (Rises period lo last) (sym is) whole, h.1.3.1.3));
+            let whole = rises_join period lo h.1.0 last old right h.1.2 h.1.3.1.2 in
+            (h.0, (last, omega (arith, h.1.1, h.1.3.1.1), subst (EntriesRise period lo last) (sym is) whole, h.1.3.1.3));
       }
   pages_shape old right new (Some s) j first second =
       let e = j.beside.1.0 in
@@ -62,13 +56,12 @@ module _ {A : Type 0} where
       record {
         entries = ap (λ ps. entries_of_pages (page first new ∷ ps)) beside ∙ two_pages first e.at new j.rest ∙ j.kept ∙ sym (two_pages first second old right);
         spans = λ period lo hi h.
-            let mid = h.1.0 in
             let last = h.1.3.1.0 in
-            let whole = rises_join period lo mid last old right h.1.2 h.1.3.1.2 in
-            let cut = rises_around period lo last new e es (subst (Rises period lo last) (sym j.kept ∙ ap (λ t. new ++ t) rest_is) whole) in
+            let whole = rises_join period lo h.1.0 last old right h.1.2 h.1.3.1.2 in
+            let cut = rises_around period lo last new e es (subst (EntriesRise period lo last) (sym j.kept ∙ ap (λ t. new ++ t) rest_is) whole) in
             let wide = rises_wide period lo e.at new cut.front (let n = j.not_less in omega (arith, n)) in
             let b = rises_bounds period (e.at + 1) last es cut.back in
-            let high : Rises period e.at last j.rest = subst (Rises period e.at last) (sym rest_is) (omega arith, cut.entry, cut.back) in
+            let high : EntriesRise period e.at last j.rest = subst (EntriesRise period e.at last) (sym rest_is) (omega arith, cut.entry, cut.back) in
             subst (λ ps. Spans period lo hi (page first new ∷ ps)) (sym beside) (h.0, (e.at, wide, cut.front, (refl, (last, omega (arith, b), high, h.1.3.1.3))));
       }
 
@@ -111,7 +104,7 @@ module _ {A : Type 0} where
   joined_each below old right new rest e h = all_left (IsKid below) new rest (subst (All (IsKid below)) (sym e) h)
 
   pub joined_head : (height first : ℕ) (old right new : List (NodeValue A)) (r : Option (NodeValue A)) → KidsJoin height old right new r → HeadAt first old → HeadAt first new
-  joined_head height first old right new r j h = head_of_joined first new j.rest old right j.kept h (let n = j.not_less in omega (arith, n))
+  joined_head height first old right new r j h = head_of_joined first new j.rest old right j.kept h (omega (arith, j.not_less))
 
   pub join_of_kids : (first height below : ℕ) (old right new : List (NodeValue A)) (r : Option (NodeValue A)) (v : NodeValue A)
       → v.pages ≡ pages_of right → All (IsKid below) (old ++ right) → HeadAt first old → KidsJoin height old right new r
@@ -131,7 +124,5 @@ module _ {A : Type 0} where
   pub both_kids : (first second height other : ℕ) (old right : List (NodeValue A)) (room more : ℕ) → other ≡ height
       → (a : IsInnerNode first height old room) → IsInnerNode second other right more → All (IsKid a.below) (old ++ right)
   both_kids first second height other old right room more e a b =
-      let h = a.higher in
-      let k = b.higher in
-      let same : b.below ≡ a.below = omega (arith, h, k, e) in
+      let same : b.below ≡ a.below = omega (arith, a.higher, b.higher, e) in
       All-append (IsKid a.below) old right a.each (subst (λ n. All (IsKid n) right) same b.each)

@@ -11,7 +11,7 @@ use Rattle.st_text.specs.Texts.{Text}
 use Rattle.st_box.specs.declared.query.Query.{Query}
 use Rattle.st_index.specs.declared.row.Row.{Row}
 use Rattle.st_index.specs.inner.Counting.{count_of, is_counted}
-use Rattle.st_index.specs.Rows.{EntryValue, Name, name_of}
+use Rattle.st_index.specs.inner.Entries.{Name, name_of, EntryValue}
 use Rattle.st_index.proofs.Sums.{sum_by-flat_map}
 use Rattle.st_tally.specs.declared.bounds.Bounds.{Bounds}
 use Rattle.st_ubtree.specs.declared.node.Kids.{Kids}
@@ -88,9 +88,7 @@ module _ {A : Type 0} where
   fewer_in_kid kids i kid l read =
       let f = λ (v : NodeValue A). length (rows_of_pages v.pages) in
       let all = ap length (rows_of_kids kids) ∙ length-flat_map (λ (v : NodeValue A). rows_of_pages v.pages) kids in
-      let one = get_or-le-sum_by f kids i kid l in
-      let same = ap f read in
-      omega (arith, all, one, same)
+      omega (arith, all, get_or-le-sum_by f kids i kid l, ap f read)
 
   -- a node that is not split has one row more
   pub kept_sums : (s : Summary A) (key : ℕ) (row : Row A) (old new : NodeValue A) (split : Option (NodeValue A)) → Grows key row old new split

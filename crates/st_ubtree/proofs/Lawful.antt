@@ -4,7 +4,7 @@ use Rattle.std.proofs.lemmas.List.Elements.{All-head, All-tail}
 use Rattle.std.specs.List.{All, Contains}
 use Rattle.st_key.specs.declared.period.Period.{Period}
 use Rattle.st_index.specs.declared.row.Row.{Row}
-use Rattle.st_index.specs.Rows.{EntryValue, Name, Rises, key_end, name_of, rank_of, rows_of}
+use Rattle.st_index.specs.inner.Entries.{Name, name_of, EntryValue, EntriesRise, key_end, rank_of, rows_of}
 use Rattle.st_index.specs.inner.Index.{Follow, IsAbsent, IsLawful, IsLeafAt, Region, region}
 use Rattle.st_index.proofs.Listing.{adds_length, swaps_length}
 use Rattle.st_ubtree.specs.inner.Shrinking.{DropsFrom}
@@ -23,15 +23,15 @@ use Rattle.st_ubtree.proofs.Parts.{part_spans, part_from, part_to, part_within}
 use Rattle.st_ubtree.proofs.Splitting.{one_rows, page}
 
 module _ {A : Type 0} (period : Period) where
-  pub spans_rise : (lo hi : ℕ) (ps : List (PageValue A)) → Spans period lo hi ps → Rises period lo hi (entries_of_pages ps)
+  pub spans_rise : (lo hi : ℕ) (ps : List (PageValue A)) → Spans period lo hi ps → EntriesRise period lo hi (entries_of_pages ps)
   spans_rise lo hi [] h = omega (arith, h)
   spans_rise lo hi (p ∷ ps) h = rises_join period lo h.1.0 hi p.entries (entries_of_pages ps) h.1.2 (spans_rise h.1.0 hi ps h.1.3)
 
-  one_rises : (lo hi : ℕ) (p : PageValue A) → Spans period lo hi (p ∷ []) → Rises period lo hi p.entries
-  one_rises lo hi p h = subst (λ n. Rises period lo n p.entries) h.1.3 h.1.2
+  one_rises : (lo hi : ℕ) (p : PageValue A) → Spans period lo hi (p ∷ []) → EntriesRise period lo hi p.entries
+  one_rises lo hi p h = subst (λ n. EntriesRise period lo n p.entries) h.1.3 h.1.2
 
   one_wide : (lo hi : ℕ) (p : PageValue A) → Spans period lo hi (p ∷ []) → lo < hi
-  one_wide lo hi p h = let a = h.1.1 in let b = h.1.3 in omega (arith, a, b)
+  one_wide lo hi p h = omega (arith, h.1.1, h.1.3)
 
   pub spans_follow : (lo hi : ℕ) (ps : List (PageValue A)) → Spans period lo hi ps → Follow lo hi (regions_of hi ps)
   spans_follow lo hi [] h = h
@@ -44,25 +44,21 @@ module _ {A : Type 0} (period : Period) where
       (h.0, omega (arith, a, next), subst (λ n. Follow n hi (regions_of hi (q ∷ ps))) at rest)
 
   -- each entry has a row
-  entries_rows : (lo hi : ℕ) (es : List (EntryValue A)) → Rises period lo hi es → length es ≤ length (rows_of es)
+  entries_rows : (lo hi : ℕ) (es : List (EntryValue A)) → EntriesRise period lo hi es → length es ≤ length (rows_of es)
   entries_rows lo hi [] h = omega arith
   entries_rows lo hi (e ∷ es) h = by (entries_rows (e.at + 1) hi es h.2) e.rows refl
     where
       by : length es ≤ length (rows_of es) → (rows : List (Row A)) → e.rows ≡ rows → length (e ∷ es) ≤ length (rows_of (e ∷ es))
       by a [] is = absurd (h.1.held is)
       by a (r ∷ rs) is =
-          let b = length-append e.rows (rows_of es) in
-          let c = ap length is in
-          omega (arith, a, b, c)
+          omega (arith, a, length-append e.rows (rows_of es), ap length is)
 
   pages_rows : (lo hi : ℕ) (ps : List (PageValue A)) → Spans period lo hi ps → All IsFilled ps → length ps ≤ length (rows_of_pages ps)
   pages_rows lo hi [] h f = omega arith
   pages_rows lo hi (p ∷ ps) h f =
-      let a = pages_rows h.1.0 hi ps h.1.3 (All-tail IsFilled p ps f) in
-      let b = entries_rows lo h.1.0 p.entries h.1.2 in
       let c = (All-head IsFilled p ps f).not_less in
       let d = ap length (rows_join (p ∷ []) ps ∙ ap (λ t. t ++ rows_of_pages ps) (one_rows p.first p.entries)) ∙ length-append (rows_of p.entries) (rows_of_pages ps) in
-      omega (arith, a, b, c, d)
+      omega (arith, pages_rows h.1.0 hi ps h.1.3 (All-tail IsFilled p ps f), entries_rows lo h.1.0 p.entries h.1.2, c, d)
 
 regions_length : {A : Type 0} (hi : ℕ) (ps : List (PageValue A)) → length (regions_of hi ps) ≡ length ps
 regions_length hi [] = refl
@@ -75,8 +71,7 @@ module _ {A : Type 0} (period : Period) where
   few_regions hi (p ∷ []) s f n = omega arith
   few_regions hi (p ∷ q ∷ ps) s f n =
       let a = pages_rows period 0 hi (p ∷ q ∷ ps) s (f.not_less (omega arith)) in
-      let b = regions_length hi (p ∷ q ∷ ps) in
-      omega (arith, a, b, n)
+      omega (arith, a, regions_length hi (p ∷ q ∷ ps), n)
 
   pub lawful_pages : (ps : List (PageValue A)) → Spans period 0 (key_end period) ps → AreFilled ps → length (rows_of_pages ps) < 2 ^ 64
       → IsLawful period (rows_of_pages ps) (regions_of (key_end period) ps)
@@ -88,18 +83,18 @@ module _ {A : Type 0} (period : Period) where
   }
 
   pub lawful_tree : (root : NodeValue A) (len : ℕ) → IsTree period root len → IsLawful period (rows_of_pages root.pages) (regions_of (key_end period) root.pages)
-  lawful_tree root len t = let a = t.counted in let b = t.most in lawful_pages root.pages t.spans t.filled (omega (arith, a, b))
+  lawful_tree root len t = lawful_pages root.pages t.spans t.filled (omega (arith, t.counted, t.most))
 
   -- the region of a page among others
   region_at : (lo hi : ℕ) (xs : List (PageValue A)) (p : PageValue A) (ys : List (PageValue A)) (last : ℕ) (d : Region) → p.first ≤ last
       → Spans period (last + 1) hi ys → get_or (regions_of hi (xs ++ p ∷ ys)) (length xs) d ≡ region p.first last
   region_at lo hi [] p [] last d l h = ap (λ n. region p.first n) (let e : hi - 1 ≡ last = omega (arith, h) in e)
-  region_at lo hi [] p (y ∷ ys) last d l h = ap (λ n. region p.first n) (let f = h.0 in let e : y.first - 1 ≡ last = omega (arith, f) in e)
+  region_at lo hi [] p (y ∷ ys) last d l h = ap (λ n. region p.first n) (let e : y.first - 1 ≡ last = omega (arith, h.0) in e)
   region_at lo hi (x ∷ []) p ys last d l h = region_at lo hi [] p ys last d l h
   region_at lo hi (x ∷ z ∷ xs) p ys last d l h = region_at lo hi (z ∷ xs) p ys last d l h
 
   regions_longer : (hi : ℕ) (xs : List (PageValue A)) (p : PageValue A) (ys : List (PageValue A)) → length xs < length (regions_of hi (xs ++ p ∷ ys))
-  regions_longer hi xs p ys = let a = regions_length hi (xs ++ p ∷ ys) in let b = length-append xs (p ∷ ys) in omega (arith, a, b)
+  regions_longer hi xs p ys = omega (arith, regions_length hi (xs ++ p ∷ ys), length-append xs (p ∷ ys))
 
   module _ (key end first last : ℕ) (pages : List (PageValue A)) (entries : List (EntryValue A)) (h : IsLeafIn key pages end first last entries)
       (s : Spans period 0 (key_end period) pages) (e : end + 1 ≡ key_end period) (below : key < key_end period) where
@@ -115,7 +110,7 @@ module _ {A : Type 0} (period : Period) where
           after = rows_of_pages h.after;
           parts = ap rows_of_pages h.is ∙ rows_three h.before (page first entries ∷ []) h.after ∙ ap (λ t. rows_of_pages h.before ++ (t ++ rows_of_pages h.after)) (one_rows first entries);
           earlier = page_rows_below period 0 first h.before (h.low period 0 all);
-          later = λ k d l. let a = high k d l in omega (arith, a);
+          later = λ k d l. omega (arith, high k d l);
           rising = one_rises period first (last + 1) (page first entries) (h.inside period 0 all);
         }
 
@@ -130,7 +125,7 @@ module _ {A : Type 0} (period : Period) where
 
   -- no row stands past the last page
   pub absent_past : (key hi : ℕ) (name : Name) (ps : List (PageValue A)) → Spans period 0 hi ps → hi ≤ key → IsAbsent period key name (rows_of_pages ps)
-  absent_past key hi name ps s past = λ k d l at named. let low = page_rows_below period 0 hi ps s k d l in omega (arith, low, at, past)
+  absent_past key hi name ps s past = λ k d l at named. omega (arith, page_rows_below period 0 hi ps s k d l, at, past)
 
   -- all pages stand around a key of the period
   pub tree_around : (key : ℕ) (v : NodeValue A) (len : ℕ) → IsTree period v len → key < key_end period → AreAround key v.pages
@@ -163,5 +158,4 @@ module _ {A : Type 0} (period : Period) where
     pub tree_trades : (out : Row A) → TradesIn key out row old.pages new.pages → key ≡ rank_of period row → IsTree period new len
     tree_trades out d at =
         let same = swaps_length out row (rows_of_pages old.pages) (rows_of_pages new.pages) d.swaps in
-        let n = t.counted in
-        record { spans = d.spans period 0 (key_end period) at t.spans; filled = filled; wide = wide; counted = omega (arith, same, n); most = t.most }
+        record { spans = d.spans period 0 (key_end period) at t.spans; filled = filled; wide = wide; counted = omega (arith, same, t.counted); most = t.most }

@@ -25,7 +25,7 @@ module _ {A : Type 0} where
     before = [];
     after = [];
     is = sym (append-nil pages);
-    from = λ period lo s l. let e = is_lo period lo s in omega (arith, e, l);
+    from = λ period lo s l. omega (arith, is_lo period lo s, l);
     to = λ period lo s l. l;
     low = λ period lo s. sym (is_lo period lo s);
     inside = λ period lo s. subst (λ n. Spans period n (end + 1) pages) (sym (is_lo period lo s)) s;
@@ -64,8 +64,8 @@ module _ {A : Type 0} where
       before = pages_of (take i kids);
       after = pages_of (drop (suc i) kids);
       is = pages_split kids i kid l read;
-      from = λ period lo s k. let f = f_at period lo s in let e = begins period f.a f.b f.mid in let from = f.from k in omega (arith, e, from);
-      to = λ period lo s k. let f = f_at period lo s in let e = ends period lo f in let to = f.to (omega (arith, k)) in omega (arith, e, to);
+      from = λ period lo s k. let f = f_at period lo s in omega (arith, begins period f.a f.b f.mid, f.from k);
+      to = λ period lo s k. let f = f_at period lo s in let to = f.to (omega (arith, k)) in omega (arith, ends period lo f, to);
       low = λ period lo s. let f = f_at period lo s in subst (λ m. Spans period lo m (pages_of (take i kids))) (sym (begins period f.a f.b f.mid)) f.low;
       inside = λ period lo s. let f =
           f_at period lo s in subst (λ m. Spans period kid.first m kid.pages) (sym (ends period lo f))
@@ -77,9 +77,8 @@ module _ {A : Type 0} where
         → (period : Period) (lo : ℕ) (f : Found period key lo (end + 1) kids i kid) → k + 1 ≡ f.b
     ends_next k w m at e period lo f =
         let q = drop-cons kids (suc i) w m in
-        let b = f.next (get_or kids (suc i) w) (drop (suc (suc i)) kids) q in
         let c = ap (λ (v : NodeValue A). v.first) at in
-        let d = f.wide in omega (arith, b, c, d, e)
+        omega (arith, f.next (get_or kids (suc i) w) (drop (suc (suc i)) kids) q, c, f.wide, e)
 
     pub ends_last : length kids ≤ suc i → (period : Period) (lo : ℕ) (f : Found period key lo (end + 1) kids i kid) → end + 1 ≡ f.b
     ends_last m period lo f = f.last (drop_all (suc i) kids m)

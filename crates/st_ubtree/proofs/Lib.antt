@@ -17,4 +17,4 @@ pub mod Walking
 pub mod Keeping
 pub mod Firsts
 pub mod Copying
-pub mod Viewed
+pub mod Over

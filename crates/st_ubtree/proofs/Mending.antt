@@ -38,7 +38,7 @@ last_of x (y ∷ ys) = let r = last_of y ys in record { front = x ∷ r.front; l
 
 module _ {A : Type 0} where
   pub worn_kid : (below : ℕ) (v : NodeValue A) → IsKid below v → IsWorn below v
-  worn_kid below v k = record { same_height = k.same_height; not_less = let a = k.not_less in omega (arith, a); not_more = k.not_more; starts = k.starts; filled = λ h. k.filled }
+  worn_kid below v k = record { same_height = k.same_height; not_less = omega (arith, k.not_less); not_more = k.not_more; starts = k.starts; filled = λ h. k.filled }
 
   pub whole_kid : (below : ℕ) (v : NodeValue A) → IsWorn below v → 16 ≤ v.width → IsKid below v
   whole_kid below v w h = record { same_height = w.same_height; not_less = h; not_more = w.not_more; starts = w.starts; filled = w.filled h }
@@ -74,25 +74,18 @@ module _ {A : Type 0} where
         behind = All-tail (IsKid below) b bs all;
         one_worn = w.worn;
         two_worn = worn_kid below b k;
-        both = let c = k.not_more in omega (arith, low, c);
+        both = omega (arith, low, k.not_more);
       }
   pair_behind below at left kids w [] e low fits here =
-      let n = ap length w.is ∙ length-append w.front (w.kid ∷ w.back) in
-      let s = w.stands in
-      let t = ap length e in
-      absurd (omega (arith, n, s, t, fits, here))
+      absurd (omega (arith, ap length w.is ∙ length-append w.front (w.kid ∷ w.back), w.stands, ap length e, fits, here))
 
   pair_before : (below at left : ℕ) (kids : List (NodeValue A)) (w : AreWorn below at kids) (f : List (NodeValue A)) → f ≡ w.front → w.kid.width < 16
       → left + 1 ≡ at → Pair below left 47 kids
   pair_before below at left kids w [] q low there =
-      let s = w.stands in
-      let t = ap length q in
-      absurd (omega (arith, s, t, there))
+      absurd (omega (arith, w.stands, ap length q, there))
   pair_before below at left kids w (x ∷ xs) q low there =
-      let s = w.stands in
       let r = last_of x xs in
       let front_is : w.front ≡ r.front ++ r.last ∷ [] = sym q ∙ r.is in
-      let u = ap length front_is ∙ length-append r.front (r.last ∷ []) in
       let all = subst (All (IsKid below)) front_is w.in_front in
       let k = All-head (IsKid below) r.last [] (all_right (IsKid below) r.front (r.last ∷ []) all) in
       record {
@@ -101,12 +94,12 @@ module _ {A : Type 0} where
         two = w.kid;
         back = w.back;
         is = w.is ∙ ap (λ ks. ks ++ w.kid ∷ w.back) front_is ∙ append_assoc r.front (r.last ∷ []) (w.kid ∷ w.back);
-        stands = omega (arith, s, u, there);
+        stands = omega (arith, w.stands, ap length front_is ∙ length-append r.front (r.last ∷ []), there);
         in_front = all_left (IsKid below) r.front (r.last ∷ []) all;
         behind = w.behind;
         one_worn = worn_kid below r.last k;
         two_worn = w.worn;
-        both = let c = k.not_more in omega (arith, low, c);
+        both = omega (arith, low, k.not_more);
       }
 
   pair_of : (below at left : ℕ) (kids : List (NodeValue A)) (w : AreWorn below at kids) → w.kid.width < 16 → left + 1 < length kids
@@ -202,58 +195,50 @@ module _ {A : Type 0} where
       let p = pair_of below at left kids w (omega (arith, e, low)) fits beside in
       taken_pair below left kids rest kid right p removed taken read
 
-  pub joins_pair : {most : ℕ} (below left : ℕ) (kids rest : List (NodeValue A)) (kid right v : NodeValue A) (r : Option (NodeValue A))
-      (q : Paired below left most kids rest kid right) → Joins kid.height kid right v r → Joins below q.pair.one q.pair.two v r
-  joins_pair below left kids rest kid right v r q j =
-      let e : kid.height ≡ below = ap (λ (n : NodeValue A). n.height) q.one_is ∙ q.pair.one_worn.same_height in
-      subst (λ n. Joins n q.pair.one q.pair.two v r) e (subst (λ n. Joins kid.height n q.pair.two v r) q.one_is (subst (λ n. Joins kid.height kid n v r) q.two_is j))
+  module _ {most below left : ℕ} {kids rest : List (NodeValue A)} {kid right : NodeValue A} (q : Paired below left most kids rest kid right) where
+    pub pair_height : kid.height ≡ below
+    pair_height = ap (λ (n : NodeValue A). n.height) q.one_is ∙ q.pair.one_worn.same_height
 
-  -- the first of a pair is another one then
-  pub one_is_set : {most : ℕ} (below left : ℕ) (kids rest : List (NodeValue A)) (kid right v : NodeValue A) (q : Paired below left most kids rest kid right)
-      → set rest left v ≡ q.pair.front ++ v ∷ q.pair.back
-  one_is_set below left kids rest kid right v q =
-      let p = q.pair in
-      ap (λ ks. set ks left v) q.rest_is ∙ ap (λ n. set (p.front ++ p.one ∷ p.back) n v) (sym p.stands) ∙ set_at p.front p.one p.back v
+    pub joins_pair : (v : NodeValue A) (r : Option (NodeValue A)) → Joins kid.height kid right v r → Joins below q.pair.one q.pair.two v r
+    joins_pair v r j =
+        subst (λ n. Joins n q.pair.one q.pair.two v r) pair_height
+        (subst (λ n. Joins kid.height n q.pair.two v r) q.one_is (subst (λ n. Joins kid.height kid n v r) q.two_is j))
 
-  pub mends_alone : {most : ℕ} (below left : ℕ) (kids rest : List (NodeValue A)) (kid right v : NodeValue A)
-      → Paired below left most kids rest kid right → Joins kid.height kid right v None → Mends below kids (set rest left v)
-  mends_alone below left kids rest kid right v q j =
-      mends_pair below left kids (set rest left v) q.pair v None (joins_pair below left kids rest kid right v None q j)
-      (one_is_set below left kids rest kid right v q)
+    -- the first of a pair is another one then
+    one_is_set : (v : NodeValue A) → set rest left v ≡ q.pair.front ++ v ∷ q.pair.back
+    one_is_set v =
+        let p = q.pair in
+        ap (λ ks. set ks left v) q.rest_is ∙ ap (λ n. set (p.front ++ p.one ∷ p.back) n v) (sym p.stands) ∙ set_at p.front p.one p.back v
 
-  -- so it is where it becomes another one before the second is taken out
-  pub pair_closed : {most : ℕ} (below left : ℕ) (kids rest : List (NodeValue A)) (kid right v : NodeValue A) → Paired below left most kids rest kid right
-      → remove (set kids left v) (left + 1) ≡ set rest left v
-  pair_closed below left kids rest kid right v q =
-      let p = q.pair in
-      let t = p.stands in
-      let after : left + 1 ≡ suc (length p.front) = omega (arith, t) in
-      let one : set kids left v ≡ p.front ++ v ∷ p.two ∷ p.back =
-      ap (λ ks. set ks left v) p.is ∙ ap (λ n. set (p.front ++ p.one ∷ p.two ∷ p.back) n v) (sym p.stands) ∙ set_at p.front p.one (p.two ∷ p.back) v in
-      ap (λ ks. remove ks (left + 1)) one
-      ∙ ap (λ n. remove (p.front ++ v ∷ p.two ∷ p.back) n) after
-      ∙ remove_after p.front v p.two p.back
-      ∙ sym (one_is_set below left kids rest kid right v q)
+    pub mends_alone : (v : NodeValue A) → Joins kid.height kid right v None → Mends below kids (set rest left v)
+    mends_alone v j = mends_pair below left kids (set rest left v) q.pair v None (joins_pair v None j) (one_is_set v)
 
-  pub both_are : {most : ℕ} (below left : ℕ) (kids rest : List (NodeValue A)) (kid right v s : NodeValue A)
-      (q : Paired below left most kids rest kid right) → insert (set rest left v) (left + 1) s ≡ q.pair.front ++ v ∷ s ∷ q.pair.back
-  both_are below left kids rest kid right v s q =
-      let p = q.pair in
-      let t = p.stands in
-      ap (λ ks. insert ks (left + 1) s) (one_is_set below left kids rest kid right v q) ∙ insert_after p.front v p.back s (left + 1) (omega (arith, t))
+    -- and so it is where it becomes another one before the second is taken out
+    pub one_set : (v : NodeValue A) → set kids left v ≡ q.pair.front ++ v ∷ q.pair.two ∷ q.pair.back
+    one_set v =
+        let p = q.pair in
+        ap (λ ks. set ks left v) p.is ∙ ap (λ n. set (p.front ++ p.one ∷ p.two ∷ p.back) n v) (sym p.stands) ∙ set_at p.front p.one (p.two ∷ p.back) v
 
-  pub mends_both : {most : ℕ} (below left : ℕ) (kids rest : List (NodeValue A)) (kid right v s : NodeValue A)
-      → Paired below left most kids rest kid right → Joins kid.height kid right v (Some s) → Mends below kids (insert (set rest left v) (left + 1) s)
-  mends_both below left kids rest kid right v s q j =
-      mends_pair below left kids (insert (set rest left v) (left + 1) s) q.pair v (Some s) (joins_pair below left kids rest kid right v (Some s) q j)
-      (both_are below left kids rest kid right v s q)
+    pub pair_after : left + 1 ≡ suc (length q.pair.front)
+    pair_after = omega (arith, q.pair.stands)
 
-  pub joins_worn : (below left : ℕ) (kids rest : List (NodeValue A)) (kid right : NodeValue A) → Paired below left 47 kids rest kid right
+    pub pair_closed : (v : NodeValue A) → remove (set kids left v) (left + 1) ≡ set rest left v
+    pair_closed v =
+        let p = q.pair in
+        ap (λ ks. remove ks (left + 1)) (one_set v) ∙ ap (λ n. remove (p.front ++ v ∷ p.two ∷ p.back) n) pair_after
+        ∙ remove_after p.front v p.two p.back ∙ sym (one_is_set v)
+
+    pub both_are : (v s : NodeValue A) → insert (set rest left v) (left + 1) s ≡ q.pair.front ++ v ∷ s ∷ q.pair.back
+    both_are v s = ap (λ ks. insert ks (left + 1) s) (one_is_set v) ∙ insert_after q.pair.front v q.pair.back s (left + 1) pair_after
+
+    pub mends_both : (v s : NodeValue A) → Joins kid.height kid right v (Some s) → Mends below kids (insert (set rest left v) (left + 1) s)
+    mends_both v s j = mends_pair below left kids (insert (set rest left v) (left + 1) s) q.pair v (Some s) (joins_pair v (Some s) j) (both_are v s)
+
+  pub joins_worn : {below left : ℕ} {kids rest : List (NodeValue A)} {kid right : NodeValue A} → Paired below left 47 kids rest kid right
       → IsWorn kid.height kid × IsWorn kid.height right × (kid.width + right.width ≤ 47)
-  joins_worn below left kids rest kid right q =
-      let p = q.pair in
-      let e : kid.height ≡ below = ap (λ (n : NodeValue A). n.height) q.one_is ∙ p.one_worn.same_height in
-      let a = ap (λ (n : NodeValue A). n.width) q.one_is in
-      let b = ap (λ (n : NodeValue A). n.width) q.two_is in
-      let c = p.both in
-      (subst (λ n. IsWorn n kid) (sym e) (subst (IsWorn below) (sym q.one_is) p.one_worn), subst (λ n. IsWorn n right) (sym e) (subst (IsWorn below) (sym q.two_is) p.two_worn), omega (arith, a, b, c))
+  joins_worn {below = below} {kid = kid} {right = right} q =
+      let e = sym (pair_height q) in (
+        subst (λ n. IsWorn n kid) e (subst (IsWorn below) (sym q.one_is) q.pair.one_worn),
+        subst (λ n. IsWorn n right) e (subst (IsWorn below) (sym q.two_is) q.pair.two_worn),
+        omega (arith, ap (λ (n : NodeValue A). n.width) q.one_is, ap (λ (n : NodeValue A). n.width) q.two_is, q.pair.both),
+      )

@@ -1,20 +1,22 @@
 -- Which nodes a new row splits, seen from a page and from a node over it.
-use Rattle.std.proofs.Common.{◌≡◌, ℕ, ◌+◌, ◌-◌, ◌<◌, ◌≤◌, max, List, [], ◌∷◌, ◌++◌, length, get_or, map, take, drop, append_assoc, refl, sym, ap}
-use Rattle.std.proofs.Common.{subst, ◌∙◌, suc, zero, arith, true, false, Bool, not, ltb, eqb, ◌||◌, if◌then◌else◌, Vec, vec_len}
+use Rattle.std.proofs.Common.{◌≡◌, ℕ, ◌+◌, ◌-◌, ◌<◌, ◌≤◌, List, [], ◌∷◌, ◌++◌, length, get_or, map, take, drop, append_assoc, refl, sym, ap}
+use Rattle.std.proofs.Common.{subst, ◌∙◌, suc, zero, arith, true, false, Bool, ltb, eqb, ◌||◌, if◌then◌else◌, Vec, vec_len}
 use Rattle.std.proofs.lemmas.Bool.{true≢false, eq-eqb, ne_eqb, le-ltb, lt-ltb, or_from, or_left, or_right}
 use Rattle.std.proofs.lemmas.List.Elements.{All-append, All-cons, All-head, All-tail}
 use Rattle.std.proofs.lemmas.List.{length-map}
 use Rattle.std.specs.List.{All}
-use Rattle.std.specs.List.Sorted.{IsPartitionedBy, IsPartitionPoint}
 use Rattle.st_key.specs.declared.period.Period.{Period}
-use Rattle.st_index.specs.Rows.{EntryValue, Rises}
+use Rattle.st_index.specs.inner.Entries.{EntryValue, EntriesRise}
 use Rattle.st_index.proofs.Rising.{rises_bounds, rises_all}
 use Rattle.st_ubtree.specs.inner.Growing.{AreAround, DoRise}
 use Rattle.st_tally.specs.inner.Pages.{PageValue, NodeValue, entries_of_pages}
 use Rattle.st_ubtree.specs.inner.Kids.{IsKid, Spans, pages_of}
 use Rattle.st_tally.specs.inner.Pages.{page_node}
-use Rattle.st_ubtree.specs.inner.Splits.{chains_of, chains_over, has_key, made_nodes, splits, splits_in, splits_page, splits_with}
+use Rattle.st_ubtree.specs.inner.Splits.{chains_over, has_key, made_nodes, splits, splits_in, splits_page, splits_with}
 use Rattle.st_ubtree.proofs.Halving.{chains_length}
+use Rattle.st_ubtree.proofs.Over.{IsKidFor, over_pages}
+use Rattle.st_ubtree.specs.declared.node.Node.TheInside.{Inside}
+use Rattle.st_ubtree.specs.declared.node.aside.Aside.{Aside}
 use Rattle.st_index.proofs.Climbing.{all_left, all_right}
 use Rattle.st_index.proofs.Putting.{split_read}
 use Rattle.st_ubtree.proofs.Spanning.{Found, entries-append, found_kid, pages-append, pages_split, spans_bounds}
@@ -26,6 +28,18 @@ with_none width height = by (ltb width 32) (eqb 0 (height + 1)) (ne_eqb 0 (heigh
     by true b e = refl
     by false true e = absurd (true≢false e)
     by false false e = refl
+
+pub with_full : (width height split : ℕ) → 32 ≤ width → split ≡ height + 1 → splits_with width height split ≡ split + 1
+with_full width height split l e = ap (λ b. if b then split else if eqb split (height + 1) then split + 1 else split) (le-ltb width 32 l)
+    ∙ ap (λ b. if b then split + 1 else split) (eq-eqb split (height + 1) e)
+
+pub with_not_less : (width height split : ℕ) → split ≤ splits_with width height split
+with_not_less width height split = by (ltb width 32) (eqb split (height + 1))
+  where
+    by : (a b : Bool) → split ≤ (if a then split else if b then split + 1 else split)
+    by true b = omega arith
+    by false true = omega arith
+    by false false = omega arith
 
 module _ {A : Type 0} where
   -- a page
@@ -53,7 +67,7 @@ module _ {A : Type 0} where
 
   pub page_filled : {Z : Type 0} (key : ℕ) (old new : Vec (EntryValue A) Z) → length old.items ≤ 32 → vec_len new ≤ vec_len old + 1 → 32 < vec_len new
       → (vec_len old < vec_len new → All (λ (e : EntryValue A). e.at ≡ key → ⊥) old.items) → 1 ≤ splits_page old.items 1 key
-  page_filled key old new fits most more none = let one = page_overfull key old new fits most more none in omega (arith, one)
+  page_filled key old new fits most more none = omega (arith, page_overfull key old new fits most more none)
 
   pub page_short : (key : ℕ) (es : List (EntryValue A)) → length es < 32 → splits_page es 1 key ≡ 0
   unfolding splits_page
@@ -148,7 +162,7 @@ module _ {A : Type 0} where
 
   -- entries by their keys
 
-  rises_below : (period : Period) (lo hi : ℕ) (es : List (EntryValue A)) → Rises period lo hi es → All (λ (e : EntryValue A). e.at < hi) es
+  rises_below : (period : Period) (lo hi : ℕ) (es : List (EntryValue A)) → EntriesRise period lo hi es → All (λ (e : EntryValue A). e.at < hi) es
   rises_below period lo hi [] h = λ k d l. absurd (omega (arith, l))
   rises_below period lo hi (e ∷ es) h = let b = rises_bounds period (e.at + 1) hi es h.2 in All-cons (λ (f : EntryValue A). f.at < hi) e es (omega (arith, b)) (rises_below period (e.at + 1) hi es h.2)
 
@@ -157,71 +171,80 @@ module _ {A : Type 0} where
   entries_below period lo hi (p ∷ ps) h =
       let b = spans_bounds period h.1.0 hi ps h.1.3 in
       let low = rises_below period lo h.1.0 p.entries h.1.2 in
-      All-append (λ (e : EntryValue A). e.at < hi) p.entries (entries_of_pages ps) (λ k d l. let a = low k d l in omega (arith, a, b)) (entries_below period h.1.0 hi ps h.1.3)
+      All-append (λ (e : EntryValue A). e.at < hi) p.entries (entries_of_pages ps) (λ k d l. omega (arith, low k d l, b)) (entries_below period h.1.0 hi ps h.1.3)
 
   pub entries_from : (period : Period) (lo hi : ℕ) (ps : List (PageValue A)) → Spans period lo hi ps → All (λ (e : EntryValue A). lo ≤ e.at) (entries_of_pages ps)
   entries_from period lo hi [] h = λ k d l. absurd (omega (arith, l))
   entries_from period lo hi (p ∷ ps) h =
       let wide = h.1.1 in
       let rest = entries_from period h.1.0 hi ps h.1.3 in
-      All-append (λ (e : EntryValue A). lo ≤ e.at) p.entries (entries_of_pages ps) (rises_all period lo h.1.0 p.entries h.1.2) (λ k d l. let a = rest k d l in omega (arith, a, wide))
+      All-append (λ (e : EntryValue A). lo ≤ e.at) p.entries (entries_of_pages ps) (rises_all period lo h.1.0 p.entries h.1.2) (λ k d l. omega (arith, rest k d l, wide))
 
   -- a node over the child that a search finds
 
-  module _ (key below : ℕ) (kids : List (NodeValue A)) (i n : ℕ) (kid : NodeValue A) (each : All (IsKid below) kids)
-      (found : IsPartitionedBy (λ (v : NodeValue A). not (ltb key v.first)) kids
-      → IsPartitionPoint (λ (v : NodeValue A). not (ltb key v.first) ≡ true) (λ (v : NodeValue A). not (ltb key v.first) ≡ false) kids n)
-      (is : i + 1 ≡ max n 1) (l : i < length kids) (read : kid ≡ get_or kids i kid) (o : AreAround key (pages_of kids)) where
-    there : Found o.period key o.lo o.hi kids i kid
-    there = found_kid o.period key below o.lo o.hi kids each o.spans n i kid found is l read
+  module _ {key i : ℕ} {n : Inside A} {kids : Vec (NodeValue A) A} {aside : Aside A} {node kid : NodeValue A} (k : IsKidFor key n kids aside node i kid)
+      (o : AreAround key node.pages) where
+    around : AreAround key (pages_of kids.items)
+    around = subst (AreAround key) (over_pages k.over) o
+
+    there : Found around.period key around.lo around.hi kids.items i kid
+    there =
+        found_kid around.period key k.over.good.below around.lo around.hi kids.items k.over.good.each around.spans k.chosen.upto i kid
+        k.chosen.found k.chosen.is k.chosen.within k.read
+
+    from : there.a ≤ key
+    from = there.from around.from
+
+    to : key < there.b
+    to = there.to around.to
 
     pub kid_around : AreAround key kid.pages
-    kid_around = record { period = o.period; lo = there.a; hi = there.b; spans = there.mid; from = there.from o.from; to = there.to o.to }
+    kid_around = record { period = around.period; lo = there.a; hi = there.b; spans = there.mid; from = from; to = to }
 
-    pub kid_splits_by : splits_in (pages_of kids) (chains_of kids) key ≡ splits_with (length kids) kid.height (splits kid key)
+    pub kid_splits_by : splits node key ≡ splits_with (length kids.items) kid.height (splits kid key)
     kid_splits_by =
-        let w = length kids in
-        let front = take i kids in
-        let back = drop (suc i) kids in
-        let all = subst (All (IsKid below)) (split_read kids i kid l read) each in
-        ap (λ ks. splits_in (pages_of ks) (chains_over w ks) key) (split_read kids i kid l read)
-        ∙ splits_under o.period key below w o.lo there.a there.b o.hi front back kid all there.low there.mid there.high (there.from o.from) (there.to o.to)
+        let w = length kids.items in
+        let parts = split_read kids.items i kid k.chosen.within k.read in
+        ap (λ (v : NodeValue A). splits v key) (sym k.over.seen)
+        ∙ ap (λ ks. splits_in (pages_of ks) (chains_over w ks) key) parts
+        ∙ splits_under around.period key k.over.good.below w around.lo there.a there.b around.hi (take i kids.items) (drop (suc i) kids.items) kid
+        (subst (All (IsKid k.over.good.below)) parts k.over.good.each) there.low there.mid there.high from to
+
+    -- at least as many nodes are split as up to the child
+    pub kid_fewer : splits kid key ≤ splits node key
+    kid_fewer = omega (arith, kid_splits_by, with_not_less (length kids.items) kid.height (splits kid key))
+
+    -- and one more, where all up to the child are, and the node is full
+    pub kid_fills : 32 ≤ length kids.items → splits kid key ≡ kid.height + 1 → splits node key ≡ splits kid key + 1
+    kid_fills full split = kid_splits_by ∙ with_full (length kids.items) kid.height (splits kid key) full split
+
+    three : entries_of_pages node.pages
+        ≡ entries_of_pages (pages_of (take i kids.items)) ++ (entries_of_pages kid.pages ++ entries_of_pages (pages_of (drop (suc i) kids.items)))
+    three =
+        let front = pages_of (take i kids.items) in
+        let back = pages_of (drop (suc i) kids.items) in
+        ap entries_of_pages (over_pages k.over ∙ pages_split kids.items i kid k.chosen.within k.read) ∙ entries-append front (kid.pages ++ back)
+        ∙ ap (λ es. entries_of_pages front ++ es) (entries-append kid.pages back)
 
     pub kid_rows : (r : ℕ) → All (λ (e : EntryValue A). e.at ≡ key → length e.rows ≡ r) (entries_of_pages kid.pages)
-        → All (λ (e : EntryValue A). e.at ≡ key → length e.rows ≡ r) (entries_of_pages (pages_of kids))
+        → All (λ (e : EntryValue A). e.at ≡ key → length e.rows ≡ r) (entries_of_pages node.pages)
     kid_rows r h =
         let P : EntryValue A → Type 0 = λ e. e.at ≡ key → length e.rows ≡ r in
-        let front = pages_of (take i kids) in
-        let back = pages_of (drop (suc i) kids) in
-        let from = there.from o.from in
-        let to = there.to o.to in
-        let low = entries_below o.period o.lo there.a front there.low in
-        let high = entries_from o.period there.b o.hi back there.high in
-        let split = ap entries_of_pages (pages_split kids i kid l read) ∙ entries-append front (kid.pages ++ back) ∙ ap (λ es. entries_of_pages front ++ es) (entries-append kid.pages back) in
-        subst (All P) (sym split)
-        (All-append P (entries_of_pages front) (entries_of_pages kid.pages ++ entries_of_pages back) (λ k d m e. let a = low k d m in absurd (omega (arith, a, e, from)))
-        (All-append P (entries_of_pages kid.pages) (entries_of_pages back) h (λ k d m e. let a = high k d m in absurd (omega (arith, a, e, to)))))
+        let front = pages_of (take i kids.items) in
+        let back = pages_of (drop (suc i) kids.items) in
+        let low = entries_below around.period around.lo there.a front there.low in
+        let high = entries_from around.period there.b around.hi back there.high in
+        subst (All P) (sym three)
+        (All-append P (entries_of_pages front) (entries_of_pages kid.pages ++ entries_of_pages back) (λ j d m e. absurd (omega (arith, low j d m, e, from)))
+        (All-append P (entries_of_pages kid.pages) (entries_of_pages back) h (λ j d m e. absurd (omega (arith, high j d m, e, to)))))
 
     -- a key that has no entry under a node has none under the child
-    pub kid_none : All (λ (e : EntryValue A). e.at ≡ key → ⊥) (entries_of_pages (pages_of kids)) → All (λ (e : EntryValue A). e.at ≡ key → ⊥) (entries_of_pages kid.pages)
+    pub kid_none : All (λ (e : EntryValue A). e.at ≡ key → ⊥) (entries_of_pages node.pages) → All (λ (e : EntryValue A). e.at ≡ key → ⊥) (entries_of_pages kid.pages)
     kid_none h =
         let P : EntryValue A → Type 0 = λ e. e.at ≡ key → ⊥ in
-        let front = pages_of (take i kids) in
-        let back = pages_of (drop (suc i) kids) in
-        let split = ap entries_of_pages (pages_split kids i kid l read) ∙ entries-append front (kid.pages ++ back) ∙ ap (λ es. entries_of_pages front ++ es) (entries-append kid.pages back) in
-        all_left P (entries_of_pages kid.pages) (entries_of_pages back) (all_right P (entries_of_pages front) (entries_of_pages kid.pages ++ entries_of_pages back) (subst (All P) split h))
-
-pub with_full : (width height split : ℕ) → 32 ≤ width → split ≡ height + 1 → splits_with width height split ≡ split + 1
-with_full width height split l e = ap (λ b. if b then split else if eqb split (height + 1) then split + 1 else split) (le-ltb width 32 l)
-    ∙ ap (λ b. if b then split + 1 else split) (eq-eqb split (height + 1) e)
-
-pub with_not_less : (width height split : ℕ) → split ≤ splits_with width height split
-with_not_less width height split = by (ltb width 32) (eqb split (height + 1))
-  where
-    by : (a b : Bool) → split ≤ (if a then split else if b then split + 1 else split)
-    by true b = omega arith
-    by false true = omega arith
-    by false false = omega arith
+        let front = entries_of_pages (pages_of (take i kids.items)) in
+        let back = entries_of_pages (pages_of (drop (suc i) kids.items)) in
+        all_left P (entries_of_pages kid.pages) back (all_right P front (entries_of_pages kid.pages ++ back) (subst (All P) three h))
 
 pub made_full : (height split : ℕ) → split ≡ height + 1 → made_nodes height split ≡ split
 made_full height split e = ap (λ b. if b then split else split - 1) (eq-eqb split (height + 1) e)
@@ -232,30 +255,6 @@ made_less height split inners h = by (eqb split (height + 1)) h
     by : (b : Bool) → (if b then split else split - 1) ≤ inners → split ≤ inners + 1
     by true l = omega (arith, l)
     by false l = omega (arith, l)
-
--- the same as numbers: s nodes are split up to a child of height k, and all up to its parent, of height top
-
-pub fewer_split : (s more all n : ℕ) → s ≤ more → all ≡ more → all ≤ n → s ≤ n
-fewer_split s more all n less is most = omega (arith, less, is, most)
-
-pub some_split : (s more all : ℕ) → s ≤ more → all ≡ more → 1 ≤ s → 1 ≤ all
-some_split s more all less is some = omega (arith, less, is, some)
-
-pub one_left : (was now all s k : ℕ) → was ≤ now + k → all ≤ was + 1 → all ≡ s + 1 → s ≡ k + 1 → 0 < now
-one_left was now all s k left enough is split = omega (arith, left, enough, is, split)
-
-module _ (k below h top : ℕ) (low : k ≡ below) (higher : h ≡ below + 1) (tall : top ≡ h) where
-  pub lower_kid : k < top
-  lower_kid = omega (arith, low, higher, tall)
-
-  pub whole_split : (all s : ℕ) → all ≡ s + 1 → s ≡ k + 1 → all ≡ top + 1
-  whole_split all s is split = omega (arith, low, higher, tall, is, split)
-
-  pub left_below : (was now : ℕ) → was ≤ now + k → was ≤ now + top
-  left_below was now left = omega (arith, low, higher, tall, left)
-
-  pub left_over : (was mid now : ℕ) → was ≤ mid + k → mid ≤ now + 1 → was ≤ now + top
-  left_over was mid now left more = omega (arith, low, higher, tall, left, more)
 
 pub held_made : {X Z : Type 0} (v : Vec X Z) (made : ℕ) → length v.items ≡ made → made ≤ vec_len v
 held_made v made is = omega (arith, v.ok.0, is)

@@ -51,13 +51,13 @@ module _ {A : Type 0} where
       → (w : NodeValue A) (ws : List (NodeValue A)) → drop (suc i) kids ≡ w ∷ ws → IsKid below w × (key < w.first)
   after_kid key below kids each n i at is w ws q =
       let there : get_or kids (suc i + 0) w ≡ w = sym (get_or-drop (suc i) kids 0 w) ∙ ap (λ t. get_or t 0 w) q in
-      let long : suc i + 0 < length kids = let a = ap length q in let b = length-drop (suc i) kids in omega (arith, a, b) in
+      let long : suc i + 0 < length kids = omega (arith, ap length q, length-drop (suc i) kids) in
       (subst (IsKid below) there (each (suc i + 0) w long), subst (λ (v : NodeValue A). key < v.first) there (later_is key _ (at (suc i + 0) w (omega (arith, is)) long)))
 
 module _ {A : Type 0} (period : Period) where
   pub spans_bounds : (lo hi : ℕ) (ps : List (PageValue A)) → Spans period lo hi ps → lo ≤ hi
   spans_bounds lo hi [] h = omega (arith, h)
-  spans_bounds lo hi (p ∷ ps) h = let r = spans_bounds h.1.0 hi ps h.1.3 in let a = h.1.1 in omega (arith, r, a)
+  spans_bounds lo hi (p ∷ ps) h = omega (arith, spans_bounds h.1.0 hi ps h.1.3, h.1.1)
 
   pub spans_join : (lo mid hi : ℕ) (xs ys : List (PageValue A)) → Spans period lo mid xs → Spans period mid hi ys → Spans period lo hi (xs ++ ys)
   spans_join lo mid hi [] ys a b = subst (λ n. Spans period n hi ys) (sym a) b
@@ -74,9 +74,24 @@ module _ {A : Type 0} (period : Period) where
       let r = spans_cut h.1.0 hi xs ys h.1.3 in
       record { at = r.at; low = (h.0, (h.1.0, h.1.1, h.1.2, r.low)); high = r.high }
 
+  -- pages between others may be others with the same bounds
+  pub spans_put : (lo hi : ℕ) (front mid new back : List (PageValue A)) → ((a b : ℕ) → Spans period a b mid → Spans period a b new)
+      → Spans period lo hi (front ++ (mid ++ back)) → Spans period lo hi (front ++ (new ++ back))
+  spans_put lo hi front mid new back put h =
+      let c = spans_cut lo hi front (mid ++ back) h in
+      let d = spans_cut c.at hi mid back c.high in
+      spans_join lo c.at hi front (new ++ back) c.low (spans_join c.at d.at hi new back (put c.at d.at d.low) d.high)
+
+  -- which they have
+  pub spans_mid : (lo hi : ℕ) (front mid back : List (PageValue A)) → Spans period lo hi (front ++ (mid ++ back)) → (a : ℕ) × (b : ℕ) × Spans period a b mid
+  spans_mid lo hi front mid back h =
+      let c = spans_cut lo hi front (mid ++ back) h in
+      let d = spans_cut c.at hi mid back c.high in
+      (c.at, d.at, d.low)
+
   pub starts_there : (first lo hi : ℕ) (ps : List (PageValue A)) → StartsAt first ps → Spans period lo hi ps → (first ≡ lo) × (lo < hi)
   starts_there first lo hi [] s h = absurd s
-  starts_there first lo hi (p ∷ ps) s h = let r = spans_bounds h.1.0 hi ps h.1.3 in let a = h.1.1 in (sym s ∙ h.0, omega (arith, r, a))
+  starts_there first lo hi (p ∷ ps) s h = (sym s ∙ h.0, omega (arith, spans_bounds h.1.0 hi ps h.1.3, h.1.1))
 
   pub firsts_from : (below lo hi : ℕ) (kids : List (NodeValue A)) → All (IsKid below) kids → Spans period lo hi (pages_of kids) → All (λ (v : NodeValue A). lo ≤ v.first) kids
   firsts_from below lo hi [] each h = λ k d l. absurd (omega (arith, l))
@@ -84,7 +99,7 @@ module _ {A : Type 0} (period : Period) where
       let c = spans_cut lo hi v.pages (pages_of vs) h in
       let s = starts_there v.first lo c.at v.pages (All-head (IsKid below) v vs each).starts.0 c.low in
       let rest = firsts_from below c.at hi vs (All-tail (IsKid below) v vs each) c.high in
-      All-cons (λ (w : NodeValue A). lo ≤ w.first) v vs (let e = s.0 in omega (arith, e)) (λ k d l. let r = rest k d l in let b = s.1 in omega (arith, r, b))
+      All-cons (λ (w : NodeValue A). lo ≤ w.first) v vs (omega (arith, s.0)) (λ k d l. omega (arith, rest k d l, s.1))
 
   pub firsts_parted : (key below lo hi : ℕ) (kids : List (NodeValue A)) → All (IsKid below) kids → Spans period lo hi (pages_of kids)
       → IsPartitionedBy (λ (v : NodeValue A). not (ltb key v.first)) kids
@@ -95,8 +110,7 @@ module _ {A : Type 0} (period : Period) where
       let s = starts_there v.first lo c.at v.pages (All-head (IsKid below) v vs each).starts.0 c.low in
       let l : j < length vs = omega (arith, b) in
       let r = firsts_from below c.at hi vs (All-tail (IsKid below) v vs each) c.high j d l in
-      let u = upto_is key (get_or vs j d).first p in
-      is_upto key v.first (let e = s.0 in let f = s.1 in omega (arith, e, f, r, u))
+      is_upto key v.first (omega (arith, s.0, s.1, r, upto_is key (get_or vs j d).first p))
   firsts_parted key below lo hi (v ∷ vs) each h (suc i) zero d a b p = absurd (omega (arith, a))
   firsts_parted key below lo hi (v ∷ vs) each h (suc i) (suc j) d a b p =
       let c = spans_cut lo hi v.pages (pages_of vs) h in
@@ -139,7 +153,7 @@ module _ {A : Type 0} (period : Period) where
       → ((w : NodeValue A) (ws : List (NodeValue A)) → vs ≡ w ∷ ws → IsKid below w × (key < w.first)) → key < hi → key < b
   high_bound key b hi below [] h after k = omega (arith, h, k)
   high_bound key b hi below (w ∷ ws) h after k =
-      let q = after w ws refl in let e = next_first below b hi w ws (w ∷ ws) refl q.0 h in let f = q.1 in omega (arith, e, f)
+      let q = after w ws refl in omega (arith, next_first below b hi w ws (w ∷ ws) refl q.0 h, q.1)
 
   pub found_kid : (key below lo hi : ℕ) (kids : List (NodeValue A)) → All (IsKid below) kids → Spans period lo hi (pages_of kids)
       → (n i : ℕ) (kid : NodeValue A)

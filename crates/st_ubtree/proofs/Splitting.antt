@@ -3,7 +3,7 @@ use Rattle.std.proofs.Common.{◌≡◌, ℕ, ◌+◌, ◌<◌, ◌≤◌, List,
 use Rattle.std.proofs.Common.{drop-cons, take-append-drop, length-take-le, Option, Some, None, Vec, vec_len}
 use Rattle.std.proofs.lemmas.List.{append-nil, length-drop}
 use Rattle.std.proofs.lemmas.List.Elements.{All-head, All-cons}
-use Rattle.st_index.specs.Rows.{name_of, EntryValue, Rises, rank_of, rows_of}
+use Rattle.st_index.specs.inner.Entries.{name_of, EntryValue, EntriesRise, rank_of, rows_of}
 use Rattle.st_index.specs.inner.Index.{Adds, IsAbsent}
 use Rattle.st_index.proofs.Putting.{split_read}
 use Rattle.st_index.proofs.Rising.{rises_bounds, rises_around}
@@ -29,30 +29,29 @@ module _ {A : Type 0} where
   two_rows first second n es = ap rows_of (ap (λ t. take n es ++ t) (append-nil (drop n es)) ∙ take-append-drop n es)
 
 module _ {A : Type 0} (period : Period) where
-  pub rises_wide : (lo hi : ℕ) (es : List (EntryValue A)) → Rises period lo hi es → 0 < length es → lo < hi
+  pub rises_wide : (lo hi : ℕ) (es : List (EntryValue A)) → EntriesRise period lo hi es → 0 < length es → lo < hi
   rises_wide lo hi [] h l = absurd (omega (arith, l))
-  rises_wide lo hi (e ∷ es) h l = let b = rises_bounds period (e.at + 1) hi es h.2 in let a = h.0 in omega (arith, a, b)
+  rises_wide lo hi (e ∷ es) h l = omega (arith, h.0, rises_bounds period (e.at + 1) hi es h.2)
 
   pub split_spans : (lo hi : ℕ) (es : List (EntryValue A)) (n : ℕ) (e : EntryValue A) → 0 < n → n < length es → e ≡ get_or es n e
-      → Rises period lo hi es → Spans period lo hi (page lo (take n es) ∷ page e.at (drop n es) ∷ [])
+      → EntriesRise period lo hi es → Spans period lo hi (page lo (take n es) ∷ page e.at (drop n es) ∷ [])
   split_spans lo hi es n e p l read h =
-      let a = rises_around period lo hi (take n es) e (drop (suc n) es) (subst (Rises period lo hi) (split_read es n e l read) h) in
+      let a = rises_around period lo hi (take n es) e (drop (suc n) es) (subst (EntriesRise period lo hi) (split_read es n e l read) h) in
       let rest : drop n es ≡ e ∷ drop (suc n) es = drop-cons es n e l ∙ ap (λ (x : EntryValue A). x ∷ drop (suc n) es) (sym read) in
       let low = rises_wide lo e.at (take n es) a.front (let q = length-take-le n es (omega (arith, l)) in omega (arith, q, p)) in
-      let b = rises_bounds period (e.at + 1) hi (drop (suc n) es) a.back in
-      let high : Rises period e.at hi (drop n es) = subst (Rises period e.at hi) (sym rest) (omega arith, a.entry, a.back) in
-      (refl, (e.at, low, a.front, (refl, (hi, omega (arith, b), high, refl))))
+      let high : EntriesRise period e.at hi (drop n es) = subst (EntriesRise period e.at hi) (sym rest) (omega arith, a.entry, a.back) in
+      (refl, (e.at, low, a.front, (refl, (hi, omega (arith, rises_bounds period (e.at + 1) hi (drop (suc n) es) a.back), high, refl))))
 
 module _ {A : Type 0} where
   module _ (key : ℕ) (row : Row A) (old new : List (EntryValue A)) (added : Adds row (rows_of old) (rows_of new))
-      (rising : (period : Period) (lo hi : ℕ) → key ≡ rank_of period row → Rises period lo hi old → lo ≤ key → key < hi
-      → IsAbsent period key (name_of row) (rows_of old) → Rises period lo hi new) where
+      (rising : (period : Period) (lo hi : ℕ) → key ≡ rank_of period row → EntriesRise period lo hi old → lo ≤ key → key < hi
+      → IsAbsent period key (name_of row) (rows_of old) → EntriesRise period lo hi new) where
     pub page_grows : (first : ℕ) → GrowsBy key row (page first old ∷ []) (page first new ∷ [])
     page_grows first = record {
       adds = subst (λ t. Adds row t (rows_of_pages (page first new ∷ []))) (sym (one_rows first old)) (subst (λ t. Adds row (rows_of old) t) (sym (one_rows first new)) added);
       spans = λ period lo hi at s a b absent.
           let mid = s.1.0 in
-          (s.0, (mid, s.1.1, rising period lo mid at s.1.2 a (let e = s.1.3 in omega (arith, b, e)) (subst (IsAbsent period key (name_of row)) (one_rows first old) absent), s.1.3));
+          (s.0, (mid, s.1.1, rising period lo mid at s.1.2 a (omega (arith, b, s.1.3)) (subst (IsAbsent period key (name_of row)) (one_rows first old) absent), s.1.3));
     }
 
     pub page_splits : (first n : ℕ) (e : EntryValue A) → 0 < n → n < length new → e ≡ get_or new n e → GrowsBy key row (page first old ∷ []) (page first (take n new) ∷ page e.at (drop n new) ∷ [])
@@ -61,13 +60,13 @@ module _ {A : Type 0} where
           (subst (λ t. Adds row (rows_of old) t) (sym (two_rows first e.at n new)) added);
       spans = λ period lo hi at s a b absent.
           let mid = s.1.0 in
-          let r = rising period lo hi at (subst (λ m. Rises period lo m old) s.1.3 s.1.2) a b (subst (IsAbsent period key (name_of row)) (one_rows first old) absent) in
+          let r = rising period lo hi at (subst (λ m. EntriesRise period lo m old) s.1.3 s.1.2) a b (subst (IsAbsent period key (name_of row)) (one_rows first old) absent) in
           subst (λ f. Spans period lo hi (page f (take n new) ∷ page e.at (drop n new) ∷ [])) (sym s.0) (split_spans period lo hi new n e p l read r);
     }
 
   pub page_fits : (key : ℕ) (row : Row A) (old new : List (EntryValue A)) (r : Option (NodeValue A)) → PageGrows key row old new r → length new ≤ 32
   page_fits key row old new None h = h.1
-  page_fits key row old new (Some s) h = let a = h.0 in omega (arith, a)
+  page_fits key row old new (Some s) h = omega (arith, h.0)
 
   pub wide_page : (first : ℕ) (es : List (EntryValue A)) → 16 ≤ length es → length es ≤ 32 → AreWide (page first es ∷ []) []
   wide_page first es a b =
@@ -77,7 +76,7 @@ module _ {A : Type 0} where
       }
 
   pub wider_page : (first : ℕ) (old new : List (EntryValue A)) → length old ≤ length new → length new ≤ 32 → AreWide (page first old ∷ []) [] → AreWide (page first new ∷ []) []
-  wider_page first old new a b h = let f = (All-head IsFilled (page first old) [] h.keys).not_less in wide_page first new (omega (arith, a, f)) b
+  wider_page first old new a b h = wide_page first new (omega (arith, a, (All-head IsFilled (page first old) [] h.keys).not_less)) b
 
   pub page_node_grows : (key : ℕ) (row : Row A) (first height : ℕ) (old new : List (EntryValue A)) (r : Option (NodeValue A)) → height ≡ 0
       → PageGrows key row old new r → Grows key row (page_node first height old) (page_node first height new) r
@@ -89,8 +88,8 @@ module _ {A : Type 0} where
     widths = (
       record {
         same_height = refl;
-        not_less = let a = h.0 in omega (arith, a);
-        not_more = let a = h.0 in omega (arith, a);
+        not_less = omega (arith, h.0);
+        not_more = omega (arith, h.0);
         starts = (refl, refl);
         filled = let a = h.0 in wide_page first new (omega (arith, a)) (omega (arith, a));
       },
@@ -100,12 +99,12 @@ module _ {A : Type 0} where
   }
 
   module _ (key : ℕ) (row : Row A) (old new : List (EntryValue A)) (added : Adds row (rows_of old) (rows_of new))
-      (rising : (period : Period) (lo hi : ℕ) → key ≡ rank_of period row → Rises period lo hi old → lo ≤ key → key < hi
-      → IsAbsent period key (name_of row) (rows_of old) → Rises period lo hi new) where
+      (rising : (period : Period) (lo hi : ℕ) → key ≡ rank_of period row → EntriesRise period lo hi old → lo ≤ key → key < hi
+      → IsAbsent period key (name_of row) (rows_of old) → EntriesRise period lo hi new) where
     pub page_cut : (e : EntryValue A) → length new ≡ 33 → e ≡ get_or new 16 e → PageGrows key row old (take 16 new) (Some (page_node e.at 0 (drop 16 new)))
     page_cut e all read =
         let low : length (take 16 new) ≡ 16 = length-take-le 16 new (omega (arith, all)) in
-        let high : length (drop 16 new) ≡ 17 = let d = length-drop 16 new in omega (arith, all, d) in (
+        let high : length (drop 16 new) ≡ 17 = omega (arith, all, length-drop 16 new) in (
           low,
           high,
           record {

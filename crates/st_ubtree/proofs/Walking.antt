@@ -6,7 +6,7 @@ use Rattle.st_key.specs.declared.key.Key.{Key}
 use Rattle.st_key.specs.declared.period.Period.{Period}
 use Rattle.st_key.specs.Period.{bins_of}
 use Rattle.st_key.specs.Key.{rank}
-use Rattle.st_index.specs.Rows.{key_end}
+use Rattle.st_index.specs.inner.Entries.{key_end}
 use Rattle.std.specs.Prelude.{IfNone, IfSome}
 use Rattle.st_index.specs.inner.Index.{Follow, Region}
 use Rattle.st_index.specs.declared.index.KeyRange.{KeyRange}
@@ -30,7 +30,7 @@ left hi (Some key) = hi - rank key
 
 follow_bounds : (lo hi : ℕ) (rs : List Region) → Follow lo hi rs → lo ≤ hi
 follow_bounds lo hi [] h = omega (arith, h)
-follow_bounds lo hi (r ∷ rs) h = let a = follow_bounds (r.last + 1) hi rs h.2 in let b = h.1 in omega (arith, a, b)
+follow_bounds lo hi (r ∷ rs) h = omega (arith, follow_bounds (r.last + 1) hi rs h.2, h.1)
 
 follow_join : (lo mid hi : ℕ) (xs ys : List Region) → Follow lo mid xs → Follow mid hi ys → Follow lo hi (xs ++ ys)
 follow_join lo mid hi [] ys a b = subst (λ n. Follow n hi ys) (sym a) b
@@ -45,14 +45,14 @@ found_first lo key hi [] (x ∷ xs) r (suc i) d a b k l e f t = absurd (later (x
   where
     later : (lo hi : ℕ) (ys : List Region) (i : ℕ) (d : Region) → Follow lo hi ys → i < length ys → get_or ys i d ≡ r → key < lo → ⊥
     later lo hi [] i d h l e k = omega (arith, l)
-    later lo hi (y ∷ ys) zero d h l e k = let s = ap (λ (z : Region). z.first) e in let g = h.0 in omega (arith, s, g, f, k)
+    later lo hi (y ∷ ys) zero d h l e k = let s = ap (λ (z : Region). z.first) e in omega (arith, s, h.0, f, k)
     later lo hi (y ∷ ys) (suc i) d h l e k = later (y.last + 1) hi ys i d h.2 (omega (arith, l)) e (let m = h.1 in omega (arith, m, k))
-found_first lo key hi (x ∷ xs) rest r zero d a b k l e f t = absurd (let s = ap (λ (z : Region). z.last) e in let m = follow_bounds (x.last + 1) key xs a.2 in omega (arith, s, m, t))
+found_first lo key hi (x ∷ xs) rest r zero d a b k l e f t = absurd (let s = ap (λ (z : Region). z.last) e in omega (arith, s, follow_bounds (x.last + 1) key xs a.2, t))
 found_first lo key hi (x ∷ xs) rest r (suc i) d a b k l e f t = found_first (x.last + 1) key hi xs rest r i d a.2 b k (omega (arith, l)) e f t
 
 ended : (hi : ℕ) (rs : List Region) → Follow hi hi rs → rs ≡ []
 ended hi [] h = refl
-ended hi (r ∷ rs) h = let a = follow_bounds (r.last + 1) hi rs h.2 in let b = h.1 in absurd (omega (arith, a, b))
+ended hi (r ∷ rs) h = absurd (omega (arith, follow_bounds (r.last + 1) hi rs h.2, h.1))
 
 map_last : (xs : List KeyRange) (x : KeyRange) → map region_in (xs ++ x ∷ []) ≡ map region_in xs ++ region_in x ∷ []
 map_last [] x = refl
@@ -62,7 +62,7 @@ pub walks_first : (hi : ℕ) (all : List Region) → Follow 0 hi all → 0 < hi 
 walks_first hi all h some = record { rest = all; all_is = refl; before = refl; after = h; below = some }
 
 key_below : (period : Period) (k : Key) → k.bin < bins_of period → rank k < key_end period
-key_below period k h = let a = k.address_in_range in omega (arith, h, a)
+key_below period k h = omega (arith, h, k.address_in_range)
 
 pub walks_on : (period : Period) (all : List Region) (done : List KeyRange) (key : Key) (r : KeyRange) (next : Option Key)
     → IsWalked (key_end period) all (map region_in done) (rank key) → Contains all (region_in r) → rank r.first ≤ rank key → rank key ≤ rank r.last
@@ -96,4 +96,4 @@ walks_on period all done key r next w has from to none some inside =
 pub left_less : (period : Period) (key last : Key) (next : Option Key) → rank key < key_end period → rank key ≤ rank last
     → IfSome next (λ k. rank k ≡ rank last + 1) → IfSome next (λ k. k.bin < bins_of period) → left (key_end period) next < key_end period - rank key
 left_less period key last None below to some inside = omega (arith, below)
-left_less period key last (Some k) below to some inside = let a = key_below period k inside in omega (arith, some, a, to, below)
+left_less period key last (Some k) below to some inside = omega (arith, some, key_below period k inside, to, below)

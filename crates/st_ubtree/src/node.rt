@@ -6,7 +6,7 @@
 ghost use Rattle.std.specs.Prelude.{◌≡◌, ◌+◌, ◌≤◌, IfSome, IfNone, IfOk, OnErr, length, vec_len, vec_capacity};
 ghost use Rattle.std.specs.List.{All};
 ghost use Rattle.st_key.specs.Key.{rank};
-ghost use Rattle.st_index.specs.Rows.{name_of, rank_of};
+ghost use Rattle.st_index.specs.inner.Entries.{name_of, rank_of};
 ghost use Rattle.st_index.specs.inner.Changes.{IsChange};
 ghost use Rattle.st_tally.specs.inner.Pages.{IsWide, NodeValue, entries_of_pages, AreFilled, page_node};
 ghost use Rattle.st_ubtree.specs.inner.Trading.{Keeps, TradesIn};

@@ -1,7 +1,7 @@
 //! The tree.
 ghost use Rattle.std.specs.Prelude.{◌≡◌, ◌+◌, ◌<◌, ◌≤◌, [], length, map, IfOk, None};
 ghost use Rattle.std.specs.List.{All};
-ghost use Rattle.st_index.specs.Rows.{key_end};
+ghost use Rattle.st_index.specs.inner.Entries.{key_end};
 ghost use Rattle.st_ubtree.specs.inner.Growing.{AreBlank, IsBlankPage};
 ghost use Rattle.st_tally.specs.inner.Pages.{page_node, IsWide, rows_of_pages, AreFilled};
 ghost use Rattle.st_ubtree.specs.inner.Splits.{made_nodes, split_nodes};

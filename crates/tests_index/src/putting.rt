@@ -1,5 +1,5 @@
 //! Rows put into any index, and taken out.
-ghost use Rattle.st_index.specs.Rows.{name_of, rank_of};
+ghost use Rattle.st_index.specs.inner.Entries.{name_of, rank_of};
 ghost use Rattle.st_index.specs.inner.Index.{IsAbsent};
 
 use st_index::{AsRow, Row, RowIndex};

@@ -4,7 +4,8 @@ use Rattle.std.specs.Prelude.{List, [], ◌++◌, length, drop}
 use Rattle.std.specs.List.{concat}
 use Rattle.std.specs.Io.KnownBytes.{Appends}
 use Rattle.st_http.specs.First.{First, IsItem, more, IsFirst, expects}
-use Rattle.st_connection.specs.Items.{BeginsWith, is_closed, closes, after_item}
+use Rattle.st_http.specs.Items.{after_item, closes}
+use Rattle.st_connection.specs.Items.{BeginsWith, is_closed}
 use Rattle.st_connection.specs.Connection.{Answering, Run, Ahead, ReachesWithin, KeptPast}
 use Rattle.st_connection.specs.Render.{interim}
 use Rattle.st_connection.specs.declared.connection.Stop.{Stop}

@@ -1,7 +1,8 @@
 -- An invariant of a representation, which no reader has to believe: what a list of tables holds.
 use Rattle.std.specs.Prelude.{List, [], ◌∷◌, ◌++◌, map}
 use Rattle.st_text.specs.Texts.{in_order}
-use Rattle.st_table.specs.Rows.{Held, all_held, full_name}
+use Rattle.st_table.specs.Rows.{Held, full_name}
+use Rattle.st_table.specs.inner.Joined.{all_held}
 use Rattle.st_core.specs.declared.store.tables.Shelf.{Shelf}
 use Rattle.st_core.specs.inner.Tables.{Heading, TablesValue}
 

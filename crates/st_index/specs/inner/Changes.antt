@@ -3,7 +3,7 @@ use Rattle.std.specs.Prelude.{◌≡◌, ◌<◌, ◌≤◌, List, length, set}
 use Rattle.std.specs.List.{insert, remove}
 use Rattle.st_index.specs.declared.entries.Change.{Change}
 use Rattle.st_index.specs.declared.entries.Change.TheVariants.{Opened, Altered, Closed}
-use Rattle.st_index.specs.Rows.{EntryValue}
+use Rattle.st_index.specs.inner.Entries.{EntryValue}
 
 -- an entry came in at an index, another one stands there, or the one that stood there went
 abbrev pub IsChange : {A : Type 0} → Change → (old new : List (EntryValue A)) → Type 0

@@ -4,7 +4,7 @@ use Rattle.std.specs.List.{All}
 use Rattle.st_index.specs.declared.row.Row.{Row}
 use Rattle.st_index.specs.declared.list_index.ListSpare.{ListSpare}
 use Rattle.st_index.specs.inner.ListValue.{ListValue}
-use Rattle.st_index.specs.Rows.{EntryValue, rank_of, rows_of}
+use Rattle.st_index.specs.inner.Entries.{EntryValue, rank_of, rows_of}
 
 pub record HasListRoom {A : Type 0} (s : ListValue A) (row : Row A) (spare : ListSpare A) : Type 0 where
   pub no_entries : spare.entries.items ≡ []

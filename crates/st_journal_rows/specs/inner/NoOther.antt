@@ -1,6 +1,6 @@
 -- A stage of the code, which no reader has to believe: errors of reading and writing.
 use Rattle.std.specs.Prelude.{◌≡◌, ◌≢◌, ℕ, List}
-use Rattle.st_journal_rows.specs.Openings.{owner_in}
+use Rattle.st_journal.specs.Owner.{owner_in}
 use Rattle.st_journal_rows.specs.declared.error.OpenError.{OpenError}
 use Rattle.st_journal_rows.specs.declared.error.OpenError.TheVariants.{OtherOwner, OtherOpening}
 

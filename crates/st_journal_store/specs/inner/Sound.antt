@@ -6,6 +6,8 @@ use Rattle.st_core.specs.State.{State}
 use Rattle.st_core.specs.Judging.{JudgesChange}
 use Rattle.st_core.specs.Step.{settle}
 use Rattle.st_journal.specs.declared.record.Record.{Record}
+use Rattle.st_journal.specs.declared.journal.Journal.{Ghosts}
+use Rattle.st_journal.specs.Leaving.{LeavesOnly}
 use Rattle.st_journal.specs.Faults.{FaultsRise}
 use Rattle.st_journal.specs.Replays.{Replays}
 use Rattle.st_journal_store.specs.declared.loss.Loss.TheVariants.{Disk}
@@ -18,11 +20,11 @@ pub record IsNoted (kept : State Global) (pending : Pending) : Type 0 where
   pub change : JudgesChange kept.directory pending.judged
   pub noted : Applies kept pending.note (settle kept pending.judged).state
 
-pub record IsSound {J : Type 0} (list : J → List Record) (misreads faults : J → ℕ) (is_ready : J → Type 0)
-    (may_leave : J → List Record → Type 0) (first : State Global) (begun : ℕ) (k : Keeping J) : Type 0 where
-  pub ready : k.loss ≡ None → is_ready k.journal
-  pub stands : k.loss ≡ None → misreads k.journal ≡ 0 → Replays Applies first (list k.journal) k.kept
-  pub leaves : misreads k.journal ≡ 0 → (left : List Record) → may_leave k.journal left → LeadTo first k.kept (answered k) left
+pub record IsSound {J : Type 0} (journals : Ghosts J) (first : State Global) (begun : ℕ)
+    (k : Keeping J) : Type 0 where
+  pub ready : k.loss ≡ None → journals.is_ready k.journal
+  pub stands : k.loss ≡ None → journals.misreads k.journal ≡ 0 → Replays Applies first (journals.list k.journal) k.kept
+  pub leaves : LeavesOnly journals k.journal (λ left. LeadTo first k.kept (answered k) left)
   pub waits : IfSome k.pending (IsNoted k.kept)
-  pub grown : begun ≤ faults k.journal
-  pub disk : misreads k.journal ≡ 0 → k.loss ≡ Some Disk → FaultsRise begun (faults k.journal)
+  pub grown : begun ≤ journals.faults k.journal
+  pub disk : journals.misreads k.journal ≡ 0 → k.loss ≡ Some Disk → FaultsRise begun (journals.faults k.journal)

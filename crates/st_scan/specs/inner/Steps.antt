@@ -13,8 +13,8 @@ use Rattle.st_scan.specs.declared.own_plan.OwnPlan.TheVariants.{Due, Made, Never
 use Rattle.st_scan.specs.declared.part_ranges.PartRanges.{PartRanges}
 use Rattle.st_index.specs.declared.row.Row.{Row}
 use Rattle.st_index.specs.inner.Index.{Follow, IsLeafAt, Region}
-use Rattle.st_index.specs.RowViews.{viewed}
-use Rattle.st_index.specs.Rows.{EntryValue, IsEntry, key_end, rank_of, rows_of}
+use Rattle.st_index.specs.inner.Views.{viewed}
+use Rattle.st_index.specs.inner.Entries.{EntryValue, IsEntry, key_end, rank_of, rows_of}
 use Rattle.st_scan.specs.declared.position.Position.{Position}
 use Rattle.st_scan.specs.inner.Regions.{Count, Meets}
 use Rattle.st_scan.specs.inner.Rows.{has_row, has_row_from}

@@ -5,9 +5,9 @@ use Rattle.st_key.specs.declared.period.Period.{Period}
 use Rattle.st_key.specs.Key.{rank}
 use Rattle.st_text.specs.Texts.{Text, same}
 use Rattle.st_index.specs.declared.row.Row.{Row}
-use Rattle.st_index.specs.Rows.{Name, rank_of}
+use Rattle.st_index.specs.inner.Entries.{Name, rank_of}
 use Rattle.st_scan.specs.Visible.{is_visible}
-use Rattle.st_table.specs.Table.{rows_with_name}
+use Rattle.st_table.specs.inner.Once.{rows_with_name}
 
 -- one row has the name, and its key is this one by rank
 pub record IsAt {A : Type 0} (period : Period) (place : ℕ) (name : Name) (rows : List (Row A)) : Type 0 where

@@ -12,7 +12,7 @@ use Rattle.st_key.specs.declared.period.Period.{Period}
 use Rattle.st_key.specs.Key.{rank}
 use Rattle.st_text.specs.Texts.{Text}
 use Rattle.st_index.specs.declared.row.Row.{Row}
-use Rattle.st_index.specs.Rows.{rank_of}
+use Rattle.st_index.specs.inner.Entries.{rank_of}
 use Rattle.st_table.specs.declared.seed.Seed.{Seed}
 
 -- the number that the first two bytes write, the last digit first

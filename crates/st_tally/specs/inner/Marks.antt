@@ -3,7 +3,7 @@ use Rattle.std.specs.Prelude.{◌≡◌, ℕ, ◌+◌, ◌-◌, ◌<◌, ◌≤�
 use Rattle.std.specs.Prelude.{get_or, map}
 use Rattle.st_text.specs.Texts.{Text}
 use Rattle.st_index.specs.declared.row.Row.{Row}
-use Rattle.st_index.specs.Rows.{EntryValue}
+use Rattle.st_index.specs.inner.Entries.{EntryValue}
 use Rattle.st_tally.specs.inner.Pages.{NodeValue, entries_of_pages}
 use Rattle.st_tally.specs.declared.marks.Marks.{Marks}
 use Rattle.st_tally.specs.declared.page_marks.PageMarks.{PageMarks}
@@ -59,6 +59,14 @@ AreMarked m kids = AreMarkedBy m.labels.items m.pages.items kids
 -- nothing differs, except at this place
 abbrev pub DifferAt : {X : Type 0} → ℕ → (old new : List X) → Type 0
 DifferAt {X} at old new = (i : ℕ) (x : X) → (i ≡ at → ⊥) → HasAt new i x → HasAt old i x
+
+-- the pages at this place have these entries
+abbrev pub HaveEntriesAt : {A : Type 0} → List (NodeValue A) → ℕ → List (EntryValue A) → Type 0
+HaveEntriesAt {A} nodes at entries = (v : NodeValue A) → HasAt nodes at v → entries_of_pages v.pages ≡ entries
+
+-- where nodes differ at this place alone, the new marks are the new nodes' if the old ones are the old nodes'
+abbrev pub StayMarked : {A : Type 0} → ℕ → (marks others : Marks A) → (old new : List (NodeValue A)) → Type 0
+StayMarked at marks others old new = DifferAt at old new → AreMarked marks old → AreMarked others new
 
 -- no mark differs, except at this place
 abbrev pub DifferInMarks : ℕ → (old new : PageMarks) → Type 0

@@ -2,7 +2,7 @@
 use Rattle.std.specs.Prelude.{ℕ, ◌≤◌, List, [], ◌∷◌, length}
 use Rattle.std.specs.List.{All, flat_map}
 use Rattle.st_index.specs.declared.row.Row.{Row}
-use Rattle.st_index.specs.Rows.{EntryValue, rows_of}
+use Rattle.st_index.specs.inner.Entries.{EntryValue, rows_of}
 
 -- a page: the first key of its region, and its entries
 pub record PageValue (A : Type 0) : Type 0 where

@@ -5,7 +5,7 @@ use Rattle.std.specs.List.{All}
 use Rattle.std.specs.List.Sorted.{IsPartitionedBy, IsPartitionPoint}
 use Rattle.st_key.specs.declared.period.Period.{Period}
 use Rattle.st_index.specs.declared.row.Row.{Row}
-use Rattle.st_index.specs.Rows.{EntryValue, Rises}
+use Rattle.st_index.specs.inner.Entries.{EntryValue, EntriesRise}
 use Rattle.st_ubtree.specs.declared.node.blank.Blank.{Blank}
 use Rattle.st_tally.specs.inner.Pages.{PageValue, NodeValue}
 use Rattle.st_ubtree.specs.inner.Kids.{Spans, GrowsBy, AreWide, IsKid, Starts, pages_of}
@@ -38,7 +38,7 @@ pub record AreAround {A : Type 0} (key : ℕ) (pages : List (PageValue A)) : Typ
 
 -- the entries rise between some bounds
 abbrev pub DoRise : {A : Type 0} → List (EntryValue A) → Type 0
-DoRise es = (period : Period) × (lo : ℕ) × (hi : ℕ) × Rises period lo hi es
+DoRise es = (period : Period) × (lo : ℕ) × (hi : ℕ) × EntriesRise period lo hi es
 
 -- the pages of a node and of the one beside it
 abbrev pub pages_with : {A : Type 0} → NodeValue A → Option (NodeValue A) → List (PageValue A)

@@ -3,14 +3,14 @@ use Rattle.std.specs.Prelude.{◌≡◌, ℕ, ◌<◌, ◌≤◌, List, [], ◌�
 use Rattle.std.specs.List.{All, flat_map}
 use Rattle.st_key.specs.declared.period.Period.{Period}
 use Rattle.st_index.specs.declared.row.Row.{Row}
-use Rattle.st_index.specs.Rows.{Rises, name_of, rank_of}
+use Rattle.st_index.specs.inner.Entries.{name_of, EntriesRise, rank_of}
 use Rattle.st_index.specs.inner.Index.{Adds, IsAbsent}
 use Rattle.st_tally.specs.inner.Pages.{PageValue, IsFilled, NodeValue, rows_of_pages, IsWide}
 
 -- the pages' regions follow each other from lo to just below hi, and each page's entries rise inside its own
 abbrev pub Spans : {A : Type 0} → Period → ℕ → ℕ → List (PageValue A) → Type 0
 Spans period lo hi [] = lo ≡ hi
-Spans period lo hi (p ∷ ps) = (p.first ≡ lo) × ((mid : ℕ) × (lo < mid) × Rises period lo mid p.entries × Spans period mid hi ps)
+Spans period lo hi (p ∷ ps) = (p.first ≡ lo) × ((mid : ℕ) × (lo < mid) × EntriesRise period lo mid p.entries × Spans period mid hi ps)
 
 -- there is a page, and this is its first key
 abbrev pub StartsAt : {A : Type 0} → ℕ → List (PageValue A) → Type 0

@@ -3,7 +3,7 @@ use Rattle.std.specs.Prelude.{◌≡◌, ℕ, ◌+◌, ◌<◌, ◌≤◌, List,
 use Rattle.std.specs.List.{All}
 use Rattle.st_key.specs.declared.period.Period.{Period}
 use Rattle.st_index.specs.declared.row.Row.{Row}
-use Rattle.st_index.specs.Rows.{EntryValue, Name, rank_of}
+use Rattle.st_index.specs.inner.Entries.{Name, EntryValue, rank_of}
 use Rattle.st_index.specs.inner.Index.{Adds, IsAbsent}
 use Rattle.st_tally.specs.inner.Pages.{PageValue, NodeValue, entries_of_pages, rows_of_pages}
 use Rattle.st_ubtree.specs.inner.Kids.{HeadAt, AreWide, IsKid, Spans, Starts, pages_of}

@@ -2,7 +2,7 @@
 -- where that has 32 other keys, and each node of 32 children over a child that is split.
 use Rattle.std.specs.Prelude.{ℕ, ◌+◌, ◌-◌, Bool, false, ◌||◌, if◌then◌else◌, eqb, ltb, List, [], ◌∷◌, ◌++◌, length, map, drop, get_or}
 use Rattle.std.specs.Prelude.{Option, Some, None}
-use Rattle.st_index.specs.Rows.{EntryValue}
+use Rattle.st_index.specs.inner.Entries.{EntryValue}
 use Rattle.st_tally.specs.inner.Pages.{PageValue, NodeValue}
 
 abbrev pub has_key : {A : Type 0} → ℕ → List (EntryValue A) → Bool

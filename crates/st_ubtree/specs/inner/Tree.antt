@@ -3,7 +3,7 @@ use Rattle.std.specs.Prelude.{◌≡◌, ℕ, ◌+◌, ◌^◌, ◌<◌, ◌≤�
 use Rattle.std.specs.List.{All}
 use Rattle.st_key.specs.declared.period.Period.{Period}
 use Rattle.st_index.specs.declared.row.Row.{Row}
-use Rattle.st_index.specs.Rows.{EntryValue, key_end, rank_of}
+use Rattle.st_index.specs.inner.Entries.{EntryValue, key_end, rank_of}
 use Rattle.st_tally.specs.inner.Pages.{NodeValue, entries_of_pages, rows_of_pages, AreFilled}
 use Rattle.st_ubtree.specs.inner.Kids.{Spans}
 use Rattle.st_ubtree.specs.inner.Growing.{AreBlank, IsBlankPage, IsRoomFor}

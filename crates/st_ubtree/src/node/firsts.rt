@@ -1,11 +1,11 @@
 //! The first keys of a node's children, which a search reads side by side.
-ghost use Rattle.std.specs.Prelude.{◌≡◌, ◌+◌, ◌<◌, ◌≤◌, List, length, take, ltb, not, true, false, []};
+ghost use Rattle.std.specs.Prelude.{◌≡◌, ◌+◌, ◌<◌, ◌≤◌, List, length, take, ltb, true, false, []};
 ghost use Rattle.std.specs.List.{insert, position, remove};
 ghost use Rattle.std.specs.List.Sorted.{IsPartitionPoint, IsPartitionedBy};
 ghost use Rattle.arrayvec.specs.ArrayVec.{array_vec_len};
 ghost use Rattle.st_key.specs.Key.{rank};
 ghost use Rattle.st_tally.specs.inner.Pages.{NodeValue};
-ghost use Rattle.st_ubtree.specs.inner.Firsts.{AreFirsts};
+ghost use Rattle.st_ubtree.specs.inner.Firsts.{AreFirsts, begins_by};
 ghost use Rattle.st_ubtree.specs.inner.Growing.{IsChosen};
 ghost use Rattle.st_tally.specs.inner.Marks.{HasAt};
 
@@ -59,9 +59,8 @@ impl<A: Allocator + Copy> Firsts<A> {
     pub fn count_up_to(&self, key: Key) -> usize
         ensures bound { (kids : List (NodeValue A)) → AreFirsts self.now kids → result ≤ length kids }
         ensures place { (kids : List (NodeValue A)) → AreFirsts self.now kids
-            → IsPartitionedBy (λ (v : NodeValue A). not (ltb (rank key) v.first)) kids
-            → IsPartitionPoint (λ (v : NodeValue A). not (ltb (rank key) v.first) ≡ true)
-            (λ (v : NodeValue A). not (ltb (rank key) v.first) ≡ false) kids result }
+            → IsPartitionedBy (begins_by key) kids
+            → IsPartitionPoint (λ v. begins_by key v ≡ true) (λ v. begins_by key v ≡ false) kids result }
     {
         let keys = self.keys.as_slice();
         first_after(keys, key).unwrap_or(keys.len())

@@ -1,7 +1,7 @@
 //! Pages and nodes that a new row makes too full.
 ghost use Rattle.std.specs.Prelude.{◌≡◌, ◌+◌, ◌<◌, ◌≤◌, IfNone, IfSome, length, vec_len, vec_capacity};
 ghost use Rattle.st_key.specs.Key.{rank};
-ghost use Rattle.st_index.specs.Rows.{rank_of};
+ghost use Rattle.st_index.specs.inner.Entries.{rank_of};
 ghost use Rattle.st_index.specs.inner.Changes.{IsChange};
 ghost use Rattle.st_ubtree.specs.inner.Growing.{AreBlank, AreKids, DoRise, IsBlankPage, IsRoomFor, PageGrows, SplitsIfFull};
 ghost use Rattle.st_ubtree.specs.inner.Splits.{splits_page};

@@ -1,6 +1,6 @@
 //! Pages and nodes that are evened with those beside them.
 ghost use Rattle.std.specs.Prelude.{◌≡◌, ◌+◌, ◌<◌, ◌≤◌, ◌++◌, ◌⊎◌, ℕ, length, vec_len, vec_capacity};
-ghost use Rattle.st_index.specs.Rows.{rows_of};
+ghost use Rattle.st_index.specs.inner.Entries.{rows_of};
 ghost use Rattle.st_ubtree.specs.inner.Shrinking.{AreWorn, KidsJoin, Mends, PagesJoin};
 ghost use Rattle.st_ubtree.specs.inner.Growing.{AreKids};
 ghost use Rattle.st_tally.specs.inner.Pages.{rows_of_pages};

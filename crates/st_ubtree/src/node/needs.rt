@@ -2,7 +2,7 @@
 ghost use Rattle.std.specs.Prelude.{◌≡◌, ◌+◌, ◌-◌, ◌<◌, ◌≤◌, ◌^◌, length};
 ghost use Rattle.std.specs.List.{All};
 ghost use Rattle.st_key.specs.Key.{rank};
-ghost use Rattle.st_index.specs.Rows.{EntryValue};
+ghost use Rattle.st_index.specs.inner.Entries.{EntryValue};
 ghost use Rattle.st_tally.specs.inner.Pages.{entries_of_pages};
 ghost use Rattle.st_ubtree.specs.inner.Growing.{AreAround, DoRise};
 ghost use Rattle.st_ubtree.specs.inner.Splits.{split_nodes, splits, splits_page, splits_with};

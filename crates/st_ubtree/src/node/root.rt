@@ -1,7 +1,7 @@
 //! The root, as it comes to stand over its halves, or goes.
 ghost use Rattle.std.specs.Prelude.{◌≡◌, ◌+◌, ◌<◌, ◌≤◌, ◌++◌, [], ◌^◌, vec_len, vec_capacity};
 ghost use Rattle.st_key.specs.Key.{rank};
-ghost use Rattle.st_index.specs.Rows.{rank_of};
+ghost use Rattle.st_index.specs.inner.Entries.{rank_of};
 ghost use Rattle.st_tally.specs.inner.Pages.{entries_of_pages};
 ghost use Rattle.st_ubtree.specs.inner.Kids.{GrowsBy, IsKid};
 ghost use Rattle.st_ubtree.specs.inner.Growing.{AreAround, AreBlank, IsBlankPage, IsRoomFor};

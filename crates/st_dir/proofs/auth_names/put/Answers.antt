@@ -1,7 +1,7 @@
 use Rattle.std.proofs.Common.{◌≡◌, true, false, ◌∷◌, ap, sym, ◌∙◌, if◌then◌else◌}
 use Rattle.st_text.specs.Texts.{is_among, in_order}
 use Rattle.st_sorted.specs.Sorted.{name_key}
-use Rattle.st_sorted.specs.Places.{IsPlace}
+use Rattle.st_sorted.specs.inner.Places.{IsPlace}
 use Rattle.st_sorted.proofs.Sorted.{put_in}
 use Rattle.st_dir.proofs.auth_names.put.Goals as goal
 

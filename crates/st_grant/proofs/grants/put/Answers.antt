@@ -4,7 +4,7 @@ use Rattle.st_text.specs.Texts.{in_order}
 use Rattle.st_grant.specs.Grants.{same_grant}
 use Rattle.st_grant.specs.Order.{grant_key}
 use Rattle.st_sorted.specs.Sorted.{Rises}
-use Rattle.st_sorted.specs.Places.{IsPlace}
+use Rattle.st_sorted.specs.inner.Places.{IsPlace}
 use Rattle.st_grant.specs.inner.Keys.{grant_own}
 use Rattle.st_sorted.proofs.Sorted.{none_from_any, rises_in, put_in}
 use Rattle.st_grant.proofs.grants.put.Goals as goal

@@ -1,6 +1,6 @@
 use Rattle.std.proofs.Common.{◌≡◌, ℕ, ◌<◌, ◌≤◌, sym, ap, true, false, ltb, ◌∙◌, arith}
 use Rattle.st_key.specs.Key.{rank}
-use Rattle.st_index.specs.Rows.{EntryValue}
+use Rattle.st_index.specs.inner.Entries.{EntryValue}
 use Rattle.st_index.proofs.Searching.{all_less, inside, less_before, equal_there, greater_from}
 use Rattle.st_index.proofs.entries.find.Goals as goal
 

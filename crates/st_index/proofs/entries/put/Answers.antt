@@ -1,5 +1,5 @@
 use Rattle.std.proofs.Common.{◌≡◌, ◌<◌, length, subst, sym, ap, ◌∙◌}
-use Rattle.st_index.specs.Rows.{EntryValue, name_of, rows_of, rank_of}
+use Rattle.st_index.specs.inner.Entries.{name_of, EntryValue, rows_of, rank_of}
 use Rattle.std.specs.Prelude.{vec_capacity}
 use Rattle.st_index.specs.inner.Index.{IsAbsent}
 use Rattle.st_index.proofs.Names.{nat_equal}

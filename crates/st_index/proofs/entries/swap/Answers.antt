@@ -1,6 +1,6 @@
 use Rattle.std.proofs.Common.{◌≡◌, refl, set, subst, sym, ap, ◌∙◌}
 use Rattle.std.proofs.lemmas.List.{set-get_or}
-use Rattle.st_index.specs.Rows.{name_of, rank_of, EntryValue, Rises, rows_of}
+use Rattle.st_index.specs.inner.Entries.{name_of, rank_of, EntryValue, EntriesRise, rows_of}
 use Rattle.st_index.specs.inner.Index.{IsAbsent}
 use Rattle.st_index.proofs.Names.{nat_equal}
 use Rattle.st_index.proofs.Taking.{missing_absent, absent_around, swapped_inside, swapped_placed, swapped_entry, changed_rising, around}
@@ -49,7 +49,7 @@ returns-in-Err-swap-clause-rising g c = λ p lo hi key h.
     let es = c.args.entries.now.items in
     let same : set es c.in-Ok.i c.swap.new.self ≡ es =
     ap (λ e. set es c.in-Ok.i e) (c.in-Err-swap.ensures.err ∙ c.index_mut-entry.ensures.value) ∙ set-get_or es c.in-Ok.i c.index_mut-entry.result.now in
-    subst (λ es. Rises p lo hi es) (sym same) h
+    subst (λ es. EntriesRise p lo hi es) (sym same) h
 
 pub returns-in-Err-clause-rising : goal.returns-in-Err-clause-rising
 returns-in-Err-clause-rising g c = λ p lo hi key h. h

@@ -3,7 +3,7 @@ use Rattle.std.proofs.lemmas.List.{nil_from_length, set-get_or}
 use Rattle.std.proofs.lemmas.Bool.{eqb-true, eqb-false}
 use Rattle.std.specs.List.{remove}
 use Rattle.st_key.specs.Key.{rank}
-use Rattle.st_index.specs.Rows.{EntryValue, Rises, rows_of}
+use Rattle.st_index.specs.inner.Entries.{EntryValue, EntriesRise, rows_of}
 use Rattle.st_index.specs.inner.Index.{IsAbsent}
 use Rattle.st_index.proofs.Names.{nat_equal}
 use Rattle.st_index.proofs.Taking.{missing_absent, absent_around, taken_adds, emptied, emptied_rows, emptied_rising, changed_rising, taken_entry, taken_placed, around}
@@ -91,7 +91,7 @@ pub returns-in_err-row-clause-none : goal.returns-in_err-row-clause-none
 returns-in_err-row-clause-none g c = rw c.from_residual.ensures (same g c)
 
 pub returns-in_err-row-clause-rising : goal.returns-in_err-row-clause-rising
-returns-in_err-row-clause-rising g c = λ period lo hi h. subst (λ es. Rises period lo hi es) (sym (same g c)) h
+returns-in_err-row-clause-rising g c = λ period lo hi h. subst (λ es. EntriesRise period lo hi es) (sym (same g c)) h
 
 pub returns-in_err-row-clause-shorter : goal.returns-in_err-row-clause-shorter
 returns-in_err-row-clause-shorter g c = omega arith

@@ -1,6 +1,6 @@
 use Rattle.std.proofs.Common.{◌<◌, length, subst, ◌∙◌, arith}
 use Rattle.st_index.specs.inner.Fields.{Counts}
-use Rattle.st_index.specs.Rows.{EntryValue}
+use Rattle.st_index.specs.inner.Entries.{EntryValue}
 use Rattle.st_index.proofs.Tallying.{far_all, far_fits, far_next}
 use Rattle.st_index.proofs.field_counting.count.Goals as goal
 

@@ -1,7 +1,7 @@
 use Rattle.std.proofs.Common.{rules}
 use Rattle.std.proofs.lemmas.Fn.{always_returns_same}
 use Rattle.st_index.specs.declared.row.Row.{Row}
-use Rattle.st_index.specs.Rows.{name_of, name_cmp}
+use Rattle.st_index.specs.inner.Entries.{name_of, name_cmp}
 use Rattle.st_index.proofs.naming.find_name.Goals as goal
 
 pub returns-clause-place : goal.returns-clause-place

@@ -5,7 +5,7 @@ use Rattle.st_key.specs.declared.point.Point.{Point}
 use Rattle.st_key.specs.Key.{rank}
 use Rattle.st_index.specs.declared.row.Row.{Row}
 use Rattle.st_index.specs.Notes.{NoteValue}
-use Rattle.st_index.specs.Rows.{rank_of}
+use Rattle.st_index.specs.inner.Entries.{rank_of}
 use Rattle.st_index.specs.KeyPoints.{point_of_key}
 use Rattle.st_index.specs.inner.KeyPoints.{IsPointKey}
 use Rattle.st_index.proofs.KeyPoints.{told, is_told}

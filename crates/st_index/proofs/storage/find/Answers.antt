@@ -5,7 +5,7 @@ use Rattle.st_text.specs.Texts.{Text}
 use Rattle.st_key.specs.declared.point.Point.{Point}
 use Rattle.st_index.specs.declared.row.Row.{Row}
 use Rattle.st_index.specs.Notes.{NoteValue}
-use Rattle.st_index.specs.Rows.{name_cmp, name_of}
+use Rattle.st_index.specs.inner.Entries.{name_of, name_cmp}
 use Rattle.st_index.specs.KeyPoints.{point_of_key}
 use Rattle.st_index.specs.inner.Storages.{label_in}
 use Rattle.st_index.proofs.storage.find.Goals as goal

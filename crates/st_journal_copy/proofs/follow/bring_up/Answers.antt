@@ -5,7 +5,7 @@ use Rattle.st_journal_copy.proofs.Pieces.{goes_none, goes_whole, if_ok, on_ok, w
 use Rattle.st_journal_copy.proofs.follow.bring_up.Goals as goal
 
 pub returns-in_err-compare-clause-crash : goal.returns-in_err-compare-clause-crash
-returns-in_err-compare-clause-crash g c clean counted left leaves =
+returns-in_err-compare-clause-crash g c counted clean left leaves =
     let gives = g.S.RecordSource.gives c.compare.new.source in
     let old = g.J.Journal.list c.args.copy.now in
     subst (GoesOn gives old) (sym (c.compare.ensures.crash clean left leaves)) (goes_none gives old)
@@ -36,15 +36,15 @@ returns-clause-whole g c =
     c.follow-2.ensures.goes_on
 
 pub returns-clause-crash : goal.returns-clause-crash
-returns-clause-crash g c clean counted left leaves =
+returns-clause-crash g c counted clean left leaves =
     let j = g.J.Journal in
     let gives = g.S.RecordSource.gives c.follow-2.new.source in
     let mid : j.misreads c.compare.new.copy ≡ 0 = omega (arith, clean, c.follow-2.ensures.misreads) in
     let same = c.in_ok-compare.ensures.same mid in
-    subst (λ (l : List Record). GoesOn gives l left) same (c.follow-2.ensures.crash clean (counted ∙ ap length (sym same)) left leaves)
+    subst (λ (l : List Record). GoesOn gives l left) same (c.follow-2.ensures.crash (counted ∙ ap length (sym same)) clean left leaves)
 
 pub returns-clause-foreign : goal.returns-clause-foreign
-returns-clause-foreign g c unknown clean counted left leaves =
+returns-clause-foreign g c unknown counted clean left leaves =
     let j = g.J.Journal in
     let gives = g.S.RecordSource.gives c.follow-2.new.source in
     let mid : j.misreads c.compare.new.copy ≡ 0 = omega (arith, clean, c.follow-2.ensures.misreads) in
@@ -52,4 +52,4 @@ returns-clause-foreign g c unknown clean counted left leaves =
     let given = whole_stays (g.S.RecordSource.gives c.compare.new.source) gives c.follow-2.ensures.stays (j.list c.args.copy.now)
     (c.in_ok-compare.ensures.given mid counted) in
     inr (goes_whole gives (j.list c.args.copy.now) left given
-    (subst (λ (l : List Record). GoesOn gives l left) same (c.follow-2.ensures.crash clean (counted ∙ ap length (sym same)) left leaves)))
+    (subst (λ (l : List Record). GoesOn gives l left) same (c.follow-2.ensures.crash (counted ∙ ap length (sym same)) clean left leaves)))

@@ -2,7 +2,7 @@ use Rattle.std.proofs.Common.{◌≡◌, ◌<◌, sym, ap, subst, ◌∙◌, ari
 use Rattle.std.specs.Ordering.{is_lt}
 use Rattle.st_key.specs.Key.{rank}
 use Rattle.st_index.specs.RowViews.{row_of_view}
-use Rattle.st_index.specs.Rows.{rank_of}
+use Rattle.st_index.specs.inner.Entries.{rank_of}
 use Rattle.st_scan.proofs.Keys.{not_before, rank_before}
 use Rattle.st_scan.proofs.Past.{past_after, past_before, past_same}
 use Rattle.st_scan.proofs.after.is_after.Goals as goal

@@ -1,6 +1,6 @@
 use Rattle.std.proofs.Common.{◌∙◌, sym}
 use Rattle.std.proofs.lemmas.Bool.{eqb-true}
-use Rattle.st_index.specs.RowViews.{viewed}
+use Rattle.st_index.specs.inner.Views.{viewed}
 use Rattle.st_scan.proofs.Filters.{no_items}
 use Rattle.st_scan.proofs.Positions.{entered_at, entered_left}
 use Rattle.st_scan.proofs.step.forward.Goals as goal

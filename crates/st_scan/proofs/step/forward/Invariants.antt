@@ -1,5 +1,5 @@
 use Rattle.std.proofs.Common.{◌≡◌, ◌-◌}
-use Rattle.st_index.specs.Rows.{key_end}
+use Rattle.st_index.specs.inner.Entries.{key_end}
 use Rattle.st_scan.specs.inner.Steps.{IsPosition, left_of, rank_or_end}
 use Rattle.st_scan.proofs.step.forward.Given as goal
 

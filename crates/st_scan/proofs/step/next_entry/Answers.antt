@@ -2,7 +2,7 @@ use Rattle.std.proofs.Common.{sym, subst, ◌∙◌}
 use Rattle.std.proofs.lemmas.List.Elements.{All-head}
 use Rattle.std.proofs.Math.Bool.{true≢false}
 use Rattle.std.specs.List.{All}
-use Rattle.st_index.specs.Rows.{IsEntry}
+use Rattle.st_index.specs.inner.Entries.{IsEntry}
 use Rattle.st_scan.proofs.Keys.{by_key, has_by_row}
 use Rattle.st_scan.proofs.Entries.{Passed, all_right, pass_all, pass_more}
 use Rattle.st_scan.proofs.step.next_entry.Goals as goal

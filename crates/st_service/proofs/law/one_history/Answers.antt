@@ -11,4 +11,7 @@ returns-clause-alone g c items history other is also =
     same_events history other (each_asks items history is) (each_asks items other also) (sym (of_items items history is) ∙ of_items items other also)
 
 pub returns-clause-answered : goal.returns-clause-answered
-returns-clause-answered g c s t items texts history run some is = let d = defined s t items texts history run some is in (d.texts_are, d.ends)
+returns-clause-answered g c s t items texts history run some is = (defined s t items texts history run some is).texts_are
+
+pub returns-clause-leaves : goal.returns-clause-leaves
+returns-clause-leaves g c s t items texts history run some is = (defined s t items texts history run some is).ends

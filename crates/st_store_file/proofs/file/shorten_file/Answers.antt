@@ -25,4 +25,4 @@ returns-clause-short g c = λ clean.
     let was = none_before _ _ c.shorten_journal.ensures.misreads clean in
     shortened_by (HoldStore (image_at g.S.Start)) c.args.opening.now c.args.store c.new-state.result c.open.new.state _ _ _
     c.new-state.ensures c.requires.rows c.requires.audit (c.in_ok-journal.ensures.found was) (c.in_ok-journal.ensures.made was)
-    (c.in_ok-counts.ensures.short clean)
+    (λ w none made. c.in_ok-counts.ensures.short clean w (none, made))

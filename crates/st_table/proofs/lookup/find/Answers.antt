@@ -1,7 +1,7 @@
 use Rattle.std.proofs.Common.{◌<◌, ◌^◌, sym, subst, arith}
 use Rattle.st_key.specs.Key.{rank}
 use Rattle.st_index.specs.inner.Index.{IsAbsent}
-use Rattle.st_index.specs.Rows.{Name, key_end}
+use Rattle.st_index.specs.inner.Entries.{Name, key_end}
 use Rattle.st_table.proofs.Standing.{found_at, in_period, is_key, later_next, none_left}
 use Rattle.st_table.proofs.lookup.find.Goals as goal
 

@@ -1,7 +1,7 @@
 use Rattle.std.proofs.Common.{◌≡◌, ◌-◌, ◌≤◌, ◌^◌}
 use Rattle.std.specs.List.{All}
 use Rattle.st_index.specs.declared.row.Row.{Row}
-use Rattle.st_index.specs.Rows.{name_of, rank_of}
+use Rattle.st_index.specs.inner.Entries.{name_of, rank_of}
 use Rattle.st_table.proofs.lookup.find.Given as goal
 
 abbrev pub invariant-keys : goal.invariant-keys

@@ -1,6 +1,6 @@
 use Rattle.st_key.specs.Key.{rank}
 use Rattle.st_index.specs.inner.Index.{region}
-use Rattle.st_index.specs.Rows.{Name}
+use Rattle.st_index.specs.inner.Entries.{Name}
 use Rattle.st_table.proofs.Finding.{absent_all, absent_here}
 use Rattle.st_table.proofs.lookup.has_row.Goals as goal
 

@@ -2,7 +2,7 @@ use Rattle.std.proofs.Common.{◌≡◌, ap, subst, ◌∙◌}
 use Rattle.st_key.specs.Key.{rank}
 use Rattle.st_index.specs.inner.Index.{IsAbsent}
 use Rattle.st_index.specs.declared.row.Row.{Row}
-use Rattle.st_index.specs.Rows.{EntryValue, Name, name_of, rank_of, rows_of}
+use Rattle.st_index.specs.inner.Entries.{Name, name_of, EntryValue, rank_of, rows_of}
 use Rattle.st_index.proofs.Names.{nat_equal}
 use Rattle.st_index.proofs.Taking.{absent_around, around, missing_absent}
 use Rattle.st_table.proofs.Finding.{all_in}

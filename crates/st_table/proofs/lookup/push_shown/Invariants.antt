@@ -1,5 +1,6 @@
 use Rattle.std.proofs.Common.{◌≡◌, ◌++◌, length, map, filter}
-use Rattle.st_index.specs.RowViews.{row_of_view, viewed}
+use Rattle.st_index.specs.RowViews.{row_of_view}
+use Rattle.st_index.specs.inner.Views.{viewed}
 use Rattle.st_table.specs.inner.Found.{is_shown_of}
 use Rattle.st_table.proofs.lookup.push_shown.Given as goal
 

@@ -1,7 +1,7 @@
 use Rattle.std.proofs.Common.{◌≡◌, [], ap, sym, ◌∙◌}
 use Rattle.st_key.specs.Key.{rank}
 use Rattle.st_index.specs.inner.Index.{region}
-use Rattle.st_index.specs.Rows.{EntryValue, Name}
+use Rattle.st_index.specs.inner.Entries.{Name, EntryValue}
 use Rattle.st_index.proofs.Names.{nat_equal}
 use Rattle.st_index.proofs.Taking.{missing_key}
 use Rattle.st_table.proofs.Finding.{entry_rows, no_entry}

@@ -3,7 +3,7 @@ use Rattle.st_text.specs.Texts.{Text, same}
 use Rattle.st_text.proofs.Same.{same-eq}
 use Rattle.st_index.specs.declared.row.Row.{Row}
 use Rattle.st_index.specs.RowViews.{row_of_view}
-use Rattle.st_index.specs.Rows.{key_end, rank_of}
+use Rattle.st_index.specs.inner.Entries.{key_end, rank_of}
 use Rattle.st_table.specs.inner.Found.{is_shown_of}
 use Rattle.st_table.specs.inner.Places.{hash_of}
 use Rattle.st_table.proofs.Ascending.{all_keys, next_key, no_keys}

@@ -1,7 +1,7 @@
 use Rattle.std.proofs.Common.{◌≡◌, ◌-◌, ◌≤◌, ◌^◌, ◌&&◌, map, filter, nat_lt}
 use Rattle.st_index.specs.declared.row.Row.{Row}
 use Rattle.st_index.specs.RowViews.{row_of_view}
-use Rattle.st_index.specs.Rows.{rank_of}
+use Rattle.st_index.specs.inner.Entries.{rank_of}
 use Rattle.st_table.specs.inner.Found.{is_shown_of}
 use Rattle.st_table.proofs.lookup.shown.Given as goal
 

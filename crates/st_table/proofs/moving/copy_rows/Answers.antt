@@ -2,7 +2,8 @@ use Rattle.std.proofs.Common.{◌≡◌, OnOk, sym, ◌∙◌, subst}
 use Rattle.st_box.specs.Query.{HasKey}
 use Rattle.st_text.specs.Texts.{in_order}
 use Rattle.st_index.specs.Order.{scan_key}
-use Rattle.st_table.specs.Table.{HasEachOnce, TableValue}
+use Rattle.st_table.specs.Table.{TableValue}
+use Rattle.st_table.specs.inner.Once.{HasEachOnce}
 use Rattle.st_table.proofs.Rebuilding.{filter_inside}
 use Rattle.st_table.proofs.moving.copy_rows.Goals as goal
 

@@ -6,8 +6,8 @@ use Rattle.st_key.specs.Key.{rank}
 use Rattle.st_index.specs.inner.Index.{Holds}
 use Rattle.st_index.specs.Order.{InScanOrder}
 use Rattle.st_index.specs.declared.row.Row.{Row}
-use Rattle.st_index.specs.Rows.{name_of, rank_of}
-use Rattle.st_table.specs.Table.{rows_with_name}
+use Rattle.st_index.specs.inner.Entries.{name_of, rank_of}
+use Rattle.st_table.specs.inner.Once.{rows_with_name}
 use Rattle.st_table.specs.inner.Found.{IsAt, IsFound}
 use Rattle.st_table.proofs.Replacing.{elsewhere, holds, none_absent, put_away, put_new, put_same}
 use Rattle.st_table.proofs.table.put_at.Goals as goal

@@ -2,7 +2,7 @@ use Rattle.std.proofs.Common.{◌≡◌, ◌<◌, ◌^◌, ◌∙◌, Option, If
 use Rattle.st_key.specs.Key.{rank}
 use Rattle.st_index.specs.declared.row.Row.{Row}
 use Rattle.st_index.specs.inner.Index.{Adds, IsAbsent}
-use Rattle.st_index.specs.Rows.{Name, rank_of}
+use Rattle.st_index.specs.inner.Entries.{Name, rank_of}
 use Rattle.st_table.specs.inner.Places.{number_at, place_of}
 use Rattle.st_table.specs.Table.{is_named}
 use Rattle.st_table.proofs.Naming.{none_fails}

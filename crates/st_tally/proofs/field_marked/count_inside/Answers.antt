@@ -6,7 +6,5 @@ use Rattle.st_tally.proofs.field_marked.count_inside.Goals as goal
 pub count_tested-requires-clause-tested : goal.count_tested-requires-clause-tested
 count_tested-requires-clause-tested g c = λ i e h.
     let q = g.F.Fields.query c.args.fields.now in
-    let l = h.0 in
-    let m = c.requires.not_more in
-    subst (IsTested q c.args.marks.now i) (sym (all_true 32 i (omega (arith, l, m))))
+    subst (IsTested q c.args.marks.now i) (sym (all_true 32 i (omega (arith, h.0, c.requires.not_more))))
     (all_tested q c.args.verdicts.now.marks.now.labels.items c.args.entries.now c.args.marks.now i e c.requires.marked h c.requires.inside)

@@ -1,6 +1,6 @@
 use Rattle.std.proofs.Common.{◌≡◌, ℕ, ◌+◌, ◌<◌, ◌≤◌, get_or, length, refl, sym, subst, ◌∙◌, arith, Bor}
 use Rattle.st_index.specs.inner.Fields.{Counts}
-use Rattle.st_index.specs.Rows.{EntryValue}
+use Rattle.st_index.specs.inner.Entries.{EntryValue}
 use Rattle.st_index.proofs.Tallying.{far_all, far_fits, far_next}
 use Rattle.st_tally.specs.declared.marks.Marks.{Marks}
 use Rattle.st_tally.specs.inner.Marks.{AreMarks}

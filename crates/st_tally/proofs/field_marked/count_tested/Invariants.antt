@@ -1,5 +1,5 @@
 use Rattle.std.proofs.Common.{◌≡◌}
-use Rattle.st_index.specs.Rows.{EntryValue}
+use Rattle.st_index.specs.inner.Entries.{EntryValue}
 use Rattle.st_index.proofs.Tallying.{SoFar}
 use Rattle.st_tally.specs.inner.Marks.{AreKnown}
 use Rattle.st_tally.proofs.field_marked.count_tested.Given as goal

@@ -12,9 +12,8 @@ none_more false = refl
 same_total : {A : Type 0} (judges : Text → Bool) (counts : List (LabelCount A)) (c : LabelCount A) → c.rows ≡ 0
     → total judges (counts ++ c ∷ []) ≡ total judges counts
 same_total judges counts c none =
-    let sum = sum_by_push (found judges) counts c in
     let last : found judges c ≡ 0 = ap (λ n. cond (judges c.label) n 0) none ∙ none_more (judges c.label) in
-    omega (arith, sum, last)
+    omega (arith, sum_by_push (found judges) counts c, last)
 
 pub loop-preserved : goal.loop-preserved
 loop-preserved g c = λ judges. ap (total judges) c.in-Ok.ensures.items ∙ same_total judges c.loop.counts.items c.in-Some.count c.in-Some.ensures.1 ∙ c.loop.invariant judges

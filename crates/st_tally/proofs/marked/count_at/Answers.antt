@@ -1,6 +1,6 @@
 use Rattle.std.proofs.Common.{◌<◌, length, sym, ap, subst, ◌∙◌}
 use Rattle.st_index.specs.inner.Counting.{count_of}
-use Rattle.st_index.specs.Rows.{rows_of}
+use Rattle.st_index.specs.inner.Entries.{rows_of}
 use Rattle.st_tally.proofs.ByMarks.{one_entry, rows_of_one}
 use Rattle.st_tally.proofs.Placing.{there_is}
 use Rattle.st_tally.proofs.marked.count_at.Goals as goal

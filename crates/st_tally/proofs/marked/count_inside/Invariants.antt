@@ -2,7 +2,7 @@ use Rattle.std.proofs.Common.{◌≡◌, ◌+◌, ◌≤◌, List, length, take}
 use Rattle.std.specs.List.{sum, sum_by}
 use Rattle.st_text.specs.Texts.{Text}
 use Rattle.st_index.specs.inner.Counting.{count_of}
-use Rattle.st_index.specs.Rows.{EntryValue}
+use Rattle.st_index.specs.inner.Entries.{EntryValue}
 use Rattle.st_tally.specs.inner.Marks.{AreMarks, MakeUp}
 use Rattle.st_tally.proofs.marked.count_inside.Given as goal
 

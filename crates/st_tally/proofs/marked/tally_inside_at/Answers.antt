@@ -1,66 +1,38 @@
-use Rattle.std.proofs.Common.{◌≡◌, true, length, arith, rules}
-use Rattle.st_tally.proofs.ByMarks.{inside_at}
+use Rattle.std.proofs.Common.{true, length, arith, rules}
 use Rattle.st_tally.proofs.Placing.{there_is}
-use Rattle.st_tally.proofs.Tallied.{below_sum, mark_at, one_in, spot_inside, sum_set, tallied_at}
+use Rattle.st_tally.proofs.Tallied.{IsRead, below_sum, is_read, one_by, sum_set, tallied_by}
+use Rattle.st_tally.proofs.Tested.{all_tested}
+use Rattle.st_tally.proofs.marked.tally_inside_at.Given.{Over}
+use Rattle.st_tally.proofs.marked.tally_inside_at.Goals.{After-from-index}
 use Rattle.st_tally.proofs.marked.tally_inside_at.Goals as goal
+
+read : (g : Over) (c : After-from-index g) → IsRead c.args.marks.now c.args.at c.from-index.result
+read g c = is_read c.args.marks.now c.args.at c.from-index.result (length c.args.entries.now) (search rules, search rules) c.requires.within c.requires.not_more c.from-index.ensures
 
 pub overflow_add-tally : goal.overflow_add-tally
 overflow_add-tally g c =
-    let marks = c.args.marks.now in
-    let tally = c.args.tally.now in
-    let w = c.requires.within in
-    let m = c.requires.not_more in
-    let given = c.requires.marked in
-    let number = c.from-index.result in
-    let numbers : length marks.numbers ≡ 32 = search rules in
-    let spots : length marks.spots ≡ 32 = search rules in
-    let spot = there_is marks.spots c.args.at (omega (arith, w, m, spots)) in
-    let most_numbers = c.requires.few in
-    let low = c.if-index-tally.true in
-    let some = there_is c.args.entries.now c.args.at w in
-    let mark = mark_at given.0 c.args.entries.now marks c.args.at some.0 number spot.0 given.1 some.1 (omega (arith, w, m, numbers)) c.from-index.ensures spot.1 in
-    let one = one_in given.0 some.0 number marks.week spot.0 mark (omega (arith, low, most_numbers)) in
-    let most = below_sum tally number low in
-    let fits = c.requires.fits some.0 some.1 in
-    omega (arith, one, most, fits)
+    let r = read g (goal.at.overflow_add-tally g c).After-from-index in
+    let some = there_is c.args.entries.now c.args.at c.requires.within in
+    let one = one_by c.requires.marked.0 c.args.entries.now c.args.marks.now c.args.at c.from-index.result r some.0 c.requires.marked.1 some.1
+    c.args.tally.now c.requires.few c.if-index-tally.true in
+    omega (arith, one, below_sum c.args.tally.now c.from-index.result c.if-index-tally.true, c.requires.fits some.0 some.1)
 
 pub returns-then-index-tally-clause-count : goal.returns-then-index-tally-clause-count
 returns-then-index-tally-clause-count g c = λ labels e are h.
-    let marks = c.args.marks.now in
-    let tally = c.args.tally.now in
-    let q = c.args.query.now in
-    let w = c.requires.within in
-    let m = c.requires.not_more in
-    let number = c.from-index.result in
-    let numbers : length marks.numbers ≡ 32 = search rules in
-    let spots : length marks.spots ≡ 32 = search rules in
-    let spot = there_is marks.spots c.args.at (omega (arith, w, m, spots)) in
-    let most_numbers = c.requires.few in
-    let low = c.if-index-tally.true in
-    let mark = mark_at labels c.args.entries.now marks c.args.at e number spot.0 are h (omega (arith, w, m, numbers)) c.from-index.ensures spot.1 in
-    let inside = spot_inside labels q e number marks.week spot.0 mark (omega (arith, low, most_numbers)) (inside_at q c.args.entries.now c.args.at e h c.requires.inside) in
-    tallied_at q labels e number marks.week spot.0 mark true inside (g.J.Judge.judges c.args.judge.now) tally 1 (omega (arith, low, most_numbers)) low (λ i. 1)
+    let r = read g (goal.at.returns-then-index-tally-clause-count g c).After-from-index in
+    tallied_by labels c.args.entries.now c.args.marks.now c.args.at c.from-index.result r e are h c.args.tally.now c.requires.few c.if-index-tally.true
+    c.args.query.now (g.J.Judge.judges c.args.judge.now) true
+    (all_tested c.args.query.now labels c.args.entries.now c.args.marks.now c.args.at e are h c.requires.inside) 1 (λ i. 1)
 
 pub returns-then-index-tally-clause-most : goal.returns-then-index-tally-clause-most
 returns-then-index-tally-clause-most g c = λ e h.
-    let marks = c.args.marks.now in
-    let tally = c.args.tally.now in
-    let w = c.requires.within in
-    let m = c.requires.not_more in
-    let given = c.requires.marked in
-    let number = c.from-index.result in
-    let numbers : length marks.numbers ≡ 32 = search rules in
-    let spots : length marks.spots ≡ 32 = search rules in
-    let spot = there_is marks.spots c.args.at (omega (arith, w, m, spots)) in
-    let most_numbers = c.requires.few in
-    let low = c.if-index-tally.true in
-    let mark = mark_at given.0 c.args.entries.now marks c.args.at e number spot.0 given.1 h (omega (arith, w, m, numbers)) c.from-index.ensures spot.1 in
-    let one = one_in given.0 e number marks.week spot.0 mark (omega (arith, low, most_numbers)) in
-    let more = sum_set tally number 1 low in
-    omega (arith, one, more)
+    let r = read g (goal.at.returns-then-index-tally-clause-most g c).After-from-index in
+    let one = one_by c.requires.marked.0 c.args.entries.now c.args.marks.now c.args.at c.from-index.result r e c.requires.marked.1 h
+    c.args.tally.now c.requires.few c.if-index-tally.true in
+    omega (arith, one, sum_set c.args.tally.now c.from-index.result 1 c.if-index-tally.true)
 
 pub count_at-requires-clause-fits : goal.count_at-requires-clause-fits
-count_at-requires-clause-fits g c = λ e h. let fits = c.requires.fits e h in omega (arith, fits)
+count_at-requires-clause-fits g c = λ e h. omega (arith, c.requires.fits e h)
 
 pub returns-clause-count : goal.returns-clause-count
-returns-clause-count g c = λ labels e are h. let count = c.count_at.ensures.count e h in omega (arith, count)
+returns-clause-count g c = λ labels e are h. omega (arith, c.count_at.ensures.count e h)

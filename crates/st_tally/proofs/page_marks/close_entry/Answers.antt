@@ -5,7 +5,6 @@ use Rattle.st_tally.proofs.page_marks.close_entry.Goals as goal
 
 pub returns : goal.returns
 returns g c = λ old closes are _.
-    let labels = c.args.labels.now in
     let entries = c.args.entries.now in
     let at = c.args.at in
     let p = c.args.page.now in
@@ -14,7 +13,7 @@ returns g c = λ old closes are _.
     let few : length entries < 32 = omega (arith, c.if-count-ge32.false) in
     let numbers : length p.numbers ≡ 32 = search rules in
     let spots : length p.spots ≡ 32 = search rules in
-    marks_closed labels old entries p q at closes (λ i. p.week)
+    marks_closed c.args.labels.now old entries p q at closes (λ i. p.week)
     (closes_copied p.numbers q.numbers at (length entries) there (omega (arith, few, numbers)) c.copy_within.ensures.len c.copy_within.ensures.by_index.0 c.copy_within.ensures.by_index.1)
     (closes_copied p.spots q.spots at (length entries) there (omega (arith, few, spots)) c.copy_within-2.ensures.len c.copy_within-2.ensures.by_index.0 c.copy_within-2.ensures.by_index.1) are
 

@@ -1,5 +1,6 @@
 use Rattle.std.proofs.Common.{◌≡◌, ◌<◌, length, refl, sym, ap, subst, ◌∙◌, arith, rules}
-use Rattle.st_index.specs.RowViews.{row_of_view, viewed}
+use Rattle.st_index.specs.RowViews.{row_of_view}
+use Rattle.st_index.specs.inner.Views.{viewed}
 use Rattle.st_tally.specs.inner.Marks.{HasAt}
 use Rattle.st_tally.specs.inner.Spots.{IsSpotOf}
 use Rattle.st_tally.proofs.Placing.{at_changed, at_other}

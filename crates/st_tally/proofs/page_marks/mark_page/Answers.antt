@@ -21,7 +21,7 @@ loop-at-preserved g c =
     }
 
 pub returns-clause-marks : goal.returns-clause-marks
-returns-clause-marks g c = λ i e h. let l = h.0 in c.loop-at.invariant.marks i e (omega (arith, l, c.loop-at-test.false)) h
+returns-clause-marks g c = λ i e h. c.loop-at.invariant.marks i e (omega (arith, h.0, c.loop-at-test.false)) h
 
 pub returns-clause-keeps : goal.returns-clause-keeps
 returns-clause-keeps g c = c.loop-at.invariant.keeps

@@ -6,15 +6,13 @@ use Rattle.st_ubtree.proofs.split.halve.Goals as goal
 pub returns-clause-kept : goal.returns-clause-kept
 returns-clause-kept g c =
     let l = c.args.left.now.items in
-    let r = c.args.right.now.items in
-    let one = c.pour.ensures.kept ∙ ap (λ xs. l ++ reverse xs) c.reverse.ensures.items ∙ ap (λ xs. l ++ xs) (reverse-reverse r) in
+    let one = c.pour.ensures.kept ∙ ap (λ xs. l ++ reverse xs) c.reverse.ensures.items ∙ ap (λ xs. l ++ xs) (reverse-reverse c.args.right.now.items) in
     ap (λ xs. c.pour-2.new.to.items ++ xs) c.reverse-2.ensures.items
     ∙ turned c.pour-2.new.from.items c.pour-2.new.to.items c.pour.new.to.items c.pour.new.from.items c.pour-2.ensures.kept ∙ one
 
 pub pour-requires-2 : goal.pour-requires-2
 pour-requires-2 g c =
     let l = c.args.left.now in
-    let r = c.args.right.now in
     let sum = met_length c.pour.new.from.items c.pour.new.to.items l.items c.reverse.new.self.items c.pour.ensures.kept in
     record {
       room = omega (
@@ -24,7 +22,7 @@ pour-requires-2 g c =
         c.pour.new.to.ok.0,
         c.reverse.new.self.ok.0,
         l.ok.0,
-        r.ok.0,
+        c.args.right.now.ok.0,
         c.len.ensures,
         c.len-2.ensures,
         c.reverse.ensures.len,

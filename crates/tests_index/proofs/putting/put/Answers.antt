@@ -1,7 +1,7 @@
 use Rattle.std.proofs.Common.{◌≡◌, ap, ◌∙◌}
 use Rattle.st_key.specs.Key.{rank}
 use Rattle.st_index.specs.declared.row.Row.{Row}
-use Rattle.st_index.specs.Rows.{name_of, rank_of}
+use Rattle.st_index.specs.inner.Entries.{name_of, rank_of}
 use Rattle.tests_index.proofs.putting.put.Goals as goal
 
 pub put_new-requires : goal.put_new-requires

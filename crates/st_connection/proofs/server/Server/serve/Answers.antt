@@ -8,7 +8,7 @@ returns-clause-served g c =
     let served = c.serve_connection in
     subst (λ (x : g.row.X.Denot). ServedWithin g.X.Replies.answers 0 (g.X.Replies.now x) (g.X.Replies.now served.new.answerer)
     (g.X.Replies.kept served.new.answerer)
-    (streams g.R.Source.left g.R.Source.reads g.R.Source.has_ended g.R.Source.has_failed g.W.Sink.held g.W.Sink.has_failed c.args.reader.now
+    (streams g.R.Source g.W.Sink c.args.reader.now
     served.new.reader c.args.writer.now served.new.writer) served.result)
     c.self.view_is served.ensures.served
 

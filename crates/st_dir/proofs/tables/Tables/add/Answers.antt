@@ -3,7 +3,7 @@ use Rattle.st_text.specs.Texts.{same, in_order}
 use Rattle.st_text.proofs.Same.{same-refl}
 use Rattle.st_dir.specs.Order.{table_key}
 use Rattle.st_sorted.specs.Sorted.{Rises}
-use Rattle.st_sorted.specs.Places.{NoneOf}
+use Rattle.st_sorted.specs.inner.Places.{NoneOf}
 use Rattle.st_dir.proofs.Keys.{own_name}
 use Rattle.st_sorted.proofs.Sorted.{none_from_find, rises_in, put_in, back}
 use Rattle.st_dir.proofs.tables.Tables.add.Goals as goal

@@ -2,7 +2,7 @@ use Rattle.std.proofs.Common.{◌∷◌, sym, ◌∙◌, ap, subst}
 use Rattle.st_text.specs.Texts.{same, in_order}
 use Rattle.st_dir.specs.Order.{user_key}
 use Rattle.st_sorted.specs.Sorted.{Rises}
-use Rattle.st_sorted.specs.Places.{NoneOf}
+use Rattle.st_sorted.specs.inner.Places.{NoneOf}
 use Rattle.st_dir.proofs.Keys.{own_name}
 use Rattle.st_sorted.proofs.Sorted.{none_from_find, rises_in, put_in}
 use Rattle.st_dir.proofs.users.Users.add.Goals as goal

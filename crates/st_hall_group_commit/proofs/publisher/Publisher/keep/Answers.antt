@@ -7,7 +7,7 @@ use Rattle.st_hall_group_commit.proofs.publisher.Publisher.keep.Goals as goal
 
 pub invariant_of-self : goal.invariant_of-self
 invariant_of-self g c =
-    kept_batch g.J.Journal.list g.J.Journal.misreads g.J.Journal.is_ready g.J.Journal.may_leave g.B.Beginning.first g.H.HallName.start g.met.J.Journal.leaves_list
+    kept_batch g.J.Journal g.B.Beginning.first g.H.HallName.start g.met.J.Journal.leaves_list
     c.self.inside.press.pushed c.self.inside.tried c.self.inside.kept c.self.inside.press.published c.args.batch.from c.args.batch.to
     c.self.inside.journal c.append_all.new.journal c.self.inside.is_lost c.self.inside.mark c.args.batch.records.items c.self.invariant c.if-self.false
     (c.if-not-are_equal.ensures refl ∙ c.front.ensures) c.requires.goes_on c.requires.leads c.in-Ok.ensures.misreads
@@ -18,7 +18,7 @@ invariant_of-self g c =
 
 pub invariant_of-self-in-Err : goal.invariant_of-self-in-Err
 invariant_of-self-in-Err g c =
-    lost_batch g.J.Journal.list g.J.Journal.misreads g.J.Journal.is_ready g.J.Journal.may_leave g.B.Beginning.first g.H.HallName.start g.met.J.Journal.leaves_list
+    lost_batch g.J.Journal g.B.Beginning.first g.H.HallName.start g.met.J.Journal.leaves_list
     c.self.inside.press.pushed c.self.inside.tried c.self.inside.kept c.self.inside.press.published c.args.batch.from c.args.batch.to
     c.self.inside.journal c.append_all.new.journal c.self.inside.is_lost c.self.inside.mark c.args.batch.records.items c.self.invariant c.if-self.false
     (c.if-not-are_equal.ensures refl ∙ c.front.ensures) c.requires.goes_on c.requires.leads c.in-Err.ensures.misreads
@@ -30,7 +30,7 @@ pub returns-in-Ok-clause-whole : goal.returns-in-Ok-clause-whole
 returns-in-Ok-clause-whole g c =
     rw (← c.self.view_is) (λ is clean left leaves.
     subst (λ (l : List Ask). LeadToOne g.B.Beginning.first g.H.HallName.start c.self.inside.kept l left) (sym c.again.ensures)
-    (left_one g.J.Journal.list g.J.Journal.misreads g.J.Journal.is_ready g.J.Journal.may_leave g.B.Beginning.first g.H.HallName.start g.met.J.Journal.leaves_list
+    (left_one g.J.Journal g.B.Beginning.first g.H.HallName.start g.met.J.Journal.leaves_list
     c.self.inside.press.pushed c.self.inside.tried c.self.inside.kept c.self.inside.press.published c.args.batch.from c.args.batch.to
     c.self.inside.journal c.append_all.new.journal c.self.inside.is_lost c.self.inside.mark c.args.batch.records.items c.self.invariant c.if-self.false
     (c.if-not-are_equal.ensures refl ∙ c.front.ensures) c.requires.goes_on c.requires.leads c.in-Ok.ensures.misreads
@@ -41,7 +41,7 @@ returns-in-Ok-clause-whole g c =
 pub returns-clause-whole : goal.returns-clause-whole
 returns-clause-whole g c =
     rw (← c.self.view_is) (λ is.
-    left_one g.J.Journal.list g.J.Journal.misreads g.J.Journal.is_ready g.J.Journal.may_leave g.B.Beginning.first g.H.HallName.start g.met.J.Journal.leaves_list
+    left_one g.J.Journal g.B.Beginning.first g.H.HallName.start g.met.J.Journal.leaves_list
     c.self.inside.press.pushed c.self.inside.tried c.self.inside.kept c.self.inside.press.published c.args.batch.from c.args.batch.to
     c.self.inside.journal c.append_all.new.journal c.self.inside.is_lost c.self.inside.mark c.args.batch.records.items c.self.invariant c.if-self.false
     (c.if-not-are_equal.ensures refl ∙ c.front.ensures) c.requires.goes_on c.requires.leads c.in-Err.ensures.misreads

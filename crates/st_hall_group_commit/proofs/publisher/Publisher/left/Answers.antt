@@ -14,7 +14,7 @@ returns-clause-leaves g c =
     let kept : c.self.inside.kept ≡ c.args.self.now.kept = ap (λ (k : KeptRoll g.row.J.Denot). k.kept) same in
     let within : IsPrefix c.args.self.now.list list = grind (arith, common_steps) in
     let is = c.again.ensures ∙ c.front.ensures ∙ kept in
-    subst (λ (kept : List Ask). Leaves g.J.Journal.misreads g.J.Journal.may_leave g.B.Beginning.first g.H.HallName.start kept list) (sym is)
+    subst (λ (kept : List Ask). Leaves g.J.Journal g.B.Beginning.first g.H.HallName.start kept list) (sym is)
     (record {
       journal = c.args.self.now.journal;
       leads = λ clean left leaves.

@@ -2,7 +2,7 @@ use Rattle.std.proofs.Common.{arith, ◌≡◌, [], sym, refl, ap, ◌∙◌}
 use Rattle.std.proofs.lemmas.Bool.{eqb-true, eqb-false}
 use Rattle.std.proofs.lemmas.List.{nil_from_length}
 use Rattle.std.specs.List.{insert}
-use Rattle.st_index.specs.Rows.{EntryValue}
+use Rattle.st_index.specs.inner.Entries.{EntryValue}
 use Rattle.st_index.proofs.Putting.{adds_insert, names_put, names_held}
 use Rattle.st_index.proofs.entry.Entry.put.Goals as goal
 use Rattle.st_index.specs.declared.row.Row.{Row}

@@ -1,5 +1,5 @@
 use Rattle.std.proofs.Common.{ap, ◌∙◌}
-use Rattle.st_index.specs.Rows.{name_of}
+use Rattle.st_index.specs.inner.Entries.{name_of}
 use Rattle.st_index.proofs.Names.{name_equal}
 use Rattle.st_index.proofs.Taking.{removed_adds, removed_named, names_missing}
 use Rattle.st_index.proofs.entry.Entry.take.Goals as goal

@@ -1,7 +1,7 @@
 use Rattle.std.proofs.Common.{◌<◌, ◌^◌, List, length, sym, ap, subst, ◌∙◌}
 use Rattle.st_index.specs.inner.Counting.{count_of}
 use Rattle.st_index.specs.inner.ListValue.{ListValue}
-use Rattle.st_index.specs.Rows.{EntryValue, rows_of}
+use Rattle.st_index.specs.inner.Entries.{EntryValue, rows_of}
 use Rattle.st_index.proofs.list_index.ListIndexRowIndex.count.Goals as goal
 
 pub count-requires : goal.count-requires

@@ -1,5 +1,5 @@
 use Rattle.std.proofs.Common.{◌≡◌, ◌<◌, ◌^◌, length, ap, arith}
-use Rattle.st_index.specs.Rows.{rows_of}
+use Rattle.st_index.specs.inner.Entries.{rows_of}
 use Rattle.st_index.proofs.Tallying.{zero_at}
 use Rattle.st_index.proofs.list_index.ListIndexRowIndex.count_fields.Goals as goal
 

@@ -5,7 +5,7 @@ use Rattle.st_key.specs.Key.{rank}
 use Rattle.st_index.specs.inner.ListValue.{ListValue}
 use Rattle.st_index.specs.inner.Fields.{CanAdd, Counts}
 use Rattle.st_index.specs.inner.Index.{rows_between, rows_from}
-use Rattle.st_index.specs.Rows.{key_end, rows_of}
+use Rattle.st_index.specs.inner.Entries.{key_end, rows_of}
 use Rattle.st_index.proofs.Ranges.{between_all, from_all}
 use Rattle.st_index.proofs.Taking.{rows_below}
 use Rattle.st_index.proofs.list_index.ListIndexRowIndex.count_fields_at.Goals as goal

@@ -1,5 +1,5 @@
 use Rattle.std.proofs.Common.{◌≡◌, ◌+◌, ◌<◌, ◌^◌, length, refl, subst, sym, ap, ◌∙◌, vec_len, arith, rules}
-use Rattle.st_index.specs.Rows.{key_end, name_of, rank_of, rows_of}
+use Rattle.st_index.specs.inner.Entries.{name_of, key_end, rank_of, rows_of}
 use Rattle.st_index.specs.inner.Index.{Adds, IsAbsent}
 use Rattle.st_index.proofs.Listing.{adds_length, lawful}
 use Rattle.st_index.proofs.Sorting.{rank_below}

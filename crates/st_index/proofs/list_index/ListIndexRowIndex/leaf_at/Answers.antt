@@ -2,7 +2,7 @@ use Rattle.std.proofs.Common.{◌≡◌, ◌+◌, ◌-◌, [], subst, sym, ap, a
 use Rattle.std.proofs.lemmas.List.{append-nil}
 use Rattle.st_key.specs.Key.{rank}
 use Rattle.st_index.specs.inner.ListValue.{ListValue}
-use Rattle.st_index.specs.Rows.{Rises, key_end, rows_of}
+use Rattle.st_index.specs.inner.Entries.{EntriesRise, key_end, rows_of}
 use Rattle.st_index.specs.inner.Index.{region}
 use Rattle.st_index.proofs.list_index.ListIndexRowIndex.leaf_at.Goals as goal
 
@@ -19,7 +19,7 @@ returns-clause-leaf g c =
       parts = sym (append-nil (rows_of c.self.inside.entries.items));
       earlier = λ k d l. absurd (omega (arith, l));
       later = λ k d l. absurd (omega (arith, l));
-      rising = subst (λ n. Rises c.self.inside.period 0 n c.self.inside.entries.items) (sym end) c.self.invariant.0;
+      rising = subst (λ n. EntriesRise c.self.inside.period 0 n c.self.inside.entries.items) (sym end) c.self.invariant.0;
     })
 
 pub returns-clause-of_regions : goal.returns-clause-of_regions

@@ -1,7 +1,7 @@
 use Rattle.std.proofs.Common.{◌≡◌, ◌+◌, ◌<◌, ◌≤◌, length, arith, rules, vec_len, vec_capacity}
 use Rattle.std.specs.List.{All}
 use Rattle.st_key.specs.Key.{rank}
-use Rattle.st_index.specs.Rows.{EntryValue, key_end, rows_of}
+use Rattle.st_index.specs.inner.Entries.{EntryValue, key_end, rows_of}
 use Rattle.st_index.proofs.list_index.ListIndexRowIndex.prepare.Goals as goal
 
 pub returns : goal.returns

@@ -1,5 +1,5 @@
 use Rattle.std.proofs.Common.{◌<◌, ◌^◌, length, ap, arith}
-use Rattle.st_index.specs.Rows.{key_end, rows_of}
+use Rattle.st_index.specs.inner.Entries.{key_end, rows_of}
 use Rattle.st_index.proofs.Listing.{adds_length, lawful}
 use Rattle.st_index.proofs.list_index.ListIndexRowIndex.remove.Goals as goal
 

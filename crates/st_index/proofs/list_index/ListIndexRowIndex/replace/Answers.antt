@@ -1,5 +1,5 @@
 use Rattle.std.proofs.Common.{◌<◌, ◌^◌, ◌∙◌, refl, sym, arith}
-use Rattle.st_index.specs.Rows.{key_end, name_of, rank_of, rows_of}
+use Rattle.st_index.specs.inner.Entries.{name_of, key_end, rank_of, rows_of}
 use Rattle.st_index.specs.inner.Index.{Holds}
 use Rattle.st_index.proofs.Listing.{lawful, swaps_length}
 use Rattle.st_index.proofs.Taking.{absent_held}

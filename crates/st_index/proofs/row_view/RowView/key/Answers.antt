@@ -1,6 +1,6 @@
 use Rattle.std.proofs.Common.{◌<◌, subst, sym}
 use Rattle.st_index.specs.RowViews.{row_of_view}
-use Rattle.st_index.specs.Rows.{key_end}
+use Rattle.st_index.specs.inner.Entries.{key_end}
 use Rattle.st_index.proofs.KeyPoints.{ranked}
 use Rattle.st_index.proofs.Sorting.{rank_below}
 use Rattle.st_index.proofs.row_view.RowView.key.Goals as goal

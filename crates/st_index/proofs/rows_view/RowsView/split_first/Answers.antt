@@ -1,6 +1,6 @@
 use Rattle.std.proofs.Common.{ap, rules, ◌∙◌}
 use Rattle.std.proofs.lemmas.List.{nil_from_length}
-use Rattle.st_index.specs.RowViews.{viewed}
+use Rattle.st_index.specs.inner.Views.{viewed}
 use Rattle.st_index.proofs.rows_view.RowsView.split_first.Goals as goal
 
 pub returns-in_ok-row-in-Many-clause-some : goal.returns-in_ok-row-in-Many-clause-some

@@ -14,7 +14,7 @@ pub invariant_of-self : goal.invariant_of-self
 invariant_of-self g c =
     let j = g.J.Journal in
     let works = none_lost _ _ c.self.view_is c.requires in
-    held j.list j.misreads j.faults j.is_ready j.may_leave g.met.J.Journal.leaves_list g.B.Beginning.first g.B.Since.faults
+    held j g.met.J.Journal.leaves_list g.B.Beginning.first g.B.Since.faults
     c.self.inside.journal c.self.inside.store c.self.inside.pending c.answer-answer.result.1 c.self.inside.loss works c.self.invariant
     c.answer-answer.ensures.noted
 

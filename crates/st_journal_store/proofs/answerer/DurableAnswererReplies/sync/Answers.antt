@@ -11,7 +11,7 @@ invariant_of-self g c =
     let had = c.self.inside in
     let sound = none_lost _ _ c.self.view_is c.requires in
     let noted = subst (λ (o : Option Pending). IfSome o (IsNoted had.store)) c.in-Some.is c.self.invariant.waits in
-    is_kept j.list j.misreads j.faults j.is_ready j.may_leave g.met.J.Journal.leaves_list g.B.Beginning.first g.B.Since.faults
+    is_kept j g.met.J.Journal.leaves_list g.B.Beginning.first g.B.Since.faults
     had.journal c.keep.new.journal had.store c.in-Some.pending c.keep.ensures.misreads c.keep.ensures.counts c.self.invariant.grown
     (c.self.invariant.stands sound) noted c.keep.new.store had.loss sound c.in-Ok.ensures.ready c.in-Ok.ensures.list c.in-Ok.ensures.made
 
@@ -21,7 +21,7 @@ invariant_of-self-in-Err g c =
     let had = c.self.inside in
     let sound = none_lost _ _ c.self.view_is c.requires in
     let noted = subst (λ (o : Option Pending). IfSome o (IsNoted had.store)) c.in-Some.is c.self.invariant.waits in
-    is_lost j.list j.misreads j.faults j.is_ready j.may_leave g.met.J.Journal.leaves_list g.B.Beginning.first g.B.Since.faults
+    is_lost j g.met.J.Journal.leaves_list g.B.Beginning.first g.B.Since.faults
     had.journal c.keep.new.journal had.store c.in-Some.pending c.keep.ensures.misreads c.keep.ensures.counts c.self.invariant.grown
     (c.self.invariant.stands sound) noted c.in-Err.loss c.keep.new.store had.pending c.in-Some.is c.in-Err.ensures.unmade c.keep.ensures.crash
     (λ clean disk. c.in-Err.ensures.disk clean (cc (disk)))

@@ -1,7 +1,7 @@
 use Rattle.std.proofs.Common.{◌≤◌, ◌∙◌, sym, subst, arith}
 use Rattle.st_key.specs.Key.{rank}
 use Rattle.st_index.specs.inner.Index.{Follow}
-use Rattle.st_index.specs.Rows.{key_end}
+use Rattle.st_index.specs.inner.Entries.{key_end}
 use Rattle.st_scan.specs.inner.Rows.{has_row_from}
 use Rattle.st_scan.specs.inner.Steps.{AreExact, IsOwnExact}
 use Rattle.st_scan.proofs.Steps.{begin}

@@ -1,7 +1,7 @@
 use Rattle.std.proofs.Common.{◌∙◌, sym, ap, subst}
 use Rattle.st_key.specs.Key.{rank}
 use Rattle.st_index.specs.RowViews.{row_of_view}
-use Rattle.st_index.specs.Rows.{rank_of}
+use Rattle.st_index.specs.inner.Entries.{rank_of}
 use Rattle.st_scan.specs.inner.Regions.{Count, Meets}
 use Rattle.st_scan.specs.inner.Walks.{MeetsUpTo}
 use Rattle.st_scan.specs.inner.Steps.{AreExact}

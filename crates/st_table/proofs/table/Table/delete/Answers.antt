@@ -1,7 +1,8 @@
 use Rattle.std.proofs.Common.{◌≡◌, [], sym, ap, ◌∙◌, subst}
-use Rattle.st_index.specs.Rows.{Name}
+use Rattle.st_index.specs.inner.Entries.{Name}
 use Rattle.st_table.specs.inner.Places.{IsTied, name_hash}
-use Rattle.st_table.specs.Table.{HasEachOnce, is_named, rows_with_name, without_named}
+use Rattle.st_table.specs.Table.{is_named, without_named}
+use Rattle.st_table.specs.inner.Once.{HasEachOnce, rows_with_name}
 use Rattle.st_table.proofs.Naming.{none_fails}
 use Rattle.st_table.proofs.Tying.{once_without, tied_delete}
 use Rattle.st_table.proofs.table.Table.delete.Goals as goal

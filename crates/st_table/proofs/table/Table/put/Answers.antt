@@ -1,9 +1,10 @@
 use Rattle.std.proofs.Common.{◌≡◌, sym, ap, ◌∙◌, subst}
 use Rattle.st_index.specs.declared.row.Row.{Row}
-use Rattle.st_index.specs.Rows.{Name, name_of, rank_of}
+use Rattle.st_index.specs.inner.Entries.{Name, name_of, rank_of}
 use Rattle.st_table.specs.inner.Found.{IsFound}
 use Rattle.st_table.specs.inner.Places.{IsTied, name_hash}
-use Rattle.st_table.specs.Table.{HasEachOnce, with_row}
+use Rattle.st_table.specs.Table.{with_row}
+use Rattle.st_table.specs.inner.Once.{HasEachOnce}
 use Rattle.st_table.proofs.Tying.{once_put, tied_put}
 use Rattle.st_table.proofs.table.Table.put.Goals as goal
 

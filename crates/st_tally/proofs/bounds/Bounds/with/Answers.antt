@@ -13,10 +13,10 @@ returns-clause-one c = record {
 
 pub returns-clause-others : goal.returns-clause-others
 returns-clause-others c = λ p w. record {
-  x_from = let a = w.x_from in omega (arith, a);
-  x_to = let a = w.x_to in omega (arith, a);
-  y_from = let a = w.y_from in omega (arith, a);
-  y_to = let a = w.y_to in omega (arith, a);
-  t_from = let a = w.t_from in omega (arith, a);
-  t_to = let a = w.t_to in omega (arith, a);
+  x_from = omega (arith, w.x_from);
+  x_to = omega (arith, w.x_to);
+  y_from = omega (arith, w.y_from);
+  y_to = omega (arith, w.y_to);
+  t_from = omega (arith, w.t_from);
+  t_to = omega (arith, w.t_to);
 }

@@ -25,7 +25,6 @@ loop-other-preserved g c =
 
 pub returns-clause-counts : goal.returns-clause-counts
 returns-clause-counts g c =
-    let others = c.deref-other-items.result.now in
-    let all = more_all (λ (judges : Text → Bool) (o : LabelCount g.row.A.Denot). found judges o) others c.loop-other.other-index
+    let all = more_all (λ (judges : Text → Bool) (o : LabelCount g.row.A.Denot). found judges o) c.deref-other-items.result.now c.loop-other.other-index
     c.loop-other-test.false c.args.self.now c.loop-other.self c.loop-other.invariant in
     subst (λ items. CountsMore c.args.self.now c.loop-other.self (λ judges. total judges items)) c.deref-other-items.ensures.value all

@@ -1,7 +1,7 @@
 use Rattle.std.proofs.Common.{◌<◌, Bool, cond, length, arith}
 use Rattle.st_text.specs.Texts.{Text}
 use Rattle.st_index.specs.declared.row.Row.{Row}
-use Rattle.st_index.specs.Rows.{EntryValue}
+use Rattle.st_index.specs.inner.Entries.{EntryValue}
 use Rattle.st_index.proofs.Sums.{sum_by-flat_map}
 use Rattle.st_tally.specs.inner.Sums.{labelled}
 use Rattle.st_tally.proofs.Labels.{more_all, more_next}
@@ -24,7 +24,6 @@ returns g c = λ h.
     c.loop-entry-test.false c.args.self.now c.loop-entry.self c.loop-entry.invariant h in (
       all.0,
       λ judges.
-          let n = all.1 judges in
           let flat = sum_by-flat_map (λ (r : Row g.row.A.Denot). cond (judges r.label) 1 0) (λ (e : EntryValue g.row.A.Denot). e.rows) c.args.entries.now in
-          omega (arith, n, flat),
+          omega (arith, all.1 judges, flat),
     )

@@ -1,6 +1,6 @@
 use Rattle.std.proofs.Common.{take}
 use Rattle.std.specs.List.{sum_by}
-use Rattle.st_index.specs.Rows.{EntryValue}
+use Rattle.st_index.specs.inner.Entries.{EntryValue}
 use Rattle.st_tally.specs.inner.Sums.{CountsMore, labelled}
 use Rattle.st_tally.proofs.label_counts.LabelCounts.put_entries.Given as goal
 

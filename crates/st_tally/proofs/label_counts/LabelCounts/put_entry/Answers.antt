@@ -1,5 +1,5 @@
 use Rattle.std.proofs.Common.{ℕ, cond, sym, ap, subst, ◌∙◌, arith}
-use Rattle.st_index.specs.RowViews.{viewed}
+use Rattle.st_index.specs.inner.Views.{viewed}
 use Rattle.st_tally.specs.inner.Sums.{CountsMore, labelled}
 use Rattle.st_tally.proofs.label_counts.LabelCounts.put_entry.Goals as goal
 
@@ -10,9 +10,8 @@ returns-in-One g c =
     let put = c.put.ensures h in (
       put.0,
       λ judges.
-          let n = put.1 judges in
           let label = ap (λ l. cond {A = ℕ} (judges l) 1 0) c.label.ensures in
-          omega (arith, n, label),
+          omega (arith, put.1 judges, label),
     ))
 
 pub returns-in-Many : goal.returns-in-Many

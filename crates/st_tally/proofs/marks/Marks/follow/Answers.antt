@@ -13,8 +13,7 @@ returns-then-at-len g c = λ old new u here change same differ marked.
 pub returns : goal.returns
 returns g c = λ old new u here change same differ marked.
     let low : c.args.at < length c.args.self.now.pages.items = omega (arith, c.if-at-len.false, c.len.ensures, c.args.self.now.pages.ok.0) in
-    let page = c.index_mut-page.result.now in
-    let before = marked c.args.at page u (low, c.index_mut-page.ensures.value) c.if-not-page.false here in
+    let before = marked c.args.at c.index_mut-page.result.now u (low, c.index_mut-page.ensures.value) c.if-not-page.false here in
     let labels = c.follow-page.new.labels.items in
     let now = record c.follow-page.new.page { known = c.follow-page.result } in
     marked_set c.args.self.now.labels.items labels c.args.self.now.pages.items old new c.args.at now c.follow-page.ensures.keeps low differ

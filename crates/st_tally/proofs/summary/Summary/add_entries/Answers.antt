@@ -1,6 +1,6 @@
 use Rattle.std.proofs.Common.{◌<◌, ◌++◌, length, take, sym, ap, subst, arith}
 use Rattle.std.proofs.lemmas.List.{append-nil, take_all}
-use Rattle.st_index.specs.Rows.{EntryValue, rows_of}
+use Rattle.st_index.specs.inner.Entries.{EntryValue, rows_of}
 use Rattle.st_tally.specs.inner.Sums.{Sums}
 use Rattle.st_tally.proofs.Summing.{next_lists}
 use Rattle.st_tally.proofs.summary.Summary.add_entries.Goals as goal

@@ -1,6 +1,6 @@
 use Rattle.std.proofs.Common.{List, ◌++◌, take}
 use Rattle.st_index.specs.declared.row.Row.{Row}
-use Rattle.st_index.specs.Rows.{rows_of}
+use Rattle.st_index.specs.inner.Entries.{rows_of}
 use Rattle.st_tally.specs.inner.Sums.{Sums}
 use Rattle.st_tally.proofs.summary.Summary.add_entries.Given as goal
 

@@ -1,5 +1,5 @@
 use Rattle.std.proofs.Common.{◌++◌, sym, ap, subst, ◌∙◌}
-use Rattle.st_index.specs.RowViews.{viewed}
+use Rattle.st_index.specs.inner.Views.{viewed}
 use Rattle.st_tally.specs.inner.Sums.{Sums}
 use Rattle.st_tally.proofs.summary.Summary.add_entry.Goals as goal
 

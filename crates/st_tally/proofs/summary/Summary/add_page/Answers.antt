@@ -1,4 +1,4 @@
-use Rattle.st_index.specs.Rows.{rows_of}
+use Rattle.st_index.specs.inner.Entries.{rows_of}
 use Rattle.st_tally.proofs.Summing.{sums_more, wider}
 use Rattle.st_tally.proofs.summary.Summary.add_page.Goals as goal
 

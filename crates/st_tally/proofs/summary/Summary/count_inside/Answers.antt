@@ -7,11 +7,8 @@ use Rattle.st_tally.proofs.summary.Summary.count_inside.Goals as goal
 pub total-requires : goal.total-requires
 total-requires g c =
     let judges = g.J.Judge.judges c.args.judge.now in
-    let rows = c.requires.0 in
-    let all = c.requires.1.counted (sym c.are_all.ensures ∙ c.if-not-are_all.false) judges in
-    let fits = count_by-le-length (λ (r : Row g.row.A.Denot). judges r.label) rows in
-    let few = c.requires.2 in
-    omega (arith, all, fits, few)
+    let fits = count_by-le-length (λ (r : Row g.row.A.Denot). judges r.label) c.requires.0 in
+    omega (arith, c.requires.1.counted (sym c.are_all.ensures ∙ c.if-not-are_all.false) judges, fits, c.requires.2)
 
 pub returns-clause-some : goal.returns-clause-some
 returns-clause-some g c = λ rows sums.

@@ -1,47 +1,36 @@
-use Rattle.std.proofs.Common.{◌≡◌, [], ◌∷◌, subst, sym, ap, refl, ◌∙◌, arith, length, rules}
-use Rattle.std.specs.List.{All}
+use Rattle.std.proofs.Common.{[], ◌∷◌, ℕ, ap, refl, arith, length, rules}
 use Rattle.st_key.specs.Key.{rank}
-use Rattle.st_tally.specs.inner.Pages.{NodeValue}
-use Rattle.st_ubtree.specs.inner.Kids.{IsKid, pages_of}
-use Rattle.st_ubtree.specs.inner.Nodes.{pages_under}
+use Rattle.st_ubtree.specs.inner.Kids.{pages_of}
 use Rattle.st_ubtree.proofs.Leaves.{part_all, part_of_part}
-use Rattle.st_ubtree.proofs.Needing.{lower_kid}
+use Rattle.st_ubtree.proofs.Over.{IsOver, each_in, is_over, is_page, lower_in, page_pages, pages_in}
 use Rattle.st_ubtree.proofs.Splitting.{page}
-use Rattle.st_ubtree.proofs.Viewed.{inner_good, viewed}
+use Rattle.st_ubtree.proofs.node.Node.+leaf_at.Given.{Over}
+use Rattle.st_ubtree.proofs.node.Node.+leaf_at.Goals.{In-Inner}
 use Rattle.st_ubtree.proofs.node.Node.+leaf_at.Goals as goal
+
+over : (g : Over) (t : ℕ) (c : In-Inner g t) → IsOver c.self.inside c.in-Inner.kids c.in-Inner.aside.value c.args.self.now
+over g t c = is_over c.self.inside c.in-Inner.is refl c.self.invariant c.self.view_is
 
 pub leaf_at-requires : goal.leaf_at-requires
 leaf_at-requires g t c κs within =
-    let kids = c.in-Inner.kids.items in
-    let good = inner_good (rank c.self.inside.first) c.self.inside.height c.in-Inner.is c.self.invariant.0 in
-    let kid : NodeValue g.row.A.Denot = c.child_at.result.0.now in
-    let each : All (IsKid good.below) c.as_slice-in-Inner.result.now = subst (All (IsKid good.below)) (sym c.as_slice-in-Inner.ensures.value) good.each in
-    let tall = (viewed (rank c.self.inside.first) c.self.inside.height c.self.inside.kids c.self.view_is).tall in
-    let lower = lower_kid kid.height good.below c.self.inside.height c.args.self.now.height (c.child_at.ensures.lower good.below each) good.higher tall in
-    (search (rules, lower), within)
+    let o = over g t (goal.at.leaf_at-requires g t c).In-Inner in
+    (search (rules, lower_in o c.child_at.result.0.now.height (c.child_at.ensures.lower o.good.below (each_in o c.as_slice-in-Inner.ensures.value))), within)
 
 pub returns-in-Page : goal.returns-in-Page
 returns-in-Page g t c =
-    let pages : c.args.self.now.pages ≡ page (rank c.self.inside.first) c.in-Page.entries.items ∷ [] =
-    ap (λ (v : NodeValue g.row.A.Denot). v.pages) (sym c.self.view_is) ∙ ap (pages_under (rank c.self.inside.first)) c.in-Page.is in
-    rw (pages, c.as_slice.ensures.value) (part_all (rank c.args.key) (rank c.args.last) (rank c.self.inside.first) (page (rank c.self.inside.first) c.in-Page.entries.items ∷ []) refl)
+    rw (page_pages (is_page c.self.inside c.in-Page.is c.self.invariant c.self.view_is), c.as_slice.ensures.value)
+    (part_all (rank c.args.key) (rank c.args.last) (rank c.self.inside.first) (page (rank c.self.inside.first) c.in-Page.entries.items ∷ []) refl)
 
 pub returns-in-Inner : goal.returns-in-Inner
 returns-in-Inner g t c =
-    let kids = c.in-Inner.kids.items in
-    let xs = c.as_slice-in-Inner.result.now in
-    let good = inner_good (rank c.self.inside.first) c.self.inside.height c.in-Inner.is c.self.invariant.0 in
-    let pages : c.args.self.now.pages ≡ pages_of xs = ap (λ (v : NodeValue g.row.A.Denot). v.pages) (sym c.self.view_is)
-    ∙ ap (pages_under (rank c.self.inside.first)) c.in-Inner.is ∙ ap pages_of (sym c.as_slice-in-Inner.ensures.value) in
-    let kid : NodeValue g.row.A.Denot = c.child_at.result.0.now in
-    let each : All (IsKid good.below) xs = subst (All (IsKid good.below)) (sym c.as_slice-in-Inner.ensures.value) good.each in
+    let o = over g t (goal.at.returns-in-Inner g t c).In-Inner in
+    let kid = c.child_at.result.0.now in
     let leaf = page (rank c.leaf_at.result.first) c.leaf_at.result.entries.now ∷ [] in
-    rw pages (part_of_part (rank c.args.key) (rank c.args.last) kid.first (rank c.child_at.result.1) (rank c.leaf_at.result.first) (rank c.leaf_at.result.last) (pages_of xs) kid.pages leaf
-    (c.child_at.ensures.part good.below each) c.leaf_at.ensures)
+    rw (pages_in o c.as_slice-in-Inner.ensures.value)
+    (part_of_part (rank c.args.key) (rank c.args.last) kid.first (rank c.child_at.result.1) (rank c.leaf_at.result.first) (rank c.leaf_at.result.last)
+    (pages_of c.as_slice-in-Inner.result.now) kid.pages leaf
+    (c.child_at.ensures.part o.good.below (each_in o c.as_slice-in-Inner.ensures.value)) c.leaf_at.ensures)
 
 pub child_at-requires-clause-some : goal.child_at-requires-clause-some
 child_at-requires-clause-some g t c =
-    let good = inner_good (rank c.self.inside.first) c.self.inside.height c.in-Inner.is c.self.invariant.0 in
-    let some = good.not_less in
-    let same = ap length c.as_slice-in-Inner.ensures.value in
-    omega (arith, some, same)
+    omega (arith, (over g t (goal.at.child_at-requires-clause-some g t c).In-Inner).good.not_less, ap length c.as_slice-in-Inner.ensures.value)

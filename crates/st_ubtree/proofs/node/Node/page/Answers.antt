@@ -1,5 +1,5 @@
 use Rattle.std.proofs.Common.{[], refl, subst}
-use Rattle.st_index.specs.Rows.{rows_of}
+use Rattle.st_index.specs.inner.Entries.{rows_of}
 use Rattle.st_tally.specs.inner.Sums.{Sums}
 use Rattle.st_ubtree.proofs.node.Node.page.Goals as goal
 

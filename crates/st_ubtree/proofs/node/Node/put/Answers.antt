@@ -11,18 +11,13 @@ insert-requires-clause-enough g c = made_less c.args.self.now.height (splits c.a
 
 pub returns-in_default-clause-wide : goal.returns-in_default-clause-wide
 returns-in_default-clause-wide g c =
-    let same = c.in_default.ensures.grows.height in
-    let more = c.in_default.ensures.grows.widths.0 in
-    λ tall. let two = c.requires.wide (omega (arith, same, tall)) in omega (arith, more, two)
+    λ tall. let two = c.requires.wide (omega (arith, c.in_default.ensures.grows.height, tall)) in omega (arith, c.in_default.ensures.grows.widths.0, two)
 
 pub unreachable-requires : goal.unreachable-requires
 unreachable-requires g c =
     let split : splits c.args.self.now (rank c.args.key) ≡ c.args.self.now.height + 1 = c.in-Some.ensures.split in
-    let made = made_full c.args.self.now.height (splits c.args.self.now (rank c.args.key)) split in
-    let enough = c.requires.enough in
-    let left = c.in-Some.ensures.left in
     let none = c.in_default-pop.ensures.cases.0 in
-    omega (arith, split, made, enough, left, none)
+    omega (arith, split, made_full c.args.self.now.height (splits c.args.self.now (rank c.args.key)) split, c.requires.enough, c.in-Some.ensures.left, none)
 
 pub raise-requires-clause-empty : goal.raise-requires-clause-empty
 raise-requires-clause-empty g c = (blank_last c.pop.new.self.items c.in-Some-pop.blank (subst AreBlank c.in-Some-pop.ensures.items c.in-Some.ensures.blank)).1.0
@@ -33,8 +28,6 @@ raise-requires-clause-room g c = (blank_last c.pop.new.self.items c.in-Some-pop.
 pub raise-requires-clause-height : goal.raise-requires-clause-height
 raise-requires-clause-height g c =
     let split : splits c.args.self.now (rank c.args.key) ≡ c.args.self.now.height + 1 = c.in-Some.ensures.split in
-    let made = made_full c.args.self.now.height (splits c.args.self.now (rank c.args.key)) split in
-    let enough = c.requires.enough in
     let fits : vec_len c.args.inners < 18446744073709551616 = search rules in
     let same = c.in-Some.ensures.grows.height in
-    omega (arith, split, made, enough, fits, same)
+    omega (arith, split, made_full c.args.self.now.height (splits c.args.self.now (rank c.args.key)) split, c.requires.enough, fits, same)

@@ -1,4 +1,4 @@
-use Rattle.std.proofs.Common.{◌≡◌, ◌≤◌, vec_len, vec_capacity, ◌+◌, ◌∷◌, ◌++◌, [], length, subst, sym, ap, ◌∙◌, arith}
+use Rattle.std.proofs.Common.{◌≡◌, ◌+◌, ◌∷◌, ◌++◌, [], length, subst, sym, ap, ◌∙◌, arith}
 use Rattle.std.specs.List.{All}
 use Rattle.st_key.specs.Key.{rank}
 use Rattle.st_tally.specs.inner.Pages.{NodeValue, rows_of_pages}
@@ -9,31 +9,30 @@ use Rattle.st_tally.specs.inner.Marks.{AreMarked}
 use Rattle.st_ubtree.specs.inner.Nodes.{AreMarkedUnder, IsNode, node_value, rows_under}
 use Rattle.st_ubtree.proofs.Lifting.{both}
 use Rattle.st_ubtree.specs.inner.Firsts.{AreFirsts, AreFirstsUnder}
-use Rattle.st_ubtree.proofs.Viewed.{viewed}
+use Rattle.st_ubtree.proofs.node.Node.raise.Given.{Over}
+use Rattle.st_ubtree.proofs.node.Node.raise.Goals.{In-Ok-push}
 use Rattle.st_ubtree.proofs.node.Node.raise.Goals as goal
+
+-- the node, as it was, and the one beside it
+two : (g : Over) (c : In-Ok-push g) → c.push-2.new.self.items ≡ c.args.self.now ∷ c.args.right ∷ []
+two g c =
+    let left : NodeValue g.row.A.Denot = node_value (rank c.self.inside.first) c.self.inside.height c.replace-kids.result in
+    let left_is : left ≡ c.args.self.now = ap (node_value (rank c.self.inside.first) c.self.inside.height) c.replace-kids.ensures.value ∙ c.self.view_is in
+    c.in-Ok-push.ensures.items ∙ ap (λ t. t ++ c.args.right ∷ []) (c.in-Ok.ensures.items ∙ ap (λ t. t ++ left ∷ []) c.requires.empty) ∙ ap (λ v. v ∷ c.args.right ∷ []) left_is
 
 pub invariant_of-self : goal.invariant_of-self
 invariant_of-self g c =
-    let left : NodeValue g.row.A.Denot = node_value (rank c.self.inside.first) c.self.inside.height c.replace-kids.result in
-    let left_is : left ≡ c.args.self.now =
-    ap (node_value (rank c.self.inside.first) c.self.inside.height) c.replace-kids.ensures.value ∙ c.self.view_is in
-    let is : c.push-2.new.self.items ≡ c.args.self.now ∷ c.args.right ∷ [] =
-    c.in-Ok-push.ensures.items ∙ ap (λ t. t ++ c.args.right ∷ []) (c.in-Ok.ensures.items ∙ ap (λ t. t ++ left ∷ []) c.requires.empty) ∙ ap (λ v. v ∷ c.args.right ∷ []) left_is in
-    let tall = (viewed (rank c.self.inside.first) c.self.inside.height c.self.inside.kids c.self.view_is).tall in
+    let is = two g (goal.at.invariant_of-self g c).In-Ok-push in
     let first : c.args.self.now.first ≡ rank c.self.inside.first = ap (λ (v : NodeValue g.row.A.Denot). v.first) (sym c.self.view_is) in
-    let each : All (IsKid c.args.self.now.height) (c.args.self.now ∷ c.args.right ∷ []) = both c.args.self.now.height c.args.self.now c.args.right c.requires.kids.0 c.requires.kids.1 in
-    let wide = ap length is in
-    let a = c.in-Ok.ensures.capacity in
-    let b = c.in-Ok-push.ensures.capacity in
-    let room = c.requires.room in (
+    let each : All (IsKid c.args.self.now.height) (c.args.self.now ∷ c.args.right ∷ []) = both c.args.self.now.height c.args.self.now c.args.right c.requires.kids.0 c.requires.kids.1 in (
       record {
         below = c.args.self.now.height;
-        higher = ap (λ n. n + 1) (sym tall);
+        higher = ap (λ (v : NodeValue g.row.A.Denot). v.height + 1) c.self.view_is;
         each = subst (All (IsKid c.args.self.now.height)) (sym is) each;
         head = subst (HeadAt (rank c.self.inside.first)) (sym is) first;
-        not_less = omega (arith, wide);
-        not_more = omega (arith, wide);
-        room = omega (arith, a, b, room);
+        not_less = omega (arith, ap length is);
+        not_more = omega (arith, ap length is);
+        room = omega (arith, c.in-Ok.ensures.capacity, c.in-Ok-push.ensures.capacity, c.requires.room);
       },
       subst (λ ks. Sums c.add_kids.new.sum (rows_of_pages (pages_of ks))) c.as_slice.ensures.value
           (c.add_kids.ensures [] (subst (λ s. Sums s []) (sym c.replace-sum.ensures.after) c.new-none.ensures)),
@@ -49,30 +48,19 @@ returns-clause-height g c = ap (λ (v : NodeValue g.row.A.Denot). v.height + 1) 
 
 pub returns-clause-width : goal.returns-clause-width
 returns-clause-width g c =
-    let left : NodeValue g.row.A.Denot = node_value (rank c.self.inside.first) c.self.inside.height c.replace-kids.result in
-    ap length (c.in-Ok-push.ensures.items ∙ ap (λ t. t ++ c.args.right ∷ []) (c.in-Ok.ensures.items ∙ ap (λ t. t ++ left ∷ []) c.requires.empty))
+    ap length (two g (goal.at.returns-clause-width g c).In-Ok-push)
 
 pub overflow_add-self : goal.overflow_add-self
 overflow_add-self g c =
-    let tall = ap (λ (v : NodeValue g.row.A.Denot). v.height) c.self.view_is in
-    let fits = c.requires.height in
-    omega (arith, tall, fits)
+    omega (arith, ap (λ (v : NodeValue g.row.A.Denot). v.height) c.self.view_is, c.requires.height)
 
 pub unreachable-requires : goal.unreachable-requires
 unreachable-requires g c =
-    let full : vec_capacity c.args.blank.kids ≤ vec_len c.args.blank.kids = c.in_default.ensures.full in
-    let none = ap length c.requires.empty in
-    let room = c.requires.room in
-    omega (arith, c.args.blank.kids.ok.0, full, none, room)
+    omega (arith, c.args.blank.kids.ok.0, c.in_default.ensures.full, ap length c.requires.empty, c.requires.room)
 
 pub unreachable-requires-in_default-push : goal.unreachable-requires-in_default-push
 unreachable-requires-in_default-push g c =
-    let full : vec_capacity c.push.new.self ≤ vec_len c.push.new.self = c.in_default-push.ensures.full in
-    let one = c.in-Ok.ensures.len in
-    let none = ap length c.requires.empty in
-    let more = c.in-Ok.ensures.capacity in
-    let room = c.requires.room in
-    omega (arith, c.args.blank.kids.ok.0, full, one, none, more, room)
+    omega (arith, c.args.blank.kids.ok.0, c.in_default-push.ensures.full, c.in-Ok.ensures.len, ap length c.requires.empty, c.in-Ok.ensures.capacity, c.requires.room)
 
 pub invariant_of-left : goal.invariant_of-left
 invariant_of-left g c = (
@@ -84,9 +72,7 @@ invariant_of-left g c = (
 
 pub fill-requires : goal.fill-requires
 fill-requires g c =
-    let left : NodeValue g.row.A.Denot = node_value (rank c.self.inside.first) c.self.inside.height c.replace-kids.result in
-    let two = ap length (c.as_slice-2.ensures.value ∙ c.in-Ok-push.ensures.items ∙ ap (λ t. t ++ c.args.right ∷ []) (c.in-Ok.ensures.items ∙ ap (λ t. t ++ left ∷ []) c.requires.empty)) in
-    omega (arith, two)
+    omega (arith, ap length (c.as_slice-2.ensures.value ∙ two g (goal.at.fill-requires g c).In-Ok-push))
 
 pub unreachable-unreachable : goal.unreachable-unreachable
 unreachable-unreachable g c = c.unreachable.result
@@ -96,9 +82,4 @@ unreachable-unreachable-in_default-push g c = c.unreachable-in_default-push.resu
 
 pub returns-clause-pages : goal.returns-clause-pages
 returns-clause-pages g c =
-    let left : NodeValue g.row.A.Denot = node_value (rank c.self.inside.first) c.self.inside.height c.replace-kids.result in
-    let left_is : left ≡ c.args.self.now =
-    ap (node_value (rank c.self.inside.first) c.self.inside.height) c.replace-kids.ensures.value ∙ c.self.view_is in
-    let is : c.push-2.new.self.items ≡ c.args.self.now ∷ c.args.right ∷ [] =
-    c.in-Ok-push.ensures.items ∙ ap (λ t. t ++ c.args.right ∷ []) (c.in-Ok.ensures.items ∙ ap (λ t. t ++ left ∷ []) c.requires.empty) ∙ ap (λ v. v ∷ c.args.right ∷ []) left_is in
-    ap pages_of is ∙ ap (λ ps. c.args.self.now.pages ++ ps) (append-nil c.args.right.pages)
+    ap pages_of (two g (goal.at.returns-clause-pages g c).In-Ok-push) ∙ ap (λ ps. c.args.self.now.pages ++ ps) (append-nil c.args.right.pages)

@@ -18,7 +18,7 @@ returns-clause-joins g c =
       rest = rest;
       kept = c.halve.ensures.kept;
       not_less = c.halve.ensures.left.0;
-      not_more = let less = c.halve.ensures.left.1 in omega (arith, less);
+      not_more = omega (arith, c.halve.ensures.left.1);
       beside = page_beside first rest e c.page.result c.page.ensures at c.index-least.ensures c.halve.ensures.right.0 most;
     }
 

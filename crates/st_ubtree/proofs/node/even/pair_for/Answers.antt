@@ -7,9 +7,7 @@ returns-then-is_roomy g c =
     let room = c.is_roomy.ensures c.if-is_roomy.true in (
       room.0,
       λ u v here beside.
-          let full = (that_kid 0 c.args.kids.now c.args.at u here.0 here.1 c.requires.pages).not_more in
-          let few = room.1 v beside in
-          omega (arith, full, few),
+          omega (arith, (that_kid 0 c.args.kids.now c.args.at u here.0 here.1 c.requires.pages).not_more, room.1 v beside),
     )
 
 pub returns-then-is_roomy-2 : goal.returns-then-is_roomy-2
@@ -17,10 +15,8 @@ returns-then-is_roomy-2 g c =
     let kids = c.args.kids.now in
     let before = c.args.at - 1 in
     let room = c.is_roomy-then-at-gt0.ensures c.if-is_roomy-2.true in
-    let there : before + 1 < length kids = let a = c.if-at-gt0.true in let l = c.requires.at in omega (arith, a, l) in (
+    let there : before + 1 < length kids = omega (arith, c.if-at-gt0.true, c.requires.at) in (
       there,
       λ u v here beside.
-          let full = (that_kid 0 kids (before + 1) v beside.0 beside.1 c.requires.pages).not_more in
-          let few = room.1 u here in
-          omega (arith, full, few),
+          omega (arith, (that_kid 0 kids (before + 1) v beside.0 beside.1 c.requires.pages).not_more, room.1 u here),
     )

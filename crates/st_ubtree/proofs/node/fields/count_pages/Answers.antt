@@ -1,4 +1,4 @@
-use Rattle.std.proofs.Common.{◌<◌, ◌≤◌, List, length, refl, sym, ap, subst, ◌∙◌, arith, Bor}
+use Rattle.std.proofs.Common.{List, length, refl, sym, ap, subst, ◌∙◌, arith, Bor}
 use Rattle.st_index.specs.declared.row.Row.{Row}
 use Rattle.st_index.specs.inner.Fields.{CanAdd, Counts}
 use Rattle.st_index.proofs.Tallying.{far_all, far_fits, far_next, far_none}
@@ -11,24 +11,19 @@ use Rattle.st_ubtree.proofs.node.fields.count_pages.Goals as goal
 
 pub count_page_fields-requires-clause-lowest : goal.count_page_fields-requires-clause-lowest
 count_page_fields-requires-clause-lowest g c =
-    let kids = c.args.kids.now in
-    let below : c.loop-at.at < length kids = omega (arith, c.loop-at-test.true, c.loop-at.auto.at-end) in
-    ap (λ (v : NodeValue g.row.A.Denot). v.height) c.index-kids-at.is ∙ c.requires.lowest c.loop-at.at c.index-kids-at.result below
+    ap (λ (v : NodeValue g.row.A.Denot). v.height) c.index-kids-at.is ∙ c.requires.lowest c.loop-at.at c.index-kids-at.result c.loop-at-test.true
 
 pub count_page_fields-requires-clause-fits : goal.count_page_fields-requires-clause-fits
 count_page_fields-requires-clause-fits g c =
-    let kids = c.args.kids.now in
-    let below : c.loop-at.at < length kids = omega (arith, c.loop-at-test.true, c.loop-at.auto.at-end) in
     far_fits (g.F.Fields.query c.args.fields.now) (g.J.Judge.judges c.args.judge.now) (g.F.Fields.field_of c.args.fields.now)
-    (λ (v : NodeValue g.row.A.Denot). rows_of_pages v.pages) kids c.loop-at.at c.index-kids-at.result c.args.counts.now c.loop-at.counts
-    c.loop-at.invariant.far below c.index-kids-at.is (subst (λ (rs : List (Row g.row.A.Denot)). CanAdd (length rs) c.args.counts.now) (rows_of_kids kids) c.requires.fits)
+    (λ (v : NodeValue g.row.A.Denot). rows_of_pages v.pages) c.args.kids.now c.loop-at.at c.index-kids-at.result c.args.counts.now c.loop-at.counts
+    c.loop-at.invariant.far c.loop-at-test.true c.index-kids-at.is
+    (subst (λ (rs : List (Row g.row.A.Denot)). CanAdd (length rs) c.args.counts.now) (rows_of_kids c.args.kids.now) c.requires.fits)
 
 pub count_page_fields-requires-clause-marked : goal.count_page_fields-requires-clause-marked
 count_page_fields-requires-clause-marked g c =
-    let kids = c.args.kids.now in
-    let below : c.loop-at.at < length kids = omega (arith, c.loop-at-test.true, c.loop-at.auto.at-end) in
     let marks = ap (λ (m : Bor (Marks g.row.A.Denot)). m.now) c.loop-at.invariant.marks ∙ c.none-verdicts.ensures.marks in
-    (kids, subst (λ m. AreMarked m kids) (sym marks) c.requires.marked, (below, c.index-kids-at.is))
+    (c.args.kids.now, subst (λ m. AreMarked m c.args.kids.now) (sym marks) c.requires.marked, (c.loop-at-test.true, c.index-kids-at.is))
 
 pub count_page_fields-requires-clause-known : goal.count_page_fields-requires-clause-known
 count_page_fields-requires-clause-known g c =
@@ -49,15 +44,10 @@ pub loop-at-preserved : goal.loop-at-preserved
 loop-at-preserved g c =
     let q = g.F.Fields.query c.args.fields.now in
     let field_of = g.F.Fields.field_of c.args.fields.now in
-    let kids = c.args.kids.now in
-    let at = c.loop-at.at in
-    let kid = c.index-kids-at.result in
-    let below : at < length kids = omega (arith, c.loop-at-test.true, c.loop-at.auto.at-end) in
     record {
-      far = far_next q (g.J.Judge.judges c.args.judge.now) field_of (λ (v : NodeValue g.row.A.Denot). rows_of_pages v.pages) kids at kid
-          c.args.counts.now c.loop-at.counts c.count_page_fields.new.counts
-          c.loop-at.invariant.far below c.index-kids-at.is
-          (subst (λ j. Counts q j field_of (rows_of_pages kid.pages) c.loop-at.counts c.count_page_fields.new.counts) c.loop-at.invariant.same
+      far = far_next q (g.J.Judge.judges c.args.judge.now) field_of (λ (v : NodeValue g.row.A.Denot). rows_of_pages v.pages) c.args.kids.now c.loop-at.at
+          c.index-kids-at.result c.args.counts.now c.loop-at.counts c.count_page_fields.new.counts c.loop-at.invariant.far c.loop-at-test.true c.index-kids-at.is
+          (subst (λ j. Counts q j field_of (rows_of_pages c.index-kids-at.result.pages) c.loop-at.counts c.count_page_fields.new.counts) c.loop-at.invariant.same
           c.count_page_fields.ensures.counts);
       same = c.count_page_fields.ensures.same ∙ c.loop-at.invariant.same;
       marks = c.count_page_fields.ensures.marks ∙ c.loop-at.invariant.marks;
@@ -70,7 +60,6 @@ returns-clause-counts g c =
     let q = g.F.Fields.query c.args.fields.now in
     let judges = g.J.Judge.judges c.args.judge.now in
     let field_of = g.F.Fields.field_of c.args.fields.now in
-    let kids = c.args.kids.now in
-    let over : length kids ≤ c.loop-at.at = omega (arith, c.loop-at-test.false, c.loop-at.auto.at-end) in
-    subst (λ (rs : List (Row g.row.A.Denot)). Counts q judges field_of rs c.args.counts.now c.loop-at.counts) (sym (rows_of_kids kids))
-    (far_all q judges field_of (λ (v : NodeValue g.row.A.Denot). rows_of_pages v.pages) kids c.loop-at.at c.args.counts.now c.loop-at.counts c.loop-at.invariant.far over)
+    subst (λ (rs : List (Row g.row.A.Denot)). Counts q judges field_of rs c.args.counts.now c.loop-at.counts) (sym (rows_of_kids c.args.kids.now))
+    (far_all q judges field_of (λ (v : NodeValue g.row.A.Denot). rows_of_pages v.pages) c.args.kids.now c.loop-at.at c.args.counts.now c.loop-at.counts
+    c.loop-at.invariant.far (omega (arith, c.loop-at-test.false, c.loop-at.auto.at-end)))

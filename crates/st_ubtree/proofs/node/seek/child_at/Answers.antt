@@ -13,9 +13,7 @@ use Rattle.st_ubtree.proofs.node.seek.child_at.Goals.{then-after-kids, else-afte
 
 pub at-requires : goal.at-requires
 at-requires g c =
-    let len = as_many c.args.firsts.now c.args.kids.now c.requires.firsts in
-    let before = c.if-after-kids.true in
-    omega (arith, len, before)
+    omega (arith, as_many c.args.firsts.now c.args.kids.now c.requires.firsts, c.if-after-kids.true)
 
 pub returns-clause-part : goal.returns-clause-part
 returns-clause-part g c = λ below each.
@@ -38,7 +36,7 @@ returns-clause-part g c = λ below each.
           (rank c.if-after-kids.kid_last) next more there k
       | else-after-kids w ↦
           rw w.kid_last-is (ends_last (rank c.args.key) below (rank c.args.last) kids i chosen.upto kid each chosen.found chosen.is l read
-          (let a = w.if-after-kids.false in omega (arith, a)))
+          (omega (arith, w.if-after-kids.false)))
     ] in
     part_kid (rank c.args.key) below (rank c.args.last) kids i chosen.upto kid each chosen.found chosen.is l read (rank c.if-after-kids.kid_last) ends
 
@@ -51,13 +49,11 @@ returns-clause-lower g c = λ below each.
 
 pub overflow_add-after : goal.overflow_add-after
 overflow_add-after g c =
-    let l = (c.child_for-at.ensures c.args.kids.now c.requires.some c.requires.firsts).within in
-    omega (arith, l)
+    omega (arith, (c.child_for-at.ensures c.args.kids.now c.requires.some c.requires.firsts).within)
 
 pub bounds-kids-at : goal.bounds-kids-at
 bounds-kids-at g c = (c.child_for-at.ensures c.args.kids.now c.requires.some c.requires.firsts).within
 
 pub offset_bounds-kids-at : goal.offset_bounds-kids-at
 offset_bounds-kids-at g c =
-    let l = (c.child_for-at.ensures c.args.kids.now c.requires.some c.requires.firsts).within in
-    omega (arith, l)
+    omega (arith, (c.child_for-at.ensures c.args.kids.now c.requires.some c.requires.firsts).within)

@@ -1,5 +1,5 @@
 use Rattle.std.proofs.Common.{[], sym, subst}
-use Rattle.st_index.specs.Rows.{rows_of}
+use Rattle.st_index.specs.inner.Entries.{rows_of}
 use Rattle.st_tally.specs.inner.Pages.{rows_of_pages}
 use Rattle.st_ubtree.specs.inner.Kids.{pages_of}
 use Rattle.st_ubtree.specs.inner.Nodes.{rows_under}

@@ -1,6 +1,6 @@
 use Rattle.std.proofs.Common.{◌≤◌, [], length, refl, arith, rules}
 use Rattle.std.proofs.lemmas.List.Elements.{All-cons, All-nil}
-use Rattle.st_index.specs.Rows.{key_end}
+use Rattle.st_index.specs.inner.Entries.{key_end}
 use Rattle.st_index.proofs.Listing.{some_keys}
 use Rattle.st_tally.specs.inner.Pages.{PageValue}
 use Rattle.st_ubtree.proofs.Splitting.{page}

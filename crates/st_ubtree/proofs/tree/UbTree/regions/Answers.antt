@@ -1,12 +1,24 @@
 use Rattle.std.proofs.Common.{◌≡◌, ◌<◌, map, subst, ap, arith}
 use Rattle.st_key.specs.Key.{rank}
-use Rattle.st_index.specs.Rows.{key_end}
+use Rattle.st_index.specs.inner.Entries.{key_end}
 use Rattle.st_index.proofs.Listing.{some_keys}
 use Rattle.st_ubtree.specs.inner.Ranges.{region_in}
 use Rattle.st_ubtree.specs.inner.Trees.{TreeValue, regions_of}
 use Rattle.st_ubtree.proofs.Lawful.{spans_follow}
 use Rattle.st_ubtree.proofs.Walking.{IsWalked, Walks, left_less, walks_first, walks_on}
+use Rattle.st_ubtree.proofs.tree.UbTree.regions.Given.{Over}
+use Rattle.st_ubtree.proofs.tree.UbTree.regions.Goals.{In-Some}
 use Rattle.st_ubtree.proofs.tree.UbTree.regions.Goals as goal
+
+same : (g : Over) (c : In-Some g) → c.self.inside.period ≡ c.args.self.now.period
+same g c = ap (λ (t : TreeValue g.row.A.Denot). t.period) c.self.view_is
+
+-- what was gone over, and what is left from the key on
+walked : (g : Over) (c : In-Some g) → IsWalked (key_end c.args.self.now.period) (regions_of (key_end c.args.self.now.period) c.args.self.now.root.pages)
+    (map region_in c.loop-next.ranges.items) (rank c.in-Some.key)
+walked g c =
+    let hi = key_end c.args.self.now.period in
+    subst (Walks hi (regions_of hi c.args.self.now.root.pages) (map region_in c.loop-next.ranges.items)) c.in-Some.is c.loop-next.invariant
 
 pub loop-next-init : goal.loop-next-init
 loop-next-init g c =
@@ -16,42 +28,33 @@ loop-next-init g c =
     (spans_follow p 0 (key_end p) c.self.inside.root.pages c.self.invariant.spans) (some_keys p))
 
 pub leaf_at-leaf-requires : goal.leaf_at-leaf-requires
-leaf_at-leaf-requires g c =
-    let hi = key_end c.args.self.now.period in
-    let all = regions_of hi c.args.self.now.root.pages in
-    let w : IsWalked hi all (map region_in c.loop-next.ranges.items) (rank c.in-Some.key) = subst (Walks hi all (map region_in c.loop-next.ranges.items)) c.in-Some.is c.loop-next.invariant in
-    w.below
+leaf_at-leaf-requires g c = (walked g (goal.at.leaf_at-leaf-requires g c).In-Some).below
 
 pub loop-next-smaller : goal.loop-next-smaller
 loop-next-smaller g c =
-    let p = c.args.self.now.period in
-    let hi = key_end p in
-    let all = regions_of hi c.args.self.now.root.pages in
-    let w : IsWalked hi all (map region_in c.loop-next.ranges.items) (rank c.in-Some.key) = subst (Walks hi all (map region_in c.loop-next.ranges.items)) c.in-Some.is c.loop-next.invariant in
-    let same : c.self.inside.period ≡ p = ap (λ (t : TreeValue g.row.A.Denot). t.period) c.self.view_is in
-    rw c.in-Some.is (left_less p c.in-Some.key c.leaf_at-leaf.result.last c.after-next.result w.below c.leaf_at-leaf.ensures.leaf.to
-    c.after-next.ensures.rank (rw same at c.after-next.ensures.in_period))
+    let some = (goal.at.loop-next-smaller g c).In-Some in
+    let period = same g some in
+    rw c.in-Some.is (left_less c.args.self.now.period c.in-Some.key c.leaf_at-leaf.result.last c.after-next.result (walked g some).below
+    c.leaf_at-leaf.ensures.leaf.to c.after-next.ensures.rank (rw period at c.after-next.ensures.in_period))
 
 pub loop-next-preserved : goal.loop-next-preserved
 loop-next-preserved g c =
+    let some = (goal.at.loop-next-preserved g c).In-Some in
+    let period = same g some in
     let p = c.args.self.now.period in
-    let hi = key_end p in
-    let all = regions_of hi c.args.self.now.root.pages in
-    let w : IsWalked hi all (map region_in c.loop-next.ranges.items) (rank c.in-Some.key) = subst (Walks hi all (map region_in c.loop-next.ranges.items)) c.in-Some.is c.loop-next.invariant in
-    let same : c.self.inside.period ≡ p = ap (λ (t : TreeValue g.row.A.Denot). t.period) c.self.view_is in
     rw c.in_ok-push.ensures.items
-    (walks_on p all c.loop-next.ranges.items c.in-Some.key (record { first = c.leaf_at-leaf.result.first; last = c.leaf_at-leaf.result.last })
-    c.after-next.result w c.leaf_at-leaf.ensures.of_regions c.leaf_at-leaf.ensures.leaf.from c.leaf_at-leaf.ensures.leaf.to
-    (rw same at c.after-next.ensures.last) c.after-next.ensures.rank (rw same at c.after-next.ensures.in_period))
+    (walks_on p (regions_of (key_end p) c.args.self.now.root.pages) c.loop-next.ranges.items c.in-Some.key
+    (record { first = c.leaf_at-leaf.result.first; last = c.leaf_at-leaf.result.last })
+    c.after-next.result (walked g some) c.leaf_at-leaf.ensures.of_regions c.leaf_at-leaf.ensures.leaf.from c.leaf_at-leaf.ensures.leaf.to
+    (rw period at c.after-next.ensures.last) c.after-next.ensures.rank (rw period at c.after-next.ensures.in_period))
 
 pub returns : goal.returns
 returns g c =
     let hi = key_end c.args.self.now.period in
-    let all = regions_of hi c.args.self.now.root.pages in
-    subst (Walks hi all (map region_in c.loop-next.ranges.items)) c.in_default.is c.loop-next.invariant
+    subst (Walks hi (regions_of hi c.args.self.now.root.pages) (map region_in c.loop-next.ranges.items)) c.in_default.is c.loop-next.invariant
 
 pub after-next-requires : goal.after-next-requires
 after-next-requires g c =
-    let same : c.self.inside.period ≡ c.args.self.now.period = ap (λ (t : TreeValue g.row.A.Denot). t.period) c.self.view_is in
-    let within : rank c.leaf_at-leaf.result.last < key_end c.self.inside.period = rw same c.leaf_at-leaf.ensures.leaf.within in
+    let period = same g (goal.at.after-next-requires g c).In-Some in
+    let within : rank c.leaf_at-leaf.result.last < key_end c.self.inside.period = rw period c.leaf_at-leaf.ensures.leaf.within in
     omega (arith, within)

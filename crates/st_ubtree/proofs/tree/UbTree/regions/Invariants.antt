@@ -1,5 +1,5 @@
 use Rattle.std.proofs.Common.{map}
-use Rattle.st_index.specs.Rows.{key_end}
+use Rattle.st_index.specs.inner.Entries.{key_end}
 use Rattle.st_ubtree.specs.inner.Ranges.{region_in}
 use Rattle.st_ubtree.specs.inner.Trees.{regions_of}
 use Rattle.st_ubtree.proofs.Walking.{Walks, left}

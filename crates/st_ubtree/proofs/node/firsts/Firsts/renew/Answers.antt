@@ -16,12 +16,10 @@ push-requires g c =
     let below : i < length kids = omega arith in
     let as_many : length keys ≡ length (take i kids) = sym (length-map keys number) ∙ ap length c.loop-kid.invariant ∙ length-map (take i kids) (λ (v : NodeValue g.row.A.Denot). v.first) in
     let taken : length (take i kids) ≡ i = length-take-le i kids (omega (arith, below)) in
-    let few = c.requires in
-    omega (arith, as_many, taken, few, below)
+    omega (arith, as_many, taken, c.requires, below)
 
 pub loop-kid-preserved : goal.loop-kid-preserved
 loop-kid-preserved g c =
-    let keys = c.loop-kid.self.keys.items in
     let i = c.loop-kid.kid-index in
     let kids = c.args.kids.now in
     let below : i < length kids = omega arith in
@@ -29,7 +27,7 @@ loop-kid-preserved g c =
     let key : First = record { key = c.kid.inside.first } in
     let here : number key ≡ c.kid-item.result.first = ap first c.kid.view_is in
     ap (map number) c.push.ensures.items
-    ∙ map-append number keys (key ∷ [])
+    ∙ map-append number c.loop-kid.self.keys.items (key ∷ [])
     ∙ ap (λ ns. ns ++ number key ∷ []) c.loop-kid.invariant
     ∙ ap (λ n. map first (take i kids) ++ n ∷ []) (here ∙ ap first c.kid-item.is)
     ∙ sym (map_more first kids i c.kid-item.result below)

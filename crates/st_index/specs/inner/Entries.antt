@@ -1,4 +1,4 @@
--- Rows and entries as clauses see them, and their order.
+-- Rows and entries by their keys, and their order.
 use Rattle.std.specs.Prelude.{◌≡◌, ℕ, ◌+◌, ◌*◌, ◌/◌, ◌%◌, ◌^◌, ◌≤◌, List, [], ◌∷◌}
 use Rattle.std.specs.List.{All, flat_map}
 use Rattle.std.specs.declared.cmp.Ordering.{Ordering}
@@ -10,10 +10,6 @@ use Rattle.st_key.specs.Morton.{address_of}
 use Rattle.st_key.specs.Period.{bins_of, seconds_of}
 use Rattle.st_index.specs.declared.row.Row.{Row}
 
--- how many keys a period has
-abbrev pub key_end : Period → ℕ
-key_end period = bins_of period * 2 ^ 63
-
 -- a row's id and its label's written text, which name it
 pub record Name : Type 0 where
   pub id : List ℕ
@@ -21,6 +17,10 @@ pub record Name : Type 0 where
 
 abbrev pub name_of : {A : Type 0} → Row A → Name
 name_of r = record { id = r.id; label = r.label }
+
+-- how many keys a period has
+abbrev pub key_end : Period → ℕ
+key_end period = bins_of period * 2 ^ 63
 
 -- the rows of one key
 pub record EntryValue (A : Type 0) : Type 0 where
@@ -51,9 +51,9 @@ pub record IsEntry {A : Type 0} (period : Period) (e : EntryValue A) : Type 0 wh
   pub named : NamesRise e.rows
 
 -- the entries' keys rise, from lo on and below hi
-abbrev pub Rises : {A : Type 0} → Period → ℕ → ℕ → List (EntryValue A) → Type 0
-Rises period lo hi [] = lo ≤ hi
-Rises period lo hi (e ∷ es) = (lo ≤ e.at) × IsEntry period e × Rises period (e.at + 1) hi es
+abbrev pub EntriesRise : {A : Type 0} → Period → ℕ → ℕ → List (EntryValue A) → Type 0
+EntriesRise period lo hi [] = lo ≤ hi
+EntriesRise period lo hi (e ∷ es) = (lo ≤ e.at) × IsEntry period e × EntriesRise period (e.at + 1) hi es
 
 -- the entries' rows, in order
 abbrev pub rows_of : {A : Type 0} → List (EntryValue A) → List (Row A)

@@ -1,0 +1,2 @@
+-- Where keys stand, which no reader has to believe.
+pub mod Places
