@@ -12,7 +12,7 @@ use std::marker::Model;
 pub struct BadName;
 
 /// The name of a user or of a namespace: 1 to 32 bytes of `A-Z a-z 0-9 _`.
-#[derive(Drop)]
+#[derive(Debug, Drop)]
 pub struct Name {
     text: Text<32>,
 }

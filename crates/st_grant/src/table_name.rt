@@ -10,7 +10,7 @@ use std::marker::Model;
 
 /// The name of a table: a name, or a namespace, one dot and a name, each of 1 to 32 bytes of
 /// `A-Z a-z 0-9 _`, as in Apache Accumulo.
-#[derive(Drop)]
+#[derive(Debug, Drop)]
 pub struct TableName {
     text: Text<65>,
 }

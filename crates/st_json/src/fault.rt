@@ -4,13 +4,16 @@ ghost use Rattle.st_json.specs.declared.fault.DecodeFault.TheVariants.{NoMemory}
 
 use st_policy::Refusal;
 use std::alloc::AllocError;
+use thiserror::Error;
 
 /// Why a body makes no request.
-#[derive(Drop)]
+#[derive(Debug, Drop, Error)]
 pub enum DecodeFault {
     /// The first rule that the body or the name in the path breaks.
+    #[error("the request is refused")]
     Refused(Refusal),
     /// Memory ran out.
+    #[error("out of memory")]
     NoMemory,
 }
 

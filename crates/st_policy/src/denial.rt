@@ -6,7 +6,7 @@ use st_dir::{Name, Permission, TableName};
 use st_text::Text;
 
 /// Why a user was not allowed what was asked. Each names what refused.
-#[derive(Drop)]
+#[derive(Debug, Drop)]
 pub enum Denial {
     /// There is no token, or its name or its digest is not a user's.
     Token,

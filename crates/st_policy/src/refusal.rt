@@ -4,7 +4,7 @@ use crate::field_name::FieldName;
 use st_dir::{Name, TableName};
 
 /// Why a request was refused. Each kind has a number, which the audit listing shows.
-#[derive(Drop)]
+#[derive(Debug, Drop)]
 pub enum Refusal {
     /// The body is no JSON object (RFC 8259).
     Json,

@@ -6,7 +6,7 @@ use arrayvec::ArrayString;
 use std::marker::Model;
 
 /// A text of at most `CAP` bytes of UTF-8, stored in the value itself.
-#[derive(Drop)]
+#[derive(Debug, Drop)]
 pub struct Text<const CAP: usize> {
     bytes: ArrayString<CAP>,
 }
