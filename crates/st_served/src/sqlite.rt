@@ -42,7 +42,7 @@ pub fn serve_files<
 ) -> u8
     ensures { (words : List Text) → SaysServed words said.now
         → RunsServer ⟦<TcpStream as Client>⟧.call (files_hold S.Start) ⟦<StoreFile<S> as Journal>⟧ words
-            (O.contents output.old)
+        (O.contents output.old)
         (O.contents output.new) result }
 {
     let keeper = SqliteKeeper::new(files, "st_served", start);
